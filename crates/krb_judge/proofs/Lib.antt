@@ -6,4 +6,5 @@ mod Descent
 mod KindNodes
 mod OwnNames
 mod Lies
+mod Deepest
 mod MessagePaths

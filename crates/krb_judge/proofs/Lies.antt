@@ -17,27 +17,27 @@ use Rattle.krb_judge.specs.Located.{IsOf, BeginWithItems, LiesIn, LiesInside, Li
 use Rattle.krb_judge.specs.declared.locating.names.Names.{Names}
 
 -- ---- outcomes
-bad_is : (a b : ℕ) (r s : Why) → Bad a r ≡ Bad b s → a ≡ b
+pub bad_is : (a b : ℕ) (r s : Why) → Bad a r ≡ Bad b s → a ≡ b
 bad_is a b r s e = cc
 
-why_is : (a b : ℕ) (r s : Why) → Bad a r ≡ Bad b s → r ≡ s
+pub why_is : (a b : ℕ) (r s : Why) → Bad a r ≡ Bad b s → r ≡ s
 why_is a b r s e = cc
 
 -- a field is missing
 abbrev pub gone : Why → Type 0
 gone reason = reason ≡ why.Missing
 
-after-bad : (before offset : ℕ) (reason : Why) (o : Outcome) → after before o ≡ Bad offset reason → (k : ℕ) × (o ≡ Bad k reason) × (offset ≡ before + k)
+pub after-bad : (before offset : ℕ) (reason : Why) (o : Outcome) → after before o ≡ Bad offset reason → (k : ℕ) × (o ≡ Bad k reason) × (offset ≡ before + k)
 after-bad before offset reason Open e = absurd cc
 after-bad before offset reason (Bad k r) e = (k, ap (λ (x : Why). Bad k x) cc, sym (bad_is (before + k) offset r reason e))
 after-bad before offset reason (Done count) e = absurd cc
 
 -- a refusal of contents is at one of their octets, or right before them
-record Within (before offset : ℕ) (octets : List ℕ) : Type 0 where
-  from : before ≤ suc offset
-  upto : suc offset ≤ before + length octets
+pub record Within (before offset : ℕ) (octets : List ℕ) : Type 0 where
+  pub from : before ≤ suc offset
+  pub upto : suc offset ≤ before + length octets
 
-contents-within : (term : Term) (before room : ℕ) (octets : List ℕ) (offset : ℕ) (reason : Why) → 0 < before → has_size term room ≡ true → length octets ≤ room → contents_outcome term before room octets ≡ Bad offset reason → Within before offset octets
+pub contents-within : (term : Term) (before room : ℕ) (octets : List ℕ) (offset : ℕ) (reason : Why) → 0 < before → has_size term room ≡ true → length octets ≤ room → contents_outcome term before room octets ≡ Bad offset reason → Within before offset octets
 contents-within term before room octets offset reason some size fits e =
     let s = IsStable-contents term before room some size octets (Bad offset reason) fits e tt in
     record { from = omega (arith, s.reached); upto = omega (arith, s.reached, ap length s.parts, length-append s.prefix s.suffix) }
@@ -67,8 +67,8 @@ no-contents (Application number term) names path room e = absurd cc
 -- the path in an item whose head is known
 abbrev head_lies : (Absent : Type 0) → Head → Term → Names → List ℕ → ℕ → List ℕ → ℕ → List ℕ → Type 0
 head_lies Absent h term names path room octets offset found =
-    ((found ≡ path) × IsOf h offset)
-    ⊎ ((header contents : ℕ) × (h ≡ Got header contents) × LiesInside Absent term names path offset found contents (take contents (drop header octets)) header)
+    IsOf h offset
+    × ((found ≡ path) ⊎ ((header contents : ℕ) × (h ≡ Got header contents) × LiesInside Absent term names path offset found contents (take contents (drop header octets)) header))
 
 none-left : (octets : List ℕ) (k n : ℕ) → length octets ≤ k → take n (drop k octets) ≡ []
 none-left octets k n le = nil_from_length (take n (drop k octets)) (omega (arith, length-take n (drop k octets), length-drop k octets))
@@ -76,11 +76,11 @@ none-left octets k n le = nil_from_length (take n (drop k octets)) (omega (arith
 got-lies : (term : Term) → ContentsLie term → (names : Names) (path : List ℕ) (header contents room : ℕ) (sole : Bool) (octets : List ℕ) (offset : ℕ) (reason : Why) (loose sized : Bool) → 0 < header → (sole && nat_lt (header + contents) room) ≡ loose → has_size term contents ≡ sized → length octets ≡ suc offset
     → (if loose then Bad (header - 1) why.Loose else if sized then contents_outcome term header contents (take contents (drop header octets)) else Bad (header - 1) why.Size) ≡ Bad offset reason
     → head_lies (gone reason) (Got header contents) term names path room octets offset (when loose (λ _. path) (λ _. contents_path term names path contents (take contents (drop header octets))))
-got-lies term lies names path header contents room sole octets offset reason true sized some l s len e = inl (refl, omega (arith, some, bad_is (header - 1) offset why.Loose reason e))
+got-lies term lies names path header contents room sole octets offset reason true sized some l s len e = (omega (arith, some, bad_is (header - 1) offset why.Loose reason e), inl refl)
 got-lies term lies names path header contents room sole octets offset reason false false some l s len e =
     let here : header - 1 ≡ offset = bad_is (header - 1) offset why.Size reason e in
     let none = none-left octets header contents (omega (arith, here, len, some)) in
-    inl (ap (contents_path term names path contents) none ∙ no-contents term names path contents s, omega (arith, some, here))
+    (omega (arith, some, here), inl (ap (contents_path term names path contents) none ∙ no-contents term names path contents s))
 got-lies term lies names path header contents room sole octets offset reason false true some l s len e =
     let taken = take contents (drop header octets) in
     let fits : length taken ≤ contents = omega (arith, length-take contents (drop header octets)) in
@@ -90,13 +90,13 @@ got-lies term lies names path header contents room sole octets offset reason fal
   where
     by_contents : LiesOrIs (gone reason) term names path contents (take contents (drop header octets)) header offset (contents_path term names path contents (take contents (drop header octets))) → offset < header + contents
         → head_lies (gone reason) (Got header contents) term names path room octets offset (contents_path term names path contents (take contents (drop header octets)))
-    by_contents (inl is) lt = inl (is, lt)
-    by_contents (inr inside) lt = inr (header, contents, refl, inside)
+    by_contents (inl is) lt = (lt, inl is)
+    by_contents (inr inside) lt = (lt, inr (header, contents, refl, inside))
 
 of_head-lies : (term : Term) → ContentsLie term → (names : Names) (path : List ℕ) (room : ℕ) (sole : Bool) (octets : List ℕ) (offset : ℕ) (reason : Why) (h : Head) → head room octets ≡ h → length octets ≡ suc offset → of_head term h room sole octets (contents_outcome term) ≡ Bad offset reason
     → head_lies (gone reason) h term names path room octets offset (within_head h path room sole octets (contents_path term names path))
 of_head-lies term lies names path room sole octets offset reason Partial is len e = absurd cc
-of_head-lies term lies names path room sole octets offset reason (Refused k r) is len e = inl (refl, omega (arith, bad_is k offset r reason e))
+of_head-lies term lies names path room sole octets offset reason (Refused k r) is len e = (omega (arith, bad_is k offset r reason e), inl refl)
 of_head-lies term lies names path room sole octets offset reason (Got header contents) is len e =
     got-lies term lies names path header contents room sole octets offset reason (sole && nat_lt (header + contents) room) (has_size term contents) (head-positive room octets header contents is) refl refl len e
 
@@ -123,8 +123,8 @@ item-lies term lies names path room sole (octet ∷ octets) offset reason fits l
     by_tag : (tag : Bool) → (octet == tag_of term) ≡ tag → (one : Bool) → (room == 1) ≡ one
         → when tag (λ _. if one then Bad 0 why.Overrun else of_head term (head room (octet ∷ octets)) room sole (octet ∷ octets) (contents_outcome term)) (λ _. Bad 0 why.Tag) ≡ Bad offset reason
         → LiesIn (gone reason) term names path room (octet ∷ octets) offset (when tag (λ _. within_head (head room (octet ∷ octets)) path room sole (octet ∷ octets) (contents_path term names path)) (λ _. path))
-    by_tag false t one o e = inl (refl, at_first offset (sym (bad_is 0 offset why.Tag reason e)))
-    by_tag true t true o e = inl (alone octets (nil_from_length octets (grind (arith, nat_tests, o, fits))), at_first offset (sym (bad_is 0 offset why.Overrun reason e)))
+    by_tag false t one o e = (at_first offset (sym (bad_is 0 offset why.Tag reason e)), inl refl)
+    by_tag true t true o e = (at_first offset (sym (bad_is 0 offset why.Overrun reason e)), inl (alone octets (nil_from_length octets (grind (arith, nat_tests, o, fits)))))
     by_tag true t false o e = of_head-lies term lies names path room sole (octet ∷ octets) offset reason (head room (octet ∷ octets)) refl len e
 
 -- ---- fields, by what is shown of those after them
@@ -140,7 +140,7 @@ abbrev LaterLies : (Absent : Type 0) → Fields → Names → (path : List ℕ) 
 LaterLies Absent fields names path index offset room octets before =
     (fields_path fields names path index room octets ≡ path) ⊎ LiesInField Absent fields names path index offset (fields_path fields names path index room octets) room octets before
 
-moved : (Absent : Type 0) (term : Term) (names : Names) (path found : List ℕ) (room : ℕ) (octets : List ℕ) (k l : ℕ) → k ≡ l → LiesIn Absent term names path room octets k found → LiesIn Absent term names path room octets l found
+pub moved : (Absent : Type 0) (term : Term) (names : Names) (path found : List ℕ) (room : ℕ) (octets : List ℕ) (k l : ℕ) → k ≡ l → LiesIn Absent term names path room octets k found → LiesIn Absent term names path room octets l found
 moved Absent term names path found room octets k l e = subst (λ (n : ℕ). LiesIn Absent term names path room octets n found) e
 
 field-lies : (term : Term) → ContentsLie term → (fields : Fields) (names : Names) (path : List ℕ) (index room : ℕ) (octets : List ℕ) (before offset : ℕ) (reason : Why) → length octets ≤ room → before + length octets ≡ suc offset
@@ -170,7 +170,7 @@ ElementLies Absent term names path index offset found room octets before =
     ⊎ ((k size : ℕ) × BeginWithItems term k size room octets × (before + size ≤ offset) × (begin_with (tag_of term) (drop size octets) ≡ true) × LiesIn Absent term names (element_path path (index + k)) (room - size) (drop size octets) (offset - (before + size)) found)
 
 -- the same item, by other sums of the same numbers
-same-item : (Absent : Type 0) (term : Term) (names : Names) (path found : List ℕ) (i j r s k l : ℕ) (x y : List ℕ) → i ≡ j → r ≡ s → x ≡ y → k ≡ l → LiesIn Absent term names (element_path path i) r x k found → LiesIn Absent term names (element_path path j) s y l found
+pub same-item : (Absent : Type 0) (term : Term) (names : Names) (path found : List ℕ) (i j r s k l : ℕ) (x y : List ℕ) → i ≡ j → r ≡ s → x ≡ y → k ≡ l → LiesIn Absent term names (element_path path i) r x k found → LiesIn Absent term names (element_path path j) s y l found
 same-item Absent term names path found i j r s k l x y ei er ex ek lie =
     subst (λ (n : ℕ). LiesIn Absent term names (element_path path j) s y n found) ek
     (subst (λ (o : List ℕ). LiesIn Absent term names (element_path path j) s o k found) ex

@@ -11,7 +11,7 @@ use Rattle.krb_judge.specs.declared.locating.names.Names.{Names}
 use Rattle.krb_msg.specs.Judgement.{judgement}
 use Rattle.krb_der.specs.declared.verdict.Verdict.TheVariants as verdict
 use Rattle.krb_der.specs.declared.why.Why.TheVariants as why
-use Rattle.krb_judge.specs.Located.{LiesInMessage}
+use Rattle.krb_judge.specs.Located.{LiesInMessage, BeginsPath}
 use Rattle.krb_judge.specs.Paths.{message_path}
 use Rattle.krb_judge.specs.Parses.{refusal_of, ticket_refusal, method_data_refusal}
 
@@ -37,8 +37,17 @@ pub record HaveOwnNames (fields : List Named) : Type 0 where
 abbrev pub NamesAreOwn : Type 0
 NamesAreOwn = (names : Names) → HaveOwnNames (fields_of names)
 
--- The path of a refused message, by the octets up to and with the refused one, names an item that this octet lies in or, if something is missing, a field that is to be there and is not.
+-- A message of n octets is refused at the last of these octets, and this is the path of its field at fault.
+pub record IsPathOf (profile : Profile) (n : ℕ) (octets : List ℕ) (r : Refusal) (path : List ℕ) : Type 0 where
+  pub fits : length octets ≤ n
+  pub last : length octets ≡ suc r.place
+  pub refused : judgement profile n octets ≡ verdict.Refused r
+  pub found : message_path profile n octets ≡ Some path
+
+-- The path names an item that the refused octet lies in or, if something is missing, a field that is to be there and is not.
 abbrev pub PathsLeadToRefusals : Type 0
-PathsLeadToRefusals =
-    (profile : Profile) (n : ℕ) (octets : List ℕ) (r : Refusal) (path : List ℕ) → length octets ≤ n → length octets ≡ suc r.place → judgement profile n octets ≡ verdict.Refused r → message_path profile n octets ≡ Some path
-    → LiesInMessage (r.why ≡ why.Missing) profile n octets r.place path
+PathsLeadToRefusals = (profile : Profile) (n : ℕ) (octets : List ℕ) (r : Refusal) (path : List ℕ) → IsPathOf profile n octets r path → LiesInMessage (r.why ≡ why.Missing) profile n octets r.place path
+
+-- Unless something is missing, the path goes on to the last such item: the path of any other begins it.
+abbrev pub PathsGoOnToTheLast : Type 0
+PathsGoOnToTheLast = (profile : Profile) (n : ℕ) (octets : List ℕ) (r : Refusal) (path other : List ℕ) → IsPathOf profile n octets r path → (r.why ≡ why.Missing → ⊥) → LiesInMessage ⊥ profile n octets r.place other → BeginsPath other path

@@ -1,5 +1,5 @@
 -- What a path names: an octet lies in the item that it names.
-use Rattle.std.specs.Prelude.{ℕ, zero, suc, ◌+◌, ◌-◌, ◌<◌, ◌≤◌, ◌≡◌, ◌⊎◌, true, false, List, [], ◌∷◌, take, drop, Some}
+use Rattle.std.specs.Prelude.{ℕ, zero, suc, ◌+◌, ◌-◌, ◌<◌, ◌≤◌, ◌≡◌, ◌⊎◌, true, false, List, [], ◌∷◌, ◌++◌, take, drop, Some}
 use Rattle.krb_der.specs.declared.profile.Profile.{Profile}
 use Rattle.krb_msg.specs.Judgement.{Done, Head, Partial, Refused, Got, head, item_outcome}
 use Rattle.krb_msg.specs.Term.{Term, Fields, Sequence, SequenceOf, Tagged, Application, End, Required, Optional, tag_of}
@@ -20,11 +20,11 @@ abbrev pub BeginWithItems : (term : Term) (count size room : ℕ) (octets : List
 BeginWithItems term zero size room octets = size ≡ 0
 BeginWithItems term (suc count) size room octets = (first others : ℕ) × (size ≡ first + others) × (item_outcome term room false octets ≡ Done first) × BeginWithItems term count others (room - first) (drop first octets)
 
--- An octet of an item, which begins with these octets and has a path, lies in the item that `found` names: this one, or one in its contents, of which the relation says so, by their number, those that are present, and the number of octets before them.
+-- An octet is one of an item that begins with these octets and has a path, and lies in the item that `found` names: this one, or one in its contents, of which the relation says so, by their number, those that are present, and the number of octets before them.
 abbrev pub LiesBy : (Inside : (room : ℕ) → (octets : List ℕ) → (before : ℕ) → Type 0) → (path : List ℕ) → (room : ℕ) → (octets : List ℕ) → (offset : ℕ) → (found : List ℕ) → Type 0
 LiesBy Inside path room octets offset found =
-    ((found ≡ path) × IsOf (head room octets) offset)
-    ⊎ ((header contents : ℕ) × (head room octets ≡ Got header contents) × Inside contents (take contents (drop header octets)) header)
+    IsOf (head room octets) offset
+    × ((found ≡ path) ⊎ ((header contents : ℕ) × (head room octets ≡ Got header contents) × Inside contents (take contents (drop header octets)) header))
 
 abbrev mutual
   -- An octet of the contents of an item of a term lies in the item that `found` names, or, if one may be absent, a field is to be there and is not.
@@ -59,3 +59,7 @@ LiesIn Absent term names path room octets offset found = LiesBy (LiesInside Abse
 abbrev pub LiesInMessage : (Absent : Type 0) → Profile → (n : ℕ) → (octets : List ℕ) → (place : ℕ) → (path : List ℕ) → Type 0
 LiesInMessage Absent profile n [] place path = ⊥
 LiesInMessage Absent profile n (tag ∷ octets) place path = (kind : Kind) × (kind_with_tag tag ≡ Some kind) × LiesIn Absent (kind_term_in profile kind) (names_of_kind kind) (kind_name kind) n (tag ∷ octets) place path
+
+-- A path begins another, which goes on from it or is the same.
+abbrev pub BeginsPath : (path other : List ℕ) → Type 0
+BeginsPath path other = (rest : List ℕ) × (other ≡ path ++ rest)

@@ -1,6 +1,6 @@
 //! The laws of slices, each the contract of a function that does nothing.
 
-ghost use Rattle.krb_judge.specs.Laws.{FieldsHaveNames, NamesAreOwn, PathsLeadToRefusals, RefusalsAreInside};
+ghost use Rattle.krb_judge.specs.Laws.{FieldsHaveNames, NamesAreOwn, PathsGoOnToTheLast, PathsLeadToRefusals, RefusalsAreInside};
 
 /// Octets that are no message, no Ticket or no METHOD-DATA are refused at one of them, if there are
 /// some.
@@ -20,7 +20,9 @@ pub fn names_are_own()
 {}
 
 /// The path of the octets of a message up to and with the refused one names an item that this octet
-/// lies in, or a field that is to be there and is not.
+/// lies in, and the last one of these, each of which is in the one before it; or a field that is to
+/// be there and is not, if that is the reason.
 pub fn paths_lead_to_refusals()
-    ensures { PathsLeadToRefusals }
+    ensures lies { PathsLeadToRefusals }
+    ensures last { PathsGoOnToTheLast }
 {}

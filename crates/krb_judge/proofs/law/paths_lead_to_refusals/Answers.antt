@@ -1,5 +1,8 @@
-use Rattle.krb_judge.proofs.MessagePaths.{paths-lead}
+use Rattle.krb_judge.proofs.MessagePaths.{paths-lead, paths-last}
 use Rattle.krb_judge.proofs.law.paths_lead_to_refusals.Goals as goal
 
-pub returns : goal.returns
-returns c = paths-lead
+pub returns-clause-lies : goal.returns-clause-lies
+returns-clause-lies c = paths-lead
+
+pub returns-clause-last : goal.returns-clause-last
+returns-clause-last c = paths-last
