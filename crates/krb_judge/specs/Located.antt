@@ -27,7 +27,7 @@ LiesBy Inside path room octets offset found =
     × ((found ≡ path) ⊎ ((header contents : ℕ) × (head room octets ≡ Got header contents) × Inside contents (take contents (drop header octets)) header))
 
 abbrev mutual
-  -- An octet of the contents of an item of a term lies in the item that `found` names, or, if one may be absent, a field is to be there and is not.
+  -- An octet of the contents of an item of a term lies in the item that `found` names. Where `Absent` holds, that may also be a field that is to be there and is not.
   pub LiesInside : (Absent : Type 0) → Term → Names → (path : List ℕ) → (offset : ℕ) → (found : List ℕ) → (room : ℕ) → (octets : List ℕ) → (before : ℕ) → Type 0
   LiesInside Absent (Sequence fields) names path offset found room octets before = LiesInField Absent fields names path 0 offset found room octets before
   LiesInside Absent (SequenceOf empty term) names path offset found room octets before =
