@@ -32,7 +32,7 @@ use Rattle.krb_text.specs.Values.{Field, the, printed, if_there, count, sealed}
 use Rattle.krb_text.specs.Masks.{masked_sealed, masked_item, masked_ticket, masked_req_body, masked_data, masked_kdc_req, masked_kdc_rep, masked_ap_req, masked_ap_rep, masked_krb_safe, masked_krb_priv, masked_krb_cred, masked_krb_error, masked}
 
 -- ---- the values of fields
-sealed-same : (e : EncryptedData) → sealed (masked_sealed e) ≡ sealed e
+pub sealed-same : (e : EncryptedData) → sealed (masked_sealed e) ≡ sealed e
 sealed-same e = rw (length-zeros (length e.cipher)) refl
 
 some_sealed-same : (e : Option EncryptedData) → if_there sealed (option_map masked_sealed e) ≡ if_there sealed e
