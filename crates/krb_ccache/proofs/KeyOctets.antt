@@ -1,5 +1,5 @@
 -- Caches that differ in octets of a key: all else is read alike.
-use Rattle.std.proofs.Common.{◌≡◌, ℕ, zero, suc, ◌+◌, ◌==◌, ◌<◌, ◌≤◌, Bool, true, false, Option, None, Result, Ok, Err, List, [], ◌∷◌, ◌++◌, length, take, drop, refl, sym, ◌∙◌, ap, subst, arith, append_assoc, length-append, take-append-drop}
+use Rattle.std.proofs.Common.{◌≡◌, ℕ, zero, suc, ◌==◌, ◌<◌, ◌≤◌, Bool, true, false, Option, None, Result, Ok, Err, List, [], ◌∷◌, ◌++◌, length, take, drop, refl, sym, ◌∙◌, ap, subst, arith, append_assoc, length-append, take-append-drop}
 use Rattle.std.specs.Int.{w8, w16, w32}
 use Rattle.krb_der.specs.Octets.{when}
 use Rattle.krb_file.specs.Fields.{Source, Fault, limited, Reader, and_then, ◌>>=◌, succeed, called, in_part, number_at, signed_at, counted_at, names_at, within, is_at_end, version_at}
@@ -16,7 +16,7 @@ use Rattle.krb_ccache.specs.declared.value.FilePrincipal.{FilePrincipal}
 use Rattle.krb_ccache.specs.declared.reading.Start.{Start}
 use Rattle.krb_ccache.specs.Spelling.{no_header, masked_credential}
 use Rattle.krb_ccache.specs.Reading.{principal_at, principal_in, typed_at, typed_list_at, credential_from, again_at, credential_at, one_enctype, header_field_at, header_fields_at, header_at, header_in, start_at, Items, no_items, with_first, item_and, items_within}
-use Rattle.krb_ccache.specs.Streaming.{file_start, credentials_of, credentials}
+use Rattle.krb_ccache.specs.Streaming.{file_start, credentials_of}
 use Rattle.krb_ccache.specs.Laws.{key_size_at, IsUpToKey, masked_items, start_alone, AreAlike}
 use Rattle.krb_ccache.proofs.Faults.{Steps-principal_in, Steps-again}
 use Rattle.krb_ccache.proofs.Stepwise.{Shortens, Shortens-then, Shortens-at, Shortens-principal, Shortens-credential}

@@ -13,7 +13,7 @@ use Rattle.krb_msg.proofs.Items.{item_done}
 use Rattle.krb_msg.proofs.Laws.{done_within}
 use Rattle.krb_msg.proofs.TermsDecided.{item-count, contents-count}
 use Rattle.krb_judge.specs.FieldNames.{field_at}
-use Rattle.krb_judge.specs.Paths.{field_path, element_path, begin_with, after_done, within_head, within, first_item, elements_path, contents_path, fields_path, item_path}
+use Rattle.krb_judge.specs.Paths.{field_path, element_path, begin_with, after_done, within_head, first_item, elements_path, contents_path, fields_path, item_path}
 use Rattle.krb_judge.specs.Located.{IsOf, BeginWithItems, LiesIn, LiesInside, LiesInField, BeginsPath}
 use Rattle.krb_judge.specs.declared.locating.names.Names.{Names}
 use Rattle.krb_judge.proofs.Lies.{gone, bad_is, why_is, after-bad, contents-within, moved, same-item}
