@@ -15,3 +15,6 @@ pub mod Streams
 pub mod Mapped
 pub mod Upgrades
 pub mod Reaching
+pub mod Limits
+pub mod Spelled
+pub mod KeyOctets

@@ -34,7 +34,7 @@ Shortens-number w some = record {
 }
 
 -- the same reader, whose faults are of another field
-Shortens-at : {A : Type 0} (other : Option FileField → Option FileField) (reader : Reader A) → Shortens reader → Shortens (at_field other reader)
+pub Shortens-at : {A : Type 0} (other : Option FileField → Option FileField) (reader : Reader A) → Shortens reader → Shortens (at_field other reader)
 Shortens-at other reader one = record { shorter = λ bounds s v t e. one.shorter bounds s v t (refused_at-ok other (reader bounds s) (v, t) e) }
 
 Shortens-header_field : Shortens header_field_at
@@ -45,7 +45,7 @@ Shortens-header_field =
 pub Shortens-header_field_in : (index : ℕ) → Shortens (in_part (parts.Header index) header_field_at)
 Shortens-header_field_in index = Shortens-at (with_part (parts.Header index)) header_field_at Shortens-header_field
 
-Shortens-principal : Shortens principal_at
+pub Shortens-principal : Shortens principal_at
 Shortens-principal =
     Shortens-then (called field.NameType (signed_at w32)) _ (Shortens-at (with_name field.NameType) (signed_at w32) (record { shorter = signed-shorter })) (λ name_type. Steps-then (names_at w32) _ (Steps-names w32) (λ names. Steps-succeed (record { name_type = name_type; realm = names.realm; components = names.components })))
 

@@ -4,3 +4,6 @@ pub mod Loops
 pub mod FieldReaders
 pub mod Taken
 pub mod Reaching
+pub mod Limits
+pub mod Zeros
+pub mod Stable

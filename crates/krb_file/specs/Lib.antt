@@ -3,4 +3,5 @@ pub mod Fields
 pub mod Names
 pub mod FieldReaders
 pub mod Parts
+pub mod Limits
 pub mod inner

@@ -4,3 +4,7 @@ pub mod Values
 mod Inside
 mod Descent
 mod KindNodes
+mod OwnNames
+mod Lies
+mod Deepest
+mod MessagePaths

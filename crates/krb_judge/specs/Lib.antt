@@ -5,5 +5,6 @@ pub mod FieldTables
 pub mod FieldNames
 pub mod Paths
 pub mod PathExamples
+pub mod Located
 pub mod Laws
 pub mod inner

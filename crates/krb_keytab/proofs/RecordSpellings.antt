@@ -143,7 +143,7 @@ nothing-again zero place stops.Zero rest len whole = absurd (omega arith)
 nothing-again (suc bound) place stops.Zero rest len whole =
     ap (λ (r : Result (Next × Source) Fault). items_from r (items_within bound None)) (length-again (pos 0) place rest (record { sfits = omega arith }))
 
-spelled-some : (r : Record) (b : List ℕ) → RecordSpells r b → 0 < length b
+pub spelled-some : (r : Record) (b : List ℕ) → RecordSpells r b → 0 < length b
 spelled-some (records.Entry e) b spelled = omega (arith, ap length spelled.1)
 spelled-some (records.Hole h) b spelled = omega (arith, ap length spelled.2)
 

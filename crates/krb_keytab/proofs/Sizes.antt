@@ -5,6 +5,7 @@ use Rattle.std.proofs.lemmas.List.{take_more}
 use Rattle.std.proofs.lemmas.List.Concat.{flat_map-append, flat_map-cons}
 use Rattle.std.specs.List.{flat_map}
 use Rattle.krb_file.specs.Fields.{zeros}
+use Rattle.krb_file.proofs.Zeros.{length-zeros}
 use Rattle.krb_keytab.specs.Holes.{HoleModel}
 use Rattle.krb_keytab.specs.declared.value.Entry.{Entry}
 use Rattle.krb_keytab.specs.declared.value.Record.{Record}
@@ -14,10 +15,6 @@ use Rattle.krb_keytab.specs.Spelling.{entry}
 use Rattle.krb_keytab.specs.Writing.{or_else, record_fault, records_fault, written_record}
 
 -- ---- a record
-pub length-zeros : (n : ℕ) → length (zeros n) ≡ n
-length-zeros zero = refl
-length-zeros (suc n) = ap suc (length-zeros n)
-
 pub zeros-more : (n : ℕ) → zeros (n + 1) ≡ zeros n ++ 0 ∷ []
 zeros-more zero = refl
 zeros-more (suc n) = simp unary_clauses (ap (λ (l : List ℕ). 0 ∷ l) (simp unary_clauses at (zeros-more n)))

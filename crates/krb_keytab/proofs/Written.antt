@@ -1,10 +1,10 @@
 -- What is written spells the keytab, and is read back.
-use Rattle.std.proofs.Common.{◌≡◌, ℕ, zero, suc, true, Ok, List, [], ◌∷◌, ◌++◌, length, refl, sym, ◌∙◌, ap, arith}
+use Rattle.std.proofs.Common.{◌≡◌, ℕ, zero, suc, true, Ok, List, [], ◌∷◌, ◌++◌, length, refl, sym, ◌∙◌, ap}
 use Rattle.std.proofs.lemmas.List.{append-nil}
 use Rattle.std.specs.List.{flat_map, AllByRecursion}
 use Rattle.std.proofs.lemmas.List.Concat.{flat_map-cons}
-use Rattle.krb_der.specs.Octets.{AreOctets}
 use Rattle.krb_file.specs.Fields.{zeros, are_zero}
+use Rattle.krb_file.proofs.Zeros.{length-zeros, AreOctets-zeros}
 use Rattle.krb_keytab.specs.declared.value.Keytab.{Keytab}
 use Rattle.krb_keytab.specs.declared.value.Record.{Record}
 use Rattle.krb_keytab.specs.declared.value.Record.TheVariants as records
@@ -12,11 +12,6 @@ use Rattle.krb_keytab.specs.Spelling.{RecordSpells, RecordsSpell, stop_octets, K
 use Rattle.krb_keytab.specs.Reading.{read}
 use Rattle.krb_keytab.specs.Writing.{written_record, written, CanWrite}
 use Rattle.krb_keytab.proofs.Keytabs.{read-again}
-use Rattle.krb_keytab.proofs.Sizes.{length-zeros}
-
-AreOctets-zeros : (n : ℕ) → AreOctets (zeros n)
-AreOctets-zeros zero = tt
-AreOctets-zeros (suc n) = (omega arith, AreOctets-zeros n)
 
 are_zero-zeros : (n : ℕ) → are_zero (zeros n) ≡ true
 are_zero-zeros zero = refl

@@ -1,7 +1,18 @@
 -- Laws of keytabs and their octets. Each is the contract of a function of the module `law`.
-use Rattle.std.specs.Prelude.{ℕ, ◌≡◌, List}
+use Rattle.std.specs.Prelude.{ℕ, suc, pos, ◌+◌, ◌<◌, ◌≤◌, ◌≡◌, ◌⊎◌, Option, Some, None, Result, Ok, Err, List, [], ◌++◌, length, map, take, drop}
+use Rattle.std.specs.Int.{w8, w16, w32, cast_signed}
+use Rattle.krb_der.specs.Octets.{AreOctets}
+use Rattle.krb_file.specs.Fields.{Source, Fault, limited, Reader, ◌>>=◌, called, number_at, signed_at, names_at, within}
+use Rattle.krb_file.specs.Limits.{number_from, number_before}
+use Rattle.krb_file.specs.declared.fault.FileWhy.TheVariants as why
+use Rattle.krb_file.specs.declared.field_name.FieldName.TheVariants as fields
+use Rattle.krb_file.specs.declared.field_name.FileField.{FileField}
 use Rattle.krb_keytab.specs.declared.value.Keytab.{Keytab}
-use Rattle.krb_keytab.specs.Spelling.{KeytabSpells, ReadAs}
+use Rattle.krb_keytab.specs.declared.value.Record.{Record}
+use Rattle.krb_keytab.specs.declared.value.Stop.{Stop}
+use Rattle.krb_keytab.specs.declared.value.Stop.TheVariants as stops
+use Rattle.krb_keytab.specs.Spelling.{KeytabSpells, ReadAs, masked_record}
+use Rattle.krb_keytab.specs.Reading.{content_size, Items, items}
 
 -- A file is read as at most one keytab, and as at most one number of its octets.
 abbrev pub ReadAsOne : Type 0
@@ -10,3 +21,72 @@ ReadAsOne = (file : List ℕ) (v other : Keytab) (k n : ℕ) → ReadAs file v k
 -- Octets spell at most one keytab.
 abbrev pub SpellsOne : Type 0
 SpellsOne = (v other : Keytab) (b : List ℕ) → KeytabSpells v b → KeytabSpells other b → v ≡ other
+
+-- ---- under a limit, and before a fault
+
+-- The first `size` octets of a file spell the version and these records.
+pub record AreFirst (file : List ℕ) (records : List Record) (size : ℕ) : Type 0 where
+  pub there : size ≤ length file
+  pub spelled : KeytabSpells (record { records = records; stop = stops.File }) (take size file)
+
+-- where the records of a file end, or the field at fault begins
+abbrev pub end_place : Result (Stop × ℕ) Fault → ℕ
+end_place (Ok end) = end.1
+end_place (Err fault) = fault.place
+
+-- The records that are read of a file, if there are any, are spelled by its octets before the fault or up to the end.
+abbrev pub RecordsAreSpelled : Type 0
+RecordsAreSpelled = (limit : Option ℕ) (file : List ℕ) → AreOctets file → ((items limit file).records ≡ []) ⊎ ((size : ℕ) × AreFirst file (items limit file).records size × (size ≤ end_place (items limit file).end))
+
+-- The field at a place has more octets than a limit, as the two octets before it say; or, after the key of an entry, as the length of the record says, which begins at `start`.
+abbrev pub IsLong : (most : ℕ) (file : List ℕ) (start place : ℕ) → Type 0
+IsLong most file start place = (most < number_before w16 file place) ⊎ (place + most < start + 4 + content_size (cast_signed w32 (number_from w32 file start)))
+
+-- What a limit leaves of the records of a file: those before a longer field, and its fault.
+pub record AreCut (most : ℕ) (file : List ℕ) (under whole : Items) : Type 0 where
+  pub size : ℕ
+  pub first : AreFirst file under.records size
+  pub others : List Record
+  pub records : whole.records ≡ under.records ++ others
+  pub place : ℕ
+  pub field : Option FileField
+  pub end : under.end ≡ Err (record { place = place; why = why.TooLong; field = field })
+  pub long : IsLong most file size place
+
+-- Under a limit a file is read as without one, or up to a field that is longer.
+abbrev pub LimitsAddTooLong : Type 0
+LimitsAddTooLong = (most : ℕ) (file : List ℕ) → AreOctets file → (items (Some most) file ≡ items None file) ⊎ AreCut most file (items (Some most) file) (items None file)
+
+-- ---- files that differ in octets of keys
+
+-- the fields of an entry before the octets of its key, the last of which is their number
+abbrev pub key_size_at : Reader ℕ
+key_size_at = do
+  names ← names_at w16
+  name_type ← called fields.NameType (signed_at w32)
+  time ← called fields.Timestamp (number_at w32)
+  vno8 ← called fields.KeyVersion (number_at w8)
+  enctype ← called fields.Enctype (number_at w16)
+  called fields.Key (number_at w16)
+
+-- Octets end before the first octet of a key, of which there are to be `size`: they are the version and records up to `start`, and then, of an entry, its length and its fields before the key.
+pub record IsUpToKey (octets : List ℕ) (size : ℕ) : Type 0 where
+  pub records : List Record
+  pub start : ℕ
+  pub first : AreFirst octets records start
+  pub content : ℕ
+  pub after : Source
+  pub announced : signed_at w32 (limited None) (record { place = start; octets = drop start octets }) ≡ Ok (pos (suc content), after)
+  pub end : Source
+  pub fields : within (suc content) key_size_at (limited None) after ≡ Ok (size, end)
+  pub all : end.octets ≡ []
+
+-- the records with each octet of each key 00, and the end or the fault
+abbrev pub masked_items : Items → Items
+masked_items found = record { records = map masked_record found.records; end = found.end }
+
+-- If octets of a key are others, a file is read as the same but for these, up to the same end or the same fault.
+abbrev pub KeysChangeNothingElse : Type 0
+KeysChangeNothingElse =
+    (limit : Option ℕ) (before key other after : List ℕ) (size : ℕ) → IsUpToKey before size → length key ≤ size → length other ≡ length key
+    → masked_items (items limit (before ++ (key ++ after))) ≡ masked_items (items limit (before ++ (other ++ after)))

@@ -1,8 +1,14 @@
 -- No octet of a key has a part in what is printed of keytabs and of caches.
-use Rattle.std.proofs.Common.{◌≡◌, ℕ, zero, suc, Option, List, [], ◌∷◌, length, map, refl, ap, ◌∙◌}
+use Rattle.std.proofs.Common.{◌≡◌, ℕ, Bool, true, false, Option, List, [], ◌∷◌, length, map, refl, sym, ap, ap₂, ◌∙◌}
 use Rattle.std.proofs.lemmas.List.{length-map}
 use Rattle.std.specs.List.{flat_map}
-use Rattle.krb_file.specs.Fields.{zeros}
+use Rattle.krb_file.proofs.Zeros.{length-zeros}
+use Rattle.krb_der.specs.declared.profile.Profile.TheVariants as profiles
+use Rattle.krb_msg.specs.Grammar.{ticket}
+use Rattle.krb_msg.specs.Term.{der}
+use Rattle.krb_msg.specs.Types.{ticket_value}
+use Rattle.krb_msg.specs.declared.ticket.Ticket.{Ticket}
+use Rattle.krb_judge.specs.Parses.{AreOfTicket}
 use Rattle.krb_keytab.specs.declared.value.Keytab.{Keytab}
 use Rattle.krb_keytab.specs.declared.value.Record.{Record}
 use Rattle.krb_keytab.specs.declared.value.Record.TheVariants as records
@@ -13,17 +19,17 @@ use Rattle.krb_ccache.specs.declared.value.Credential.{Credential}
 use Rattle.krb_ccache.specs.declared.value.Credential3.{Credential3}
 use Rattle.krb_ccache.specs.declared.ticket.TicketState.{TicketState}
 use Rattle.krb_ccache.specs.declared.ticket.TicketState.TheVariants as states
-use Rattle.krb_ccache.specs.Spelling.{masked as masked_cache, masked_credential, masked3, masked_credential3, upgraded, no_header}
+use Rattle.krb_ccache.proofs.Tickets.{state-ticket}
+use Rattle.krb_ccache.specs.Spelling.{is_config, masked as masked_cache, masked_credential, masked3, masked_credential3, upgraded, no_header}
 use Rattle.krb_ccache.specs.Tickets.{state_of}
 use Rattle.krb_text.specs.declared.form.Form.{Form}
 use Rattle.krb_text.specs.Forms.{record_line}
-use Rattle.krb_text.specs.Values.{Printed, Value}
+use Rattle.krb_text.specs.Masks.{masked_ticket}
+use Rattle.krb_text.specs.Values.{Printed, Value, sealed}
+use Rattle.krb_text.proofs.Masks.{sealed-same}
 use Rattle.krb_list.specs.Keytabs.{printed_record, keytab_lines}
-use Rattle.krb_list.specs.Ccaches.{ticketed_record, config_record, state_record, credential_record, ccache_lines}
-
-length-zeros : (n : ℕ) → length (zeros n) ≡ n
-length-zeros zero = refl
-length-zeros (suc n) = ap (λ m. suc m) (length-zeros n)
+use Rattle.krb_list.specs.Ccaches.{ticketed_record, config_record, ticket_server, state_record, credential_record, ccache_lines}
+use Rattle.krb_list.specs.Laws.{TicketCipherIsNotShown}
 
 -- values of the same records have the same lines
 same_lines : {A : Type 0} (mask : A → A) (record_of : A → Printed) → ((a : A) → record_of (mask a) ≡ record_of a) → (form : Form) (values : List A) → flat_map (λ a. record_line form (record_of a)) (map mask values) ≡ flat_map (λ a. record_line form (record_of a)) values
@@ -68,3 +74,41 @@ pub same_cache3 : (form : Form) (now : Option ℕ) (v : Cache3) → ccache_lines
 same_cache3 form now v =
     ap (λ (cs : List Credential). let cache : Ccache = record { header = no_header; principal = v.principal; credentials = cs } in ccache_lines form now cache) (masked_upgraded v.credentials)
     ∙ same_cache form now (upgraded v)
+
+-- ---- the cipher of a ticket
+some_ticket : (octets : List ℕ) (t : Ticket) → AreOfTicket profiles.Lenient octets t → octets ≡ [] → ⊥
+some_ticket octets t are none = let no : der ticket (ticket_value t) ≡ [] = are.form ∙ none in cc
+
+sealed_of_masked : (t u : Ticket) → masked_ticket u ≡ masked_ticket t → sealed u.enc_part ≡ sealed t.enc_part
+sealed_of_masked t u same = sym (sealed-same u.enc_part) ∙ ap (λ (x : Ticket). sealed x.enc_part) same ∙ sealed-same t.enc_part
+
+server_of_masked : (t u : Ticket) → masked_ticket u ≡ masked_ticket t → ticket_server u ≡ ticket_server t
+server_of_masked t u same = ap (λ (x : Ticket). ticket_server x) same
+
+-- all but the ticket is shown alike
+other_ticketed : (now : Option ℕ) (c : Credential) (other : List ℕ) (its_ticket its_server : Value) → ticketed_record now (record c { ticket = other }) its_ticket its_server ≡ ticketed_record now c its_ticket its_server
+unfolding ticketed_record
+other_ticketed now c other its_ticket its_server = refl
+
+other_config : (c : Credential) (other : List ℕ) → length other ≡ length c.ticket → config_record (record c { ticket = other }) ≡ config_record c
+unfolding config_record
+other_config c other len = rw len refl
+
+config_state : (c : Credential) → is_config c ≡ true → state_of c ≡ states.Config
+unfolding state_of
+config_state c e = rw e refl
+
+pub same_ticket : TicketCipherIsNotShown
+unfolding credential_record
+same_ticket now c other t u are are_other same len = by_config (is_config c) refl
+  where
+    by_config : (config : Bool) → is_config c ≡ config → state_record now (record c { ticket = other }) (state_of (record c { ticket = other })) ≡ state_record now c (state_of c)
+    by_config true e =
+        ap (state_record now (record c { ticket = other })) (config_state (record c { ticket = other }) e)
+        ∙ other_config c other len
+        ∙ sym (ap (state_record now c) (config_state c e))
+    by_config false e =
+        ap (state_record now (record c { ticket = other })) (sym (state-ticket (record c { ticket = other }) u e (some_ticket other u are_other) are_other))
+        ∙ other_ticketed now c other (sealed u.enc_part) (ticket_server u)
+        ∙ ap₂ (ticketed_record now c) (sealed_of_masked t u same) (server_of_masked t u same)
+        ∙ ap (state_record now c) (state-ticket c t e (some_ticket c.ticket t are) are)

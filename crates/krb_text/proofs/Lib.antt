@@ -20,3 +20,5 @@ pub mod Records
 pub mod EndOneLine
 pub mod MessageOneLine
 pub mod CaptureOneLine
+pub mod Masks
+pub mod MethodMasks

@@ -1,5 +1,5 @@
 -- Laws of what is printed.
-use Rattle.std.specs.Prelude.{ℕ, pos, ◌≡◌, ◌≤◌, ◌<◌, ◌^◌, unsigned_abs, Option, IfSome, List, ◌++◌}
+use Rattle.std.specs.Prelude.{ℕ, pos, ◌≡◌, ◌≤◌, ◌<◌, ◌^◌, unsigned_abs, Option, Some, IfSome, List, ◌++◌, length, map}
 use Rattle.std.specs.List.{AllByRecursion}
 use Rattle.std.specs.Net.Addr.{IsIpv4Addr, IsIpv6Addr, MatchIp}
 use Rattle.jiff_core.specs.Date.{epoch_day}
@@ -9,7 +9,11 @@ use Rattle.krb_der.specs.Octets.{AreOctets}
 use Rattle.krb_file.specs.declared.fault.FileWhy.{FileWhy}
 use Rattle.krb_der.specs.declared.verdict.Refusal.{Refusal}
 use Rattle.krb_msg.specs.Stream.{End}
+use Rattle.krb_msg.specs.declared.krb_error.KrbError.{KrbError}
 use Rattle.krb_msg.specs.declared.message.Message.{Message}
+use Rattle.krb_msg.specs.declared.message.Message.TheVariants as message
+use Rattle.krb_msg.specs.Grammar.{method_data}
+use Rattle.krb_msg.specs.Term.{Value, Fits, der}
 use Rattle.krb_msg.specs.Views.{IsInProfile}
 use Rattle.krb_text.specs.Captures.{capture_end_line, capture_refused_line, captured_message_line, captured_refused_line, joined_line, lost_line, password_line}
 use Rattle.krb_text.specs.declared.capture.CaptureCounts.{CaptureCounts}
@@ -20,7 +24,8 @@ use Rattle.krb_text.specs.declared.refusal.InputFault.{InputFault}
 use Rattle.krb_text.specs.Refusals.{file_refused_line, message_refused_line, input_refused_line}
 use Rattle.krb_text.specs.Streams.{end_line, counted_end_line}
 use Rattle.krb_text.specs.Files.{file_line}
-use Rattle.krb_text.specs.Messages.{message_line}
+use Rattle.krb_text.specs.Messages.{message_record, message_line}
+use Rattle.krb_text.specs.Masks.{masked, masked_method}
 use Rattle.krb_text.specs.Time.{civil_date, the_date}
 
 -- different components or realms have different texts
@@ -101,3 +106,22 @@ CaptureEndIsOneLine = (form : Form) (counts : CaptureCounts) → IsOneLine (capt
 -- the last of a capture that is refused
 abbrev pub CaptureRefusalIsOneLine : Type 0
 CaptureRefusalIsOneLine = (form : Form) (counts : CaptureCounts) (place : ℕ) (reason : FileWhy) (path : Option (List ℕ)) → IfSome path AreOctets → IsOneLine (capture_refused_line form counts place reason path)
+
+-- ---- no octet of what is sealed or opaque has a part in what is printed
+-- the record of a message, of which its line in each form is made
+abbrev pub CiphersAreNotInRecords : Type 0
+CiphersAreNotInRecords = (m : Message) → message_record (masked m) ≡ message_record m
+
+-- its line
+abbrev pub CiphersAreNotInLines : Type 0
+CiphersAreNotInLines = (form : Form) (m : Message) → message_line form (masked m) ≡ message_line form m
+
+-- its line in a capture
+abbrev pub CiphersAreNotInCaptures : Type 0
+CiphersAreNotInCaptures = (form : Form) (origin : Origin) (m : Message) → captured_message_line form origin (masked m) ≡ captured_message_line form origin m
+
+-- the record of an error whose data are METHOD-DATA, of which the values are 00
+abbrev pub MethodsAreNotInRecords : Type 0
+MethodsAreNotInRecords =
+    (m : KrbError) (items : Value method_data) → Fits method_data items → length (der method_data items) < 2 ^ 31 → m.e_data ≡ Some (der method_data items)
+    → message_record (message.KrbError (record m { e_data = Some (der method_data (map masked_method items)) })) ≡ message_record (message.KrbError m)

@@ -10,6 +10,7 @@ pub mod Files
 pub mod Messages
 pub mod Streams
 pub mod Captures
+pub mod Masks
 pub mod Laws
 pub mod Examples
 pub mod MessageExamples

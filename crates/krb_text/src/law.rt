@@ -1,5 +1,5 @@
 //! Laws of what is printed. Each is the contract of a function that does nothing.
-ghost use Rattle.krb_text.specs.Laws.{CaptureEndIsOneLine, CaptureRefusalIsOneLine, CapturedMessageIsOneLine, CapturedRefusalIsOneLine, CountedStreamEndIsOneLine, DatesAreTheCalendars, EscapeIsGraphic, FileNameIsOneLine, FileRefusalIsOneLine, InputRefusalIsOneLine, JoinedIsOneLine, LostIsOneLine, MessageIsOneLine, MessageRefusalIsOneLine, PasswordIsOneLine, PrincipalTextIsInjective, StreamEndIsOneLine};
+ghost use Rattle.krb_text.specs.Laws.{CaptureEndIsOneLine, CaptureRefusalIsOneLine, CapturedMessageIsOneLine, CapturedRefusalIsOneLine, CiphersAreNotInCaptures, CiphersAreNotInLines, CiphersAreNotInRecords, CountedStreamEndIsOneLine, DatesAreTheCalendars, EscapeIsGraphic, FileNameIsOneLine, FileRefusalIsOneLine, InputRefusalIsOneLine, JoinedIsOneLine, LostIsOneLine, MessageIsOneLine, MessageRefusalIsOneLine, MethodsAreNotInRecords, PasswordIsOneLine, PrincipalTextIsInjective, StreamEndIsOneLine};
 
 /// Different components or realms have different texts.
 pub fn principal_text_is_injective()
@@ -43,4 +43,15 @@ pub fn capture_is_one_line_each()
 /// The date n days after 1970-01-01, found by counting, is the calendar's.
 pub fn dates_are_the_calendars()
     ensures { DatesAreTheCalendars }
+{}
+
+/// What is printed of a message, in each form and of a capture too, is as of the same with every
+/// octet 00 of its ciphers, its checksum, its user data and its values of pre-authentication data,
+/// and of the data of an error that does not ask for pre-authentication; and the record of one that
+/// asks is as with other values in its METHOD-DATA.
+pub fn ciphers_are_not_shown()
+    ensures record { CiphersAreNotInRecords }
+    ensures line { CiphersAreNotInLines }
+    ensures capture { CiphersAreNotInCaptures }
+    ensures methods { MethodsAreNotInRecords }
 {}

@@ -47,8 +47,8 @@ pub use form::Form;
 pub use json::put_string;
 pub use krb_msg::{Notes, notes_of};
 pub use law::{
-    capture_is_one_line_each, dates_are_the_calendars, end_is_one_line, escape_is_graphic,
-    message_is_one_line, principal_text_is_injective,
+    capture_is_one_line_each, ciphers_are_not_shown, dates_are_the_calendars, end_is_one_line,
+    escape_is_graphic, message_is_one_line, principal_text_is_injective,
 };
 pub use message::{message_line, put_message, put_message_view};
 pub use number::{Numbered, Sealed};

@@ -25,3 +25,4 @@ pub mod SourceLineParts
 pub mod EncodedLines
 pub mod WholeRuns
 mod RoundTrips
+mod KeyOctets

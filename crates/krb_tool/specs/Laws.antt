@@ -1,12 +1,14 @@
 -- The laws of listings and of conversions. Each is the contract of a function of the module `law`.
-use Rattle.std.specs.Prelude.{ℕ, ◌≡◌, false, true, List, Option}
+use Rattle.std.specs.Prelude.{ℕ, ◌≤◌, ◌≡◌, false, true, List, ◌++◌, length, Option}
 use Rattle.krb_der.specs.Octets.{AreOctets}
 use Rattle.krb_der.specs.declared.profile.Profile.{Profile}
+use Rattle.krb_keytab.specs.Laws.{IsUpToKey}
 use Rattle.krb_ccache.specs.declared.value.Cache3.{Cache3}
+use Rattle.krb_ccache.specs.Laws.{IsUpToKey as IsUpToSessionKey}
 use Rattle.krb_ccache.specs.Spelling.{CcacheSpells, Spells3, upgraded}
 use Rattle.krb_text.specs.declared.form.Form.{Form}
 use Rattle.krb_tool.specs.declared.run.RunEnd.TheVariants as run
-use Rattle.krb_tool.specs.Files.{ccache_listing}
+use Rattle.krb_tool.specs.Files.{keytab_listing, ccache_listing}
 use Rattle.krb_tool.specs.Decoding as decoding
 use Rattle.krb_tool.specs.Encoding as encoding
 
@@ -25,3 +27,15 @@ MessageComesBack = (profile : Profile) (limit : ℕ) (octets : List ℕ) → Are
 pub record DecodedComesBack : Type 0 where
   pub streams : StreamsComeBack
   pub messages : MessageComesBack
+
+-- Two keytabs that differ in octets of one key alone have one listing, up to the same end or the same refusal.
+abbrev pub KeysAreNotListed : Type 0
+KeysAreNotListed =
+    (form : Form) (before key other after : List ℕ) (size : ℕ) → IsUpToKey before size → length key ≤ size → length other ≡ length key
+    → keytab_listing form (before ++ (key ++ after)) ≡ keytab_listing form (before ++ (other ++ after))
+
+-- So do two caches.
+abbrev pub SessionKeysAreNotListed : Type 0
+SessionKeysAreNotListed =
+    (form : Form) (now : Option ℕ) (before key other after : List ℕ) (size : ℕ) → IsUpToSessionKey before size → length key ≤ size → length other ≡ length key
+    → ccache_listing form now (before ++ (key ++ after)) ≡ ccache_listing form now (before ++ (other ++ after))

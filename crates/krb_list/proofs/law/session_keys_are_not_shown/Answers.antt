@@ -1,4 +1,4 @@
-use Rattle.krb_list.proofs.Masks.{same_cache, same_cache3, same_credential}
+use Rattle.krb_list.proofs.Masks.{same_ticket, same_cache, same_cache3, same_credential}
 use Rattle.krb_list.proofs.law.session_keys_are_not_shown.Goals as goal
 
 pub returns-clause-cache : goal.returns-clause-cache
@@ -9,3 +9,6 @@ returns-clause-cache3 c = same_cache3
 
 pub returns-clause-credential : goal.returns-clause-credential
 returns-clause-credential c = same_credential
+
+pub returns-clause-ticket : goal.returns-clause-ticket
+returns-clause-ticket c = same_ticket

@@ -1,0 +1,8 @@
+use Rattle.krb_judge.proofs.MessagePaths.{paths-lead, paths-last}
+use Rattle.krb_judge.proofs.law.paths_lead_to_refusals.Goals as goal
+
+pub returns-clause-lies : goal.returns-clause-lies
+returns-clause-lies c = paths-lead
+
+pub returns-clause-last : goal.returns-clause-last
+returns-clause-last c = paths-last

@@ -1,0 +1,15 @@
+use Rattle.krb_text.proofs.Masks.{record-same, line-same, captured-same}
+use Rattle.krb_text.proofs.MethodMasks.{methods-record}
+use Rattle.krb_text.proofs.law.ciphers_are_not_shown.Goals as goal
+
+pub returns-clause-record : goal.returns-clause-record
+returns-clause-record c = record-same
+
+pub returns-clause-line : goal.returns-clause-line
+returns-clause-line c = line-same
+
+pub returns-clause-capture : goal.returns-clause-capture
+returns-clause-capture c = captured-same
+
+pub returns-clause-methods : goal.returns-clause-methods
+returns-clause-methods c = methods-record

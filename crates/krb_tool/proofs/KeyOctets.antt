@@ -1,0 +1,65 @@
+-- Files that differ in octets of a key have one listing.
+use Rattle.std.proofs.Common.{◌≡◌, ℕ, ◌≤◌, Option, Result, Ok, Err, List, [], ◌∷◌, ◌++◌, length, map, refl, sym, ◌∙◌, ap, ap₂}
+use Rattle.std.proofs.lemmas.List.{length-map}
+use Rattle.std.specs.List.{flat_map}
+use Rattle.krb_file.specs.Fields.{Source, Fault}
+use Rattle.krb_keytab.specs.Reading.{Items as Records, items as keytab_records}
+use Rattle.krb_keytab.specs.Spelling.{masked_record}
+use Rattle.krb_keytab.specs.Laws.{IsUpToKey, masked_items as masked_records, KeysChangeNothingElse}
+use Rattle.krb_ccache.specs.declared.value.Credential.{Credential}
+use Rattle.krb_ccache.specs.declared.reading.Start.{Start}
+use Rattle.krb_ccache.specs.Reading.{Items}
+use Rattle.krb_ccache.specs.Spelling.{masked_credential}
+use Rattle.krb_ccache.specs.Streaming.{file_start, credentials}
+use Rattle.krb_ccache.specs.Laws.{IsUpToKey as IsUpToSessionKey, masked_items, start_alone, SessionKeysChangeNothingElse}
+use Rattle.krb_text.specs.declared.form.Form.{Form}
+use Rattle.krb_text.specs.Forms.{record_line as line_of}
+use Rattle.krb_list.specs.Laws.{RecordKeyIsNotShown, CredentialKeyIsNotShown}
+use Rattle.krb_tool.specs.Lines.{record_line, cache_line, credential_line}
+use Rattle.krb_tool.specs.Files.{RecordListing, after_line, refused_listing, field_limit, keytab_last, records_listing, keytab_listing, ccache_last, credentials_listing, cache_listing, ccache_listing, end_of}
+
+-- the lines of values are those of the same values masked
+lines-same : {A : Type 0} (line : A → List ℕ) (mask : A → A) → ((a : A) → line (mask a) ≡ line a) → (values : List A) → flat_map line (map mask values) ≡ flat_map line values
+lines-same line mask same [] = refl
+lines-same line mask same (a ∷ values) = ap₂ (λ (first others : List ℕ). first ++ others) (same a) (lines-same line mask same values)
+
+-- ---- keytabs
+records-masked : RecordKeyIsNotShown → (form : Form) (found : Records) → records_listing form (masked_records found) ≡ records_listing form found
+records-masked shown form found =
+    ap₂ (λ (lines last : List ℕ). let it : RecordListing = record { lines = lines; last = last; end = end_of found.end } in it)
+    (lines-same (λ r. record_line form r) masked_record (λ r. ap (λ printed. line_of form printed) (shown r)) found.records)
+    (ap (λ (count : ℕ). keytab_last form count found.end) (length-map found.records masked_record))
+
+pub keytab-same : KeysChangeNothingElse → RecordKeyIsNotShown → (form : Form) (before key other after : List ℕ) (size : ℕ) → IsUpToKey before size → length key ≤ size → length other ≡ length key → keytab_listing form (before ++ (key ++ after)) ≡ keytab_listing form (before ++ (other ++ after))
+unfolding keytab_listing
+keytab-same alike shown form before key other after size up le len =
+    sym (records-masked shown form (keytab_records field_limit (before ++ (key ++ after))))
+    ∙ ap (records_listing form) (alike field_limit before key other after size up le len)
+    ∙ records-masked shown form (keytab_records field_limit (before ++ (other ++ after)))
+
+-- ---- caches
+credentials-masked : CredentialKeyIsNotShown → (form : Form) (now : Option ℕ) (found : Items Credential) → credentials_listing form now (masked_items found) ≡ credentials_listing form now found
+credentials-masked shown form now found =
+    ap₂ (λ (lines last : List ℕ). let it : RecordListing = record { lines = lines; last = last; end = end_of found.end } in it)
+    (lines-same (λ c. credential_line form now c) masked_credential (λ c. ap (λ printed. line_of form printed) (shown now c)) found.items)
+    (ap (λ (count : ℕ). ccache_last form count found.end) (length-map found.items masked_credential))
+
+-- the listing by what is before the credentials, without what is left of the file
+abbrev listing_by : Form → Result Start Fault → RecordListing → RecordListing
+listing_by form (Err fault) others = refused_listing form fault
+listing_by form (Ok start) others = after_line (cache_line form start.header start.principal) others
+
+listing-by : (form : Form) (now : Option ℕ) (r : Result (Start × Source) Fault) (found : Items Credential) → cache_listing form now r found ≡ listing_by form (start_alone r) (credentials_listing form now found)
+listing-by form now (Err fault) found = refl
+listing-by form now (Ok start) found = refl
+
+pub ccache-same : SessionKeysChangeNothingElse → CredentialKeyIsNotShown → (form : Form) (now : Option ℕ) (before key other after : List ℕ) (size : ℕ) → IsUpToSessionKey before size → length key ≤ size → length other ≡ length key → ccache_listing form now (before ++ (key ++ after)) ≡ ccache_listing form now (before ++ (other ++ after))
+unfolding ccache_listing
+ccache-same alike shown form now before key other after size up le len =
+    let one : List ℕ = before ++ (key ++ after) in
+    let another : List ℕ = before ++ (other ++ after) in
+    let same = alike field_limit before key other after size up le len in
+    let all = sym (credentials-masked shown form now (credentials field_limit one)) ∙ ap (credentials_listing form now) same.credentials ∙ credentials-masked shown form now (credentials field_limit another) in
+    listing-by form now (file_start field_limit one) (credentials field_limit one)
+    ∙ ap₂ (λ (start : Result Start Fault) (others : RecordListing). listing_by form start others) same.starts all
+    ∙ sym (listing-by form now (file_start field_limit another) (credentials field_limit another))
