@@ -14,3 +14,4 @@ pub mod Laws
 pub mod Unfinished
 pub mod Unlisted
 pub mod Rests
+pub mod WholeCaptures
