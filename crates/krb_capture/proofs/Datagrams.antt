@@ -2,6 +2,7 @@
 use Rattle.std.proofs.Common.{◌≡◌, Bool, true, false, List, [], ◌∷◌, ◌++◌, map, Option, Some, None, cond, refl, sym, ◌∙◌, ap, ap₂, append_assoc, append-nil}
 use Rattle.std.specs.List.{filter, flat_map}
 use Rattle.std.proofs.lemmas.List.Concat.{flat_map-append}
+use Rattle.std.proofs.lemmas.List.Elements.{filter-append}
 use Rattle.std.proofs.lemmas.Option.{none-some, same_Some}
 use Rattle.krb_packet.specs.Fragments.{contents_of_whole, step}
 use Rattle.krb_packet.specs.declared.contents.Contents.{Contents}
@@ -16,22 +17,27 @@ use Rattle.krb_capture.specs.Datagrams.{datagram_found}
 use Rattle.krb_capture.specs.Directions.{followed, last_of}
 use Rattle.krb_capture.specs.Flows.{origin_of, service_of}
 use Rattle.krb_capture.specs.Found.{Found}
-use Rattle.krb_capture.specs.WholeCaptures.{DatagramsAreApart, are_ends, carried_after, completed_contents, contents_after, datagrams_between, datagrams_if, found_after, found_between, is_from}
+use Rattle.krb_capture.specs.WholeCaptures.{DatagramsAreApart, are_ends, carried_after, completed_contents, contents_after, datagrams_between, datagrams_in, found_after, found_between, is_from}
 use Rattle.krb_capture.specs.declared.flow.Due.{Due}
 use Rattle.krb_capture.specs.declared.flow.Flow.{Flow}
 use Rattle.krb_capture.specs.declared.flow.Service.{Service}
 use Rattle.krb_capture.proofs.Flows.{ends-from_are}
 use Rattle.krb_capture.proofs.WholeCaptures.{found_between-append, packet-fragments}
 
+datagrams_in-append : (xs ys : List Contents) → datagrams_in (xs ++ ys) ≡ datagrams_in xs ++ datagrams_in ys
+datagrams_in-append [] ys = refl
+datagrams_in-append (contents.Datagram datagram ∷ xs) ys = ap (λ l. datagram ∷ l) (datagrams_in-append xs ys)
+datagrams_in-append (contents.Segment segment ∷ xs) ys = datagrams_in-append xs ys
+datagrams_in-append (contents.Fragment fragment ∷ xs) ys = datagrams_in-append xs ys
+datagrams_in-append (contents.Other ∷ xs) ys = datagrams_in-append xs ys
+datagrams_in-append (contents.UnreadBetween ends ∷ xs) ys = datagrams_in-append xs ys
+datagrams_in-append (contents.Unread ∷ xs) ys = datagrams_in-append xs ys
+
 module _ (source target : Endpoint) where
   datagrams_between-append : (xs ys : List Contents) → datagrams_between source target (xs ++ ys) ≡ datagrams_between source target xs ++ datagrams_between source target ys
-  datagrams_between-append [] ys = refl
-  datagrams_between-append (contents.Datagram datagram ∷ xs) ys = ap (λ l. datagrams_if (are_ends source target datagram.source datagram.target) datagram ++ l) (datagrams_between-append xs ys) ∙ sym (append_assoc (datagrams_if (are_ends source target datagram.source datagram.target) datagram) (datagrams_between source target xs) (datagrams_between source target ys))
-  datagrams_between-append (contents.Segment segment ∷ xs) ys = datagrams_between-append xs ys
-  datagrams_between-append (contents.Fragment fragment ∷ xs) ys = datagrams_between-append xs ys
-  datagrams_between-append (contents.Other ∷ xs) ys = datagrams_between-append xs ys
-  datagrams_between-append (contents.UnreadBetween ends ∷ xs) ys = datagrams_between-append xs ys
-  datagrams_between-append (contents.Unread ∷ xs) ys = datagrams_between-append xs ys
+  datagrams_between-append xs ys =
+      ap (filter (λ datagram. are_ends source target datagram.source datagram.target)) (datagrams_in-append xs ys)
+      ∙ filter-append (λ datagram. are_ends source target datagram.source datagram.target) (datagrams_in xs) (datagrams_in ys)
 
   found_between-not_tcp : (due : Due) (found : List (Flow × Found)) → found_between transports.Udp source target (over_tcp due found) ≡ []
   found_between-not_tcp due [] = refl
@@ -59,7 +65,7 @@ module _ (source target : Endpoint) where
         serves_too : are_ends source target datagram.source datagram.target ≡ true → service_of settings.port datagram.source datagram.target ≡ Some service
         serves_too b = let ends = ends-from_are source target datagram.source datagram.target b in ap₂ (λ (x y : Endpoint). service_of settings.port x y) ends.source_is ends.target_is ∙ serves
 
-        by : (o : Option Service) → service_of settings.port datagram.source datagram.target ≡ o → (b : Bool) → are_ends source target datagram.source datagram.target ≡ b → found_between transports.Udp source target (datagram_taken o datagram progress).found ≡ found_in (datagrams_if b datagram ++ [])
+        by : (o : Option Service) → service_of settings.port datagram.source datagram.target ≡ o → (b : Bool) → are_ends source target datagram.source datagram.target ≡ b → found_between transports.Udp source target (datagram_taken o datagram progress).found ≡ found_in (cond b (datagram ∷ []) [])
         by None e true b = absurd (none-some service (sym e ∙ serves_too b))
         by None e false b = refl
         by (Some other) e true b =

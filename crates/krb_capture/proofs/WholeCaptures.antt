@@ -2,7 +2,8 @@
 use Rattle.std.proofs.Common.{◌≡◌, ℕ, ◌<◌, ◌≤◌, ◌⊎◌, inl, inr, Bool, true, false, List, [], ◌∷◌, ◌++◌, length, map, Option, Some, None, cond, refl, sym, ◌∙◌, ap, ap₂, subst, append_assoc, append-nil}
 use Rattle.std.specs.Prelude.{is_some}
 use Rattle.std.specs.List.{AllByRecursion, Contains, filter}
-use Rattle.std.proofs.lemmas.List.Elements.{recursion_from_All}
+use Rattle.std.proofs.lemmas.List.{map-append}
+use Rattle.std.proofs.lemmas.List.Elements.{filter-append, recursion_from_All}
 use Rattle.std.proofs.lemmas.Option.{none-some, same_Some}
 use Rattle.krb_packet.specs.Fragments.{contents_of_whole, step}
 use Rattle.krb_packet.specs.declared.contents.Contents.{Contents}
@@ -21,7 +22,7 @@ use Rattle.krb_capture.specs.Flows.{flow_between, origin_of, service_of}
 use Rattle.krb_capture.specs.Found.{Found}
 use Rattle.krb_capture.specs.Laws.{direction_found}
 use Rattle.krb_capture.specs.Sending.{Sent, after_segment, nothing_sent, segment_found}
-use Rattle.krb_capture.specs.WholeCaptures.{AreNumbered, CapturesListStreams, DirectionsAreApart, are_ends, carried, carried_after, completed_contents, contents_after, flows_if, flows_in, found_after, found_between, is_from, segments_between, segments_if}
+use Rattle.krb_capture.specs.WholeCaptures.{AreNumbered, CapturesListStreams, DirectionsAreApart, are_ends, carried, carried_after, completed_contents, contents_after, flows_in, found_after, found_between, is_from, segments_between, segments_in}
 use Rattle.krb_capture.specs.declared.flow.Due.{Due}
 use Rattle.krb_capture.specs.declared.flow.Flow.{Flow}
 use Rattle.krb_capture.specs.declared.flow.Service.{Service}
@@ -40,15 +41,20 @@ module _ (transport : Transport) (source target : Endpoint) where
       by true rest = ap (λ l. x.1 ∷ l) rest
       by false rest = rest
 
+segments_in-append : (xs ys : List Contents) → segments_in (xs ++ ys) ≡ segments_in xs ++ segments_in ys
+segments_in-append [] ys = refl
+segments_in-append (contents.Segment segment ∷ xs) ys = ap (λ l. segment ∷ l) (segments_in-append xs ys)
+segments_in-append (contents.Datagram datagram ∷ xs) ys = segments_in-append xs ys
+segments_in-append (contents.Fragment fragment ∷ xs) ys = segments_in-append xs ys
+segments_in-append (contents.Other ∷ xs) ys = segments_in-append xs ys
+segments_in-append (contents.UnreadBetween ends ∷ xs) ys = segments_in-append xs ys
+segments_in-append (contents.Unread ∷ xs) ys = segments_in-append xs ys
+
 module _ (source target : Endpoint) where
-  pub segments_between-append : (xs ys : List Contents) → segments_between source target (xs ++ ys) ≡ segments_between source target xs ++ segments_between source target ys
-  segments_between-append [] ys = refl
-  segments_between-append (contents.Segment segment ∷ xs) ys = ap (λ l. segments_if (are_ends source target segment.source segment.target) segment ++ l) (segments_between-append xs ys) ∙ sym (append_assoc (segments_if (are_ends source target segment.source segment.target) segment) (segments_between source target xs) (segments_between source target ys))
-  segments_between-append (contents.Datagram datagram ∷ xs) ys = segments_between-append xs ys
-  segments_between-append (contents.Fragment fragment ∷ xs) ys = segments_between-append xs ys
-  segments_between-append (contents.Other ∷ xs) ys = segments_between-append xs ys
-  segments_between-append (contents.UnreadBetween ends ∷ xs) ys = segments_between-append xs ys
-  segments_between-append (contents.Unread ∷ xs) ys = segments_between-append xs ys
+  segments_between-append : (xs ys : List Contents) → segments_between source target (xs ++ ys) ≡ segments_between source target xs ++ segments_between source target ys
+  segments_between-append xs ys =
+      ap (filter (λ segment. are_ends source target segment.source segment.target)) (segments_in-append xs ys)
+      ∙ filter-append (λ segment. are_ends source target segment.source segment.target) (segments_in xs) (segments_in ys)
 
   -- over TCP, by the flow alone
   abbrev pub between : Flow → Bool
@@ -72,13 +78,10 @@ module _ (P : Flow → Type 0) where
   all_split (x ∷ xs) ys a = let rest = all_split xs ys a.1 in ((a.0, rest.0), rest.1)
 
 flows_in-append : (port : ℕ) (xs ys : List Contents) → flows_in port (xs ++ ys) ≡ flows_in port xs ++ flows_in port ys
-flows_in-append port [] ys = refl
-flows_in-append port (contents.Segment segment ∷ xs) ys = ap (λ l. flows_if (is_some (service_of port segment.source segment.target)) (flow_between segment.source segment.target) ++ l) (flows_in-append port xs ys) ∙ sym (append_assoc (flows_if (is_some (service_of port segment.source segment.target)) (flow_between segment.source segment.target)) (flows_in port xs) (flows_in port ys))
-flows_in-append port (contents.Datagram datagram ∷ xs) ys = flows_in-append port xs ys
-flows_in-append port (contents.Fragment fragment ∷ xs) ys = flows_in-append port xs ys
-flows_in-append port (contents.Other ∷ xs) ys = flows_in-append port xs ys
-flows_in-append port (contents.UnreadBetween ends ∷ xs) ys = flows_in-append port xs ys
-flows_in-append port (contents.Unread ∷ xs) ys = flows_in-append port xs ys
+flows_in-append port xs ys =
+    ap (λ l. map (λ segment. flow_between segment.source segment.target) (filter (λ segment. is_some (service_of port segment.source segment.target)) l)) (segments_in-append xs ys)
+    ∙ ap (map (λ segment. flow_between segment.source segment.target)) (filter-append (λ segment. is_some (service_of port segment.source segment.target)) (segments_in xs) (segments_in ys))
+    ∙ map-append (λ segment. flow_between segment.source segment.target) (filter (λ segment. is_some (service_of port segment.source segment.target)) (segments_in xs)) (filter (λ segment. is_some (service_of port segment.source segment.target)) (segments_in ys))
 
 -- ---- some segments of a direction
 module _ (limit : ℕ) where
@@ -177,7 +180,7 @@ module _ (settings : Settings) (source target : Endpoint) (service : Service) (d
     segment-takes : (segment : Segment) → AllByRecursion (λ f. IsOneOf f different) (flows_in settings.port (contents.Segment segment ∷ [])) → Takes progress.last.packet own (segments_between source target (contents.Segment segment ∷ [])) (whole_taken settings (contents.Segment segment) progress).found (whole_taken settings (contents.Segment segment) progress).progress.table
     segment-takes segment ones = by (service_of settings.port segment.source segment.target) refl ones (are_ends source target segment.source segment.target) refl
       where
-        by : (o : Option Service) → service_of settings.port segment.source segment.target ≡ o → AllByRecursion (λ f. IsOneOf f different) (flows_if (is_some o) (flow_of segment) ++ []) → (b : Bool) → are_ends source target segment.source segment.target ≡ b → Takes progress.last.packet own (segments_if b segment ++ []) (segment_taken settings.limit o segment progress).found (segment_taken settings.limit o segment progress).progress.table
+        by : (o : Option Service) → service_of settings.port segment.source segment.target ≡ o → AllByRecursion (λ f. IsOneOf f different) (map (λ segment. flow_between segment.source segment.target) (cond (is_some o) (segment ∷ []) [])) → (b : Bool) → are_ends source target segment.source segment.target ≡ b → Takes progress.last.packet own (cond b (segment ∷ []) []) (segment_taken settings.limit o segment progress).found (segment_taken settings.limit o segment progress).progress.table
         by None e ones true b =
             let ends = ends-from_are source target segment.source segment.target b in
             absurd (none-some service (sym e ∙ ap₂ (λ (x y : Endpoint). service_of settings.port x y) ends.source_is ends.target_is ∙ serves))

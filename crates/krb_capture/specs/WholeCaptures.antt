@@ -50,28 +50,25 @@ carried packets = carried_after no_fragments packets
 abbrev pub same_end : Endpoint → Endpoint → Bool
 same_end one other = same_address one.address other.address && one.port == other.port
 
-abbrev pub segments_if : Bool → Segment → List Segment
-segments_if true segment = segment ∷ []
-segments_if false segment = []
+-- whether these are the source and the target
+abbrev pub are_ends : Endpoint → Endpoint → Endpoint → Endpoint → Bool
+are_ends source target from to = same_end source from && same_end target to
 
-abbrev pub datagrams_if : Bool → Datagram → List Datagram
-datagrams_if true datagram = datagram ∷ []
-datagrams_if false datagram = []
+abbrev pub segments_in : List Contents → List Segment
+segments_in [] = []
+segments_in (contents.Segment segment ∷ others) = segment ∷ segments_in others
+segments_in (_ ∷ others) = segments_in others
 
-module _ (source target : Endpoint) where
-  abbrev pub are_ends : Endpoint → Endpoint → Bool
-  are_ends from to = same_end source from && same_end target to
+abbrev pub datagrams_in : List Contents → List Datagram
+datagrams_in [] = []
+datagrams_in (contents.Datagram datagram ∷ others) = datagram ∷ datagrams_in others
+datagrams_in (_ ∷ others) = datagrams_in others
 
-  -- the segments from the source to the target, in order
-  abbrev pub segments_between : List Contents → List Segment
-  segments_between [] = []
-  segments_between (contents.Segment segment ∷ others) = segments_if (are_ends segment.source segment.target) segment ++ segments_between others
-  segments_between (_ ∷ others) = segments_between others
+abbrev pub segments_between : Endpoint → Endpoint → List Contents → List Segment
+segments_between source target all = filter (λ segment. are_ends source target segment.source segment.target) (segments_in all)
 
-  abbrev pub datagrams_between : List Contents → List Datagram
-  datagrams_between [] = []
-  datagrams_between (contents.Datagram datagram ∷ others) = datagrams_if (are_ends datagram.source datagram.target) datagram ++ datagrams_between others
-  datagrams_between (_ ∷ others) = datagrams_between others
+abbrev pub datagrams_between : Endpoint → Endpoint → List Contents → List Datagram
+datagrams_between source target all = filter (λ datagram. are_ends source target datagram.source datagram.target) (datagrams_in all)
 
 -- ---- what is found in a capture
 
@@ -106,15 +103,9 @@ AreNumbered last (packet ∷ packets) = (last < packet.number) × AreNumbered pa
 abbrev pub PacketsAreNumbered : Type 0
 PacketsAreNumbered = (file : List ℕ) → AreNumbered 0 (packets file).packets
 
-abbrev pub flows_if : Bool → Flow → List Flow
-flows_if true flow = flow ∷ []
-flows_if false flow = []
-
 -- the flow of each segment between ports of Kerberos
 abbrev pub flows_in : ℕ → List Contents → List Flow
-flows_in port [] = []
-flows_in port (contents.Segment segment ∷ others) = flows_if (is_some (service_of port segment.source segment.target)) (flow_between segment.source segment.target) ++ flows_in port others
-flows_in port (_ ∷ others) = flows_in port others
+flows_in port all = map (λ segment. flow_between segment.source segment.target) (filter (λ segment. is_some (service_of port segment.source segment.target)) (segments_in all))
 
 -- Whatever else a capture has, if there are segments of no more different flows than are kept: what is found from a source to a target over TCP is what is found in the direction of these segments alone.
 abbrev pub DirectionsAreApart : Type 0

@@ -31,10 +31,10 @@ equivalence = eq_by_cmp_equiv laws.total-law
 same-itself : (one : Original) → same_original one one ≡ true
 same-itself one = same_is one one ∙ equivalence.refl one
 
-same-back : (one other : Original) → same_original one other ≡ same_original other one
+pub same-back : (one other : Original) → same_original one other ≡ same_original other one
 same-back one other = same_is one other ∙ equivalence.symm one other ∙ sym (same_is other one)
 
-same-alike : (one other third : Original) → same_original one other ≡ true → same_original one third ≡ same_original other third
+pub same-alike : (one other third : Original) → same_original one other ≡ true → same_original one third ≡ same_original other third
 same-alike one other third e = same_is one third ∙ equivalence.congr one other third (sym (same_is one other) ∙ e) ∙ sym (same_is other third)
 
 -- ---- a place in a list
@@ -89,11 +89,11 @@ module _ {X : Type 0} where
 -- ---- the step for a fragment
 
 -- whether a datagram is that of a fragment
-abbrev is_of : Original → Pending → Bool
+abbrev pub is_of : Original → Pending → Bool
 is_of original pending = same_original pending.original original
 
 -- the datagram of a fragment, with it, between others: it is kept, or it is whole
-abbrev put : Option Reassembled → List Pending → Pending → List Pending → ℕ → Option Reassembled × Table
+abbrev pub put : Option Reassembled → List Pending → Pending → List Pending → ℕ → Option Reassembled × Table
 put None before one after given_up = (None, record { pending = before ++ one ∷ after; given_up = given_up })
 put (Some whole) before one after given_up = (Some whole, record { pending = before ++ after; given_up = given_up })
 
@@ -104,7 +104,7 @@ finished-middle before one after given_up = ap (λ (o : Option Pending). without
     by None = refl
     by (Some whole) = ap (λ (l : List Pending). (Some whole, record { pending = l; given_up = given_up })) (remove-middle before one after)
 
-step-middle : (before : List Pending) (x : Pending) (after : List Pending) (given_up : ℕ) (fragment : Fragment) → AllByRecursion (λ p. is_of fragment.original p ≡ false) before → is_of fragment.original x ≡ true → step (record { pending = before ++ x ∷ after; given_up = given_up }) fragment ≡ put (whole_of (pending_with fragment x)) before (pending_with fragment x) after given_up
+pub step-middle : (before : List Pending) (x : Pending) (after : List Pending) (given_up : ℕ) (fragment : Fragment) → AllByRecursion (λ p. is_of fragment.original p ≡ false) before → is_of fragment.original x ≡ true → step (record { pending = before ++ x ∷ after; given_up = given_up }) fragment ≡ put (whole_of (pending_with fragment x)) before (pending_with fragment x) after given_up
 unfolding step
 step-middle before x after given_up fragment none is =
     ap (λ (o : Option ℕ). finished (with_fragment_at (record { pending = before ++ x ∷ after; given_up = given_up }) fragment o)) (position-middle (is_of fragment.original) before x after none is)
@@ -112,10 +112,10 @@ step-middle before x after given_up fragment none is =
     ∙ ap (λ (l : List Pending). finished (record { pending = l; given_up = given_up }, length before)) (set-middle before x after (pending_with fragment x))
     ∙ finished-middle before (pending_with fragment x) after given_up
 
-abbrev new_one : Fragment → Pending
+abbrev pub new_one : Fragment → Pending
 new_one fragment = pending_with fragment (no_fragments_of fragment.original)
 
-step-new : (table : Table) (fragment : Fragment) → AllByRecursion (λ p. is_of fragment.original p ≡ false) table.pending → length table.pending < most_datagrams → step table fragment ≡ put (whole_of (new_one fragment)) table.pending (new_one fragment) [] table.given_up
+pub step-new : (table : Table) (fragment : Fragment) → AllByRecursion (λ p. is_of fragment.original p ≡ false) table.pending → length table.pending < most_datagrams → step table fragment ≡ put (whole_of (new_one fragment)) table.pending (new_one fragment) [] table.given_up
 unfolding step
 step-new table fragment none few =
     let size : length (table.pending ++ new_one fragment ∷ []) ≡ length table.pending + 1 = length-append table.pending (new_one fragment ∷ []) in

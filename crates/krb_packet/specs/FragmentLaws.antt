@@ -72,3 +72,7 @@ wholes table (fragment ∷ fragments) = let stepped = step table fragment in opt
 -- Whatever fragments of other datagrams come between, if there are no more different ones than are kept: of the fragments of a datagram is put together what is put together of these alone.
 abbrev pub FragmentsAreApart : Type 0
 FragmentsAreApart = (original : Original) (fragments : List Fragment) (different : List Original) → length different ≤ most_datagrams → All (Contains different) (map (λ fragment. fragment.original) fragments) → filter (λ whole. same_original whole.original original) (wholes no_fragments fragments) ≡ wholes no_fragments (filter (λ fragment. same_original fragment.original original) fragments)
+
+-- So if these alone are the fragments of a datagram, it is put together, once.
+abbrev pub DatagramsAreCompleted : Type 0
+DatagramsAreCompleted = (original : Original) (fragments : List Fragment) (different : List Original) (octets : List ℕ) → length different ≤ most_datagrams → All (Contains different) (map (λ fragment. fragment.original) fragments) → 0 < length octets → length octets ≤ most_octets → IsCut octets (filter (λ fragment. same_original fragment.original original) fragments) → map (λ whole. whole.octets) (filter (λ whole. same_original whole.original original) (wholes no_fragments fragments)) ≡ octets ∷ []
