@@ -15,8 +15,8 @@ pub fn records_are_of_the_stream()
 {}
 
 /// Whatever else a capture has, what is found in it from one end to another over TCP is what is
-/// found in the direction of these segments alone, in the same order, as long as there are segments
-/// of at most 65536 flows of Kerberos.
+/// found in the direction of these segments alone, in the same order, if its segments between ports
+/// of Kerberos are of at most 65536 flows.
 pub fn directions_are_apart()
     ensures { DirectionsAreApart }
 {}
@@ -31,7 +31,7 @@ pub fn datagrams_are_apart()
     ensures { DatagramsAreApart }
 {}
 
-/// The packets of a file, a pcap or a pcapng, are numbered in order, from 1 on.
+/// Each packet of a file, a pcap or a pcapng, has a greater number than those before it.
 pub fn packets_are_numbered()
     ensures { PacketsAreNumbered }
 {}

@@ -1,5 +1,5 @@
 //! Laws of listings and of conversions. Each is the contract of a function that does nothing.
-ghost use Rattle.krb_tool.specs.Laws.{DecodedComesBack, UpgradeIsListedAlike};
+ghost use Rattle.krb_tool.specs.Laws.{CapturesAreListed, DecodedComesBack, UpgradeIsListedAlike};
 
 use krb_ccache::law::upgrade_holds_the_same;
 use krb_json::law::{texts_are_json, texts_come_back};
@@ -22,3 +22,9 @@ pub fn decoded_comes_back()
     texts_are_json();
     texts_come_back();
 }
+
+/// The listing of a capture is the records of what is found in its packets, of which the laws of
+/// [`krb_capture::law`] speak, in order, and then the last line.
+pub fn captures_are_listed()
+    ensures { CapturesAreListed }
+{}
