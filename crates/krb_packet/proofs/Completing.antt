@@ -1,18 +1,17 @@
 -- A datagram that was cut into fragments is completed by the last one that comes, and by no other.
-use Rattle.std.proofs.Common.{◌≡◌, ℕ, ◌<◌, ◌≤◌, true, false, List, [], ◌∷◌, ◌++◌, length, map, Bool, cond, Some, None, Option, refl, sym, ◌∙◌, ap, arith}
+use Rattle.std.proofs.Common.{◌≡◌, ℕ, ◌<◌, ◌≤◌, true, false, List, [], ◌∷◌, ◌++◌, length, map, Bool, cond, Some, None, Option, refl, ◌∙◌, ap, arith}
 use Rattle.std.specs.List.{AllByRecursion, filter}
 use Rattle.std.specs.Option.{option_to_list}
 use Rattle.krb_der.specs.Octets.{when}
 use Rattle.krb_packet.specs.declared.contents.Fragment.{Fragment}
 use Rattle.krb_packet.specs.declared.contents.Original.{Original}
 use Rattle.krb_packet.specs.declared.fragments.Pending.{Pending}
-use Rattle.krb_packet.specs.declared.fragments.Progress.{Progress}
 use Rattle.krb_packet.specs.declared.fragments.Progress.TheVariants.{Open}
 use Rattle.krb_packet.specs.declared.fragments.Reassembled.{Reassembled}
 use Rattle.krb_packet.specs.FragmentLaws.{AreApart, ArePieces, DatagramsAreCompleted, IsCut, IsPiece, wholes}
-use Rattle.krb_packet.specs.Fragments.{most_datagrams, no_fragments, no_fragments_of, or_discarded, pending_with, progress_with, same_original, step, whole_of}
+use Rattle.krb_packet.specs.Fragments.{no_fragments, no_fragments_of, or_discarded, pending_with, progress_with, same_original, step, whole_of}
 use Rattle.krb_packet.specs.Fragments.{whole as whole_by}
-use Rattle.krb_packet.specs.Parts.{Parts, add_fragment, is_complete, joined, most_octets, no_parts, with_fragment}
+use Rattle.krb_packet.specs.Parts.{Parts, is_complete, joined, most_octets, no_parts, with_fragment}
 use Rattle.krb_packet.specs.Table.{Table}
 use Rattle.krb_packet.proofs.Apart.{fragments_are_apart, is_of, new_one, put, same-alike, same-back, step-middle, step-new}
 use Rattle.krb_packet.proofs.Gathering.{Goes, begins, going, incomplete, taken, whole}

@@ -1,5 +1,5 @@
 -- The fragments of a datagram, in any order, are put together as the datagram.
-use Rattle.std.proofs.Common.{◌≡◌, ℕ, ◌+◌, ◌-◌, ◌%◌, ◌<◌, ◌≤◌, ◌==◌, ◌⊎◌, inl, inr, Bool, true, false, not, ◌&&◌, ◌||◌, max, Some, List, [], ◌∷◌, ◌++◌, length, take, drop, get_or, refl, sym, ap, subst, ◌∙◌, arith}
+use Rattle.std.proofs.Common.{◌≡◌, ℕ, ◌+◌, ◌%◌, ◌<◌, ◌≤◌, ◌==◌, ◌⊎◌, inl, inr, Bool, true, false, not, ◌&&◌, ◌||◌, max, Some, List, [], ◌∷◌, ◌++◌, length, take, drop, get_or, refl, sym, ap, subst, ◌∙◌, arith}
 use Rattle.std.specs.Prelude.{nat_le}
 use Rattle.std.specs.List.{list_all, list_any}
 use Rattle.std.proofs.lemmas.Bool.Decides.{nat_tests}
@@ -10,7 +10,7 @@ use Rattle.krb_der.specs.Octets.{when}
 use Rattle.krb_packet.specs.declared.contents.Fragment.{Fragment}
 use Rattle.krb_packet.specs.declared.assembly.Span.{Span}
 use Rattle.krb_packet.specs.Parts.{Piece, Parts, no_parts, most_octets, is_sound, span_of, piece_of, same_span, same_piece, is_copy, are_apart, fits, is_before, with_piece, with_fragment, add_fragment, is_complete, joined}
-use Rattle.krb_packet.specs.FragmentLaws.{IsPiece, ArePieces, IsApart, AreApart, IsSent, size_of, IsCut, gathered, MakesWhole}
+use Rattle.krb_packet.specs.FragmentLaws.{IsPiece, ArePieces, IsApart, AreApart, size_of, IsCut, gathered, MakesWhole}
 
 -- ---- spans that are apart
 
