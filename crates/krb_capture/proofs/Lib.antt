@@ -20,3 +20,11 @@ mod Taken
 mod Whole
 mod Written
 mod Unfinished
+mod Maps
+mod Flows
+mod Steps
+mod Alone
+mod Ending
+mod WholeCaptures
+mod Datagrams
+mod Numbered

@@ -5,7 +5,6 @@ use Rattle.std.specs.declared.alloc.Global.{Global}
 use Rattle.std.specs.declared.cmp.Ordering.{Ordering}
 use Rattle.std.specs.declared.cmp.Ordering.TheVariants.{Less, Equal, Greater}
 use Rattle.std.specs.Ordering.{eq_by_cmp, is_eq, match_ordering, nat_cmp}
-use Rattle.std.specs.Cmp.{Equal-is}
 use Rattle.std.proofs.lemmas.Cmp.{nat_cmp_total, tied_itself}
 use Rattle.krb_capture.specs.contracts.flow.FlowOrd.TheImpl.Laws as flow_laws
 use Rattle.std.specs.Map.{lookup, remove_entry}
@@ -21,6 +20,7 @@ use Rattle.krb_capture.specs.Captures.{over_tcp, with_each}
 use Rattle.krb_capture.specs.Flows.{origin_of}
 use Rattle.krb_capture.specs.Found.{Written, with_all}
 use Rattle.krb_capture.specs.declared.flow.Due.{Due}
+use Rattle.krb_capture.proofs.Maps.{lookup-inserted, lookup-tied, tied}
 use Rattle.krb_capture.proofs.Written.{flow-found, over_tcp-append, with_each-append}
 use Rattle.krb_capture.specs.declared.directions.Directions.{Directions}
 use Rattle.krb_capture.specs.declared.directions.Gone.{Gone}
@@ -140,15 +140,6 @@ some_is_none : {X : Type 0} (x : X) → Some x ≡ None → ⊥
 some_is_none x e = cc
 
 module _ {X : Type 0} (n : ℕ) (v : X) where
-  pub lookup-inserted : (es : List (ℕ × X)) → lookup (is_at (nat_cmp n)) (insert_entry nat_cmp es n v) ≡ Some v
-  lookup-inserted [] = ap (λ o. cond (is_eq o) (Some v) None) (tied_itself nat_cmp_total n)
-  lookup-inserted (e ∷ es) = by (nat_cmp n e.0) refl (lookup-inserted es)
-    where
-      by : (o : Ordering) → nat_cmp n e.0 ≡ o → lookup (is_at (nat_cmp n)) (insert_entry nat_cmp es n v) ≡ Some v → lookup (is_at (nat_cmp n)) (match_ordering o ((n, v) ∷ e ∷ es) ((e.0, v) ∷ es) (e ∷ insert_entry nat_cmp es n v)) ≡ Some v
-      by Less q rest = ap (λ o. cond (is_eq o) (Some v) (lookup (is_at (nat_cmp n)) (e ∷ es))) (tied_itself nat_cmp_total n)
-      by Equal q rest = ap (λ o. cond (is_eq o) (Some v) (lookup (is_at (nat_cmp n)) es)) q
-      by Greater q rest = ap (λ o. cond (is_eq o) (Some e.1) (lookup (is_at (nat_cmp n)) (insert_entry nat_cmp es n v))) q ∙ rest
-
   pub remove-inserted : (es : List (ℕ × X)) → lookup (is_at (nat_cmp n)) es ≡ None → remove_entry (is_at (nat_cmp n)) (insert_entry nat_cmp es n v) ≡ es
   remove-inserted [] h = ap (λ o. cond (is_eq o) [] ((n, v) ∷ [])) (tied_itself nat_cmp_total n)
   remove-inserted (e ∷ es) h = by (nat_cmp n e.0) refl (remove-inserted es)
@@ -263,7 +254,7 @@ module _ (limit packet : ℕ) (service : Service) (segment : Segment) (table : T
 
 -- ---- the last direction, by its flow
 pub same-lookup : (f g : Flow) (es : List (Flow × ℕ)) → eq_by_cmp flow_cmp f g ≡ true → lookup (is_at (flow_cmp f)) es ≡ lookup (is_at (flow_cmp g)) es
-same-lookup f g es e = ap (λ c. lookup (is_at c) es) (λ i z. flow_laws.total-law.congr f g z ((Equal-is (flow_cmp f g)).0 e) i)
+same-lookup f g es e = lookup-tied flow_laws.total-law f g es (tied (flow_cmp f g) e)
 
 -- it is found, and without it the others are there
 pub record TakesLast (last : Last) (d : Directions) (limit packet : ℕ) (service : Service) (segment : Segment) (table : Table) : Type 0 where
@@ -281,7 +272,7 @@ takes-last last d limit packet service segment table h e = record {
   maps = subst (λ ss. HoldsMaps d limit (record table { active = ss })) (sym (ap (remove_entry (is_at (nat_cmp last.number))) h.active ∙ remove-inserted last.number h.sent h.others none)) h.maps;
   followed_is =
       followed-known limit packet service segment table last.number (sym (same-lookup last.flow (flow_of segment) table.numbers e) ∙ ap (λ es. lookup (is_at (flow_cmp last.flow)) es) (sym h.maps.numbers) ∙ h.known)
-      ∙ ap (λ m. of_known limit packet last.number m service segment table) (ap (λ es. lookup (is_at (nat_cmp last.number)) es) h.active ∙ lookup-inserted last.number h.sent h.others);
+      ∙ ap (λ m. of_known limit packet last.number m service segment table) (ap (λ es. lookup (is_at (nat_cmp last.number)) es) h.active ∙ lookup-inserted nat_cmp_total last.number h.sent h.others);
 }
   where
     none : lookup (is_at (nat_cmp last.number)) h.others ≡ None

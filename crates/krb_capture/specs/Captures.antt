@@ -129,9 +129,11 @@ with_packet packet progress = record progress { last = due_with packet; counts =
 abbrev pub and_counted : Taken → Taken
 and_counted taken = record { found = taken.found; progress = record taken.progress { counts = counted_each taken.found taken.progress.counts } }
 
+abbrev pub contents_in : Packet → Contents
+contents_in packet = contents_of packet.link (record { octets = packet.octets; size = max packet.size (length packet.octets) })
+
 unfoldable pub packet_taken : Settings → Packet → Progress → Taken
-packet_taken settings packet progress =
-    and_counted (contents_taken settings (contents_of packet.link (record { octets = packet.octets; size = max packet.size (length packet.octets) })) (with_packet packet progress))
+packet_taken settings packet progress = and_counted (contents_taken settings (contents_in packet) (with_packet packet progress))
 
 -- ---- at the end of the file: how the directions end that are open, and the totals
 abbrev pub end_taken : Settings → Progress → Taken

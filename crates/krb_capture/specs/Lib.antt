@@ -11,6 +11,7 @@ pub mod Sending
 pub mod Directions
 pub mod Captures
 pub mod Laws
+pub mod WholeCaptures
 pub mod Unfinished
 pub mod Unlisted
 pub mod Rests

@@ -1,6 +1,7 @@
-//! The law of the directions of TCP. It is the contract of a function that does nothing.
+//! Laws of what is found in captures. Each is the contract of a function that does nothing.
 
 ghost use Rattle.krb_capture.specs.Laws.{RecordsAreOfTheStream};
+ghost use Rattle.krb_capture.specs.WholeCaptures.{CapturesListStreams, DatagramsAreApart, DirectionsAreApart, PacketsAreNumbered};
 
 /// Whatever way a stream is cut into segments, in whatever order and how often these are captured,
 /// the records of the direction are those of the stream, without their packets and times. Its SYN
@@ -11,4 +12,26 @@ ghost use Rattle.krb_capture.specs.Laws.{RecordsAreOfTheStream};
 /// once all of it was captured, and the stream has fewer than 2^61 octets.
 pub fn records_are_of_the_stream()
     ensures { RecordsAreOfTheStream }
+{}
+
+/// Whatever else a capture has, what is found in it from one end to another over TCP is what is
+/// found in the direction of these segments alone, in the same order, if its segments between ports
+/// of Kerberos are of at most 65536 flows.
+pub fn directions_are_apart()
+    ensures { DirectionsAreApart }
+{}
+
+/// So if these segments are those of a stream, it is what is found in the stream.
+pub fn captures_list_streams()
+    ensures { CapturesListStreams }
+{}
+
+/// What is found from one end to another over UDP is what is found in each of these datagrams alone.
+pub fn datagrams_are_apart()
+    ensures { DatagramsAreApart }
+{}
+
+/// Each packet of a file, a pcap or a pcapng, has a greater number than those before it.
+pub fn packets_are_numbered()
+    ensures { PacketsAreNumbered }
 {}

@@ -13,8 +13,8 @@
 //! of a TCP connection sends is a stream of frames (RFC 4120, 7.2.2), in which one goes on after
 //! refusals. Nothing here reads a file: `krb_packet` does, and `krb_tool` runs over both.
 //!
-//! The law of [`law`] says that the records of a direction are those of its stream, whatever way
-//! that was cut into segments.
+//! The laws of [`law`] say that the records of a direction are those of its stream, whatever way that
+//! was cut into segments and whatever else the capture has.
 #![tactic(auto)]
 
 mod capture;

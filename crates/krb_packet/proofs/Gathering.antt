@@ -1,5 +1,5 @@
 -- The fragments of a datagram, in any order, are put together as the datagram.
-use Rattle.std.proofs.Common.{◌≡◌, ℕ, ◌+◌, ◌-◌, ◌%◌, ◌<◌, ◌≤◌, ◌==◌, ◌⊎◌, inl, inr, Bool, true, false, not, ◌||◌, max, Some, List, [], ◌∷◌, ◌++◌, length, take, drop, get_or, refl, sym, ap, subst, ◌∙◌, arith}
+use Rattle.std.proofs.Common.{◌≡◌, ℕ, ◌+◌, ◌%◌, ◌<◌, ◌≤◌, ◌==◌, ◌⊎◌, inl, inr, Bool, true, false, not, ◌&&◌, ◌||◌, max, Some, List, [], ◌∷◌, ◌++◌, length, take, drop, get_or, refl, sym, ap, subst, ◌∙◌, arith}
 use Rattle.std.specs.Prelude.{nat_le}
 use Rattle.std.specs.List.{list_all, list_any}
 use Rattle.std.proofs.lemmas.Bool.Decides.{nat_tests}
@@ -9,8 +9,8 @@ use Rattle.std.proofs.lemmas.Grind.{common_steps, same_number_lists}
 use Rattle.krb_der.specs.Octets.{when}
 use Rattle.krb_packet.specs.declared.contents.Fragment.{Fragment}
 use Rattle.krb_packet.specs.declared.assembly.Span.{Span}
-use Rattle.krb_packet.specs.Parts.{Piece, Parts, no_parts, most_octets, is_sound, span_of, piece_of, same_span, same_piece, is_copy, are_apart, fits, is_before, with_piece, with_fragment, add_fragment, joined}
-use Rattle.krb_packet.specs.FragmentLaws.{IsPiece, ArePieces, IsApart, AreApart, IsSent, size_of, IsCut, gathered, MakesWhole}
+use Rattle.krb_packet.specs.Parts.{Piece, Parts, no_parts, most_octets, is_sound, span_of, piece_of, same_span, same_piece, is_copy, are_apart, fits, is_before, with_piece, with_fragment, add_fragment, is_complete, joined}
+use Rattle.krb_packet.specs.FragmentLaws.{IsPiece, ArePieces, IsApart, AreApart, size_of, IsCut, gathered, MakesWhole}
 
 -- ---- spans that are apart
 
@@ -171,7 +171,8 @@ beside_more pieces one (fragment ∷ fragments) beside apart =
     let here : are_apart (span_of fragment) (span_of one) ≡ true = apart_back (span_of one) (span_of fragment) apart.0 in
     (apart_more (span_of fragment) (piece_of one) pieces here beside.0, beside_more pieces one fragments beside.1 apart.1)
 
-record Goes (octets : List ℕ) (parts : Parts) (rest : List Fragment) : Type 0 where
+-- The parts are those of a datagram, and the rest are its other fragments.
+pub record Goes (octets : List ℕ) (parts : Parts) (rest : List Fragment) : Type 0 where
   reach : parts.reach ≤ length octets
   ended : parts.is_ended ≡ true → parts.reach ≡ length octets
   last : parts.reach ≡ length octets → parts.is_ended ≡ true
@@ -214,7 +215,7 @@ fitting octets parts fragment rest few piece goes =
     let count : nat_le (parts.count + length fragment.payload.octets) most_octets ≡ true = grind (arith, nat_tests, goes.count, few) in
     rw (goes.beside.0, ended, last, count) refl
 
-taken : (octets : List ℕ) (parts : Parts) (fragment : Fragment) (rest : List Fragment) → length octets ≤ most_octets → IsPiece octets fragment → Goes octets parts (fragment ∷ rest) → add_fragment parts fragment ≡ Some (with_fragment parts fragment)
+pub taken : (octets : List ℕ) (parts : Parts) (fragment : Fragment) (rest : List Fragment) → length octets ≤ most_octets → IsPiece octets fragment → Goes octets parts (fragment ∷ rest) → add_fragment parts fragment ≡ Some (with_fragment parts fragment)
 unfolding Beside
 taken octets parts fragment rest few piece goes =
     rw (sound octets fragment few piece, no_copy parts fragment piece.some goes.beside.0, fitting octets parts fragment rest few piece goes) refl
@@ -246,7 +247,7 @@ is_of octets fragment piece = record {
     taken_at : (xs : List ℕ) (at n k : ℕ) → at + n ≤ length xs → k < n → get_or (take n (drop at xs)) k 0 ≡ get_or xs (at + k) 0
     taken_at xs at n k within here = grind (arith, common_steps)
 
-going : (octets : List ℕ) (parts : Parts) (fragment : Fragment) (rest : List Fragment) → IsPiece octets fragment → IsApart fragment rest → Goes octets parts (fragment ∷ rest) → Goes octets (with_fragment parts fragment) rest
+pub going : (octets : List ℕ) (parts : Parts) (fragment : Fragment) (rest : List Fragment) → IsPiece octets fragment → IsApart fragment rest → Goes octets parts (fragment ∷ rest) → Goes octets (with_fragment parts fragment) rest
 unfolding Beside
 going octets parts fragment rest piece apart goes =
     let end = fragment.offset + length fragment.payload.octets in
@@ -271,7 +272,7 @@ going octets parts fragment rest piece apart goes =
 
 -- ---- all fragments are added
 
-whole : (octets : List ℕ) (parts : Parts) → Goes octets parts [] → MakesWhole octets (Some parts)
+pub whole : (octets : List ℕ) (parts : Parts) → Goes octets parts [] → MakesWhole octets (Some parts)
 whole octets parts goes =
     let most = few octets parts.reach 0 parts.pieces goes.pieces goes.ends goes.follows (omega arith) in
     let reached : parts.reach ≡ length octets = omega (arith, most, goes.all, goes.count, goes.reach) in
@@ -287,17 +288,28 @@ all_taken octets parts (fragment ∷ fragments) few pieces apart goes =
     rw (taken octets parts fragment fragments few pieces.0 goes)
     (all_taken octets (with_fragment parts fragment) fragments few pieces.1 apart.1 (going octets parts fragment fragments pieces.0 apart.0 goes))
 
-pub makes_datagram : (octets : List ℕ) (fragments : List Fragment) → 0 < length octets → length octets ≤ most_octets → IsCut octets fragments → MakesWhole octets (gathered (Some no_parts) fragments)
+-- none came yet
+pub begins : (octets : List ℕ) (fragments : List Fragment) → 0 < length octets → IsCut octets fragments → Goes octets no_parts fragments
 unfolding AreOf Follows Ends total
-makes_datagram octets fragments some few cut =
-    all_taken octets no_parts fragments few cut.pieces cut.apart (record {
-      reach = omega arith;
-      ended = λ is. absurd (cc);
-      last = λ none. absurd (omega (arith, some, none));
-      count = omega (arith, cut.size);
-      all = refl;
-      pieces = tt;
-      follows = tt;
-      ends = tt;
-      beside = beside_none fragments;
-    })
+begins octets fragments some cut = record {
+  reach = omega arith;
+  ended = λ is. absurd (cc);
+  last = λ none. absurd (omega (arith, some, none));
+  count = omega (arith, cut.size);
+  all = refl;
+  pieces = tt;
+  follows = tt;
+  ends = tt;
+  beside = beside_none fragments;
+}
+
+pub makes_datagram : (octets : List ℕ) (fragments : List Fragment) → 0 < length octets → length octets ≤ most_octets → IsCut octets fragments → MakesWhole octets (gathered (Some no_parts) fragments)
+makes_datagram octets fragments some few cut = all_taken octets no_parts fragments few cut.pieces cut.apart (begins octets fragments some cut)
+
+-- before the others came it is not complete
+pub incomplete : (octets : List ℕ) (parts : Parts) (fragment : Fragment) (rest : List Fragment) → IsPiece octets fragment → Goes octets parts (fragment ∷ rest) → is_complete parts ≡ false
+incomplete octets parts fragment rest piece goes = by parts.is_ended refl
+  where
+    by : (b : Bool) → parts.is_ended ≡ b → (b && parts.count == parts.reach) ≡ false
+    by true is = let whole = goes.ended is in let count = goes.count in let some = piece.some in grind (arith, nat_tests, whole, count, some)
+    by false is = refl

@@ -1,5 +1,7 @@
+pub mod Apart
 pub mod Bodies
 pub mod Clocks
+pub mod Completing
 pub mod Gathering
 pub mod Heads
 pub mod PacketHeads

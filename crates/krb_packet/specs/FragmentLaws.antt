@@ -1,6 +1,12 @@
--- A law of fragments.
-use Rattle.std.specs.Prelude.{◌≡◌, ℕ, ◌+◌, ◌%◌, ◌<◌, ◌≤◌, ◌⊎◌, true, false, ◌==◌, Option, Some, None, List, [], ◌∷◌, length, slice_index}
+-- Laws of fragments.
+use Rattle.std.specs.Prelude.{◌≡◌, ℕ, ◌+◌, ◌%◌, ◌<◌, ◌≤◌, ◌⊎◌, true, false, ◌==◌, Option, Some, None, List, [], ◌∷◌, ◌++◌, length, map, slice_index}
+use Rattle.std.specs.List.{All, Contains, filter}
+use Rattle.std.specs.Option.{option_to_list}
 use Rattle.krb_packet.specs.declared.contents.Fragment.{Fragment}
+use Rattle.krb_packet.specs.declared.contents.Original.{Original}
+use Rattle.krb_packet.specs.declared.fragments.Reassembled.{Reassembled}
+use Rattle.krb_packet.specs.Fragments.{most_datagrams, no_fragments, same_original, step}
+use Rattle.krb_packet.specs.Table.{Table}
 use Rattle.krb_packet.specs.Parts.{Parts, no_parts, most_octets, span_of, are_apart, add_fragment, is_complete, joined}
 
 -- A fragment of a datagram that has these octets: it has one or more of them, from its offset on, all of which were captured. The last one ends with the datagram, and any other one has a multiple of 8 octets.
@@ -55,3 +61,18 @@ MakesWhole octets (Some parts) = (is_complete parts ≡ true) × (joined parts.p
 -- However a datagram is cut into fragments, and in whatever order these come, its octets are put together from them.
 abbrev pub FragmentsMakeDatagram : Type 0
 FragmentsMakeDatagram = (octets : List ℕ) (fragments : List Fragment) → 0 < length octets → length octets ≤ most_octets → IsCut octets fragments → MakesWhole octets (gathered (Some no_parts) fragments)
+
+-- ---- the fragments of one datagram among those of others
+
+-- the datagrams that fragments complete, in order
+abbrev pub wholes : Table → List Fragment → List Reassembled
+wholes table [] = []
+wholes table (fragment ∷ fragments) = let stepped = step table fragment in option_to_list stepped.0 ++ wholes stepped.1 fragments
+
+-- Whatever fragments of other datagrams come between, if there are no more different ones than are kept: of the fragments of a datagram is put together what is put together of these alone.
+abbrev pub FragmentsAreApart : Type 0
+FragmentsAreApart = (original : Original) (fragments : List Fragment) (different : List Original) → length different ≤ most_datagrams → All (Contains different) (map (λ fragment. fragment.original) fragments) → filter (λ whole. same_original whole.original original) (wholes no_fragments fragments) ≡ wholes no_fragments (filter (λ fragment. same_original fragment.original original) fragments)
+
+-- So if these alone are the fragments of a datagram, it is put together, once.
+abbrev pub DatagramsAreCompleted : Type 0
+DatagramsAreCompleted = (original : Original) (fragments : List Fragment) (different : List Original) (octets : List ℕ) → length different ≤ most_datagrams → All (Contains different) (map (λ fragment. fragment.original) fragments) → 0 < length octets → length octets ≤ most_octets → IsCut octets (filter (λ fragment. same_original fragment.original original) fragments) → map (λ whole. whole.octets) (filter (λ whole. same_original whole.original original) (wholes no_fragments fragments)) ≡ octets ∷ []

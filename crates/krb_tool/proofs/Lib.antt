@@ -18,6 +18,7 @@ pub mod SourceRuns
 mod FaultPaths
 pub mod FilePaths
 mod CaptureLines
+mod CaptureListings
 pub mod ConversionRuns
 pub mod DecodedFrames
 pub mod DecodedPieces

@@ -1,14 +1,21 @@
 -- The laws of listings and of conversions. Each is the contract of a function of the module `law`.
-use Rattle.std.specs.Prelude.{ℕ, ◌≤◌, ◌≡◌, false, true, List, ◌++◌, length, Option}
+use Rattle.std.specs.Prelude.{ℕ, ◌≤◌, ◌≡◌, false, true, List, ◌++◌, length, Option, Some, None}
 use Rattle.krb_der.specs.Octets.{AreOctets}
 use Rattle.krb_der.specs.declared.profile.Profile.{Profile}
 use Rattle.krb_keytab.specs.Laws.{IsUpToKey}
 use Rattle.krb_ccache.specs.declared.value.Cache3.{Cache3}
 use Rattle.krb_ccache.specs.Laws.{IsUpToKey as IsUpToSessionKey}
 use Rattle.krb_ccache.specs.Spelling.{CcacheSpells, Spells3, upgraded}
+use Rattle.krb_packet.specs.Captures.{packets}
+use Rattle.krb_packet.specs.FieldNames.{capture_field_text}
+use Rattle.krb_packet.specs.Parsers.{Refusal}
+use Rattle.krb_text.specs.Captures.{capture_end_line, capture_refused_line}
 use Rattle.krb_text.specs.declared.form.Form.{Form}
+use Rattle.krb_capture.specs.Captures.{Progress, Settings, all_counts, at_first, end_taken, lines_of}
+use Rattle.krb_capture.specs.WholeCaptures.{capture_found}
 use Rattle.krb_tool.specs.declared.run.RunEnd.TheVariants as run
 use Rattle.krb_tool.specs.Files.{keytab_listing, ccache_listing}
+use Rattle.krb_tool.specs.Captures.{after_packets, capture_listing}
 use Rattle.krb_tool.specs.Decoding as decoding
 use Rattle.krb_tool.specs.Encoding as encoding
 
@@ -39,3 +46,12 @@ abbrev pub SessionKeysAreNotListed : Type 0
 SessionKeysAreNotListed =
     (form : Form) (now : Option ℕ) (before key other after : List ℕ) (size : ℕ) → IsUpToSessionKey before size → length key ≤ size → length other ≡ length key
     → ccache_listing form now (before ++ (key ++ after)) ≡ ccache_listing form now (before ++ (other ++ after))
+
+-- the totals, or the refusal of the file with them
+abbrev pub last_line : Settings → Option Refusal → Progress → List ℕ
+last_line settings None progress = capture_end_line settings.form (all_counts (end_taken settings progress).progress)
+last_line settings (Some refusal) progress = capture_refused_line settings.form (all_counts (end_taken settings progress).progress) refusal.fault.place refusal.fault.why (Some (capture_field_text refusal.field))
+
+-- The listing of a capture is the records of what is found in its packets, in order, and then the last line.
+abbrev pub CapturesAreListed : Type 0
+CapturesAreListed = (settings : Settings) (file : List ℕ) → (capture_listing settings file).lines ++ (capture_listing settings file).last ≡ lines_of settings.form (capture_found settings (packets file).packets) ++ last_line settings (packets file).refusal (after_packets settings (packets file).packets at_first)

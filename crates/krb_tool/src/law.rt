@@ -1,5 +1,5 @@
 //! Laws of listings and of conversions. Each is the contract of a function that does nothing.
-ghost use Rattle.krb_tool.specs.Laws.{DecodedComesBack, KeysAreNotListed, SessionKeysAreNotListed, UpgradeIsListedAlike};
+ghost use Rattle.krb_tool.specs.Laws.{DecodedComesBack, KeysAreNotListed, SessionKeysAreNotListed, UpgradeIsListedAlike, CapturesAreListed};
 
 use krb_ccache::law::{session_keys_change_nothing_else, upgrade_holds_the_same};
 use krb_json::law::{texts_are_json, texts_come_back};
@@ -36,3 +36,9 @@ pub fn keys_are_not_listed()
     session_keys_change_nothing_else();
     session_keys_are_not_shown();
 }
+
+/// The listing of a capture is the records of what is found in its packets, of which the laws of
+/// [`krb_capture::law`] speak, in order, and then the last line.
+pub fn captures_are_listed()
+    ensures { CapturesAreListed }
+{}
