@@ -1,12 +1,13 @@
 -- Directions of which one has a segment that is not listed to its end.
 use Rattle.std.proofs.Common.{◌≡◌, ℕ, Bool, true, false, List, [], ◌++◌, Option, Some, None, Box, refl, sym, ◌∙◌, ap, subst, append_assoc}
 use Rattle.std.specs.declared.alloc.Global.{Global}
-use Rattle.std.specs.BTreeMap.{is_at}
+use Rattle.std.specs.BTreeMap.{insert_entry, is_at}
+use Rattle.std.specs.Prelude.{if◌then◌else◌}
 use Rattle.std.specs.Map.{lookup}
 use Rattle.std.proofs.lemmas.List.{map-append}
 use Rattle.krb_text.specs.declared.origin.Transport.TheVariants as transports
 use Rattle.krb_capture.specs.Captures.{Finding, over_tcp, with_each}
-use Rattle.krb_capture.specs.Directions.{Followed, HoldsMaps, HoldsTable, IsKnown, Table, after_found, flow_cmp, in_flow, kept, nothing_found}
+use Rattle.krb_capture.specs.Directions.{Followed, HoldsMaps, HoldsTable, IsKnown, Table, active_with, after_found, ended_with, flow_cmp, in_flow, kept, nothing_found}
 use Rattle.krb_capture.specs.Flows.{origin_of}
 use Rattle.krb_capture.specs.Found.{Found, Written}
 use Rattle.krb_capture.specs.Rests.{Follows, HoldsSome, RepresentsBut, Sends, TookSome}
@@ -28,6 +29,12 @@ kept-same d limit due rest left flow flow' number number' step step' sent table 
     subst (λ x. HoldsSome d limit (kept flow' number' x sent table) due rest left) e
     (subst (λ x. HoldsSome d limit (kept flow' x step sent table) due rest left) n
     (subst (λ x. HoldsSome d limit (kept x number step sent table) due rest left) f h))
+
+-- its flow had its number before
+pub kept-begun : (d : Directions) (limit : ℕ) (due : Due) (rest : Option (Box Rest Global)) (left : List Finding) (flow flow' : Flow) (number : ℕ) (step step' : Step) (sent : Sent) (table : Table) → flow ≡ flow' → step ≡ step' → step'.began ≡ true → HoldsSome d limit (kept flow number (record { began = false; ended = step.ended }) sent (record table { numbers = insert_entry flow_cmp table.numbers flow number })) due rest left → HoldsSome d limit (kept flow' number step' sent table) due rest left
+kept-begun d limit due rest left flow flow' number step step' sent table f e b h =
+    kept-same d limit due rest left flow flow' number number step step' sent table f refl e
+    (subst (λ x. HoldsSome d limit (record { numbers = if x then insert_entry flow_cmp table.numbers flow number else table.numbers; active = active_with step.ended number sent table.active; ended = ended_with step.ended number flow table.ended }) due rest left) (sym (ap (λ s. s.began) e ∙ b)) h)
 
 -- nothing is left of its octets
 pub represents-all : (one : Sending) (limit : ℕ) (sent : Sent) (octets : Option Unlisted) (left : List Found) → octets ≡ None → RepresentsBut one limit sent octets left → Represents one limit sent × (left ≡ [])
