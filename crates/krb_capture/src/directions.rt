@@ -1,6 +1,6 @@
 //! The directions of TCP connections, by their flows.
 
-ghost use Rattle.std.specs.Prelude.{◌≡◌, ◌<◌, ℕ, true, List, None, Some, if◌then◌else◌, length, IfOk, OnOk, IfSome, IfNone};
+ghost use Rattle.std.specs.Prelude.{◌≡◌, ◌<◌, ℕ, true, List, None, Some, if◌then◌else◌, is_some, length, IfOk, OnOk, IfSome, IfNone};
 ghost use Rattle.std.specs.BTreeMap.{insert_entry, is_at};
 ghost use Rattle.std.specs.Map.{lookup};
 ghost use Rattle.std.specs.Ordering.{eq_by_cmp, nat_cmp};
@@ -334,7 +334,8 @@ impl Directions {
         stepped: Stepped,
     ) -> Result<Option<Box<Rest>>, Memory>
         requires { self.old.last ≡ None }
-        ensures { IfOk result (λ rest. (limit : ℕ) (table : Table) (sent : Sent) (due : Due) (left : List Found) → HoldsMaps self.old limit table → IsKnown stepped.step.began flow last self.old.numbers.entries → RepresentsBut last.sending.value limit sent stepped.left left → HoldsSome self.new limit (kept flow last.number stepped.step sent table) due rest (over_tcp due (in_flow sent.flow left))) }
+        ensures waits { IfOk result (λ rest. is_some rest ≡ is_some stepped.left) }
+        ensures kept { IfOk result (λ rest. (limit : ℕ) (table : Table) (sent : Sent) (due : Due) (left : List Found) → HoldsMaps self.old limit table → IsKnown stepped.step.began flow last self.old.numbers.entries → RepresentsBut last.sending.value limit sent stepped.left left → HoldsSome self.new limit (kept flow last.number stepped.step sent table) due rest (over_tcp due (in_flow sent.flow left))) }
     {
         let step = stepped.step;
         match stepped.left {
