@@ -59,6 +59,7 @@ lists-whole new settings taken before after h e = record {
   parts = sym (append-nil taken.found);
   text = e;
   followed = record { port = h.port; form = h.form; fragments = h.fragments; table = (h.table, refl); last = h.last; counts = h.counts };
+  full = tt;
 }
 
 counted-append : (xs ys : List Finding) (counts : CaptureCounts) → counted_each (xs ++ ys) counts ≡ counted_each ys (counted_each xs counts)
@@ -75,6 +76,7 @@ lists-some old new settings progress table rest found h f p g l = record {
   left = f.left;
   parts = f.parts;
   text = ap (λ w. w.text) f.written ∙ text-each f.listed old.listing ∙ ap (λ x. old.listing.text ++ lines_of x f.listed) h.form;
+  full = f.full;
   followed = record {
     port = p ∙ h.port;
     form = ap (λ w. w.form) f.written ∙ form-each f.listed old.listing ∙ h.form;
@@ -117,6 +119,7 @@ lists-text one other settings taken rest before after l p g d e f c = record {
   left = l.left;
   parts = l.parts;
   text = l.text;
+  full = l.full;
   followed = record {
     port = p ∙ l.followed.port;
     form = f ∙ l.followed.form;
@@ -134,6 +137,7 @@ lists-rest old new settings progress rest next left h f p g l = record {
   left = f.left;
   parts = f.parts;
   text = ap (λ w. w.text) f.written ∙ text-each f.listed old.listing ∙ ap (λ x. old.listing.text ++ lines_of x f.listed) h.form;
+  full = f.full;
   followed = record {
     port = p ∙ h.port;
     form = ap (λ w. w.form) f.written ∙ form-each f.listed old.listing ∙ h.form;

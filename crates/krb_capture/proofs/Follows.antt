@@ -1,14 +1,15 @@
 -- Directions of which one has a segment that is not listed to its end.
-use Rattle.std.proofs.Common.{◌≡◌, ℕ, Bool, true, false, List, [], ◌++◌, Option, Some, None, Box, refl, sym, ◌∙◌, ap, subst, append_assoc}
+use Rattle.std.proofs.Common.{◌≡◌, ℕ, Bool, true, false, List, [], ◌++◌, Option, Some, None, Box, Result, Ok, Err, IfOk, refl, sym, ◌∙◌, ap, subst, append_assoc}
 use Rattle.std.specs.declared.alloc.Global.{Global}
-use Rattle.std.specs.BTreeMap.{is_at}
+use Rattle.std.specs.BTreeMap.{insert_entry, is_at}
+use Rattle.std.specs.Prelude.{if◌then◌else◌, is_some}
 use Rattle.std.specs.Map.{lookup}
 use Rattle.std.proofs.lemmas.List.{map-append}
 use Rattle.krb_text.specs.declared.origin.Transport.TheVariants as transports
 use Rattle.krb_capture.specs.Captures.{Finding, over_tcp, with_each}
-use Rattle.krb_capture.specs.Directions.{Followed, HoldsMaps, HoldsTable, IsKnown, Table, after_found, flow_cmp, in_flow, kept, nothing_found}
+use Rattle.krb_capture.specs.Directions.{Followed, HoldsMaps, IsKnown, Table, active_with, after_found, ended_with, flow_cmp, in_flow, kept, nothing_found}
 use Rattle.krb_capture.specs.Flows.{origin_of}
-use Rattle.krb_capture.specs.Found.{Found, Written}
+use Rattle.krb_capture.specs.Found.{Found, IsFullIf, Written}
 use Rattle.krb_capture.specs.Rests.{Follows, HoldsSome, RepresentsBut, Sends, TookSome}
 use Rattle.krb_capture.specs.Sending.{Sent, Represents}
 use Rattle.krb_capture.specs.Unlisted.{Unlisted}
@@ -29,6 +30,12 @@ kept-same d limit due rest left flow flow' number number' step step' sent table 
     (subst (λ x. HoldsSome d limit (kept flow' x step sent table) due rest left) n
     (subst (λ x. HoldsSome d limit (kept x number step sent table) due rest left) f h))
 
+-- its flow had its number before
+pub kept-begun : (d : Directions) (limit : ℕ) (due : Due) (rest : Option (Box Rest Global)) (left : List Finding) (flow flow' : Flow) (number : ℕ) (step step' : Step) (sent : Sent) (table : Table) → flow ≡ flow' → step ≡ step' → step'.began ≡ true → HoldsSome d limit (kept flow number (record { began = false; ended = step.ended }) sent (record table { numbers = insert_entry flow_cmp table.numbers flow number })) due rest left → HoldsSome d limit (kept flow' number step' sent table) due rest left
+kept-begun d limit due rest left flow flow' number step step' sent table f e b h =
+    kept-same d limit due rest left flow flow' number number step step' sent table f refl e
+    (subst (λ x. HoldsSome d limit (record { numbers = if x then insert_entry flow_cmp table.numbers flow number else table.numbers; active = active_with step.ended number sent table.active; ended = ended_with step.ended number flow table.ended }) due rest left) (sym (ap (λ s. s.began) e ∙ b)) h)
+
 -- nothing is left of its octets
 pub represents-all : (one : Sending) (limit : ℕ) (sent : Sent) (octets : Option Unlisted) (left : List Found) → octets ≡ None → RepresentsBut one limit sent octets left → Represents one limit sent × (left ≡ [])
 represents-all one limit sent octets left e r =
@@ -40,24 +47,35 @@ pub known-same : (b : Bool) (flow : Flow) (one other : Last) (numbers numbers' :
 known-same true flow one other numbers numbers' f n e k = sym f ∙ k
 known-same false flow one other numbers numbers' f n e k = ap (λ es. lookup (is_at (flow_cmp other.flow)) es) (sym e) ∙ ap (λ x. lookup (is_at (flow_cmp x)) numbers) (sym f) ∙ k ∙ ap Some n
 
+pub both-ok : {T E : Type 0} (P Q : T → Type 0) (r : Result T E) → IfOk r P → IfOk r Q → IfOk r (λ x. P x × Q x)
+both-ok P Q (Ok x) p q = (p, q)
+both-ok P Q (Err e) p q = p
+
+-- ---- the text is full if anything is left
+pub full-same : {X Y : Type 0} (one : Option X) (other : Option Y) (text : List ℕ) → is_some one ≡ is_some other → IsFullIf other text → IsFullIf one text
+full-same None other text e f = tt
+full-same (Some x) None text e f = absurd cc
+full-same (Some x) (Some y) text e f = f
+
 -- ---- what is found in one flow
 flow-append : (due : Due) (flow : Flow) (xs ys : List Found) → over_tcp due (in_flow flow (xs ++ ys)) ≡ over_tcp due (in_flow flow xs) ++ over_tcp due (in_flow flow ys)
 flow-append due flow xs ys = ap (over_tcp due) (map-append (λ one. (flow, one)) xs ys) ∙ over_tcp-append due (in_flow flow xs) (in_flow flow ys)
 
-pub follows-kept : (d : Directions) (limit : ℕ) (due : Due) (rest : Option (Box Rest Global)) (one : Sending) (sent : Sent) (table : Table) (octets : Option Unlisted) (flow : Flow) (found : List Found) (before after : Written) → flow ≡ sent.flow → (s : Sends one limit sent octets (origin_of due transports.Tcp flow.source flow.target) found before after) → HoldsSome d limit table due rest (over_tcp due (in_flow sent.flow s.left)) → Follows d limit table due rest (over_tcp due (in_flow sent.flow found)) before after
-follows-kept d limit due rest one sent table octets flow found before after f s h = record {
+pub follows-kept : (d : Directions) (limit : ℕ) (due : Due) (rest : Option (Box Rest Global)) (one : Sending) (sent : Sent) (table : Table) (octets : Option Unlisted) (flow : Flow) (found : List Found) (before after : Written) → flow ≡ sent.flow → (s : Sends one limit sent octets (origin_of due transports.Tcp flow.source flow.target) found before after) → is_some rest ≡ is_some octets → HoldsSome d limit table due rest (over_tcp due (in_flow sent.flow s.left)) → Follows d limit table due rest (over_tcp due (in_flow sent.flow found)) before after
+follows-kept d limit due rest one sent table octets flow found before after f s w h = record {
   listed = over_tcp due (in_flow sent.flow s.listed);
   left = over_tcp due (in_flow sent.flow s.left);
   parts = ap (λ x. over_tcp due (in_flow sent.flow x)) s.parts ∙ flow-append due sent.flow s.listed s.left;
   written = flow-found due flow sent.flow s.listed after before s.written f;
   holds = h;
+  full = full-same rest octets after.text w s.full;
 }
 
 -- ---- nothing is found
 pub follows-none : (d : Directions) (limit : ℕ) (due : Due) (followed : Followed) (table : Table) (written : Written) → followed ≡ nothing_found table → d.last ≡ None → HoldsMaps d limit table → Follows d limit followed.table due None (over_tcp due followed.found) written written
 follows-none d limit due followed table written e n h =
     subst (λ f. Follows d limit f.table due None (over_tcp due f.found) written written) (sym e)
-    (record { listed = []; left = []; parts = refl; written = refl; holds = (holds-none d limit table n h, refl) })
+    (record { listed = []; left = []; parts = refl; written = refl; holds = (holds-none d limit table n h, refl); full = tt })
 
 -- ---- after what was found before
 pub follows-after : (d : Directions) (limit : ℕ) (due : Due) (rest : Option (Box Rest Global)) (room : List (Flow × Found)) (begun : Followed) (l0 l1 l2 : Written) → l1 ≡ with_each (over_tcp due room) l0 → Follows d limit begun.table due rest (over_tcp due begun.found) l1 l2 → Follows d limit (after_found room begun).table due rest (over_tcp due (after_found room begun).found) l0 l2
@@ -67,4 +85,5 @@ follows-after d limit due rest room begun l0 l1 l2 e f = record {
   parts = over_tcp-append due room begun.found ∙ ap (λ z. over_tcp due room ++ z) f.parts ∙ sym (append_assoc (over_tcp due room) f.listed f.left);
   written = f.written ∙ ap (λ l. with_each f.listed l) e ∙ sym (with_each-append (over_tcp due room) f.listed l0);
   holds = f.holds;
+  full = f.full;
 }

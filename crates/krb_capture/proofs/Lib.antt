@@ -7,6 +7,8 @@ mod Follows
 mod Found
 mod Framed
 mod Listed
+mod Newest
+mod Noted
 mod Octets
 mod Over
 mod Parts

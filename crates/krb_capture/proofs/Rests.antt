@@ -2,14 +2,14 @@
 use Rattle.std.proofs.Common.{◌≡◌, ℕ, List, [], ◌++◌, Option, Some, None, refl, sym, ◌∙◌, ap, subst, append_assoc, append-nil}
 use Rattle.krb_flow.specs.declared.stream.End.{End}
 use Rattle.krb_text.specs.declared.origin.Origin.{Origin}
-use Rattle.krb_capture.specs.Found.{Found, Written, with_all}
-use Rattle.krb_capture.specs.Rests.{Takes, TookBut, TookSome, unlisted_found}
+use Rattle.krb_capture.specs.Found.{Found, IsFull, Written, with_all}
+use Rattle.krb_capture.specs.Rests.{Takes, TookSome, unlisted_found}
 use Rattle.krb_capture.specs.Sending.{end_if}
 use Rattle.krb_capture.specs.Streams.{found_with}
 use Rattle.krb_capture.specs.Taken.{Took, service_of}
 use Rattle.krb_capture.specs.Unlisted.{Unlisted}
 use Rattle.krb_capture.specs.declared.frames.Frames.{Frames}
-use Rattle.krb_capture.proofs.Extends.{found-none, took-append, took-none}
+use Rattle.krb_capture.proofs.Extends.{found-none, took-append}
 use Rattle.krb_capture.proofs.Found.{with_all-append}
 
 abbrev pub unlisted : Option End → List ℕ → Unlisted
@@ -37,14 +37,15 @@ module _ (origin : Origin) (old mid : Frames) (limit : ℕ) (stream xs ys : List
       ∙ ap (λ v. first ++ unlisted_found v limit (stream ++ xs) others) (sym s)
 
   -- and the others are left
-  pub takes-first : Takes old mid limit stream all (Some others) origin l0 l1
-  takes-first = record {
+  pub takes-first : IsFull l1.text → Takes old mid limit stream all (Some others) origin l0 l1
+  takes-first full = record {
     listed = first;
     left = later;
     parts = split;
     written = h;
     service = s;
     took = record { stream = stream ++ xs; parts = append_assoc stream xs ys; took = u; is = refl };
+    full = full;
   }
 
   -- or there are none
@@ -60,6 +61,7 @@ module _ (origin : Origin) (old mid : Frames) (limit : ℕ) (stream xs ys : List
     written = e ∙ ap (λ l. with_all origin (end_if (service_of mid) limit (stream ++ xs) end) l) h ∙ sym (with_all-append origin first (end_if (service_of mid) limit (stream ++ xs) end) l0);
     service = s;
     took = (subst (Took mid limit) (ap (λ z. stream ++ z) (sym (append-nil xs) ∙ ap (λ z. xs ++ z) (sym none))) u, refl);
+    full = tt;
   }
 
   -- or some of the others were taken, too
@@ -71,4 +73,5 @@ module _ (origin : Origin) (old mid : Frames) (limit : ℕ) (stream xs ys : List
     written = m.written ∙ ap (λ l. with_all origin m.listed l) h ∙ sym (with_all-append origin first m.listed l0);
     service = m.service ∙ s;
     took = subst (λ z. TookSome new limit z rest m.left) (append_assoc stream xs ys) m.took;
+    full = m.full;
   }

@@ -1,5 +1,5 @@
 -- Directions that are kept by their numbers, and the table that they represent.
-use Rattle.std.proofs.Common.{◌≡◌, ℕ, Bool, true, false, List, [], ◌∷◌, length, Option, Some, None, Box, ◌<◌, arith, refl, sym, ◌∙◌, ap, subst}
+use Rattle.std.proofs.Common.{◌≡◌, ℕ, Bool, true, false, List, [], ◌∷◌, length, Option, Some, None, Box, refl, sym, ◌∙◌, ap, subst}
 use Rattle.std.specs.Prelude.{cond, not, ◌&&◌, ◌||◌, if◌then◌else◌, nat_lt}
 use Rattle.std.specs.declared.alloc.Global.{Global}
 use Rattle.std.specs.declared.cmp.Ordering.{Ordering}
@@ -9,7 +9,7 @@ use Rattle.std.proofs.lemmas.Cmp.{nat_cmp_total, tied_itself}
 use Rattle.krb_capture.specs.contracts.flow.FlowOrd.TheImpl.Laws as flow_laws
 use Rattle.std.specs.Map.{lookup, remove_entry}
 use Rattle.std.specs.BTreeMap.{insert_entry, is_at}
-use Rattle.krb_capture.specs.Directions.{AllRepresented, HoldsMaps, HoldsTable, HoldsWith, IsAmong, IsKnown, Table, after_found, begins, begun, by_number, flow_cmp, flow_of, followed, forgotten, active_with, ended_with, gone_on, in_flow, kept, last_of, nothing_found, of_ended, of_known, with_room, without, Followed}
+use Rattle.krb_capture.specs.Directions.{AllRepresented, HoldsMaps, HoldsTable, HoldsWith, IsAmong, IsKnown, Table, after_found, begins, begun, by_number, flow_cmp, flow_of, followed, forgotten, active_with, ended_with, gone_on, in_flow, kept, last_of, nothing_found, of_ended, of_known, with_one_less, with_room, without, Followed}
 use Rattle.krb_capture.specs.Sending.{Sent, Represents, last_found, sent_from, step_of}
 use Rattle.krb_flow.specs.declared.direction.State.{State}
 use Rattle.krb_flow.specs.declared.direction.State.TheVariants as states
@@ -170,9 +170,6 @@ is-found limit (Some k) (Some s) one b e =
     record { sent = s; is = refl; represents = subst (λ (x : Kept). Represents x.value limit s) k' b }
 
 -- ---- one that begins
-pub known-begun : (began : Bool) (flow : Flow) (last : Last) (numbers : List (Flow × ℕ)) → began ≡ true → last.flow ≡ flow → IsKnown began flow last numbers
-known-begun began flow last numbers b f = subst (λ b. IsKnown b flow last numbers) (sym b) f
-
 pub began-first : (segment : Segment) → begins segment ≡ true → (step_of states.Fresh segment).began ≡ true
 began-first segment = by segment.rst segment.syn (nat_lt 0 segment.payload.size) refl refl refl
   where
@@ -218,11 +215,6 @@ has-first limit table ks first others a e = by table.active refl (subst (λ l. A
 pub room-first : (limit : ℕ) (table : Table) (s : ℕ × Sent) (ss : List (ℕ × Sent)) → nat_lt (length table.numbers) 65536 ≡ false → table.ended ≡ [] → table.active ≡ s ∷ ss → with_room limit table ≡ record { found = in_flow s.1.flow (last_found limit s.1); table = forgotten s.1.flow (record table { active = ss }) }
 room-first limit table s ss n d a = rw (n, d, a) refl
 
--- a map that gave no entry has none
-pub no-entries : {K X : Type 0} (es : List (K × X)) → (0 < length es → ⊥) → es ≡ []
-no-entries [] f = refl
-no-entries (x ∷ es) f = absurd (f (omega arith))
-
 -- ---- what is found with a segment, by what is known of its flow
 module _ (limit packet : ℕ) (service : Service) (segment : Segment) (table : Table) where
   pub followed-known : (number : ℕ) → lookup (is_at (flow_cmp (flow_of segment))) table.numbers ≡ Some number → followed limit packet service segment table ≡ of_known limit packet number (lookup (is_at (nat_cmp number)) table.active) service segment table
@@ -232,6 +224,12 @@ module _ (limit packet : ℕ) (service : Service) (segment : Segment) (table : T
   pub followed-begins : lookup (is_at (flow_cmp (flow_of segment))) table.numbers ≡ None → begins segment ≡ true → followed limit packet service segment table ≡ after_found (with_room limit table).found (begun limit packet service states.Fresh segment (with_room limit table).table)
   unfolding followed
   followed-begins e b = ap (λ o. by_number limit packet o service segment table) e ∙ ap (λ x. if x then after_found (with_room limit table).found (begun limit packet service states.Fresh segment (with_room limit table).table) else nothing_found table) b
+
+  -- there is room for it
+  pub followed-room : lookup (is_at (flow_cmp (flow_of segment))) table.numbers ≡ None → begins segment ≡ true → nat_lt (length table.numbers) 65536 ≡ true → followed limit packet service segment table ≡ begun limit packet service states.Fresh segment table
+  followed-room e b n =
+      followed-begins e b
+      ∙ ap (λ room. after_found room.found (begun limit packet service states.Fresh segment room.table)) (ap (λ x. if x then nothing_found table else with_one_less limit table.ended table.active table) n)
 
   pub followed-passed : lookup (is_at (flow_cmp (flow_of segment))) table.numbers ≡ None → begins segment ≡ false → followed limit packet service segment table ≡ nothing_found table
   unfolding followed

@@ -1,5 +1,5 @@
 -- What is found in a flow, and what is written of it.
-use Rattle.std.specs.Prelude.{ℕ, ◌+◌, ◌-◌, ◌^◌, min, List, [], ◌∷◌, ◌++◌, Option}
+use Rattle.std.specs.Prelude.{ℕ, ◌+◌, ◌-◌, ◌^◌, ◌≤◌, min, List, [], ◌∷◌, ◌++◌, length, Option, None, Some}
 use Rattle.krb_der.specs.declared.verdict.Refusal.{Refusal}
 use Rattle.krb_msg.specs.declared.message.Message.{Message}
 use Rattle.krb_text.specs.Captures.{captured_message_line, captured_refused_line, joined_line, lost_line, password_line}
@@ -38,6 +38,15 @@ pub record Written : Type 0 where
   pub form : Form
   pub text : List ℕ
   pub counts : CaptureCounts
+
+-- the text has 64 KiB, so that it is to be written before more is listed
+abbrev pub IsFull : List ℕ → Type 0
+IsFull text = 65536 ≤ length text
+
+-- it has, if anything is left
+abbrev pub IsFullIf : {X : Type 0} → Option X → List ℕ → Type 0
+IsFullIf None text = Unit {0}
+IsFullIf (Some left) text = IsFull text
 
 abbrev pub with_found : Origin → Found → Written → Written
 with_found origin found written = record { form = written.form; text = written.text ++ found_line written.form origin found; counts = counted found written.counts }

@@ -8,6 +8,8 @@ pub mod Taken
 pub mod Listed
 pub mod Passed
 pub mod Sending
+pub mod Ended
+pub mod Numbers
 pub mod Directions
 pub mod Captures
 pub mod Laws

@@ -2,9 +2,9 @@
 use Rattle.std.specs.Prelude.{ℕ, ◌≡◌, List, [], ◌++◌, Option, Some, None, Box}
 use Rattle.std.specs.declared.alloc.Global.{Global}
 use Rattle.krb_text.specs.declared.origin.Origin.{Origin}
-use Rattle.krb_capture.specs.Captures.{Finding, HasFollowed, Progress, Settings, Taken, counted_each, lines_of, over_tcp, with_each}
+use Rattle.krb_capture.specs.Captures.{Finding, Progress, Settings, Taken, counted_each, lines_of, over_tcp, with_each}
 use Rattle.krb_capture.specs.Directions.{HoldsMaps, HoldsTable, IsKnown, Table, in_flow, kept}
-use Rattle.krb_capture.specs.Found.{Found, Written, with_all}
+use Rattle.krb_capture.specs.Found.{Found, IsFullIf, Written, with_all}
 use Rattle.krb_capture.specs.Sending.{Sent, end_if}
 use Rattle.krb_capture.specs.Streams.{found_with}
 use Rattle.krb_capture.specs.Taken.{Took, service_of}
@@ -41,6 +41,7 @@ pub record Takes (old new : Frames) (limit : ℕ) (stream : List ℕ) (octets : 
   pub written : after ≡ with_all origin listed before
   pub service : service_of new ≡ service_of old
   pub took : TookSome new limit (stream ++ octets.octets) rest left
+  pub full : IsFullIf rest after.text
 
 -- ---- one direction
 -- with frames of at most n octets
@@ -58,6 +59,7 @@ pub record Sends (kept : Sending) (limit : ℕ) (sent : Sent) (octets : Option U
   pub parts : found ≡ listed ++ left
   pub written : after ≡ with_all origin listed before
   pub represents : RepresentsBut kept limit sent octets left
+  pub full : IsFullIf octets after.text
 
 -- ---- the directions
 -- They hold a table but for one direction, of whose segment these findings are left.
@@ -83,6 +85,7 @@ pub record Follows (directions : Directions) (limit : ℕ) (table : Table) (due 
   pub parts : found ≡ listed ++ left
   pub written : after ≡ with_each listed before
   pub holds : HoldsSome directions limit table due rest left
+  pub full : IsFullIf rest after.text
 
 -- ---- a capture
 -- What it keeps represents a progress, but that these findings are left, which are neither listed nor counted.
@@ -94,10 +97,11 @@ pub record HasFollowedBut (capture : Capture) (settings : Settings) (progress : 
   pub last : capture.last ≡ progress.last
   pub counts : counted_each left capture.listing.counts ≡ progress.counts
 
--- Of what is found, the first findings were listed, and the others are left.
+-- Of what is found, the first findings were listed, and the others are left. If anything is left the text has 64 KiB: so if it had none before, at least one finding was listed.
 pub record Lists (capture : Capture) (settings : Settings) (taken : Taken) (rest : Option (Box Rest Global)) (before after : List ℕ) : Type 0 where
   pub listed : List Finding
   pub left : List Finding
   pub parts : taken.found ≡ listed ++ left
   pub text : after ≡ before ++ lines_of settings.form listed
   pub followed : HasFollowedBut capture settings taken.progress rest left
+  pub full : IsFullIf rest after

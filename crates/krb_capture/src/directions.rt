@@ -1,6 +1,6 @@
 //! The directions of TCP connections, by their flows.
 
-ghost use Rattle.std.specs.Prelude.{◌≡◌, ℕ, true, List, None, Some, if◌then◌else◌, IfOk, OnOk, IfSome, IfNone};
+ghost use Rattle.std.specs.Prelude.{◌≡◌, ◌<◌, ℕ, true, List, None, Some, if◌then◌else◌, is_some, length, IfOk, OnOk, IfSome, IfNone};
 ghost use Rattle.std.specs.BTreeMap.{insert_entry, is_at};
 ghost use Rattle.std.specs.Map.{lookup};
 ghost use Rattle.std.specs.Ordering.{eq_by_cmp, nat_cmp};
@@ -10,8 +10,10 @@ ghost use Rattle.krb_capture.specs.Found.{Found};
 ghost use Rattle.krb_capture.specs.Rests.{Follows, HoldsBut, HoldsSome, RepresentsBut};
 ghost use Rattle.krb_capture.specs.Sending.{Sent, Represents, step_of};
 
+use crate::ended::Ended;
 use crate::flow::{Due, Flow, Service};
 use crate::listing::Listing;
+use crate::numbers::Numbers;
 use crate::sending::{Sending, Step, Stepped, Unlisted};
 use krb_der::Memory;
 use krb_flow::{Direction, Had};
@@ -61,14 +63,14 @@ pub(crate) struct Directions {
     alloc: Global,
     limit: Limit,
     /// The number of the direction of each flow.
-    numbers: BTreeMap<Flow, u64>,
+    numbers: Numbers,
     /// The directions that have not ended. A direction has some 400 octets, so the map moves boxes.
     active: BTreeMap<u64, Box<Sending>>,
     /// The direction of the last segment, if it has not ended, since the next one is mostly of
     /// that, too. It is not among `active` meanwhile.
     last: Option<Last>,
     /// Those that ended.
-    ended: BTreeMap<u64, Gone>,
+    ended: Ended,
     /// Octets that waited.
     waited: Vec<u8>,
 }
@@ -112,10 +114,10 @@ impl Directions {
         Directions {
             alloc,
             limit,
-            numbers: BTreeMap::new(alloc),
+            numbers: Numbers::new(alloc),
             active: BTreeMap::new(alloc),
             last: None,
-            ended: BTreeMap::new(alloc),
+            ended: Ended::new(alloc),
             waited: Vec::new(alloc),
         }
     }
@@ -176,13 +178,41 @@ impl Directions {
         requires none { self.old.last ≡ None }
         ensures { IfOk result (λ rest. (limit : ℕ) (table : Table) → HoldsMaps self.old limit table → Follows self.new limit (followed limit due.packet service segment.now table).table due rest (over_tcp due (followed limit due.packet service segment.now table).found) listing.old listing.new) }
     {
-        match self.numbers.get(&flow).copied() {
+        let may_begin = begins(segment);
+        if segment.syn & may_begin & (self.numbers.len() < MOST_DIRECTIONS) {
+            return self.take_syn(flow, segment, service, due, listing);
+        }
+        match self.numbers.get(&flow) {
             Some(number) => self.take_known(flow, number, segment, service, due, listing),
-            None if begins(segment) => {
+            None if may_begin => {
                 self.make_room(due, listing)?;
+                self.numbers.insert(flow, due.packet)?;
                 self.begin(flow, None, segment, service, due, listing)
             }
             None => Ok(None),
+        }
+    }
+
+    /// Takes a SYN that is not of the direction of the last segment. Mostly its flow is new, and has
+    /// a number with one look-up.
+    fn take_syn(
+        &mut self,
+        flow: Flow,
+        segment: &Segment<'_>,
+        service: Service,
+        due: Due,
+        listing: &mut Listing,
+    ) -> Result<Option<Box<Rest>>, Memory>
+        requires of_segment { flow ≡ flow_of segment.now }
+        requires none { self.old.last ≡ None }
+        requires begins { begins segment.now ≡ true }
+        requires room { length self.old.numbers.entries < 65536 }
+        ensures { IfOk result (λ rest. (limit : ℕ) (table : Table) → HoldsMaps self.old limit table → Follows self.new limit (followed limit due.packet service segment.now table).table due rest (over_tcp due (followed limit due.packet service segment.now table).found) listing.old listing.new) }
+    {
+        let found = self.numbers.get_or_insert(flow, due.packet)?;
+        match found {
+            Some(number) => self.take_known(flow, number, segment, service, due, listing),
+            None => self.begin(flow, None, segment, service, due, listing),
         }
     }
 
@@ -233,13 +263,14 @@ impl Directions {
         if !begins(segment) {
             return Ok(None);
         }
-        let Some(gone) = self.ended.get(&number).copied() else {
+        let Some(gone) = self.ended.get(number) else {
             return Ok(None);
         };
         if !gone.had.is_followed_by(segment) {
             return Ok(None);
         }
-        self.ended.remove(&number);
+        self.ended.remove(number);
+        self.numbers.insert(flow, due.packet)?;
         self.begin(flow, Some(gone.had), segment, service, due, listing)
     }
 
@@ -265,7 +296,8 @@ impl Directions {
         self.keep_or_wait(flow, kept, stepped)
     }
 
-    /// Begins a direction of a flow that has none in the table. If one ended, it had this.
+    /// Begins a direction of a flow that has none in the table, but its number already. If one ended,
+    /// it had this.
     fn begin(
         &mut self,
         flow: Flow,
@@ -278,16 +310,19 @@ impl Directions {
         requires of_segment { flow ≡ flow_of segment.now }
         requires begins { (step_of (state_after had) segment.now).began ≡ true }
         requires none { self.old.last ≡ None }
-        ensures { IfOk result (λ rest. (limit : ℕ) (table : Table) → HoldsMaps self.old limit table → Follows self.new limit (begun limit due.packet service (state_after had) segment.now table).table due rest (over_tcp due (begun limit due.packet service (state_after had) segment.now table).found) listing.old listing.new) }
+        requires known { lookup (is_at (flow_cmp flow)) self.old.numbers.entries ≡ Some due.packet }
+        ensures { IfOk result (λ rest. (limit : ℕ) (table : Table) → HoldsMaps self.old limit (record table { numbers = insert_entry flow_cmp table.numbers flow due.packet }) → Follows self.new limit (begun limit due.packet service (state_after had) segment.now table).table due rest (over_tcp due (begun limit due.packet service (state_after had) segment.now table).found) listing.old listing.new) }
     {
         let direction = direction_after(had);
         let mut sending = Sending::new(self.alloc, self.limit, flow, service, direction);
-        let stepped = sending.take(segment, due, &mut self.waited, listing)?;
+        let mut stepped = sending.take(segment, due, &mut self.waited, listing)?;
         let kept = Last {
             flow,
             number: due.packet,
             sending: Box::new(self.alloc, sending)?,
         };
+        // Its flow has its number already.
+        stepped.step.began = false;
         self.keep_or_wait(flow, kept, stepped)
     }
 
@@ -299,7 +334,8 @@ impl Directions {
         stepped: Stepped,
     ) -> Result<Option<Box<Rest>>, Memory>
         requires { self.old.last ≡ None }
-        ensures { IfOk result (λ rest. (limit : ℕ) (table : Table) (sent : Sent) (due : Due) (left : List Found) → HoldsMaps self.old limit table → IsKnown stepped.step.began flow last self.old.numbers.entries → RepresentsBut last.sending.value limit sent stepped.left left → HoldsSome self.new limit (kept flow last.number stepped.step sent table) due rest (over_tcp due (in_flow sent.flow left))) }
+        ensures waits { IfOk result (λ rest. is_some rest ≡ is_some stepped.left) }
+        ensures kept { IfOk result (λ rest. (limit : ℕ) (table : Table) (sent : Sent) (due : Due) (left : List Found) → HoldsMaps self.old limit table → IsKnown stepped.step.began flow last self.old.numbers.entries → RepresentsBut last.sending.value limit sent stepped.left left → HoldsSome self.new limit (kept flow last.number stepped.step sent table) due rest (over_tcp due (in_flow sent.flow left))) }
     {
         let step = stepped.step;
         match stepped.left {

@@ -1,7 +1,7 @@
 //! The frames of a stream (RFC 4120, 7.2.2), by what they carry.
 
-ghost use Rattle.std.specs.Prelude.{◌≡◌, ◌≤◌, ℕ, false, List, [], ◌++◌, length, take, IfOk, OnOk};
-ghost use Rattle.krb_capture.specs.Found.{Missing, with_all, with_found};
+ghost use Rattle.std.specs.Prelude.{◌≡◌, ◌<◌, ◌≤◌, ℕ, false, List, [], ◌++◌, length, take, IfOk, OnOk};
+ghost use Rattle.krb_capture.specs.Found.{IsFull, Missing, with_all, with_found};
 ghost use Rattle.krb_capture.specs.Streams.{cut_refusal, end_found, found_with, framed, open_path, refusal_found};
 ghost use Rattle.krb_capture.specs.Taken.{Took, kept_in, over_in, service_of};
 
@@ -48,6 +48,7 @@ impl Frames {
     ) -> Result<usize, Memory>
         ensures service { OnOk result (service_of self.new ≡ service_of self.old) }
         ensures few { IfOk result (λ count. count ≤ length octets.now) }
+        ensures full { IfOk result (λ count. count < length octets.now → IsFull listing.new.text) }
         ensures took { IfOk result (λ count. (limit : ℕ) (stream : List ℕ) → Took self.old limit stream → Took self.new limit (stream ++ take count octets.now)) }
         ensures listed { IfOk result (λ count. (limit : ℕ) (stream : List ℕ) → Took self.old limit stream → listing.new ≡ with_all origin.now (found_with (service_of self.old) limit stream (take count octets.now)) listing.old) }
     {

@@ -20,12 +20,14 @@
 mod capture;
 mod datagram;
 mod directions;
+mod ended;
 mod flow;
 mod frames;
 pub mod law;
 mod listing;
 mod message;
 mod message_frames;
+mod numbers;
 mod part;
 mod password;
 mod password_frames;

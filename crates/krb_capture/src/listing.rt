@@ -1,10 +1,10 @@
 //! What is listed of a capture.
 
-ghost use Rattle.std.specs.Prelude.{◌≡◌, ◌++◌, OnOk, string_bytes};
+ghost use Rattle.std.specs.Prelude.{◌≡◌, ◌↔◌, ◌++◌, IsTrue, OnOk, string_bytes};
 ghost use Rattle.std.specs.Option.{option_copied, option_map};
 ghost use Rattle.krb_msg.specs.ViewValues.{MessageLists, message_of_view};
 ghost use Rattle.krb_text.specs.Captures.{capture_end_line, capture_refused_line};
-ghost use Rattle.krb_capture.specs.Found.{Whole, Faulty, Joined, Missing, Password, and_more, nothing_written, totals, with_found};
+ghost use Rattle.krb_capture.specs.Found.{IsFull, Whole, Faulty, Joined, Missing, Password, and_more, nothing_written, totals, with_found};
 
 use krb_der::{Memory, Refusal};
 use krb_file::FileWhy;
@@ -89,7 +89,9 @@ impl Listing {
     }
 
     /// Returns whether the text is long enough to be written.
-    pub(crate) fn is_full(&self) -> bool {
+    pub(crate) fn is_full(&self) -> bool
+        ensures { IsTrue result ↔ IsFull self.now.text }
+    {
         self.text.octets().len() >= FULL_OCTETS
     }
 

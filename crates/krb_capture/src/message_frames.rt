@@ -1,10 +1,10 @@
 //! Frames whose contents are messages of Kerberos.
 
-ghost use Rattle.std.specs.Prelude.{◌≡◌, ◌+◌, ◌≤◌, ℕ, true, false, None, List, [], ◌++◌, length, take, IfOk, IfSome, OnOk, string_bytes};
+ghost use Rattle.std.specs.Prelude.{◌≡◌, ◌+◌, ◌<◌, ◌≤◌, ℕ, true, false, None, List, [], ◌++◌, length, take, IfOk, IfSome, OnOk, string_bytes};
 ghost use Rattle.std.specs.Option.{option_map};
 ghost use Rattle.krb_text.specs.Refusals.{path_in};
 ghost use Rattle.krb_frame.specs.declared.decoder.Status.TheVariants as status;
-ghost use Rattle.krb_capture.specs.Found.{with_all};
+ghost use Rattle.krb_capture.specs.Found.{IsFull, with_all};
 ghost use Rattle.krb_capture.specs.Listed.{ListsNext, ListsPrefix, ListsOne, ListsRefused, ListsSome, rest_after, status_in};
 ghost use Rattle.krb_capture.specs.Streams.{cut_refusal, found_with, framed, frame_path};
 ghost use Rattle.krb_capture.specs.Taken.{TookMessages, kept_of};
@@ -57,6 +57,7 @@ impl MessageFrames {
         listing: &mut Listing,
     ) -> Result<usize, Memory>
         ensures few { IfOk result (λ count. count ≤ length octets.now) }
+        ensures full { IfOk result (λ count. count < length octets.now → IsFull listing.new.text) }
         ensures took { IfOk result (λ count. (limit : ℕ) (stream : List ℕ) → TookMessages self.old limit stream → TookMessages self.new limit (stream ++ take count octets.now)) }
         ensures listed { IfOk result (λ count. (limit : ℕ) (stream : List ℕ) → TookMessages self.old limit stream → listing.new ≡ with_all origin.now (found_with services.Kerberos limit stream (take count octets.now)) listing.old) }
     {
@@ -92,6 +93,7 @@ impl MessageFrames {
         requires goes { self.old.is_over ≡ false }
         requires kept { kept ≤ length octets.now }
         ensures few { IfOk result (λ rest. kept + length rest.now ≤ length octets.now) }
+        ensures full { IfOk result (λ rest. 0 < length rest.now → IsFull listing.new.text) }
         ensures listed { IfOk result (λ rest. ListsNext self.old self.new octets.now rest.now origin.now listing.old listing.new) }
     {
         match list_frames(&mut self.decoder, self.limit, kept, octets, origin, listing)? {
@@ -190,6 +192,7 @@ fn list_frames<'a>(
 ) -> Result<Listed<'a>, Memory>
     requires { kept ≤ length octets.now }
     ensures few { IfOk result (λ listed. kept + length (rest_after listed) ≤ length octets.now) }
+    ensures full { IfOk result (λ listed. 0 < length (rest_after listed) → IsFull listing.new.text) }
     ensures listed { IfOk result (λ listed. ListsSome listed limit decoder.old decoder.new octets.now origin.now listing.old listing.new) }
 {
     let mut rest = octets;
@@ -229,7 +232,8 @@ fn list_frames<'a>(
 
 /// Returns whether the listing is full, and the first `kept` octets are not among the rest.
 fn may_stop(listing: &Listing, kept: usize, octets: &[u8], rest: &[u8]) -> bool
-    ensures { result ≡ true → kept + length rest.now ≤ length octets.now }
+    ensures few { result ≡ true → kept + length rest.now ≤ length octets.now }
+    ensures full { result ≡ true → IsFull listing.now.text }
 {
     listing.is_full() && rest.len() <= octets.len() && kept <= octets.len() - rest.len()
 }

@@ -1,8 +1,8 @@
 //! Frames whose contents are messages that change passwords.
 
-ghost use Rattle.std.specs.Prelude.{◌≡◌, ◌≤◌, ℕ, false, List, [], ◌∷◌, ◌++◌, length, take, IfOk, OnOk};
+ghost use Rattle.std.specs.Prelude.{◌≡◌, ◌<◌, ◌≤◌, ℕ, false, List, [], ◌∷◌, ◌++◌, length, take, IfOk, OnOk};
 ghost use Rattle.std.specs.Option.{option_copied};
-ghost use Rattle.krb_capture.specs.Found.{with_all, with_found};
+ghost use Rattle.krb_capture.specs.Found.{IsFull, with_all, with_found};
 ghost use Rattle.krb_capture.specs.Streams.{cut_refusal, found_with, framed, length_found, open_path};
 ghost use Rattle.krb_capture.specs.Passed.{ListsContents, ListsWhole, PassesOver, TakesPasswords, frame_length};
 ghost use Rattle.krb_capture.specs.Taken.{TookPasswords};
@@ -53,6 +53,7 @@ impl PasswordFrames {
         listing: &mut Listing,
     ) -> Result<usize, Memory>
         ensures few { IfOk result (λ count. count ≤ length octets.now) }
+        ensures full { IfOk result (λ count. count < length octets.now → IsFull listing.new.text) }
         ensures took { IfOk result (λ count. (limit : ℕ) (stream : List ℕ) → TookPasswords self.old limit stream → TookPasswords self.new limit (stream ++ take count octets.now)) }
         ensures listed { IfOk result (λ count. (limit : ℕ) (stream : List ℕ) → TookPasswords self.old limit stream → listing.new ≡ with_all origin.now (found_with services.Passwords limit stream (take count octets.now)) listing.old) }
     {

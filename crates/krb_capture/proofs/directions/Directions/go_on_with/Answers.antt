@@ -1,9 +1,8 @@
 use Rattle.std.proofs.Common.{Some, refl, sym, ◌∙◌, subst}
 use Rattle.std.proofs.lemmas.Result.{IfOk-weaker}
-use Rattle.krb_capture.specs.Captures.{over_tcp}
-use Rattle.krb_capture.specs.Directions.{in_flow, kept}
+use Rattle.krb_capture.specs.Directions.{kept}
 use Rattle.krb_capture.specs.Rests.{Follows, HoldsBut, RepresentsBut}
-use Rattle.krb_capture.proofs.Follows.{follows-kept, known-same}
+use Rattle.krb_capture.proofs.Follows.{both-ok, follows-kept, known-same}
 use Rattle.krb_capture.proofs.Tables.{holds-none}
 use Rattle.krb_capture.proofs.directions.Directions.go_on_with.Goals as goal
 
@@ -19,6 +18,6 @@ returns c = IfOk-weaker c.keep_or_wait.result _ _
     let table_of = kept rest.flow rest.last.number rest.step but.sent but.others in
     subst (λ t. Follows c.keep_or_wait.new.self limit t c.args.due next found c.args.listing.now c.go_on.new.listing) (sym but.table_is)
     (subst (λ f. Follows c.keep_or_wait.new.self limit table_of c.args.due next f c.args.listing.now c.go_on.new.listing) (sym but.is)
-    (follows-kept c.keep_or_wait.new.self limit c.args.due next c.go_on.new.self but.sent table_of c.in_ok-left.left c.deref_mut.result.now.flow but.left c.args.listing.now c.go_on.new.listing there.flow sends
-    (k limit but.others but.sent c.args.due sends.left maps known sends.represents))))
-    c.keep_or_wait.ensures
+    (follows-kept c.keep_or_wait.new.self limit c.args.due next c.go_on.new.self but.sent table_of c.in_ok-left.left c.deref_mut.result.now.flow but.left c.args.listing.now c.go_on.new.listing there.flow sends k.0
+    (k.1 limit but.others but.sent c.args.due sends.left maps known sends.represents))))
+    (both-ok _ _ c.keep_or_wait.result c.keep_or_wait.ensures.waits c.keep_or_wait.ensures.kept)

@@ -1,11 +1,11 @@
 use Rattle.std.proofs.Common.{◌≡◌, true, false, Some, None, sym, ◌∙◌, ap, subst}
 use Rattle.std.proofs.lemmas.Result.{IfOk-weaker}
-use Rattle.std.specs.BTreeMap.{is_at}
+use Rattle.std.specs.BTreeMap.{insert_entry, is_at}
 use Rattle.std.specs.Map.{lookup, remove_entry}
 use Rattle.std.specs.Ordering.{nat_cmp}
 use Rattle.krb_flow.specs.declared.direction.State.TheVariants as states
 use Rattle.krb_capture.specs.Captures.{over_tcp}
-use Rattle.krb_capture.specs.Directions.{of_ended}
+use Rattle.krb_capture.specs.Directions.{flow_cmp, of_ended}
 use Rattle.krb_capture.specs.Rests.{Follows}
 use Rattle.krb_capture.specs.Sending.{step_of}
 use Rattle.krb_capture.proofs.Follows.{follows-none}
@@ -16,12 +16,12 @@ pub returns : goal.returns
 returns c = IfOk-weaker c.begin.result _ _
     (λ rest k limit table h.
     let test = is_at (nat_cmp c.args.number) in
-    let there : lookup test table.ended ≡ Some c.in-Some.gone = ap (λ es. lookup test es) (sym h.ended) ∙ sym c.get.ensures.value ∙ sym c.copied.ensures ∙ c.in-Some.is in
+    let there : lookup test table.ended ≡ Some c.in-Some.gone = ap (λ es. lookup test es) (sym h.ended) ∙ sym c.get.ensures ∙ c.in-Some.is in
     let began : (step_of (states.Ended c.in-Some.gone.had) c.args.segment.now).began ≡ true = sym c.is_followed_by.ensures ∙ c.if-not-is_followed_by.false in
     let left = record table { ended = remove_entry test table.ended } in
     let whole = ap (λ o. of_ended limit c.args.due.packet c.args.number o c.args.service c.args.segment.now table) there ∙ ended-begins limit c.args.due.packet c.args.service c.args.segment.now table c.args.number c.in-Some.gone began in
     subst (λ f. Follows c.begin.new.self limit f.table c.args.due rest (over_tcp c.args.due f.found) c.args.listing.now c.begin.new.listing) (sym whole)
-    (k limit left (record { limit_is = h.limit_is; numbers = h.numbers; active = h.active; ended = c.remove.ensures.entries ∙ ap (λ es. remove_entry test es) h.ended })))
+    (k limit left (record { limit_is = h.limit_is; numbers = c.in_ok-insert.ensures.entries ∙ ap (λ es. insert_entry flow_cmp es c.args.flow c.args.due.packet) h.numbers; active = h.active; ended = c.remove.ensures ∙ ap (λ es. remove_entry test es) h.ended })))
     c.begin.ensures
 
 pub returns-then-not-begins : goal.returns-then-not-begins
@@ -33,14 +33,14 @@ returns-then-not-begins c = λ limit table h.
 pub returns-in_default : goal.returns-in_default
 returns-in_default c = λ limit table h.
     let test = is_at (nat_cmp c.args.number) in
-    let none : lookup test table.ended ≡ None = ap (λ es. lookup test es) (sym h.ended) ∙ sym c.get.ensures.value ∙ sym c.copied.ensures ∙ c.in_default.is in
+    let none : lookup test table.ended ≡ None = ap (λ es. lookup test es) (sym h.ended) ∙ sym c.get.ensures ∙ c.in_default.is in
     follows-none c.args.self.now limit c.args.due (of_ended limit c.args.due.packet c.args.number (lookup test table.ended) c.args.service c.args.segment.now table) table c.args.listing.now
     (ap (λ o. of_ended limit c.args.due.packet c.args.number o c.args.service c.args.segment.now table) none) c.requires.none h
 
 pub returns-then-not-is_followed_by : goal.returns-then-not-is_followed_by
 returns-then-not-is_followed_by c = λ limit table h.
     let test = is_at (nat_cmp c.args.number) in
-    let there : lookup test table.ended ≡ Some c.in-Some.gone = ap (λ es. lookup test es) (sym h.ended) ∙ sym c.get.ensures.value ∙ sym c.copied.ensures ∙ c.in-Some.is in
+    let there : lookup test table.ended ≡ Some c.in-Some.gone = ap (λ es. lookup test es) (sym h.ended) ∙ sym c.get.ensures ∙ c.in-Some.is in
     let passed : (step_of (states.Ended c.in-Some.gone.had) c.args.segment.now).began ≡ false = sym c.is_followed_by.ensures ∙ c.if-not-is_followed_by.true in
     follows-none c.args.self.now limit c.args.due (of_ended limit c.args.due.packet c.args.number (lookup test table.ended) c.args.service c.args.segment.now table) table c.args.listing.now
     (ap (λ o. of_ended limit c.args.due.packet c.args.number o c.args.service c.args.segment.now table) there ∙ ended-stays limit c.args.due.packet c.args.service c.args.segment.now table c.args.number c.in-Some.gone passed) c.requires.none h

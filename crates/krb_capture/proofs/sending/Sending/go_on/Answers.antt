@@ -1,4 +1,4 @@
-use Rattle.std.proofs.Common.{Some, sym, ◌∙◌, ap, subst}
+use Rattle.std.proofs.Common.{◌∙◌, ap, subst}
 use Rattle.std.proofs.lemmas.Result.{IfOk-weaker}
 use Rattle.krb_capture.specs.Rests.{Sends, TookSome}
 use Rattle.krb_capture.proofs.sending.Sending.go_on.Goals as goal
@@ -14,6 +14,7 @@ returns-clause-found c = IfOk-weaker c.list_left.result _ _
       left = t.left;
       parts = r.took.is ∙ t.parts;
       written = t.written;
+      full = t.full;
       represents = record {
         limit_is = ap (λ x. x.limit) same ∙ r.limit_is;
         flow = ap (λ x. x.flow) same ∙ r.flow;

@@ -40,5 +40,6 @@ returns-clause-found c = λ limit sent s.
       left = listed.left;
       parts = ap (λ o. outcome_found sent.service n sent.stream o) (sym outcome) ∙ listed.parts;
       written = listed.written;
+      full = takes.full;
       represents = represents;
     }))
