@@ -1,5 +1,5 @@
 -- The fragments of one datagram among those of others.
-use Rattle.std.proofs.Common.{◌≡◌, ℕ, zero, suc, ◌+◌, ◌-◌, ◌<◌, ◌≤◌, ◌⊎◌, inl, inr, Bool, true, false, cond, List, [], ◌∷◌, ◌++◌, length, map, get_or, set, Option, Some, None, refl, sym, ◌∙◌, ap, ap₂, subst, arith, append-nil, length-append}
+use Rattle.std.proofs.Common.{take, append_assoc, ◌≡◌, ℕ, zero, suc, ◌+◌, ◌-◌, ◌<◌, ◌≤◌, ◌⊎◌, inl, inr, Bool, true, false, cond, List, [], ◌∷◌, ◌++◌, length, get_or, set, Option, Some, None, refl, sym, ◌∙◌, ap, ap₂, subst, arith, append-nil, length-append}
 use Rattle.std.specs.Prelude.{nat_lt, not, slice_get}
 use Rattle.std.specs.List.{AllByRecursion, Contains, filter, position, position_or_len, remove, slice_index_or}
 use Rattle.std.specs.Cmp.{IsEquivalence}
@@ -8,7 +8,7 @@ use Rattle.std.specs.Ordering.{eq_by_cmp}
 use Rattle.std.proofs.lemmas.Bool.{lt-ltb, true≢false}
 use Rattle.std.proofs.lemmas.Bool.Decides.{nat_tests}
 use Rattle.std.proofs.lemmas.Cmp.{eq_by_cmp_equiv}
-use Rattle.std.proofs.lemmas.List.Elements.{filter-append, recursion_from_All}
+use Rattle.std.proofs.lemmas.List.Elements.{filter-append}
 use Rattle.krb_der.specs.Octets.{when}
 use Rattle.krb_packet.specs.contracts.contents.OriginalOrd.TheImpl.Laws as laws
 use Rattle.krb_packet.specs.declared.contents.Fragment.{Fragment}
@@ -17,7 +17,7 @@ use Rattle.krb_packet.specs.declared.fragments.Pending.{Pending}
 use Rattle.krb_packet.specs.declared.fragments.Progress.{Progress}
 use Rattle.krb_packet.specs.declared.fragments.Progress.TheVariants.{Open, Discarded}
 use Rattle.krb_packet.specs.declared.fragments.Reassembled.{Reassembled}
-use Rattle.krb_packet.specs.FragmentLaws.{FragmentsAreApart, wholes}
+use Rattle.krb_packet.specs.FragmentLaws.{AreFewAtOnce, FragmentsAreApart, IsBegun, fragments_of, left_after, wholes}
 use Rattle.krb_packet.specs.Fragments.{finished, most_datagrams, no_fragments, no_fragments_of, pending_with, same_original, step, whole, whole_of, with_fragment_at, without_first, without_whole}
 use Rattle.krb_packet.specs.Parts.{is_complete, joined}
 use Rattle.krb_packet.specs.Table.{Table}
@@ -345,33 +345,92 @@ module _ (original : Original) (different : List Original) (short : length diffe
       )
 
 -- ---- all fragments
-all_apart : (original : Original) (different : List Original) → length different ≤ most_datagrams → (fragments : List Fragment) (table own : Table) → AreKept different table.pending → AllByRecursion (λ o. IsOneOf o different) (map (λ fragment. fragment.original) fragments) → filter (is_of original) table.pending ≡ own.pending → wholes_of_it original (wholes table fragments) ≡ wholes own (filter (λ fragment. same_original fragment.original original) fragments)
-all_apart original different short [] table own kept ones is = refl
-all_apart original different short (fragment ∷ fragments) table own kept ones is =
-    let g = goes original different short table own fragment kept ones.0 (place_of fragment.original table.pending) in
-    let next = kept_after original different short table own fragment kept ones.0 g in
-    filter-append (λ whole. same_original whole.original original) (option_to_list (step table fragment).0) (wholes (step table fragment).1 fragments)
-    ∙ by (same_original fragment.original original) refl g (λ other e. all_apart original different short fragments (step table fragment).1 other next ones.1 e)
-  where
-    by : (b : Bool) → same_original fragment.original original ≡ b → Goes original different short table own fragment kept ones.0 → ((other : Table) → filter (is_of original) (step table fragment).1.pending ≡ other.pending → wholes_of_it original (wholes (step table fragment).1 fragments) ≡ wholes other (filter (λ fragment. same_original fragment.original original) fragments)) → wholes_of_it original (option_to_list (step table fragment).0) ++ wholes_of_it original (wholes (step table fragment).1 fragments) ≡ wholes own (cond b (fragment ∷ filter (λ fragment. same_original fragment.original original) fragments) (filter (λ fragment. same_original fragment.original original) fragments))
-    by true e g rest =
-        let own_step = own_after original different short table own fragment kept ones.0 g e is in
-        ap₂ (λ (x y : List Reassembled). x ++ y) own_step.1 (rest (step own fragment).1 own_step.0)
-    by false e g rest =
-        let other_step = other_after original different short table own fragment kept ones.0 g e in
-        ap₂ (λ (x y : List Reassembled). x ++ y) other_step.1 (rest own (other_step.0 ∙ is))
+abbrev AreDistinct : List Pending → Type 0
+AreDistinct [] = Unit {0}
+AreDistinct (one ∷ others) = AllByRecursion (λ p. is_of one.original p ≡ false) others × AreDistinct others
 
+distinct-kept : (different : List Original) (pending : List Pending) → AreKept different pending → AreDistinct pending
+distinct-kept different [] k = k
+distinct-kept different (p ∷ pending) k = (k.1, distinct-kept different pending k.2)
+
+kept-distinct : (different : List Original) (pending : List Pending) → AreDistinct pending → AllByRecursion (λ p. IsOneOf p.original different) pending → AreKept different pending
+kept-distinct different [] d a = a
+kept-distinct different (p ∷ pending) d a = (a.0, d.0, kept-distinct different pending d.1 a.1)
+
+-- what is left of a datagram, by its fragments alone
+abbrev own_of : Original → List Fragment → Table
+own_of original fragments = left_after no_fragments (fragments_of original fragments)
+
+left_after-push : (table : Table) (fragments : List Fragment) (fragment : Fragment) → left_after table (fragments ++ fragment ∷ []) ≡ (step (left_after table fragments) fragment).1
+left_after-push table [] fragment = refl
+left_after-push table (first ∷ fragments) fragment = left_after-push (step table first).1 fragments fragment
+
+module _ (original : Original) (before : List Fragment) (fragment : Fragment) where
+  abbrev is_its : Fragment → Bool
+  is_its one = same_original one.original original
+
+  own_of-own : same_original fragment.original original ≡ true → own_of original (before ++ fragment ∷ []) ≡ (step (own_of original before) fragment).1
+  own_of-own e =
+      ap (λ (l : List Fragment). left_after no_fragments l) (filter-append is_its before (fragment ∷ []) ∙ ap (λ (l : List Fragment). filter is_its before ++ l) (filter-yes is_its fragment [] e))
+      ∙ left_after-push no_fragments (fragments_of original before) fragment
+
+  own_of-other : same_original fragment.original original ≡ false → own_of original (before ++ fragment ∷ []) ≡ own_of original before
+  own_of-other n = ap (λ (l : List Fragment). left_after no_fragments l) (filter-append is_its before (fragment ∷ []) ∙ ap (λ (l : List Fragment). filter is_its before ++ l) (filter-no is_its fragment [] n) ∙ append-nil (filter is_its before))
+
+take-front : (before after : List Fragment) → take (length before) (before ++ after) ≡ before
+take-front [] after = refl
+take-front (b ∷ before) after = ap (λ l. b ∷ l) (take-front before after)
+
+-- each datagram that is kept has begun
 one_at : (all : List Original) (original : Original) (k : ℕ) → k < length all → slice_index_or all k original ≡ original → IsOneOf original all
 one_at [] original k within is = absurd (omega (arith, within))
 one_at (first ∷ all) original zero within is = inl (sym is)
 one_at (first ∷ all) original (suc k) within is = inr (one_at all original k (omega (arith, within)) is)
 
-all_one_of : (different all : List Original) → AllByRecursion (Contains different) all → AllByRecursion (λ o. IsOneOf o different) all
-all_one_of different [] a = a
-all_one_of different (original ∷ all) a = (one_at different original a.0.0 a.0.1 a.0.2, all_one_of different all a.1)
+not_empty : (before : List Pending) (one : Pending) (after : List Pending) → before ++ one ∷ after ≡ [] → ⊥
+not_empty [] one after e = cc
+not_empty (b ∷ before) one after e = cc
+
+module _ (came : List Fragment) (pending : List Pending) (as_alone : (original : Original) → filter (is_of original) pending ≡ (own_of original came).pending) (more : Original) (begun : List Original) (all : (original : Original) → IsBegun original came → Contains begun original) where
+  begun_each : (before rest : List Pending) → pending ≡ before ++ rest → AllByRecursion (λ p. IsOneOf p.original (more ∷ begun)) rest
+  begun_each before [] e = tt
+  begun_each before (p ∷ rest) e =
+      let at = all p.original has_begun in
+      (inr (one_at begun p.original at.0 at.1 at.2), begun_each (before ++ p ∷ []) rest (e ∙ sym (append_assoc before (p ∷ []) rest)))
+    where
+      has_begun : (own_of p.original came).pending ≡ [] → ⊥
+      has_begun none =
+          not_empty (filter (is_of p.original) before) p (filter (is_of p.original) rest)
+          (sym (ap (filter (is_of p.original)) e ∙ filter-append (is_of p.original) before (p ∷ rest) ∙ ap (λ (l : List Pending). filter (is_of p.original) before ++ l) (filter-yes (is_of p.original) p rest (same-itself p.original)))
+          ∙ as_alone p.original ∙ none)
+
+all_apart : (original : Original) (all : List Fragment) → AreFewAtOnce all → (fragments came : List Fragment) (table : Table) → all ≡ came ++ fragments → AreDistinct table.pending → ((o : Original) → filter (is_of o) table.pending ≡ (own_of o came).pending) → wholes_of_it original (wholes table fragments) ≡ wholes (own_of original came) (fragments_of original fragments)
+all_apart original all few [] came table is distinct as_alone = refl
+all_apart original all few (fragment ∷ fragments) came table is distinct as_alone =
+    let at = few (length came) in
+    let front : take (length came) all ≡ came = ap (take (length came)) is ∙ take-front came (fragment ∷ fragments) in
+    let begun : List Original = at.0 in
+    let short : length (fragment.original ∷ begun) ≤ most_datagrams = at.1 in
+    let has = subst (λ (l : List Fragment). (o : Original) → IsBegun o l → Contains begun o) front at.2 in
+    let kept = kept-distinct (fragment.original ∷ begun) table.pending distinct (begun_each came table.pending as_alone fragment.original begun has [] table.pending refl) in
+    let g = λ (o : Original). goes o (fragment.original ∷ begun) short table (own_of o came) fragment kept (inl refl) (place_of fragment.original table.pending) in
+    filter-append (λ whole. same_original whole.original original) (option_to_list (step table fragment).0) (wholes (step table fragment).1 fragments)
+    ∙ by begun short kept (g original) (same_original fragment.original original) refl
+    (all_apart original all few fragments (came ++ fragment ∷ []) (step table fragment).1 (is ∙ sym (append_assoc came (fragment ∷ []) fragments))
+    (distinct-kept (fragment.original ∷ begun) (step table fragment).1.pending (kept_after original (fragment.original ∷ begun) short table (own_of original came) fragment kept (inl refl) (g original)))
+    (λ o. then_alone begun short kept o (g o) (same_original fragment.original o) refl))
+  where
+    then_alone : (begun : List Original) (short : length (fragment.original ∷ begun) ≤ most_datagrams) (kept : AreKept (fragment.original ∷ begun) table.pending) (o : Original) → Goes o (fragment.original ∷ begun) short table (own_of o came) fragment kept (inl refl) → (b : Bool) → same_original fragment.original o ≡ b → filter (is_of o) (step table fragment).1.pending ≡ (own_of o (came ++ fragment ∷ [])).pending
+    then_alone begun short kept o g true e = (own_after o (fragment.original ∷ begun) short table (own_of o came) fragment kept (inl refl) g e (as_alone o)).0 ∙ ap (λ (t : Table). t.pending) (sym (own_of-own o came fragment e))
+    then_alone begun short kept o g false e = (other_after o (fragment.original ∷ begun) short table (own_of o came) fragment kept (inl refl) g e).0 ∙ as_alone o ∙ ap (λ (t : Table). t.pending) (sym (own_of-other o came fragment e))
+
+    by : (begun : List Original) (short : length (fragment.original ∷ begun) ≤ most_datagrams) (kept : AreKept (fragment.original ∷ begun) table.pending) → Goes original (fragment.original ∷ begun) short table (own_of original came) fragment kept (inl refl) → (b : Bool) → same_original fragment.original original ≡ b → wholes_of_it original (wholes (step table fragment).1 fragments) ≡ wholes (own_of original (came ++ fragment ∷ [])) (fragments_of original fragments) → wholes_of_it original (option_to_list (step table fragment).0) ++ wholes_of_it original (wholes (step table fragment).1 fragments) ≡ wholes (own_of original came) (cond b (fragment ∷ fragments_of original fragments) (fragments_of original fragments))
+    by begun short kept g true e rest =
+        ap₂ (λ (x y : List Reassembled). x ++ y) (own_after original (fragment.original ∷ begun) short table (own_of original came) fragment kept (inl refl) g e (as_alone original)).1
+        (rest ∙ ap (λ (t : Table). wholes t (fragments_of original fragments)) (own_of-own original came fragment e))
+    by begun short kept g false e rest =
+        ap₂ (λ (x y : List Reassembled). x ++ y) (other_after original (fragment.original ∷ begun) short table (own_of original came) fragment kept (inl refl) g e).1
+        (rest ∙ ap (λ (t : Table). wholes t (fragments_of original fragments)) (own_of-other original came fragment e))
 
 pub fragments_are_apart : FragmentsAreApart
-fragments_are_apart original fragments different short all =
-    all_apart original different short fragments no_fragments no_fragments tt
-    (all_one_of different (map (λ fragment. fragment.original) fragments) (recursion_from_All (Contains different) (map (λ fragment. fragment.original) fragments) all))
-    refl
+fragments_are_apart original fragments few = all_apart original fragments few fragments [] no_fragments refl tt (λ o. refl)

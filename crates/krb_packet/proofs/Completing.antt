@@ -8,7 +8,7 @@ use Rattle.krb_packet.specs.declared.contents.Original.{Original}
 use Rattle.krb_packet.specs.declared.fragments.Pending.{Pending}
 use Rattle.krb_packet.specs.declared.fragments.Progress.TheVariants.{Open}
 use Rattle.krb_packet.specs.declared.fragments.Reassembled.{Reassembled}
-use Rattle.krb_packet.specs.FragmentLaws.{AreApart, ArePieces, DatagramsAreCompleted, IsCut, IsPiece, wholes}
+use Rattle.krb_packet.specs.FragmentLaws.{AreApart, ArePieces, DatagramsAreCompleted, IsCut, IsPiece, fragments_of, wholes}
 use Rattle.krb_packet.specs.Fragments.{no_fragments, no_fragments_of, or_discarded, pending_with, progress_with, same_original, step, whole_of}
 use Rattle.krb_packet.specs.Fragments.{whole as whole_by}
 use Rattle.krb_packet.specs.Parts.{Parts, is_complete, joined, most_octets, no_parts, with_fragment}
@@ -69,6 +69,6 @@ all_of original (fragment ∷ fragments) = by (same_original fragment.original o
     by false e rest = rest
 
 pub datagrams_are_completed : DatagramsAreCompleted
-datagrams_are_completed original fragments different octets short among some few cut =
-    ap (map (λ whole. whole.octets)) (fragments_are_apart original fragments different short among)
-    ∙ alone original octets few (filter (λ fragment. same_original fragment.original original) fragments) some (all_of original fragments) cut
+datagrams_are_completed original fragments octets at_once some few cut =
+    ap (map (λ whole. whole.octets)) (fragments_are_apart original fragments at_once)
+    ∙ alone original octets few (fragments_of original fragments) some (all_of original fragments) cut

@@ -1,6 +1,6 @@
 -- Laws of fragments.
-use Rattle.std.specs.Prelude.{◌≡◌, ℕ, ◌+◌, ◌%◌, ◌<◌, ◌≤◌, ◌⊎◌, true, false, ◌==◌, Option, Some, None, List, [], ◌∷◌, ◌++◌, length, map, slice_index}
-use Rattle.std.specs.List.{All, Contains, filter}
+use Rattle.std.specs.Prelude.{◌≡◌, ℕ, ◌+◌, ◌%◌, ◌<◌, ◌≤◌, ◌⊎◌, true, false, ◌==◌, Option, Some, None, List, [], ◌∷◌, ◌++◌, length, map, slice_index, take}
+use Rattle.std.specs.List.{Contains, filter}
 use Rattle.std.specs.Option.{option_to_list}
 use Rattle.krb_packet.specs.declared.contents.Fragment.{Fragment}
 use Rattle.krb_packet.specs.declared.contents.Original.{Original}
@@ -69,10 +69,26 @@ abbrev pub wholes : Table → List Fragment → List Reassembled
 wholes table [] = []
 wholes table (fragment ∷ fragments) = let stepped = step table fragment in option_to_list stepped.0 ++ wholes stepped.1 fragments
 
--- Whatever fragments of other datagrams come between, if there are no more different ones than are kept: of the fragments of a datagram is put together what is put together of these alone.
+-- the datagrams that are left then
+abbrev pub left_after : Table → List Fragment → Table
+left_after table [] = table
+left_after table (fragment ∷ fragments) = left_after (step table fragment).1 fragments
+
+abbrev pub fragments_of : Original → List Fragment → List Fragment
+fragments_of original fragments = filter (λ fragment. same_original fragment.original original) fragments
+
+-- by its own fragments alone a datagram has begun and is not completed
+abbrev pub IsBegun : Original → List Fragment → Type 0
+IsBegun original fragments = (left_after no_fragments (fragments_of original fragments)).pending ≡ [] → ⊥
+
+-- At no time are there 1024 such datagrams.
+abbrev pub AreFewAtOnce : List Fragment → Type 0
+AreFewAtOnce fragments = (n : ℕ) → (begun : List Original) × (length begun < most_datagrams) × ((original : Original) → IsBegun original (take n fragments) → Contains begun original)
+
+-- Whatever fragments of other datagrams come between: of the fragments of a datagram is put together what is put together of these alone.
 abbrev pub FragmentsAreApart : Type 0
-FragmentsAreApart = (original : Original) (fragments : List Fragment) (different : List Original) → length different ≤ most_datagrams → All (Contains different) (map (λ fragment. fragment.original) fragments) → filter (λ whole. same_original whole.original original) (wholes no_fragments fragments) ≡ wholes no_fragments (filter (λ fragment. same_original fragment.original original) fragments)
+FragmentsAreApart = (original : Original) (fragments : List Fragment) → AreFewAtOnce fragments → filter (λ whole. same_original whole.original original) (wholes no_fragments fragments) ≡ wholes no_fragments (fragments_of original fragments)
 
 -- So if these alone are the fragments of a datagram, it is put together, once.
 abbrev pub DatagramsAreCompleted : Type 0
-DatagramsAreCompleted = (original : Original) (fragments : List Fragment) (different : List Original) (octets : List ℕ) → length different ≤ most_datagrams → All (Contains different) (map (λ fragment. fragment.original) fragments) → 0 < length octets → length octets ≤ most_octets → IsCut octets (filter (λ fragment. same_original fragment.original original) fragments) → map (λ whole. whole.octets) (filter (λ whole. same_original whole.original original) (wholes no_fragments fragments)) ≡ octets ∷ []
+DatagramsAreCompleted = (original : Original) (fragments : List Fragment) (octets : List ℕ) → AreFewAtOnce fragments → 0 < length octets → length octets ≤ most_octets → IsCut octets (fragments_of original fragments) → map (λ whole. whole.octets) (filter (λ whole. same_original whole.original original) (wholes no_fragments fragments)) ≡ octets ∷ []

@@ -10,8 +10,8 @@ pub fn fragments_make_datagram()
 {}
 
 /// Whatever fragments of other datagrams come between, of the fragments of a datagram is put
-/// together what is put together of these alone, as long as the fragments are of at most 1024
-/// datagrams.
+/// together what is put together of these alone, if at no time there are 1024 datagrams that have
+/// begun and are not completed.
 pub fn fragments_are_apart()
     ensures { FragmentsAreApart }
 {}
