@@ -5,9 +5,10 @@
 //! `krbls stream` reads framed messages, `krbls message` one message in hexadecimal, `krbls keytab`
 //! a keytab, `krbls ccache` a cache, and `krbls capture` a pcap or a pcapng, each from files or
 //! from the standard input. `krbls decode` turns framed messages into lines of JSON, and `krbls
-//! encode` turns these into the same messages; what they refuse is on the standard error. The status is the greatest of those of all files: 0 if all was read, 1
-//! if something was refused, or of a capture lost or unread, 2 if the command line is wrong, and 3
-//! if a read, a write or an allocation failed. The standard error has a line for each fault.
+//! encode` turns these into the same messages; what they refuse is on the standard error. The
+//! status is the greatest of those of all files: 0 if all was read, 1 if something was refused, or
+//! of a capture lost or unread, 2 if the command line is wrong, and 3 if a read, a write or an
+//! allocation failed. The standard error has a line for each fault.
 //!
 //! The command line is read by `krb_words`, and `krb_tool` lists what a reader reads. `run_words`
 //! does what the words say, over any [`Host`]: what opens the sources, and what is told of faults.
@@ -27,13 +28,12 @@ use crate::program::{refuse, run_words};
 use krb_text::FileName;
 use krb_tool::RunFault;
 use krb_words::{NOT_UTF8, Source, WordsFault};
-use std::env;
 use std::fmt::Display;
 use std::fs::File;
-use std::io;
 use std::io::{ErrorKind, Read};
 use std::process::ExitCode;
 use std::rt::Stdin;
+use std::{env, io};
 
 /// The name of the standard input in faults.
 const INPUT: &str = "standard input";

@@ -35,12 +35,7 @@ pub(crate) fn run_words<H: Host, W: Write>(
 }
 
 /// Does what a command line says.
-fn carry_out<H: Host, W: Write>(
-    alloc: Global,
-    host: &H,
-    order: &Order,
-    writer: &mut W,
-) -> ExitCode
+fn carry_out<H: Host, W: Write>(alloc: Global, host: &H, order: &Order, writer: &mut W) -> ExitCode
     ensures { CarriesOut (H.around host.now) order.now (W.contents writer.old) (W.contents writer.new) (exit_status result) }
 {
     match text_of(&order.job) {
