@@ -2,8 +2,8 @@
 use Rattle.std.proofs.Common.{◌≡◌, ℕ, zero, suc, ◌+◌, ◌-◌, ◌^◌, ◌<◌, ◌≤◌, ◌⊎◌, inl, inr, List, [], ◌∷◌, ◌++◌, length, map, take, drop, refl, sym, ◌∙◌, ap, arith, le_refl, append_assoc, append-nil, length-append, length-take, length-drop}
 use Rattle.std.specs.Prelude.{Some, None}
 use Rattle.std.proofs.lemmas.Bool.{cases_lt, lt-leb, le-leb}
-use Rattle.std.proofs.lemmas.List.{take-append-le, take_at}
-use Rattle.std.proofs.lemmas.List.Sums.{sum_by-cons}
+use Rattle.std.proofs.lemmas.List.{map-append, take-append-le, take_at}
+use Rattle.std.proofs.lemmas.List.Sums.{sum_by-append, sum_by-cons}
 use Rattle.std.proofs.Math.Seq.{drop-append-add}
 use Rattle.krb_der.specs.Octets.{number}
 use Rattle.krb_der.specs.declared.profile.Profile.{Profile}
@@ -20,7 +20,7 @@ use Rattle.krb_frame.specs.declared.decoder.Phase.{Phase}
 use Rattle.krb_frame.specs.declared.decoder.Phase.TheVariants as phase
 use Rattle.krb_frame.proofs.DecoderFrames.{comes, four_octets}
 use Rattle.krb_frame.specs.GoingOn.{rest_of, rest_at, rest_to_come, GivesUp, Entry, Contents, Fault, last_entry, after_contents, next_entries, entries_after, entries_of, entries_within, entries}
-use Rattle.krb_frame.specs.Decoded.{frames_size}
+use Rattle.krb_frame.specs.Decoded.{after_frames, frames_size}
 use Rattle.krb_frame.specs.Laws.{GoingOnBegins}
 use Rattle.krb_frame.proofs.Ends.{no_within, no_first, refused_more}
 
@@ -89,7 +89,30 @@ module _ (messages : List Term) (limit : ℕ) where
             ∙ ap (λ l. map Contents found.contents ++ l) (append-nil (last_entry found.end (after_contents found stream)));
       }
 
-  -- ---- octets that begin with a frame
+  -- ---- octets that begin with frames
+  pub entries-cleared : (cleared : List (List ℕ)) (before octets : List ℕ) → length before ≡ frames_size cleared → frames messages limit (before ++ octets) ≡ after_frames cleared (frames messages limit octets) → entries messages limit (before ++ octets) ≡ map Contents cleared ++ entries messages limit octets
+  entries-cleared cleared before octets counted e =
+      entries-step (before ++ octets)
+      ∙ ap (λ f. entries_of f (entries messages limit) (before ++ octets)) e
+      ∙ ap (λ r. map Contents (cleared ++ found.contents) ++ (last_entry found.end r ++ entries_after found.end (entries messages limit) r)) left
+      ∙ ap (λ l. l ++ others) (map-append Contents cleared found.contents)
+      ∙ append_assoc (map Contents cleared) (map Contents found.contents) others
+      ∙ ap (λ l. map Contents cleared ++ l) (sym (entries-step octets))
+    where
+      found : Frames
+      found = frames messages limit octets
+
+      rest : List ℕ
+      rest = drop (frames_size found.contents) octets
+
+      others : List Entry
+      others = last_entry found.end rest ++ entries_after found.end (entries messages limit) rest
+
+      left : drop (frames_size (cleared ++ found.contents)) (before ++ octets) ≡ rest
+      left =
+          ap (λ n. drop n (before ++ octets)) (sum_by-append (λ c. 4 + length c) cleared found.contents ∙ ap (λ n. n + frames_size found.contents) (sym counted))
+          ∙ drop-append-add before octets (frames_size found.contents)
+
   pub entries-frame : (octets contents more : List ℕ) → length octets ≡ 4 + length contents → frames messages limit (octets ++ more) ≡ with_first contents (frames messages limit more) → entries messages limit (octets ++ more) ≡ Contents contents ∷ entries messages limit more
   entries-frame octets contents more l e =
       entries-step (octets ++ more)

@@ -25,7 +25,7 @@ use Rattle.krb_frame.specs.declared.decoder.Status.TheVariants as status
 use Rattle.krb_frame.proofs.DecoderFrames.{one-nothing, found-short}
 use Rattle.krb_msg.proofs.FramePrefixes.{frames-high}
 use Rattle.krb_frame.proofs.Ends.{none_found, refused_end}
-use Rattle.krb_frame.proofs.GoingOn.{begins, entries-frame, entries-unknown, entries-skipped}
+use Rattle.krb_frame.proofs.GoingOn.{begins, entries-cleared, entries-frame, entries-unknown, entries-skipped}
 
 -- ---- octets that are skipped
 -- the octets after those that are skipped
@@ -77,12 +77,15 @@ module _ (messages : List Term) where
   one-empty : (d : Decoding) → d.octets ≡ [] → IsOfOneFrame messages d
   one-empty d e = subst (λ o. IsOfOneFrame messages (record d { octets = o })) (sym e) (one-nothing messages d.profile d.limit d.looks d.capacity)
 
-  pub goes_on-new : (d : Decoding) (new : Skipping) → new ≡ record { current = d; skipped = 0 } → d.octets ≡ [] → GoesOn messages new [] []
-  goes_on-new d new e o =
-      subst (λ n. GoesOn messages n [] []) (sym e)
+  -- a decoder goes on with the stream that it has decoded
+  pub goes_on-decoded : (d : Decoding) (new : Skipping) (stream : List ℕ) (cleared : List (List ℕ)) → new ≡ record { current = d; skipped = 0 } → HasDecoded messages d stream cleared → GoesOn messages new stream (map Contents cleared)
+  goes_on-decoded d new stream cleared e h =
+      subst (λ n. GoesOn messages n stream (map Contents cleared)) (sym e)
       (record {
-        goes_on = λ more. ap (λ l. entries messages d.limit (l ++ more)) (sym o);
-        one = one-empty d o;
+        goes_on = λ more.
+            let parts : stream ++ more ≡ h.last.before ++ (d.octets ++ more) = ap (λ l. l ++ more) h.last.parts ∙ append_assoc h.last.before d.octets more in
+            ap (entries messages d.limit) parts ∙ entries-cleared messages d.limit cleared h.last.before (d.octets ++ more) h.counted (ap (frames messages d.limit) (sym parts) ∙ h.goes_on more);
+        one = h.one;
         alone = inl refl;
       })
 

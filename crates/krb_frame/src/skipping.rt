@@ -23,19 +23,20 @@ impl Model for SkippingDecoder {
     ghost view = { λ s. record { current = s.decoder; skipped = s.skipped } };
 }
 
-ghost use Rattle.std.specs.Prelude.{◌≡◌, ◌↔◌, [], IfSome, IsTrue};
+ghost use Rattle.std.specs.Prelude.{◌≡◌, ◌↔◌, ℕ, List, map, IfSome, IsTrue};
 ghost use Rattle.std.specs.Option.{option_map};
 ghost use Rattle.krb_msg.specs.Grammar.{messages};
+ghost use Rattle.krb_frame.specs.Decoded.{HasDecoded};
 ghost use Rattle.krb_frame.specs.Decoding.{borrowed, finish_of};
-ghost use Rattle.krb_frame.specs.GoingOn.{GoesOn, FeedsAfter, IsClear, PassesEntry, ClearsEntry, Skips, passed_by};
+ghost use Rattle.krb_frame.specs.GoingOn.{Contents, GoesOn, FeedsAfter, IsClear, PassesEntry, ClearsEntry, Skips, passed_by};
 ghost use Rattle.krb_frame.specs.Passes.{contents_of};
 
 impl SkippingDecoder {
-    /// Goes on with the stream of a decoder.
+    /// Goes on with the stream that a decoder has decoded.
     #[inline(always)]
     pub fn new(decoder: Decoder) -> SkippingDecoder
         ensures decoder { result ≡ record { current = decoder; skipped = 0 } }
-        ensures goes_on { decoder.octets ≡ [] → GoesOn (messages decoder.profile) result [] [] }
+        ensures goes_on { (stream : List ℕ) (cleared : List (List ℕ)) → HasDecoded (messages decoder.profile) decoder stream cleared → GoesOn (messages decoder.profile) result stream (map Contents cleared) }
     {
         SkippingDecoder {
             decoder,

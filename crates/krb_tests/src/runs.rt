@@ -395,3 +395,20 @@ fn asks_more_than_a_million_times(rt: HostRuntime) -> Result<(), Fail> {
     assert!(rt; gives(alloc, &Run::Keytab, keytab.as_slice(), 1, false, &wanted));
     Ok(())
 }
+
+#[test]
+fn writes_the_lines_before_a_read_that_fails(rt: HostRuntime) -> Result<(), Fail> {
+    let alloc = rt.alloc();
+    let hole = b"\xFF\xFF\xFF\xF8\x00\x00\x00\x00\x00\x00\x00\x00";
+    let mut keytab = repeated(alloc, b"\x05\x02", 1, 0)?;
+    keytab.extend_from_slice(repeated(alloc, hole, 5461, 0)?.as_slice())?;
+    keytab.extend_from_slice(b"\xFF\xFF")?;
+    let lines = repeated(alloc, b"hole size=8 clean=yes\n", 5461, 0)?;
+    let wanted = Given {
+        outcome: None,
+        lines: lines.as_slice(),
+        asks: 2,
+    };
+    assert!(rt; gives(alloc, &Run::Keytab, keytab.as_slice(), 65536, true, &wanted));
+    Ok(())
+}

@@ -1,5 +1,5 @@
 -- A run on records, one line after another.
-use Rattle.std.proofs.Common.{◌≡◌, ℕ, suc, List, [], ◌∷◌, ◌++◌, length, drop, Option, Some, None, Ok, Err, refl, sym, ◌∙◌, ap, subst, arith, append-nil, append_assoc, length-append, drop_of_length-le, drop_at}
+use Rattle.std.proofs.Common.{◌≡◌, ℕ, suc, List, [], ◌∷◌, ◌++◌, length, drop, Option, Some, None, Result, Ok, Err, refl, sym, ◌∙◌, ap, subst, arith, append-nil, append_assoc, length-append, drop_of_length-le, drop_at}
 use Rattle.std.proofs.lemmas.List.Concat.{flat_map-cons}
 use Rattle.std.specs.List.{flat_map}
 use Rattle.std.specs.Io.KnownBytes.{Appends}
@@ -7,9 +7,9 @@ use Rattle.std.proofs.KnownBytes.{Appends-nil, Appends-trans}
 use Rattle.krb_tool.specs.declared.run.RunEnd.{RunEnd}
 use Rattle.krb_tool.specs.declared.run.RunFault.{RunFault}
 use Rattle.krb_tool.specs.declared.run.RunFault.TheVariants as fault
-use Rattle.krb_tool.specs.Faults.{IsWrite}
+use Rattle.krb_tool.specs.Faults.{IsRead, IsWrite}
 use Rattle.krb_tool.specs.Files.{RecordListing, text_of, after_line, AppendsPrefix, ListsRecords}
-use Rattle.krb_tool.specs.inner.RecordRuns.{Adds, Moves, AddsLine, left_of}
+use Rattle.krb_tool.specs.inner.RecordRuns.{Adds, Moves, AddsLine, WritesBefore, left_of}
 
 -- ---- what is left of items, one after another
 module _ {A : Type 0} (line : A → List ℕ) (items : List A) (last : List ℕ) (end : RunEnd) where
@@ -100,8 +100,8 @@ module _ (IsLeft : RecordListing → Type 0) (all : RecordListing) (written_befo
         ∙ append_assoc (listed.written ++ prefix.prefix) prefix.rest ((listed.left).lines ++ (listed.left).last);
   }
 
-  -- another fault
-  pub Listed-stops : AppendsPrefix written_before written_after all.lines
+  -- the text was not written
+  Listed-stops : AppendsPrefix written_before written_after all.lines
   Listed-stops = record {
     prefix = listed.written;
     rest = text ++ (listed.left).lines;
@@ -109,10 +109,25 @@ module _ (IsLeft : RecordListing → Type 0) (all : RecordListing) (written_befo
     whole = ap (λ (l : RecordListing). l.lines) listed.parts ∙ append_assoc listed.written text (listed.left).lines;
   }
 
-  pub Listed-fails : (e : RunFault) → (IsWrite e → ⊥) → ListsRecords all written_before written_after (Err e)
-  Listed-fails (fault.Read e) other = Listed-stops
-  Listed-fails fault.Memory other = Listed-stops
-  Listed-fails (fault.Write e) other = absurd (other tt)
+  -- a fault, and if it is of a read the text was written before it
+  Listed-written : (after : Option (List ℕ)) → Appends written_after after text → AppendsPrefix written_before after all.lines
+  Listed-written after added = record {
+    prefix = listed.written ++ text;
+    rest = (listed.left).lines;
+    added = Appends-trans written_before written_after after listed.written text listed.added added;
+    whole = ap (λ (l : RecordListing). l.lines) listed.parts;
+  }
+
+  pub Listed-before : (e : RunFault) (after : Option (List ℕ)) (kept new : List ℕ) (result : Result RunEnd RunFault) → (IsRead e → kept ≡ text) → WritesBefore e written_after after kept new result → ListsRecords all written_before after result
+  Listed-before (fault.Read e) after kept new (Ok ended) same w = absurd w
+  Listed-before (fault.Read e) after kept new (Err (fault.Read last)) same w = Listed-written after (subst (Appends written_after after) (same tt) w.0)
+  Listed-before (fault.Read e) after kept new (Err (fault.Write last)) same w = write-fails after (subst (AppendsPrefix written_after after) (same tt) w)
+  Listed-before (fault.Read e) after kept new (Err fault.Memory) same w = absurd w
+  Listed-before (fault.Write e) after kept new (Ok ended) same w = absurd w
+  Listed-before (fault.Write e) after kept new (Err last) same w = absurd w
+  Listed-before fault.Memory after kept new (Ok ended) same w = absurd w
+  Listed-before fault.Memory after kept new (Err last) same w =
+      subst (λ (f : RunFault). ListsRecords all written_before after (Err f)) (sym w.0) (subst (λ (a : Option (List ℕ)). AppendsPrefix written_before a all.lines) (sym w.1) Listed-stops)
 
 -- ---- what a line makes of what is left
 module _ {A : Type 0} (line : A → List ℕ) (items : List A) (count : ℕ) (last : List ℕ) (end : RunEnd) (IsLeft : RecordListing → Type 0) (left : RecordListing) (is : left ≡ left_of line items count last end) (old new : List ℕ) (ended : Option RunEnd) where

@@ -5,7 +5,7 @@ ghost use Rattle.std.specs.Option.{option_map};
 ghost use Rattle.krb_packet.specs.FieldNames.{capture_field_text};
 ghost use Rattle.krb_text.specs.Refusals.{path_in};
 ghost use Rattle.krb_tool.specs.Captures.{capture_listing};
-ghost use Rattle.krb_tool.specs.Faults.{IsWrite};
+ghost use Rattle.krb_tool.specs.Faults.{IsRead, IsWrite};
 ghost use Rattle.krb_tool.specs.Files.{ListsRecords};
 ghost use Rattle.krb_tool.specs.inner.CaptureRuns.{AddsCaptureEnd, AddsFileRefusal, IsCaptureLeft};
 
@@ -65,6 +65,7 @@ impl<R: Read> CaptureLines<'_, R> {
     ) -> Result<Option<RunEnd>, RunFault>
         ensures put { IfOk result (AddsFileRefusal fault.fault fault.field self.old.capture self.old.form text.old text.new) }
         ensures fault { IfErr result (λ e. IsWrite e → ⊥) }
+        ensures kept { IfErr result (λ e. IsRead e → text.new ≡ text.old) }
     {
         match fault.fault {
             FileFault::Refused { place, why, .. } => {

@@ -1,9 +1,10 @@
 //! The run over a stream that goes on after refusals.
 
-ghost use Rattle.std.specs.Prelude.{◌≡◌, ◌≢◌, ◌+◌, ◌<◌, ◌^◌, length, IfErr, IfOk, OnOk, IsSome};
+ghost use Rattle.std.specs.Prelude.{◌≡◌, ◌≢◌, ◌+◌, ◌<◌, ◌^◌, length, IfErr, IfOk, OnOk, IsSome, None};
 ghost use Rattle.krb_msg.specs.Grammar.{messages};
 ghost use Rattle.krb_msg.specs.ViewValues.{MessageLists, message_of_view};
 ghost use Rattle.krb_frame.specs.Decoding.{status_of, borrowed};
+ghost use Rattle.krb_frame.specs.GoingOn.{passed_by};
 ghost use Rattle.krb_frame.specs.declared.decoder.Status.TheVariants as status;
 ghost use Rattle.krb_tool.specs.GoingOn.{ListsAll, FailsAll, counted_run_end};
 ghost use Rattle.krb_tool.specs.declared.run.RunFault.TheVariants as fault;
@@ -61,11 +62,12 @@ pub(crate) struct CountingLister {
 
 impl CountingLister {
     /// Adds the lines of the frames that are whole at the beginning of a piece, and returns the
-    /// octets after them.
+    /// octets after them, with which no frame more is passed.
     fn list_passed<'p>(&mut self, piece: &'p [u8]) -> Result<&'p [u8], RunFault>
         requires waits { status_of (messages self.old.decoder.current.profile) self.old.decoder.current ≡ status.More }
         requires few { self.old.messages + self.old.refused + length piece.now < 2 ^ 64 }
         ensures fed { IfOk result (λ rest. IsFed counting self.old piece.now rest.now self.new) }
+        ensures passes { IfOk result (λ rest. passed_by self.new.decoder rest.now ≡ None) }
         ensures fault { IfErr result (λ e. e ≡ fault.Memory) }
     {
         let mut rest = piece;

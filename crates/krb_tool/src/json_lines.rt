@@ -1,6 +1,6 @@
 //! The messages of a stream as lines of JSON.
 
-ghost use Rattle.std.specs.Prelude.{◌≡◌, ◌+◌, ◌<◌, ◌≤◌, ◌^◌, length, [], IfErr, IfOk, OnOk, IsSome, None};
+ghost use Rattle.std.specs.Prelude.{◌≡◌, ◌+◌, ◌<◌, ◌≤◌, ◌^◌, length, [], IfErr, IfOk, IfSome, OnOk, IsSome, None};
 ghost use Rattle.std.specs.Option.{option_map};
 ghost use Rattle.krb_der.specs.declared.verdict.Verdict.TheVariants.{Whole};
 ghost use Rattle.krb_msg.specs.Grammar.{messages};
@@ -8,6 +8,7 @@ ghost use Rattle.krb_msg.specs.Judgement.{judgement};
 ghost use Rattle.krb_msg.specs.Views.{message_of_der};
 ghost use Rattle.krb_json.specs.Unsealed.{unsealed_in};
 ghost use Rattle.krb_frame.specs.Decoding.{found, status_of, borrowed};
+ghost use Rattle.krb_frame.specs.Passes.{passed};
 ghost use Rattle.krb_frame.specs.declared.decoder.Status.TheVariants as status;
 ghost use Rattle.krb_tool.specs.Decoding.{ending_of, ending_at};
 ghost use Rattle.krb_tool.specs.Paths.{frame_path};
@@ -122,12 +123,14 @@ pub(crate) struct JsonLister {
 
 impl JsonLister {
     /// Adds the lines of the frames that are whole at the beginning of a piece, and returns the
-    /// octets after them, or nothing if one of them is not sealed.
+    /// octets after them, with which no frame more is passed, or nothing if one of them is not
+    /// sealed.
     fn put_passed<'p>(&mut self, piece: &'p [u8]) -> Result<Option<&'p [u8]>, RunFault>
         requires waits { status_of (messages self.old.decoder.profile) self.old.decoder ≡ status.More }
         requires short { length piece.now ≤ 65536 }
         requires few { self.old.lines.messages + length piece.now < 2 ^ 64 }
         ensures fed { IfOk result (λ rest. PutsPassed self.old piece.now self.new (option_map (λ octets. octets.now) rest)) }
+        ensures passes { IfOk result (λ rest. IfSome rest (λ octets. passed self.new.decoder octets.now ≡ None)) }
         ensures fault { IfErr result (λ e. e ≡ fault.Memory) }
     {
         let mut rest = piece;

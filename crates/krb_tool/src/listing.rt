@@ -1,8 +1,9 @@
 //! The listing of a stream up to its end or its first refusal.
 
-ghost use Rattle.std.specs.Prelude.{◌≡◌, ◌≢◌, ◌+◌, ◌<◌, ◌^◌, length, IfErr, IfOk, OnOk, IsSome};
+ghost use Rattle.std.specs.Prelude.{◌≡◌, ◌≢◌, ◌+◌, ◌<◌, ◌^◌, length, IfErr, IfOk, OnOk, IsSome, None};
 ghost use Rattle.krb_msg.specs.Grammar.{messages};
 ghost use Rattle.krb_frame.specs.Decoding.{status_of, borrowed};
+ghost use Rattle.krb_frame.specs.Passes.{passed};
 ghost use Rattle.krb_msg.specs.ViewValues.{MessageLists, message_of_view};
 ghost use Rattle.krb_frame.specs.declared.decoder.Status.TheVariants as status;
 ghost use Rattle.krb_tool.specs.declared.run.RunFault.TheVariants as fault;
@@ -30,11 +31,12 @@ pub(crate) struct Lister {
 
 impl Lister {
     /// Adds the lines of the frames that are whole at the beginning of a piece, and returns the
-    /// octets after them.
+    /// octets after them, with which no frame more is passed.
     fn list_passed<'p>(&mut self, piece: &'p [u8]) -> Result<&'p [u8], RunFault>
         requires waits { status_of (messages self.old.decoder.profile) self.old.decoder ≡ status.More }
         requires few { self.old.messages + length piece.now < 2 ^ 64 }
         ensures fed { IfOk result (λ rest. IsFed stopping self.old piece.now rest.now self.new) }
+        ensures passes { IfOk result (λ rest. passed self.new.decoder rest.now ≡ None) }
         ensures fault { IfErr result (λ e. e ≡ fault.Memory) }
     {
         let mut rest = piece;

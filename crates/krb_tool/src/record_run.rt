@@ -1,14 +1,15 @@
 //! Runs over files whose lines are written as their records end.
 
-ghost use Rattle.std.specs.Prelude.{◌≡◌, ◌≢◌, ◌++◌, ℕ, suc, List, None, Some, IfErr, IfOk, OnErr, OnOk, string_bytes};
+ghost use Rattle.std.specs.Prelude.{◌≡◌, ◌≢◌, ◌++◌, ℕ, suc, List, [], None, Some, IfErr, IfOk, OnErr, OnOk, string_bytes};
 ghost use Rattle.std.specs.Io.Buffered.{reader_remaining};
 ghost use Rattle.std.specs.Option.{option_map};
 ghost use Rattle.krb_tool.specs.Lines.{record_line, keytab_end_line, cache_line, credential_line, cache_end_line, file_refused_line};
 ghost use Rattle.krb_tool.specs.Paths.{keytab_path, credential_path, start_path};
 ghost use Rattle.krb_tool.specs.declared.run.RunEnd.TheVariants as run;
-ghost use Rattle.krb_tool.specs.Faults.{IsWrite};
+ghost use Rattle.krb_tool.specs.Faults.{IsRead, IsWrite};
 ghost use Rattle.krb_tool.specs.Files.{RecordListing, after_line, keytab_listing, ccache_listing, AppendsPrefix, ListsRecords};
-ghost use Rattle.krb_tool.specs.inner.RecordRuns.{Adds, AddsRefusal, AddsLine, Moves, AreRecordsLeft, AreCredentialsLeft, IsRefusal};
+ghost use Rattle.krb_tool.specs.inner.RecordRuns.{Adds, AddsRefusal, AddsLine, Moves, WritesBefore, AreRecordsLeft, AreCredentialsLeft, IsRefusal};
+ghost use Rattle.std.specs.Io.KnownBytes.{Appends};
 
 use crate::file_path::{credential_path, keytab_path, start_path};
 use crate::run::{PIECE_OCTETS, RunEnd, RunFault};
@@ -110,7 +111,8 @@ pub(crate) trait RecordLines {
         text: &mut TextBuffer,
     ) -> Result<Option<RunEnd>, RunFault>
         ensures line { (left : RecordListing) → IsLeft self.old count left → AddsLine (IsLeft self.new (suc count)) left text.old text.new result }
-        ensures fault { IfErr result (λ e. IsWrite e → ⊥) };
+        ensures fault { IfErr result (λ e. IsWrite e → ⊥) }
+        ensures kept { IfErr result (λ e. IsRead e → text.new ≡ text.old) };
 }
 
 /// Appends the line of a record.
@@ -194,6 +196,7 @@ fn put_fault(
 ) -> Result<Option<RunEnd>, RunFault>
     ensures refused { IfOk result (AddsRefusal (λ _. option_map string_bytes path.now) form fault text.old text.new) }
     ensures fault { IfErr result (λ e. IsWrite e → ⊥) }
+    ensures kept { IfErr result (λ e. IsRead e → text.new ≡ text.old) }
 {
     match fault {
         FileFault::Refused { place, why, .. } => {
@@ -216,6 +219,7 @@ fn put_keytab_fault(
 ) -> Result<Option<RunEnd>, RunFault>
     ensures refused { IfOk result (AddsRefusal (keytab_path records) form fault text.old text.new) }
     ensures fault { IfErr result (λ e. IsWrite e → ⊥) }
+    ensures kept { IfErr result (λ e. IsRead e → text.new ≡ text.old) }
 {
     let path = keytab_path(alloc, form, records, fault.field())?;
     put_fault(text, form, fault, &path, watch)
@@ -232,6 +236,7 @@ fn put_credential_fault(
 ) -> Result<Option<RunEnd>, RunFault>
     ensures refused { IfOk result (AddsRefusal (credential_path credentials) form fault text.old text.new) }
     ensures fault { IfErr result (λ e. IsWrite e → ⊥) }
+    ensures kept { IfErr result (λ e. IsRead e → text.new ≡ text.old) }
 {
     let path = credential_path(alloc, form, credentials, fault.field())?;
     put_fault(text, form, fault, &path, watch)
@@ -247,6 +252,7 @@ fn put_start_fault(
 ) -> Result<Option<RunEnd>, RunFault>
     ensures refused { IfOk result (AddsRefusal start_path form fault text.old text.new) }
     ensures fault { IfErr result (λ e. IsWrite e → ⊥) }
+    ensures kept { IfErr result (λ e. IsRead e → text.new ≡ text.old) }
 {
     let path = start_path(alloc, form, fault.field())?;
     put_fault(text, form, fault, &path, watch)
@@ -340,7 +346,19 @@ impl<R: Read + Drop> RecordLines for CredentialLines<'_, R> {
     }
 }
 
-/// Writes a text if it has to be written now, and clears it.
+/// Writes a text and clears it.
+fn write_text<W: Write>(writer: &mut W, text: &mut TextBuffer) -> Result<(), RunFault>
+    ensures all { OnOk result (Appends (W.contents writer.old) (W.contents writer.new) text.old) }
+    ensures none_kept { OnOk result (text.new ≡ []) }
+    ensures prefix { OnErr result (AppendsPrefix (W.contents writer.old) (W.contents writer.new) text.old) }
+    ensures fault { IfErr result IsWrite }
+{
+    write_all(writer, text.octets())?;
+    text.clear();
+    Ok(())
+}
+
+/// Writes a text and clears it if it has to be written now.
 fn write_early<W: Write>(
     writer: &mut W,
     text: &mut TextBuffer,
@@ -351,14 +369,29 @@ fn write_early<W: Write>(
     ensures fault { IfErr result IsWrite }
 {
     if is_due {
-        write_all(writer, text.octets())?;
-        text.clear();
+        write_text(writer, text)?;
     }
     Ok(())
 }
 
+/// Writes the lines of the records before a read that failed, and returns that fault. At other
+/// faults the last line may not be whole, and nothing is written.
+fn write_before<W: Write>(
+    writer: &mut W,
+    text: &mut TextBuffer,
+    fault: RunFault,
+) -> Result<RunEnd, RunFault>
+    requires { IsWrite fault → ⊥ }
+    ensures { WritesBefore fault (W.contents writer.old) (W.contents writer.new) text.old text.new result }
+{
+    if let RunFault::Read(_) = fault {
+        write_text(writer, text)?;
+    }
+    Err(fault)
+}
+
 /// Lists a file after a text that is not written yet. Lines are written before the next record is
-/// read, but those of a fast file are kept until they have 64 KiB.
+/// read, but those of a fast file are kept until they have 64 KiB, or a read fails.
 pub(crate) fn list_records<L: RecordLines, W: Write>(
     alloc: Global,
     lines: &mut L,
@@ -366,17 +399,22 @@ pub(crate) fn list_records<L: RecordLines, W: Write>(
     watch: &Watch,
     writer: &mut W,
 ) -> Result<RunEnd, RunFault>
-    ensures { (left : RecordListing) → L.IsLeft lines.old 0 left → ListsRecords (after_line text.old left) (W.contents writer.old) (W.contents writer.new) result }
+    ensures listed { (left : RecordListing) → L.IsLeft lines.old 0 left → ListsRecords (after_line text.old left) (W.contents writer.old) (W.contents writer.new) result }
+    ensures none_kept { IfErr result (λ e. IsRead e → text.new ≡ []) }
 {
     'records: for count in 0..MOST_ASKS {
         let is_due = (text.octets().len() >= PIECE_OCTETS) | !watch.is_fast.get();
         write_early(writer, text, is_due)?;
-        if let Some(ended) = lines.put_next(alloc, count, text)? {
-            write_all(writer, text.octets())?;
-            return Ok(ended);
+        match lines.put_next(alloc, count, text) {
+            Ok(None) => {}
+            Ok(Some(ended)) => {
+                write_all(writer, text.octets())?;
+                return Ok(ended);
+            }
+            Err(fault) => return write_before(writer, text, fault),
         }
     }
-    Err(RunFault::Read(too_many_reads()))
+    write_before(writer, text, RunFault::Read(too_many_reads()))
 }
 
 /// Lists a keytab of format 0x0502 in lines, as [`run_keytab_in`] does.

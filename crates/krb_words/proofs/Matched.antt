@@ -23,10 +23,10 @@ number_found E gives (Some t) None spells none value = value t refl
 number_found E gives (Some t) (Some n) spells none value = spells t n (value t refl)
 
 -- ---- what is wrong with words
-krbls-simple : is_simple krbls ≡ true
+pub krbls-simple : is_simple krbls ≡ true
 krbls-simple = refl
 
-krbls-free : is_simple_and_free krbls ≡ true
+pub krbls-free : is_simple_and_free krbls ≡ true
 krbls-free = refl
 
 by_nothing : (kinds : Kinds) (words : List Text) (order : Order) → kinds ≡ [] → IsOrderOf (subcommand_of krbls words) order → IsOrderBy kinds words order

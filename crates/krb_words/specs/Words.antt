@@ -1,5 +1,5 @@
 -- The command line, by `clap`'s own definitions: the options and words of each command, and the command line of the matches of words.
-use Rattle.std.specs.Prelude.{ℕ, pos, ◌≡◌, ◌≢◌, Bool, true, false, List, [], ◌∷◌, ◌++◌, Option, Some, None, Ok, codes, map}
+use Rattle.std.specs.Prelude.{ℕ, pos, ◌≡◌, ◌≢◌, ◌≤◌, ◌⊎◌, Bool, true, false, List, [], ◌∷◌, ◌++◌, Option, Some, None, Ok, codes, map}
 use Rattle.std.specs.Str.Parse.{ParsesUnsigned}
 use Rattle.clap.specs.Words.{App, IsAmong, Kinds, Row, Rule, Text, fault_of, all_of, first_of, one_of, new_app, new_rule, subcommand_of, with_rule, with_subcommand}
 use Rattle.clap.specs.Simple.{on_top}
@@ -20,6 +20,8 @@ use Rattle.krb_words.specs.declared.words.Framing.TheVariants as framing
 use Rattle.krb_words.specs.declared.words.Job.{Job}
 use Rattle.krb_words.specs.declared.words.Job.TheVariants as job
 use Rattle.krb_words.specs.declared.words.Order.{Order}
+use Rattle.krb_words.specs.declared.words.WordsFault.{WordsFault}
+use Rattle.krb_words.specs.declared.words.WordsFault.TheVariants as fault
 use Rattle.krb_words.specs.Sources.{path_of, file_path, word_path, words_of, or_input}
 
 -- ---- the command
@@ -182,3 +184,31 @@ IsOrderBy (first ∷ kinds) words order = (kind : ErrorKind) × IsAmong kind (fi
 
 abbrev pub IsOrderIn : List Text → Order → Type 0
 IsOrderIn words order = IsOrderBy (fault_of krbls words) words order
+
+-- ---- words that are no command line
+-- a text that is no number from the least to the greatest one
+abbrev pub IsNoNumber : (least greatest : ℕ) → Option Text → Type 0
+IsNoNumber least greatest None = ⊥
+IsNoNumber least greatest (Some text) = (number : ℕ) → Spells text number → least ≤ number → number ≤ greatest → ⊥
+
+-- an option with a value that is no number of its range
+abbrev pub HasNoNumber : List Row → Type 0
+HasNoNumber rows = IsNoNumber 1 2147483647 (one_of (codes "limit") rows) ⊎ (IsNoNumber 0 4294967295 (one_of (codes "now") rows) ⊎ IsNoNumber 1 65535 (one_of (codes "port") rows))
+
+abbrev pub FindsNoNumber : Option (Text × List Row) → Type 0
+FindsNoNumber None = ⊥
+FindsNoNumber (Some met) = HasNoNumber met.1
+
+-- the words ask for a text to be printed
+abbrev pub IsRequest : ErrorKind → Type 0
+IsRequest kind = (kind ≡ DisplayHelp) ⊎ (kind ≡ DisplayVersion)
+
+-- By the kinds of error that `clap` may return for the words: one of them is no request, or if there is none, an option of the command that was found has no number of its range.
+abbrev pub IsWrongBy : Kinds → List Text → Type 0
+IsWrongBy [] words = FindsNoNumber (subcommand_of krbls words)
+IsWrongBy (first ∷ kinds) words = (kind : ErrorKind) × IsAmong kind (first ∷ kinds) × (IsRequest kind → ⊥)
+
+-- what is wrong with words, unless memory ran out
+abbrev pub IsFaultIn : List Text → WordsFault → Type 0
+IsFaultIn words (fault.Wrong text) = IsWrongBy (fault_of krbls words) words
+IsFaultIn words fault.Memory = Unit {0}

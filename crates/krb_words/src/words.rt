@@ -1,9 +1,11 @@
 //! The words of the command line.
 
-ghost use Rattle.std.specs.Prelude.{◌≡◌, false, codes, map, string_bytes, [], IfOk};
+ghost use Rattle.std.specs.Prelude.{◌≡◌, false, codes, map, string_bytes, [], IfOk, IfErr};
 ghost use Rattle.clap.specs.Words.{app_of, new_app, found_of, kind_of, rows_of, rule_of, subcommand_rows_of, first_of, one_of};
 ghost use Rattle.clap.specs.declared.builder.command.Command.TheViews.{out-Command};
-ghost use Rattle.krb_words.specs.Words.{file_option, file_names, with_output, with_files, number_option, limit_option, flag, strict_flag, keep_going_flag, names_flag, json_flag, unframed_flag, with_messages, stream_app, message_app, keytab_app, ccache_app, capture_app, decode_app, encode_app, krbls, IsTextBy, IsJob, IsProfile, IsAfter, IsFraming, IsForm, IsGiven, IsOrderOf, IsOrderIn, IsNumber, IsNumberOr};
+ghost use Rattle.krb_words.specs.Words.{file_option, file_names, with_output, with_files, number_option, limit_option, flag, strict_flag, keep_going_flag, names_flag, json_flag, unframed_flag, with_messages, stream_app, message_app, keytab_app, ccache_app, capture_app, decode_app, encode_app, krbls, IsTextBy, IsJob, IsProfile, IsAfter, IsFraming, IsForm, IsGiven, IsOrderOf, IsOrderIn, IsFaultIn, IsNumber, IsNumberOr, IsNoNumber};
+ghost use Rattle.krb_words.specs.declared.words.WordsFault.TheVariants as fault;
+ghost use Rattle.krb_words.specs.inner.NotRead.{FindsNoJob, IfWrong, IsNoJob, IsNoText};
 
 use crate::sources::{Source, sources_of};
 use clap::builder::ValueParser;
@@ -79,6 +81,8 @@ pub enum WordsFault {
 }
 
 impl From<AllocError> for WordsFault {
+    ghost from_gives = { λ _ e. e ≡ fault.Memory };
+
     fn from(_error: AllocError) -> WordsFault {
         WordsFault::Memory
     }
@@ -509,7 +513,8 @@ fn not_read(alloc: Global) -> WordsFault {
 
 /// Returns the number of an option, if it is given.
 fn number_of(alloc: Global, found: &ArgMatches<'_>, name: &str) -> Result<Option<u32>, WordsFault>
-    ensures { IfOk result (IsNumber (one_of name.now (rows_of (found_of found.now)))) }
+    ensures number { IfOk result (IsNumber (one_of name.now (rows_of (found_of found.now)))) }
+    ensures fault { IfErr result (λ e. IfWrong e (IsNoNumber 0 4294967295 (one_of name.now (rows_of (found_of found.now))))) }
 {
     match found.try_get_one::<u32>(name) {
         Ok(number) => Ok(number),
@@ -519,7 +524,8 @@ fn number_of(alloc: Global, found: &ArgMatches<'_>, name: &str) -> Result<Option
 
 /// Returns the limit that is given, or else the usual one.
 fn limit_of(alloc: Global, found: &ArgMatches<'_>) -> Result<Limit, WordsFault>
-    ensures { IfOk result (IsNumberOr 16777216 (one_of (codes "limit") (rows_of (found_of found.now)))) }
+    ensures limit { IfOk result (IsNumberOr 16777216 (one_of (codes "limit") (rows_of (found_of found.now)))) }
+    ensures fault { IfErr result (λ e. IfWrong e (IsNoNumber 1 2147483647 (one_of (codes "limit") (rows_of (found_of found.now))))) }
 {
     match number_of(alloc, found, "limit")? {
         None => Ok(Limit::DEFAULT),
@@ -532,7 +538,8 @@ fn limit_of(alloc: Global, found: &ArgMatches<'_>) -> Result<Limit, WordsFault>
 
 /// Returns the port that is given, or else the usual one.
 fn port_of(alloc: Global, found: &ArgMatches<'_>) -> Result<u16, WordsFault>
-    ensures { IfOk result (IsNumberOr 88 (one_of (codes "port") (rows_of (found_of found.now)))) }
+    ensures port { IfOk result (IsNumberOr 88 (one_of (codes "port") (rows_of (found_of found.now)))) }
+    ensures fault { IfErr result (λ e. IfWrong e (IsNoNumber 1 65535 (one_of (codes "port") (rows_of (found_of found.now))))) }
 {
     match number_of(alloc, found, "port")? {
         None => Ok(USUAL_PORT),
@@ -612,7 +619,8 @@ fn form_of(found: &ArgMatches<'_>) -> Form
 
 /// Returns the job of a command with its options.
 fn job_of(alloc: Global, name: &str, found: &ArgMatches<'_>) -> Result<Job, WordsFault>
-    ensures { IfOk result (IsJob name.now (rows_of (found_of found.now))) }
+    ensures job { IfOk result (IsJob name.now (rows_of (found_of found.now))) }
+    ensures fault { IfErr result (λ e. IfWrong e (IsNoJob name.now (rows_of (found_of found.now)))) }
 {
     match name {
         "stream" => Ok(Job::Stream(
@@ -640,7 +648,8 @@ fn job_of(alloc: Global, name: &str, found: &ArgMatches<'_>) -> Result<Job, Word
 
 /// Returns the command line of the matches.
 fn order_of(alloc: Global, matches: &ArgMatches<'_>) -> Result<Order, WordsFault>
-    ensures { IfOk result (IsOrderOf (subcommand_rows_of matches.now)) }
+    ensures order { IfOk result (IsOrderOf (subcommand_rows_of matches.now)) }
+    ensures fault { IfErr result (λ e. IfWrong e (FindsNoJob (subcommand_rows_of matches.now))) }
 {
     match matches.subcommand() {
         None => Err(not_read(alloc)),
@@ -655,7 +664,8 @@ fn order_of(alloc: Global, matches: &ArgMatches<'_>) -> Result<Order, WordsFault
 
 /// Returns the command line that prints a text, if words that `clap` does not accept ask for it.
 fn text_of(alloc: Global, error: &Error) -> Result<Order, WordsFault>
-    ensures { IfOk result (λ order. IsTextBy (kind_of error.now) order.job × (order.sources.items ≡ [])) }
+    ensures text { IfOk result (λ order. IsTextBy (kind_of error.now) order.job × (order.sources.items ≡ [])) }
+    ensures fault { IfErr result (λ e. IfWrong e (IsNoText (kind_of error.now))) }
 {
     let text = format!(in alloc; "{error}")?;
     let job = match error.kind() {
@@ -674,7 +684,8 @@ fn text_of(alloc: Global, error: &Error) -> Result<Order, WordsFault>
 /// Returns the command line of the words after the program's name: a command, its options and the
 /// files to read, as `clap` reads them.
 pub fn read_words(alloc: Global, words: &[String]) -> Result<Order, WordsFault>
-    ensures { IfOk result (IsOrderIn (map string_bytes words.now)) }
+    ensures order { IfOk result (IsOrderIn (map string_bytes words.now)) }
+    ensures fault { IfErr result (IsFaultIn (map string_bytes words.now)) }
 {
     let command = krbls_command(alloc)?;
     match command.try_get_matches_from(words) {

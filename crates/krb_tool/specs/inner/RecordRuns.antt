@@ -21,7 +21,8 @@ use Rattle.krb_tool.specs.Lines.{file_refused_line}
 use Rattle.krb_tool.specs.declared.run.RunEnd.{RunEnd}
 use Rattle.krb_tool.specs.declared.run.RunEnd.TheVariants as run
 use Rattle.krb_tool.specs.declared.run.RunFault.{RunFault}
-use Rattle.krb_tool.specs.Files.{RecordListing, after_line, end_of, field_limit, keytab_last, ccache_last, refused_listing}
+use Rattle.krb_tool.specs.declared.run.RunFault.TheVariants as faulty
+use Rattle.krb_tool.specs.Files.{AppendsPrefix, RecordListing, after_line, end_of, field_limit, keytab_last, ccache_last, refused_listing}
 
 -- What is added to a text if this is left to be listed: a line, after which others are left, or the last line, if it alone is left.
 abbrev pub AddsLine : (RecordListing → Type 0) → RecordListing → List ℕ → List ℕ → Result (Option RunEnd) RunFault → Type 0
@@ -42,6 +43,15 @@ AddsRefusal path form faults.Memory old new ended = ⊥
 -- a prefix of a text was written, and the rest is kept
 abbrev pub Moves : Option (List ℕ) → Option (List ℕ) → List ℕ → List ℕ → Type 0
 Moves written_before written_after old new = (prefix : List ℕ) × Appends written_before written_after prefix × (old ≡ prefix ++ new)
+
+-- If a read failed, the text was written, unless a write failed. At another fault nothing was written.
+abbrev pub WritesBefore : RunFault → Option (List ℕ) → Option (List ℕ) → List ℕ → List ℕ → Result RunEnd RunFault → Type 0
+WritesBefore fault written_before written_after old new (Ok ended) = ⊥
+WritesBefore (faulty.Read error) written_before written_after old new (Err (faulty.Read last)) = Appends written_before written_after old × (new ≡ [])
+WritesBefore (faulty.Read error) written_before written_after old new (Err (faulty.Write last)) = AppendsPrefix written_before written_after old
+WritesBefore (faulty.Read error) written_before written_after old new (Err faulty.Memory) = ⊥
+WritesBefore (faulty.Write error) written_before written_after old new (Err last) = ⊥
+WritesBefore faulty.Memory written_before written_after old new (Err last) = (last ≡ faulty.Memory) × (written_after ≡ written_before)
 
 -- what is left after `count` items
 abbrev pub left_of : {A : Type 0} → (A → List ℕ) → List A → ℕ → List ℕ → RunEnd → RecordListing

@@ -17,7 +17,7 @@ returns-in-Ok g c = record {
       c.in_ok-put_first-in-Ok.ensures.line
       ∙ ap₂ (λ (text cache : List ℕ). text ++ cache) c.new-text.ensures (ap₂ (cache_line c.args.form) c.header.ensures c.principal.ensures) in
       let whole = ap (λ (t : List ℕ). after_line t listing) text ∙ first_line c.args.form c.args.now file made.reader made.start made.state reads in
-      subst (λ (l : RecordListing). ListsRecords l (g.W.Write.contents c.args.writer.now) (g.W.Write.contents c.list_records.new.writer) c.list_records.result) whole (c.list_records.ensures listing (all_left c.args.form c.args.now file made.reader made.start made.state reads));
+      subst (λ (l : RecordListing). ListsRecords l (g.W.Write.contents c.args.writer.now) (g.W.Write.contents c.list_records.new.writer) c.list_records.result) whole (c.list_records.ensures.listed listing (all_left c.args.form c.args.now file made.reader made.start made.state reads));
 }
 
 pub returns : goal.returns
@@ -25,7 +25,7 @@ returns g c = record {
   listed = λ file known.
       let fails = rw c.field_limit.ensures at (c.in-Err.ensures.fault file (c.in_ok-reader.ensures.same file known)) in
       subst (λ (text : List ℕ). ListsRecords (after_line text (ccache_listing c.args.form c.args.now file)) (g.W.Write.contents c.args.writer.now) (g.W.Write.contents c.list_records-in-Err.new.writer) c.list_records-in-Err.result) c.new-text.ensures
-      (c.list_records-in-Err.ensures (ccache_listing c.args.form c.args.now file) (start_refused c.args.form c.args.now file c.in-Err.fault fails));
+      (c.list_records-in-Err.ensures.listed (ccache_listing c.args.form c.args.now file) (start_refused c.args.form c.args.now file c.in-Err.fault fails));
 }
 
 pub returns-in_err-put_first-in-Ok : goal.returns-in_err-put_first-in-Ok

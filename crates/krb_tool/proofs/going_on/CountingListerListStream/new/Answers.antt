@@ -1,5 +1,6 @@
 use Rattle.std.proofs.Common.{◌≡◌, [], refl, sym, ◌∙◌, ap, subst, arith}
 use Rattle.krb_msg.specs.Grammar.{messages}
+use Rattle.krb_frame.specs.Decoded.{HasDecoded}
 use Rattle.krb_frame.specs.Decoding.{status_of}
 use Rattle.krb_frame.specs.GoingOn.{GoesOn}
 use Rattle.krb_frame.proofs.DecoderFrames.{more-nothing}
@@ -18,7 +19,7 @@ returns c =
     (record {
       listed = record {
         listed = [];
-        goes_on = subst (λ d. GoesOn (messages d.profile) c.new.result [] []) (sym same) (c.new.ensures.goes_on (ap (λ d. d.octets) nothing));
+        goes_on = subst (λ d. GoesOn (messages d.profile) c.new.result [] []) (sym same) (c.new.ensures.goes_on [] [] (subst (λ d. HasDecoded (messages d.profile) c.with_profile-decoder.result [] []) (sym nothing) c.with_profile-decoder.ensures.decoded));
         known = none_unknown;
         lines = c.new-2.ensures;
         messages = refl;

@@ -1,0 +1,2 @@
+mod Conversions
+mod Sources

@@ -1,0 +1,72 @@
+-- What is done with a source by a job: the run of its command, in the form and by the profile, the limit and the numbers of the job.
+use Rattle.std.specs.Prelude.{ℕ, ◌≡◌, Bool, true, false, List, [], ◌∷◌, Option, Some, IfOk, IfErr, OnErr}
+use Rattle.krb_der.specs.declared.profile.Profile.{Profile}
+use Rattle.krb_text.specs.declared.form.Form.{Form}
+use Rattle.krb_tool.specs.Captures.{capture_listing}
+use Rattle.krb_tool.specs.Decoding.{Decodes, DecodesWhole, FailsToDecode, FailsToDecodeWhole}
+use Rattle.krb_tool.specs.Encoding.{Encodes, FailsToEncode}
+use Rattle.krb_tool.specs.Files.{FailsFile, ListsFile, ListsRecords, ccache_listing, keytab_listing}
+use Rattle.krb_tool.specs.GoingOn.{FailsAll, ListsAll}
+use Rattle.krb_tool.specs.Listing.{Fails, Lists}
+use Rattle.krb_tool.specs.Messages.{IsHexListing}
+use Rattle.krb_tool.specs.Sources.{Run}
+use Rattle.krb_tool.specs.declared.decode_run.DecodeEnd.{DecodeEnd}
+use Rattle.krb_tool.specs.declared.encode_run.EncodeEnd.{EncodeEnd}
+use Rattle.krb_tool.specs.declared.run.RunEnd.{RunEnd}
+use Rattle.krb_tool.specs.declared.run.RunEnd.TheVariants as run
+use Rattle.krb_words.specs.declared.words.AfterRefusal.TheVariants as after
+use Rattle.krb_words.specs.declared.words.Framing.{Framing}
+use Rattle.krb_words.specs.declared.words.Framing.TheVariants as framing
+use Rattle.krb_words.specs.declared.words.Job.{Job}
+use Rattle.krb_words.specs.declared.words.Job.TheVariants as job
+use Rattle.krbls.specs.Ends.{decode_end_line, encode_end_line}
+
+-- The standard error has a line of a source if it was not turned into another form to its end, and then the run has refused something.
+abbrev pub TellsEnd : (IsTold : List ℕ → Type 0) → (line : List ℕ) → RunEnd → Type 0
+TellsEnd IsTold [] ended = ended ≡ run.Clean
+TellsEnd IsTold (octet ∷ line) ended = (ended ≡ run.Refused) × IsTold (octet ∷ line)
+
+-- ---- messages to lines, and lines to messages
+abbrev pub DecodesBy : Framing → Profile → (limit : ℕ) → (had left written_before written_after : Option (List ℕ)) → DecodeEnd → Type 0
+DecodesBy framing.Framed profile limit had left written_before written_after ended = Decodes profile limit had left written_before written_after ended
+DecodesBy framing.Unframed profile limit had left written_before written_after ended = DecodesWhole profile limit had left written_before written_after ended
+
+abbrev pub FailsToDecodeBy : Framing → Profile → (limit : ℕ) → (had left written_before written_after : Option (List ℕ)) → Type 0
+FailsToDecodeBy framing.Framed profile limit had left written_before written_after = FailsToDecode profile limit had left written_before written_after
+FailsToDecodeBy framing.Unframed profile limit had left written_before written_after = FailsToDecodeWhole profile limit had left written_before written_after
+
+abbrev pub is_framed : Framing → Bool
+is_framed framing.Framed = true
+is_framed framing.Unframed = false
+
+abbrev pub EncodesBy : Framing → Profile → (limit : ℕ) → (had left written_before written_after : Option (List ℕ)) → EncodeEnd → Type 0
+EncodesBy how profile limit had left written_before written_after ended = Encodes (is_framed how) profile limit had left written_before written_after ended
+
+-- A source was turned into another form up to an end, of which the standard error has the line.
+pub record Turns {E : Type 0} (TurnsTo : E → Type 0) (line : E → List ℕ) (IsTold : List ℕ → Type 0) (ended : RunEnd) : Type 0 where
+  pub end : E
+  pub turned : TurnsTo end
+  pub told : TellsEnd IsTold (line end) ended
+
+-- ---- a job over a reader that had octets and has others left, and what is written
+abbrev pub Does : (IsTold : List ℕ → Type 0) → Form → Job → (had left : Option (List ℕ)) → Run
+Does IsTold form (job.Stream limit profile after.Ends) had left written_before written_after outcome =
+    IfOk outcome (Lists form profile limit had left written_before written_after) × IfErr outcome (Fails form profile limit had left written_before written_after)
+Does IsTold form (job.Stream limit profile after.GoesOn) had left written_before written_after outcome =
+    IfOk outcome (ListsAll form profile limit had left written_before written_after) × IfErr outcome (FailsAll form profile limit had left written_before written_after)
+Does IsTold form (job.Message profile) had left written_before written_after outcome =
+    IfOk outcome (ListsFile (IsHexListing form profile) had left written_before written_after) × IfErr outcome (FailsFile (IsHexListing form profile) had left written_before written_after)
+Does IsTold form job.Keytab had left written_before written_after outcome =
+    (file : List ℕ) → had ≡ Some file → ListsRecords (keytab_listing form file) written_before written_after outcome
+Does IsTold form (job.Ccache now) had left written_before written_after outcome =
+    (file : List ℕ) → had ≡ Some file → ListsRecords (ccache_listing form now file) written_before written_after outcome
+Does IsTold form (job.Capture limit port) had left written_before written_after outcome =
+    (file : List ℕ) → had ≡ Some file → ListsRecords (capture_listing (record { form = form; limit = limit; port = port }) file) written_before written_after outcome
+Does IsTold form (job.Decode limit profile how) had left written_before written_after outcome =
+    IfOk outcome (Turns (DecodesBy how profile limit had left written_before written_after) (decode_end_line how) IsTold)
+    × OnErr outcome (FailsToDecodeBy how profile limit had left written_before written_after)
+Does IsTold form (job.Encode limit profile how) had left written_before written_after outcome =
+    IfOk outcome (Turns (EncodesBy how profile limit had left written_before written_after) encode_end_line IsTold)
+    × OnErr outcome (FailsToEncode (is_framed how) profile limit had left written_before written_after)
+Does IsTold form (job.Help text) had left written_before written_after outcome = written_after ≡ written_before
+Does IsTold form (job.Version text) had left written_before written_after outcome = written_after ≡ written_before

@@ -1,0 +1,35 @@
+//! What the program runs on.
+
+ghost use Rattle.std.specs.Prelude.{◌≡◌, IfOk};
+ghost use Rattle.krbls.specs.Program.{Around};
+
+use krb_tool::RunFault;
+use krb_words::Source;
+use std::io;
+use std::io::Read;
+
+/// What the program runs on: what opens its sources, and its standard error.
+pub(crate) trait Host {
+    /// A reader of a source.
+    type Reader: Read + Drop;
+
+    /// What contracts see of it.
+    ghost around: { Self → Around };
+
+    /// Opens a source.
+    fn open(&self, source: &Source) -> io::Result<Self::Reader>
+        ensures { IfOk result (λ reader. Self.Reader.remaining reader ≡ (around self.now).octets source.now) };
+
+    /// Writes the line of a fault by which the run over a source ended to the standard error.
+    fn tell_fault(&self, source: &Source, fault: &RunFault)
+        ensures { (around self.now).IsFaultTold source.now fault.now };
+
+    /// Writes the line that says why a source was not turned into another form to its end to the
+    /// standard error, after the source's name.
+    fn tell_end(&self, source: &Source, line: &str)
+        ensures { (around self.now).IsEndTold source.now line.now };
+
+    /// Writes what is wrong with the words of the command line to the standard error.
+    fn tell_words(&self, text: &str)
+        ensures { (around self.now).AreWordsTold text.now };
+}
