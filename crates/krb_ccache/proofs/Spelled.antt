@@ -120,7 +120,6 @@ module _ (limit : Option ℕ) (file : List ℕ) where
 -- octets that a file begins with, which end before a place or at it
 record Prefix (file text : List ℕ) (place : ℕ) : Type 0 where
   taken : take (length text) file ≡ text
-  there : length text ≤ length file
   before : length text ≤ place
 
 prefix-is : (file before after rest : List ℕ) (t : Source) (place : ℕ) (limit : Option ℕ) → Took (limited limit) before (source_of file) t → t.octets ≡ after ++ rest → t.place + length after ≤ place → Prefix file (before ++ after) place
@@ -128,7 +127,6 @@ prefix-is file before after rest t place limit took parts le =
     let file_is : file ≡ (before ++ after) ++ rest = took.parts ∙ ap (λ (x : List ℕ). before ++ x) parts ∙ sym (append_assoc before after rest) in
     record {
       taken = ap (take (length (before ++ after))) file_is ∙ take_at (before ++ after) rest (length (before ++ after)) refl;
-      there = omega (arith, ap length file_is, length-append (before ++ after) rest);
       before = omega (arith, took.place, le, length-append before after);
     }
 
@@ -138,7 +136,7 @@ spelled4 limit file st t found start b =
     let text : List ℕ = (5 ∷ 4 ∷ header st.header ++ principal st.principal) ++ flat_map credential found.items in
     let p = prefix-is file (5 ∷ 4 ∷ header st.header ++ principal st.principal) (flat_map credential found.items) b.rest t (end_place found.end) limit start.took b.parts b.before in
     let spelled : CcacheSpells (contents st found.items) (take (length text) file) = record { fits = record { header = start.header; principal = start.principal; credentials = b.fits }; octets = p.taken } in
-    (length text, record { there = p.there; spelled = inl (start.version, spelled) }, p.before)
+    (length text, record { there = ap length p.taken; spelled = inl (start.version, spelled) }, p.before)
 
 spelled3 : (limit : Option ℕ) (file : List ℕ) (st : Start) (t : Source) (found : Items Credential3) → Begins3 limit file st t → Begins (credential_at both_enctypes 3) credential3 Credential3Fits Reads-credential3 (Steps-credential both_enctypes 3) limit t found.items (end_place found.end)
     → (size : ℕ) × AreFirst file st (map credential_part found.items) size × (size ≤ end_place found.end)
@@ -148,7 +146,7 @@ spelled3 limit file st t found start b =
     let p = prefix-is file (5 ∷ 3 ∷ principal st.principal) (flat_map credential3 found.items) b.rest t (end_place found.end) limit start.took b.parts b.before in
     let spelled : Spells3 v (take (length text) file) = record { fits = record { principal = start.principal; credentials = b.fits }; octets = p.taken } in
     let same : upgraded v ≡ contents st (map credential_part found.items) = ap (λ (x : Start). contents x (map credential_part found.items)) start.is in
-    (length text, record { there = p.there; spelled = inr (ap (λ (x : Start). x.version) (sym start.is), v, spelled, same) }, p.before)
+    (length text, record { there = ap length p.taken; spelled = inr (ap (λ (x : Start). x.version) (sym start.is), v, spelled, same) }, p.before)
 
 pub credentials-spelled : (limit : Option ℕ) (file : List ℕ) (start : Start) (after : Source) → AreOctets file → file_start limit file ≡ Ok (start, after) → (size : ℕ) × AreFirst file start (credentials limit file).items size × (size ≤ end_place (credentials limit file).end)
 credentials-spelled limit file st t fits e =

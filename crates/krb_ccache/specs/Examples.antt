@@ -18,6 +18,7 @@ use Rattle.krb_ccache.specs.declared.value.HeaderField.{HeaderField}
 use Rattle.krb_ccache.specs.Spelling.{ccache, cache3, upgraded, offset, is_config, masked}
 use Rattle.krb_ccache.specs.Reading.{read, read3}
 use Rattle.krb_ccache.specs.Streaming.{file_start}
+use Rattle.krb_ccache.specs.Laws.{IsUpToKey}
 use Rattle.krb_ccache.specs.Writing.{is_too_long}
 
 -- ---- a cache of u@A: an offset of 0, a configuration entry and a credential for h@A
@@ -208,3 +209,19 @@ not_three = refl
 
 not_three_or_four : file_start None (hex (codes "0502")) ≡ Err (fault 1 why.Version None words.Version)
 not_three_or_four = refl
+
+-- ---- the octets before a key
+abbrev before_key : List ℕ
+before_key = start_octets ++ user_octets ++ hex (codes "00000002 00000001 00000001 41 00000001 68 0012 00000002")
+
+up_to_key : IsUpToKey before_key 2
+up_to_key = record {
+  whole = 34;
+  start = record { version = 4; header = header; principal = user };
+  after = record { place = 34; octets = [] };
+  begins = refl;
+  ended = refl;
+  end = record { place = 76; octets = [] };
+  fields = refl;
+  all = refl;
+}

@@ -40,7 +40,7 @@ SpellsContents start found octets = ((start.version ≡ 4) × CcacheSpells (cont
 
 -- The first `size` octets of a file spell what is before the credentials, and these credentials.
 pub record AreFirst (file : List ℕ) (start : Start) (found : List Credential) (size : ℕ) : Type 0 where
-  pub there : size ≤ length file
+  pub there : length (take size file) ≡ size
   pub spelled : SpellsContents start found (take size file)
 
 -- where the credentials of a file end, or the field at fault begins

@@ -1,5 +1,5 @@
 -- Keytabs that differ in octets of a key: all else is read alike.
-use Rattle.std.proofs.Common.{◌≡◌, ℕ, zero, suc, ◌+◌, ◌<◌, ◌≤◌, ℤ, pos, negsuc, Option, Some, None, Result, Ok, Err, List, [], ◌∷◌, ◌++◌, length, drop, refl, sym, ◌∙◌, ap, subst, arith, append_assoc, length-append, length-take, take-append-drop}
+use Rattle.std.proofs.Common.{◌≡◌, ℕ, zero, suc, ◌+◌, ◌<◌, ◌≤◌, ℤ, pos, negsuc, Option, Some, None, Result, Ok, Err, List, [], ◌∷◌, ◌++◌, length, drop, refl, sym, ◌∙◌, ap, subst, arith, append_assoc, length-append, take-append-drop}
 use Rattle.std.proofs.lemmas.List.{append-nil}
 use Rattle.std.specs.Int.{w8, w16, w32}
 use Rattle.krb_file.specs.Fields.{Source, Fault, Bounds, limited, Reader, and_then, ◌>>=◌, succeed, with_name, refused_at, called, next_octets_at, number_at, signed_at, counted_at, names_at, rest_at, within, zeros, are_zero}
@@ -150,7 +150,7 @@ pub keys-alone : (limit : Option ℕ) (before key other after : List ℕ) (size 
 keys-alone limit before key other after size up le len =
     let body = up.first.spelled.0 in
     let octets = drop up.start before in
-    let start : up.start ≡ 2 + length body = omega (arith, ap length up.first.spelled.2, length-take up.start before, up.first.there, ap length (append-nil body)) in
+    let start : up.start ≡ 2 + length body = omega (arith, ap length up.first.spelled.2, up.first.there, ap length (append-nil body)) in
     let before_is : before ≡ 5 ∷ 2 ∷ (body ++ octets) = sym (take-append-drop up.start before) ∙ ap (λ (x : List ℕ). x ++ octets) (up.first.spelled.2 ∙ ap (λ (x : List ℕ). 5 ∷ 2 ∷ x) (append-nil body)) in
     let file = λ (rest : List ℕ). ap (λ (x : List ℕ). items limit (x ++ rest)) before_is ∙ ap (λ (x : List ℕ). items limit (5 ∷ 2 ∷ x)) (append_assoc body octets rest) ∙ items-opened limit (body ++ (octets ++ rest)) in
     let some : 0 < length octets = omega (arith, signed-shorter (limited None) (at up.start octets) (pos (suc up.content)) up.after up.announced) in

@@ -63,7 +63,7 @@ first-of file t found body rest opening spelled parts =
     let file_is : file ≡ (5 ∷ 2 ∷ body) ++ rest = opening ∙ ap (λ (x : List ℕ). 5 ∷ 2 ∷ x) parts in
     let taken : take (2 + length body) file ≡ 5 ∷ 2 ∷ body = ap (take (2 + length body)) file_is ∙ take_at (5 ∷ 2 ∷ body) rest (2 + length body) (omega arith) in
     record {
-      there = omega (arith, ap length file_is, length-append (5 ∷ 2 ∷ body) rest);
+      there = omega (arith, ap length taken);
       spelled = (body, spelled, taken ∙ ap (λ (x : List ℕ). 5 ∷ 2 ∷ x) (sym (append-nil body)));
     }
 

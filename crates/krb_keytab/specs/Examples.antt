@@ -14,6 +14,7 @@ use Rattle.krb_keytab.specs.declared.value.Stop.TheVariants as stops
 use Rattle.krb_keytab.specs.declared.writing.KeytabFault.TheVariants as faults
 use Rattle.krb_keytab.specs.Spelling.{kvno, masked}
 use Rattle.krb_keytab.specs.Reading.{items, read}
+use Rattle.krb_keytab.specs.Laws.{IsUpToKey}
 use Rattle.krb_keytab.specs.Writing.{written, write_fault}
 
 -- ---- an entry of h@A, a hole of eight octets, and a record of length 0, with two octets after it
@@ -130,3 +131,17 @@ overrun_before_too_long = refl
 
 cut_in_a_hole : items (Some 16777216) (take 40 keytab_octets) ≡ record { records = records.Entry entry ∷ []; end = Err (fault 37 why.Truncated fields.Hole) }
 cut_in_a_hole = refl
+
+-- ---- the octets before a key
+before_key : IsUpToKey (take 27 keytab_octets) 2
+before_key = record {
+  records = [];
+  start = 2;
+  first = record { there = refl; spelled = ([], refl, refl) };
+  content = 26;
+  after = record { place = 6; octets = hex (codes "0001 000141 000168 00000001 386D4380 02 0012 0002") };
+  announced = refl;
+  end = record { place = 27; octets = [] };
+  fields = refl;
+  all = refl;
+}

@@ -26,7 +26,7 @@ SpellsOne = (v other : Keytab) (b : List ℕ) → KeytabSpells v b → KeytabSpe
 
 -- The first `size` octets of a file spell the version and these records.
 pub record AreFirst (file : List ℕ) (records : List Record) (size : ℕ) : Type 0 where
-  pub there : size ≤ length file
+  pub there : length (take size file) ≡ size
   pub spelled : KeytabSpells (record { records = records; stop = stops.File }) (take size file)
 
 -- where the records of a file end, or the field at fault begins

@@ -2,7 +2,7 @@ pub mod Holes
 pub mod Spelling
 pub mod Reading
 pub mod Writing
-pub mod Examples
 pub mod Laws
 pub mod Paths
 pub mod Streaming
+pub mod Examples
