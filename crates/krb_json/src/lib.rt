@@ -14,6 +14,7 @@
 #![tactic(auto)]
 
 mod heads;
+mod hexadecimal;
 mod kinds;
 pub mod law;
 mod line_fault;
@@ -25,6 +26,7 @@ mod value_fault;
 mod writing;
 mod wrong;
 
+pub use json::Scratch;
 pub use line_fault::{Fault, LineFault};
 pub use reading::read_line;
 pub use sealing::unsealed_path;
