@@ -23,5 +23,8 @@ pub mod DecodedFrames
 pub mod DecodedPieces
 pub mod SourceLineParts
 pub mod EncodedLines
+mod EncodedMessages
+mod AlikeStreams
+mod DecodedTexts
 pub mod WholeRuns
 mod RoundTrips
