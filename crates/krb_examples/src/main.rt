@@ -80,7 +80,13 @@ fn json_of(alloc: Global, octets: &[u8]) -> Result<Vec<u8>, Memory> {
 /// Returns the octets of the message that a line of JSON spells, at most 65536.
 fn spelled(alloc: Global, line: &str) -> Result<Vec<u8>, LineFault> {
     let mut scratch = Scratch::new(alloc);
-    read_line(alloc, &mut scratch, Profile::Lenient, 65536, line.as_bytes())
+    read_line(
+        alloc,
+        &mut scratch,
+        Profile::Lenient,
+        65536,
+        line.as_bytes(),
+    )
 }
 
 /// Returns how many items are found in the first octets of a message of `size` octets.

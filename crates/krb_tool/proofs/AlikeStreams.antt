@@ -1,18 +1,17 @@
 -- Streams that differ in what is not sealed alone are decoded alike.
-use Rattle.std.proofs.Common.{◌≡◌, ℕ, ◌+◌, ◌≤◌, false, List, [], ◌∷◌, ◌++◌, length, length-append, map, drop, Option, Some, None, refl, sym, ◌∙◌, ap, arith, append_assoc, le-ltb}
+use Rattle.std.proofs.Common.{◌≡◌, ℕ, ◌+◌, List, [], ◌∷◌, ◌++◌, length, map, drop, Option, Some, None, refl, sym, ◌∙◌, ap, arith, append_assoc, le-ltb}
 use Rattle.std.specs.List.{AllByRecursion, flat_map}
 use Rattle.std.proofs.Math.Seq.{drop-append-add}
 use Rattle.std.proofs.lemmas.List.Sums.{sum_by-cons}
 use Rattle.krb_der.specs.declared.profile.Profile.{Profile}
 use Rattle.krb_msg.specs.Grammar.{messages}
-use Rattle.krb_msg.specs.Stream.{End, Frames, with_first, frames}
+use Rattle.krb_msg.specs.Stream.{Frames, with_first, frames}
 use Rattle.krb_msg.specs.Views.{message_der, message_of_der}
 use Rattle.krb_msg.specs.declared.message.Message.{Message}
 use Rattle.krb_msg.proofs.MessageOfDer.{message_of_der_is_message}
 use Rattle.krb_msg.proofs.Streams.{frames-frame}
 use Rattle.krb_frame.specs.Decoded.{frames_size}
 use Rattle.krb_frame.specs.Frame.{framed}
-use Rattle.krb_judge.specs.Parses.{refusal_of}
 use Rattle.krb_judge.proofs.Slices.{message_not_refused}
 use Rattle.krb_json.specs.Laws.{IsSpelled, UnsealedChangesNothing}
 use Rattle.krb_json.specs.Lines.{line_of}

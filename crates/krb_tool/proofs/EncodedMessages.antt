@@ -1,13 +1,12 @@
 -- What is encoded is messages of the profile.
-use Rattle.std.proofs.Common.{◌≡◌, ℕ, ◌+◌, ◌^◌, ◌<◌, ◌≤◌, ◌⊎◌, inl, inr, Bool, true, false, List, [], ◌∷◌, ◌++◌, length, map, None, Result, Ok, Err, refl, sym, ◌∙◌, ap, subst, arith, append-nil}
-use Rattle.std.specs.Prelude.{◌&&◌, not}
+use Rattle.std.proofs.Common.{◌≡◌, ℕ, ◌+◌, ◌^◌, ◌<◌, ◌⊎◌, inl, inr, Bool, true, false, List, [], ◌∷◌, ◌++◌, length, map, None, Result, Ok, Err, refl, ◌∙◌, ap, subst, arith, append-nil}
 use Rattle.std.specs.List.{AllByRecursion, flat_map}
 use Rattle.krb_der.specs.Octets.{AreOctets, when}
 use Rattle.krb_der.specs.declared.profile.Profile.{Profile}
 use Rattle.krb_msg.specs.Grammar.{messages}
 use Rattle.krb_msg.specs.Judgement.{Done, message_outcome}
-use Rattle.krb_msg.specs.Stream.{Boundary, Frames, ends, with_first, frames}
-use Rattle.krb_msg.specs.Views.{kind_of, kind_term_in, message_der, message_of_der, message_value_in, IsInProfile}
+use Rattle.krb_msg.specs.Stream.{Boundary, Frames, with_first, frames}
+use Rattle.krb_msg.specs.Views.{kind_of, kind_term_in, message_der, message_value_in, IsInProfile}
 use Rattle.krb_msg.specs.declared.message.Message.{Message}
 use Rattle.krb_msg.specs.inner.MessagePrefixFree.{message_begins}
 use Rattle.krb_msg.proofs.Grammars.{one_of_is_octets, whole_outcome}

@@ -1,11 +1,11 @@
-use Rattle.std.proofs.Common.{◌+◌, true, false, length, refl, sym, ◌∙◌, subst, arith}
+use Rattle.std.proofs.Common.{◌+◌, refl, subst}
 use Rattle.std.proofs.lemmas.List.{take_rest}
 use Rattle.memchr.specs.Find.{IsFirstByte, is_byte}
 use Rattle.krb_tool.specs.declared.json_reader.JsonReader.{JsonReader}
 use Rattle.krb_tool.specs.inner.EncodedLines.{EndsLine, encoding}
 use Rattle.krb_tool.proofs.Pieces.{IsFed-both, TakesPiece-both, Feeds-made}
 use Rattle.krb_tool.proofs.SourceLineParts.{first_line, no_line}
-use Rattle.krb_tool.proofs.EncodedLines.{Begins-waits, Grows, IsFed-line, Feeds-fault, TakesPiece-rest, stops-never}
+use Rattle.krb_tool.proofs.EncodedLines.{Begins-waits, IsFed-line, Feeds-fault, TakesPiece-rest, stops-never}
 use Rattle.krb_tool.proofs.json_reader.JsonReaderListStream.feed.Goals as goal
 
 pub returns-then-not-branch-clause-fed : goal.returns-then-not-branch-clause-fed
