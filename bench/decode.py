@@ -1,6 +1,7 @@
 """Times bin/krbls decode on a stream of real messages, and bin/krbls encode on the lines that it writes, each in turns with
 another program on the same input, in 8 MiB of address space; and says how much memory each used."""
 
+import importlib.util
 import os
 import sys
 import tempfile
@@ -12,6 +13,15 @@ DECODE = ["bash", "-c", "ulimit -v 8192; exec bin/krbls decode"]
 STREAM = ["bash", "-c", "ulimit -v 8192; exec bin/krbls stream --json"]
 ENCODE = ["bash", "-c", "ulimit -v 8192; exec bin/krbls encode"]
 PYTHON = ["python3", "-c", "import json, sys\nfor line in sys.stdin.buffer: json.loads(line)"]
+
+# Decodes each frame as DER, without a description of the messages, and passes over the few for which that is not enough.
+PYASN1 = """
+import contextlib, sys
+from pyasn1.codec.der import decoder
+while size := sys.stdin.buffer.read(4):
+    with contextlib.suppress(AttributeError):
+        decoder.decode(sys.stdin.buffer.read(int.from_bytes(size)))
+"""
 
 
 def is_sealed(frame):
@@ -37,6 +47,9 @@ def main():
         lines.write(output_of(DECODE, stream.name))
         lines.flush()
         print_costs("their lines", {"encode": ENCODE, "Python's json": PYTHON}, lines.name)
+    if importlib.util.find_spec("pyasn1"):
+        with repeated(octets, 1) as once:
+            print_costs("each message once", {"decode": DECODE, "pyasn1": ["python3", "-c", PYASN1]}, once.name)
 
 
 main()

@@ -12,7 +12,7 @@ use krb_ccache::{Ccache, Credentials, TicketStateView, read3, ticket_view_of, up
 use krb_der::{Int32, KString, Many, Memory, Octets, Profile, Refusal, Verdict};
 use krb_file::{Field, FieldLimit, FieldReader, FileFault, SliceReader, String16};
 use krb_frame::{Decoder, Limit, SkippingDecoder, Status, frame};
-use krb_json::{LineFault, put_text, read_line, unsealed_path};
+use krb_json::{LineFault, Scratch, put_text, read_line, unsealed_path};
 use krb_judge::{ParseFault, judge, parse, read_ticket};
 use krb_keytab::{Next, Record, Records};
 use krb_list::{Form, TextBuffer, message_line, principal_text};
@@ -79,7 +79,14 @@ fn json_of(alloc: Global, octets: &[u8]) -> Result<Vec<u8>, Memory> {
 
 /// Returns the octets of the message that a line of JSON spells, at most 65536.
 fn spelled(alloc: Global, line: &str) -> Result<Vec<u8>, LineFault> {
-    read_line(alloc, Profile::Lenient, 65536, line.as_bytes())
+    let mut scratch = Scratch::new(alloc);
+    read_line(
+        alloc,
+        &mut scratch,
+        Profile::Lenient,
+        65536,
+        line.as_bytes(),
+    )
 }
 
 /// Returns how many items are found in the first octets of a message of `size` octets.

@@ -15,3 +15,6 @@ mod NumberTexts
 mod ScalarLemmas
 mod Unshown
 mod BitStrings
+mod Digits
+mod Masks
+mod Reorders

@@ -1,5 +1,5 @@
 -- What functions return that read values, put together.
-use Rattle.std.proofs.Common.{◌≡◌, ℕ, ℤ, pos, negsuc, inl, inr, to_z, of_z, w64, ◌<◌, ◌+◌, ◌-◌, ◌≤◌, List, [], ◌∷◌, ◌++◌, length, take, drop, get_or, append_assoc, append-nil, Bool, Some, None, Result, Ok, Err, refl, sym, ◌∙◌, ap, ap₂, subst, arith}
+use Rattle.std.proofs.Common.{◌≡◌, ℕ, ℤ, pos, negsuc, inl, inr, to_z, of_z, w64, ◌<◌, ◌+◌, ◌-◌, ◌≤◌, List, [], ◌∷◌, ◌++◌, length, length-append, take, drop, get_or, append_assoc, append-nil, Bool, Some, None, Result, Ok, Err, refl, sym, ◌∙◌, ap, ap₂, subst, arith}
 use Rattle.std.specs.Prelude.{codes, decimal, string_bytes}
 use Rattle.std.specs.Int.RustNames.{FitsSigned}
 use Rattle.std.specs.Borrow.{Bor}
@@ -9,7 +9,7 @@ use Rattle.json.specs.Json.{Json, Members}
 use Rattle.json.specs.Find.{get_member}
 use Rattle.std.proofs.lemmas.Bool.{cases_lt}
 use Rattle.std.proofs.lemmas.Int.{to_z-of_z, fits_signed_from_abs}
-use Rattle.krb_der.specs.Octets.{item, integer_octets, spelled as spelled_octets}
+use Rattle.krb_der.specs.Octets.{item, length_octets, integer_octets, spelled as spelled_octets}
 use Rattle.krb_der.specs.inner.Numbers.{length-spelled-mono}
 use Rattle.krb_der.proofs.Sizes.{length-complement}
 use Rattle.krb_msg.specs.Nodes.{nodes, term_at}
@@ -106,16 +106,48 @@ stopped first next octets_of others_of old mid older new (At found) r = λ path.
 stopped first next octets_of others_of old mid older new Memory r = tt
 
 -- ---- an item: its head before its contents
-pub headed : (term : Term) (read : (path : List ℕ) → Result (Value term) Fault) (old mid new : List ℕ) (start tag : ℕ) → start ≡ length old → tag ≡ tag_of term → new ≡ take start mid ++ item tag (drop start mid) → IsRead read (contents term) old mid → IsRead read (der term) old new
-headed term read old mid new start tag at tagged is r = record {
-  value = r.value;
-  spelled = r.spelled;
-  octets =
-      is ∙ ap₂ (λ n t. take n mid ++ item t (drop n mid)) at tagged
-      ∙ ap (λ m. take (length old) m ++ item (tag_of term) (drop (length old) m)) r.octets
-      ∙ ap₂ (λ a b. a ++ item (tag_of term) b) (take-append_seam old (contents term r.value)) (drop-append_seam old (contents term r.value))
-      ∙ ap (λ l. old ++ l) (sym (der_is term r.value));
-}
+-- its tag and an octet for its length, before its contents
+room_for_head : {A : Type 0} (read : (path : List ℕ) → Result A Fault) (octets_of : A → List ℕ) (old begun mid : List ℕ) (start tag : ℕ) → start ≡ length old → begun ≡ old ++ tag ∷ 0 ∷ [] → (r : IsRead read octets_of begun mid) → length mid ≡ start + 2 + length (octets_of r.value)
+room_for_head read octets_of old begun mid start tag at begins r =
+    omega (arith, at, ap length r.octets, length-append begun (octets_of r.value), ap length begins, length-append old (tag ∷ 0 ∷ []))
+
+pub has-head : {A : Type 0} (read : (path : List ℕ) → Result A Fault) (octets_of : A → List ℕ) (old begun mid : List ℕ) (start tag : ℕ) → start ≡ length old → begun ≡ old ++ tag ∷ 0 ∷ [] → IsRead read octets_of begun mid → start + 2 ≤ length mid
+has-head read octets_of old begun mid start tag at begins r = omega (arith, room_for_head read octets_of old begun mid start tag at begins r)
+
+-- what an item is read into, when the octet is its length
+module _ (old begun mid octets : List ℕ) (start tag : ℕ) (at : start ≡ length old) (begins : begun ≡ old ++ tag ∷ 0 ∷ []) (is : mid ≡ begun ++ octets) where
+  whole_item : mid ≡ (old ++ tag ∷ 0 ∷ []) ++ octets
+  whole_item = is ∙ ap (λ l. l ++ octets) begins
+
+  before_length : take (start + 1) mid ≡ old ++ tag ∷ []
+  before_length =
+      ap (take (start + 1)) (whole_item ∙ append_assoc old (tag ∷ 0 ∷ []) octets ∙ sym (append_assoc old (tag ∷ []) (0 ∷ octets)))
+      ∙ subst (λ n. take n ((old ++ tag ∷ []) ++ 0 ∷ octets) ≡ old ++ tag ∷ []) (omega (arith, length-append old (tag ∷ []), at)) (take-append_seam (old ++ tag ∷ []) (0 ∷ octets))
+
+  after_length : drop (start + 2) mid ≡ octets
+  after_length =
+      ap (drop (start + 2)) whole_item
+      ∙ subst (λ n. drop n ((old ++ tag ∷ 0 ∷ []) ++ octets) ≡ octets) (omega (arith, length-append old (tag ∷ 0 ∷ []), at)) (drop-append_seam (old ++ tag ∷ 0 ∷ []) octets)
+
+  with_length : take (start + 1) mid ++ length_octets (length octets) ++ drop (start + 2) mid ≡ old ++ item tag octets
+  with_length =
+      (λ i. (before_length i ++ length_octets (length octets)) ++ after_length i)
+      ∙ append_assoc (old ++ tag ∷ []) (length_octets (length octets)) octets
+      ∙ append_assoc old (tag ∷ []) (length_octets (length octets) ++ octets)
+
+pub headed : (term : Term) (read : (path : List ℕ) → Result (Value term) Fault) (old begun mid new : List ℕ) (start size tag : ℕ) → start ≡ length old → size ≡ length mid - (start + 2) → tag ≡ tag_of term → begun ≡ old ++ tag ∷ 0 ∷ [] → new ≡ take (start + 1) mid ++ length_octets size ++ drop (start + 2) mid → IsRead read (contents term) begun mid → IsRead read (der term) old new
+headed term read old begun mid new start size tag at sized tagged begins is r =
+    let few : size ≡ length (contents term r.value) = omega (arith, sized, room_for_head read (contents term) old begun mid start tag at begins r) in
+    record {
+      value = r.value;
+      spelled = r.spelled;
+      octets =
+          is
+          ∙ ap (λ n. take (start + 1) mid ++ length_octets n ++ drop (start + 2) mid) few
+          ∙ with_length old begun mid (contents term r.value) start tag at begins r.octets
+          ∙ ap (λ t. old ++ item t (contents term r.value)) tagged
+          ∙ ap (λ l. old ++ l) (sym (der_is term r.value));
+    }
 
 -- ---- the numbers of the table
 wide : (n : ℕ) → length (spelled_octets 128 n) ≤ 5 → n < 549755813888

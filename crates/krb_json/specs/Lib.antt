@@ -3,8 +3,10 @@ pub mod Objects
 pub mod Faults
 pub mod Spelled
 pub mod Unsealed
+pub mod Masked
 pub mod AllKinds
 pub mod Lines
+pub mod Reordered
 pub mod Laws
 pub mod Reading
 pub mod Examples

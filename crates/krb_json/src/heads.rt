@@ -1,8 +1,8 @@
 //! The head of an item: its tag and its length (X.690, 8.1).
 
-ghost use Rattle.std.specs.Prelude.{◌≡◌, ◌≤◌, ◌++◌, take, drop, length, OnOk, IfOk};
+ghost use Rattle.std.specs.Prelude.{◌≡◌, ◌≤◌, ◌+◌, ◌-◌, ◌++◌, ◌∷◌, [], take, drop, length, OnOk, IfOk};
 ghost use Rattle.std.specs.Vec.{vec_len};
-ghost use Rattle.krb_der.specs.Octets.{item, length_octets, spelled};
+ghost use Rattle.krb_der.specs.Octets.{length_octets, spelled};
 
 use std::alloc::AllocError;
 
@@ -22,31 +22,27 @@ fn push_number(out: &mut Vec<u8>, number: u64) -> Result<u8, AllocError>
     Ok(count + 1)
 }
 
-/// Appends the length octets of so many contents octets (X.690, 8.1.3 and 10.1).
-fn push_length(out: &mut Vec<u8>, size: usize) -> Result<(), AllocError>
-    ensures { OnOk result (out.new.items ≡ out.old.items ++ length_octets size) }
+/// Begins an item: appends its tag, and an octet for its length, which is not known yet.
+pub(crate) fn begin_item(out: &mut Vec<u8>, tag: u8) -> Result<(), AllocError>
+    ensures { OnOk result (out.new.items ≡ out.old.items ++ tag ∷ 0 ∷ []) }
 {
-    if size < 0x80 {
-        out.push(size as u8)?;
-        return Ok(());
-    }
-    let first = out.len();
-    out.push(0)?;
-    let count = push_number(out, size as u64)?;
-    out[first] = 0x80 + count;
-    Ok(())
+    out.extend_from_slice(&[tag, 0])
 }
 
-/// Makes the octets from a place on the contents of an item: its tag and its length octets are put
-/// before them.
-pub(crate) fn put_head(out: &mut Vec<u8>, start: usize, tag: u8) -> Result<(), AllocError>
-    requires { start ≤ vec_len out.old }
-    ensures { OnOk result (out.new.items ≡ take start out.old.items ++ item tag (drop start out.old.items)) }
+/// Ends the item that begins at a place: its contents are the octets after its tag and the octet for
+/// its length, and their number replaces that octet (X.690, 8.1.3 and 10.1). Most items have fewer
+/// than 128 octets, and of these none is moved.
+pub(crate) fn end_item(out: &mut Vec<u8>, start: usize) -> Result<(), AllocError>
+    requires { start + 2 ≤ vec_len out.old }
+    ensures { OnOk result (out.new.items ≡ take (start + 1) out.old.items ++ length_octets (vec_len out.old - (start + 2)) ++ drop (start + 2) out.old.items) }
 {
-    let end = out.len();
-    out.push(tag)?;
-    push_length(out, end - start)?;
-    let head = out.len() - end;
-    out.as_mut_slice()[start..].rotate_right(head);
+    let size = out.len() - (start + 2);
+    if size < 0x80 {
+        out[start + 1] = size as u8;
+        return Ok(());
+    }
+    let count = push_number(out, size as u64)?;
+    out[start + 1] = 0x80 + count;
+    out.as_mut_slice()[start + 2..].rotate_right(count as usize);
     Ok(())
 }

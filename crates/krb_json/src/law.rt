@@ -1,6 +1,6 @@
 //! The laws of the JSON of messages, each the contract of a function that does nothing.
 
-ghost use Rattle.krb_json.specs.Laws.{LinesSpellMessages, MessagesAreNamed, SpelledFits, TextsAreJson, TextsComeBack, TextsDiffer, ValuesComeBack};
+ghost use Rattle.krb_json.specs.Laws.{LinesSpellMessages, MessagesAreNamed, SpelledFits, SpellingChangesNothing, TextsAreJson, TextsComeBack, TextsDiffer, UnsealedChangesNothing, ValuesComeBack};
 
 /// Each field of each message has a name of its own.
 pub fn messages_are_named()
@@ -35,4 +35,16 @@ pub fn texts_differ()
 /// What a line spells is a message of the profile, of no more octets than the limit.
 pub fn lines_spell_messages()
     ensures { LinesSpellMessages }
+{}
+
+/// Messages that differ in nothing but what is not sealed have the same path to it, and the same text
+/// if there is none.
+pub fn unsealed_changes_nothing()
+    ensures { UnsealedChangesNothing }
+{}
+
+/// What a line spells it spells in any order of members, with any blanks and any of JSON's escapes,
+/// and its octets with hexadecimal digits of either case.
+pub fn spelling_changes_nothing()
+    ensures { SpellingChangesNothing }
 {}

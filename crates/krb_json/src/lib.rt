@@ -4,7 +4,8 @@
 //! - [`put_text`] appends the JSON of a message to octets, from its DER. The text determines the
 //!   message wholly, and so has its sealed octets, too.
 //! - [`read_line`] returns the DER of the message that a line spells, or the line's first fault
-//!   ([`LineFault`]). Members may come in any order; what `put_text` writes comes back.
+//!   ([`LineFault`]). Members may come in any order; what `put_text` writes comes back. The memory
+//!   in which it reads ([`Scratch`]) is the caller's, who keeps it from line to line.
 //! - [`unsealed_path`] returns where a message has an EncryptedData of encryption type 0, which
 //!   seals nothing. Look there before you show a text: a KRB-CRED may have session keys in it.
 //!
@@ -14,6 +15,7 @@
 #![tactic(auto)]
 
 mod heads;
+mod hexadecimal;
 mod kinds;
 pub mod law;
 mod line_fault;
@@ -25,6 +27,7 @@ mod value_fault;
 mod writing;
 mod wrong;
 
+pub use json::Scratch;
 pub use line_fault::{Fault, LineFault};
 pub use reading::read_line;
 pub use sealing::unsealed_path;

@@ -21,7 +21,7 @@ ghost use Rattle.krb_json.specs.Reading.{AreSpelled, IsFaultOf};
 ghost use Rattle.krb_json.specs.Spelled.{items_spelled, spelled};
 ghost use Rattle.krb_json.specs.inner.Reading.{Reads, ReadsField, ReadsFields, ReadsLine};
 
-use crate::heads::put_head;
+use crate::heads::{begin_item, end_item};
 use crate::kinds::all_kinds;
 use crate::line_fault::{Fault, LineFault};
 use crate::members::{Allowed, check_members};
@@ -38,9 +38,11 @@ use krb_msg::grammar::{Form, Slot, form_of, tag_of};
 use std::alloc::{AllocError, Global};
 
 /// Returns the DER octets of the message of a profile that a line spells, at most `limit` octets,
-/// or the first fault of the line. The line feed is not part of the line.
+/// or the first fault of the line. The line feed is not part of the line. What is in `scratch` does
+/// not matter: it is memory that is used again for each line.
 pub fn read_line(
     alloc: Global,
+    scratch: &mut Scratch,
     profile: Profile,
     limit: u32,
     line: &[u8],
@@ -49,8 +51,7 @@ pub fn read_line(
     ensures octets { IfOk result (λ octets. AreSpelled (line_spells profile limit line.now) octets.items) }
     ensures fault { IfErr result (IsFaultOf (line_spells profile limit line.now)) }
 {
-    let mut scratch = Scratch::new(alloc);
-    match Value::from_slice(alloc, line, &mut scratch) {
+    match Value::from_slice(alloc, line, scratch) {
         Ok(value) => read_object(alloc, profile, limit, &value),
         Err(Error::Invalid) => Err(LineFault::NotJson),
         // Of the other errors only want of memory comes.
@@ -158,8 +159,9 @@ fn read_item(
     ensures { Reads (λ path. spelled (term_at node) names path (value_view value.now)) (der (term_at node)) out.old.items out.new.items result }
 {
     let start = out.len();
+    begin_item(out, tag_of(node))?;
     read_contents(alloc, out, node, names, value)?;
-    put_head(out, start, tag_of(node))?;
+    end_item(out, start)?;
     Ok(())
 }
 

@@ -11,10 +11,10 @@ ghost use Rattle.krb_json.specs.Spelling.{octet_of, unshown};
 ghost use Rattle.krb_json.specs.inner.Reading.{Reads};
 ghost use Rattle.krb_json.specs.inner.Scalars.{Gives, IsFirstShown, IsTimeOf, has_octet_above, is_mark, member_spelled};
 
+use crate::hexadecimal::push_decoded;
 use crate::members::{Allowed, check_members};
 use crate::value_fault::{ValueFault, fault_here, fault_of_field, in_field};
 use crate::wrong::Wrong;
-use hex::FromHexError;
 use json::Value;
 use krb_der::{KerberosTime, integer_size, last_or_zero};
 use std::alloc::{AllocError, Global};
@@ -158,13 +158,10 @@ pub(crate) fn read_octets(alloc: Global, out: &mut Vec<u8>, value: &Value) -> Re
     let Some(text) = value.as_str() else {
         return Err(fault_here(alloc, Wrong::NotAString));
     };
-    match hex::decode(alloc, text) {
-        Ok(octets) => {
-            out.extend_from_slice(octets.as_slice())?;
-            Ok(())
-        }
-        Err(FromHexError::OutOfMemory) => Err(ValueFault::Memory),
-        Err(_) => Err(fault_here(alloc, Wrong::NotHexadecimal)),
+    if push_decoded(out, text.as_bytes())? {
+        Ok(())
+    } else {
+        Err(fault_here(alloc, Wrong::NotHexadecimal))
     }
 }
 

@@ -6,7 +6,7 @@ use crate::examples::{
     contents, octets_of,
 };
 use krb_der::{Memory, Profile};
-use krb_json::{LineFault, put_text, read_line, unsealed_path};
+use krb_json::{LineFault, Scratch, put_text, read_line, unsealed_path};
 use std::alloc::Global;
 use std::test::Fail;
 
@@ -66,7 +66,8 @@ fn put_after_bracket(alloc: Global, octets: &[u8]) -> Result<Vec<u8>, Memory> {
 
 /// Returns the octets of the message that a line spells by a profile.
 fn read(alloc: Global, profile: Profile, line: &str) -> Result<Vec<u8>, LineFault> {
-    read_line(alloc, profile, 1000, line.as_bytes())
+    let mut scratch = Scratch::new(alloc);
+    read_line(alloc, &mut scratch, profile, 1000, line.as_bytes())
 }
 
 /// Returns whether a text is a bracket and then a line.
@@ -198,7 +199,8 @@ fn fault(alloc: Global, profile: Profile, limit: u32, line: &str) -> Result<Stri
     if limit > 1000 {
         return Ok(String::new(alloc));
     }
-    match read_line(alloc, profile, limit, line.as_bytes()) {
+    let mut scratch = Scratch::new(alloc);
+    match read_line(alloc, &mut scratch, profile, limit, line.as_bytes()) {
         Ok(_) => Ok(String::new(alloc)),
         Err(fault) => Ok(format!(in alloc; "{fault}")?),
     }

@@ -24,6 +24,9 @@ pub mod DecodedFrames
 pub mod DecodedPieces
 pub mod SourceLineParts
 pub mod EncodedLines
+mod EncodedMessages
+mod AlikeStreams
+mod DecodedTexts
 pub mod WholeRuns
 mod RoundTrips
 mod KeyOctets

@@ -107,7 +107,7 @@ record ComesBack (profile : Profile) (limit : ℕ) (octets : List ℕ) : Type 0 
   spelled : line_spells profile limit (text_of octets) ≡ Ok (message_of_der octets)
   form : message_der (message_of_der octets) ≡ octets
 
-both_are : (first second : List ℕ) → AreOctets (first ++ second) → AreOctets first × AreOctets second
+pub both_are : (first second : List ℕ) → AreOctets (first ++ second) → AreOctets first × AreOctets second
 both_are [] second are = (tt, are)
 both_are (octet ∷ first) second are = let rest = both_are first second are.1 in ((are.0, rest.0), rest.1)
 

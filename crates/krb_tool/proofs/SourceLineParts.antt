@@ -1,14 +1,12 @@
 -- The lines of a text that comes in pieces.
-use Rattle.std.proofs.Common.{◌≡◌, ℕ, suc, ◌+◌, ◌<◌, ◌≤◌, Bool, true, false, cond, List, [], ◌∷◌, ◌++◌, length, get_or, take, drop, Option, Some, None, refl, sym, ◌∙◌, ap, subst, arith, append_assoc, append-nil, add-one, length-take}
+use Rattle.std.proofs.Common.{◌≡◌, ℕ, ◌+◌, ◌<◌, ◌≤◌, Bool, true, false, cond, List, [], ◌∷◌, ◌++◌, length, get_or, take, Some, None, refl, sym, ◌∙◌, ap, subst, arith, append_assoc, append-nil, add-one, length-take}
 use Rattle.std.specs.Prelude.{◌==◌}
-use Rattle.std.specs.List.{All, position, position_or_len, slice_split, onto_first}
+use Rattle.std.specs.List.{All, onto_first}
 use Rattle.std.proofs.Math.Seq.{take-suc}
 use Rattle.std.proofs.lemmas.Bool.Decides.{nat_tests}
-use Rattle.std.proofs.lemmas.Grind.{common_steps}
-use Rattle.std.proofs.lemmas.List.{get_or-take}
-use Rattle.std.proofs.lemmas.List.Quantifiers.{position-Some}
+use Rattle.std.proofs.lemmas.List.{get_or-take, get_or_default}
 use Rattle.std.proofs.lemmas.List.Splits.{slice_split_none, slice_split_at}
-use Rattle.std.proofs.lemmas.List.Sums.{fails_before_first}
+use Rattle.memchr.specs.Find.{Nowhere, Passes, IsFirstByte, is_byte}
 use Rattle.krb_tool.specs.Encoding.{parts, without_empty_last, lines_of, ended_of}
 
 -- ---- the parts of two texts
@@ -150,23 +148,29 @@ pub record HasFirst (text : List ℕ) (size : ℕ) : Type 0 where
 is_ten : (octet : ℕ) → (octet == 10) ≡ true → octet ≡ 10
 is_ten octet e = grind (arith, nat_tests)
 
-pub first_line : (text : List ℕ) (size : ℕ) → position (λ octet. octet == 10) text ≡ Some size → HasFirst text size
-first_line text size e =
-    let found = position-Some (λ octet. octet == 10) text size 0 e in
+is_false : (b : Bool) → (b ≡ true → ⊥) → b ≡ false
+is_false true never = absurd (never refl)
+is_false false never = refl
+
+-- no octet before a place is a line feed
+none_before : (text : List ℕ) (end : ℕ) → end ≤ length text → Nowhere (Passes (is_byte 10) text) 0 end → (k d : ℕ) → k < end → (get_or text k d == 10) ≡ false
+none_before text end within none k d below =
+    is_false (get_or text k d == 10)
+    (λ is. none k (omega arith) below (subst (λ octet. (octet == 10) ≡ true) (get_or_default text k d 0 (omega (arith, below, within))) is))
+
+-- the first line ends
+pub first_line : (text : List ℕ) (size : ℕ) → IsFirstByte (is_byte 10) text (Some size) → HasFirst text size
+first_line text size found =
+    let within : size < length text = found.0.high in
     let none : All (λ octet. (octet == 10) ≡ false) (take size text) = λ k d l.
     let below : k < size = omega (arith, l, length-take size text) in
-    subst (λ octet. (octet == 10) ≡ false) (sym (get_or-take size text k d below)) ((position-Some (λ octet. octet == 10) text size d e).2 k below) in
+    subst (λ octet. (octet == 10) ≡ false) (sym (get_or-take size text k d below)) (none_before text size (omega (arith, within)) found.0.before k d below) in
     record {
-      within = found.0;
-      line = ap (λ n. take n text) (add-one size) ∙ take-suc text size 0 found.0 ∙ ap (λ octet. take size text ++ octet ∷ []) (is_ten (get_or text size 0) found.1);
+      within = within;
+      line = ap (λ n. take n text) (add-one size) ∙ take-suc text size 0 within ∙ ap (λ octet. take size text ++ octet ∷ []) (is_ten (get_or text size 0) found.1);
       alone = slice_split_at (λ octet. octet == 10) (take size text) 10 [] none refl;
     }
 
-none_before : (text : List ℕ) → position (λ octet. octet == 10) text ≡ None → length text ≤ position_or_len (λ octet. octet == 10) text
-none_before text e = grind (arith, common_steps)
-
 -- no line ends
-pub no_line : (text : List ℕ) → position (λ octet. octet == 10) text ≡ None → parts text ≡ text ∷ []
-no_line text e =
-    let before = none_before text e in
-    slice_split_none (λ octet. octet == 10) text (λ k d l. fails_before_first (λ octet. octet == 10) text k d (omega (arith, l, before)))
+pub no_line : (text : List ℕ) → IsFirstByte (is_byte 10) text None → parts text ≡ text ∷ []
+no_line text none = slice_split_none (λ octet. octet == 10) text (λ k d l. none_before text (length text) (omega arith) none k d l)

@@ -1,7 +1,7 @@
 //! Lines of JSON as messages.
 
-ghost use Rattle.std.specs.Prelude.{◌≡◌, ◌+◌, ◌++◌, ◌<◌, ◌^◌, ◌==◌, ◌&&◌, not, length, [], IfErr, IfOk, OnOk, None};
-ghost use Rattle.std.specs.List.{position};
+ghost use Rattle.std.specs.Prelude.{◌≡◌, ◌+◌, ◌++◌, ◌<◌, ◌^◌, ◌&&◌, not, length, [], IfErr, IfOk, OnOk, None};
+ghost use Rattle.memchr.specs.Find.{IsFirstByte, is_byte};
 ghost use Rattle.krb_tool.specs.Encoding.{is_blank, is_blank_line, written_as, ending_of};
 ghost use Rattle.krb_tool.specs.declared.run.RunFault.TheVariants as fault;
 ghost use Rattle.krb_tool.specs.inner.Pieces.{listing_of};
@@ -13,7 +13,8 @@ use crate::stream_run::ListStream;
 use krb_der::Profile;
 use krb_frame::Limit;
 use krb_json::law::lines_spell_messages;
-use krb_json::{LineFault, read_line};
+use krb_json::{LineFault, Scratch, read_line};
+use memchr::memchr;
 use std::alloc::{AllocError, Global};
 
 /// Returns whether an octet is a blank of a line: a space, a tab or CR.
@@ -40,12 +41,14 @@ pub(crate) struct EncodeRequest {
 }
 
 /// A reader of lines, up to their end or the first fault: what allocates for it, what it is asked
-/// for, the octets of the line that has not ended, the messages that are not written yet, the number
-/// of lines that ended, whether a message came, and why it reads no line more.
+/// for, memory in which JSON is read, the octets of the line that has not ended, the messages that
+/// are not written yet, the number of lines that ended, whether a message came, and why it reads no
+/// line more.
 #[derive(Drop)]
 pub(crate) struct JsonReader {
     alloc: Global,
     request: EncodeRequest,
+    scratch: Scratch,
     line: Vec<u8>,
     text: Vec<u8>,
     lines: u64,
@@ -107,6 +110,7 @@ impl JsonReader {
         let limit = self.request.limit.get();
         match read_line(
             self.alloc,
+            &mut self.scratch,
             self.request.profile,
             limit,
             self.line.as_slice(),
@@ -175,9 +179,9 @@ fn put_message(text: &mut Vec<u8>, is_framed: bool, octets: &[u8]) -> Result<(),
 
 /// Returns how many octets come before the first line feed, if there is one.
 fn line_length(octets: &[u8]) -> Option<usize>
-    ensures { result ≡ position (λ octet. octet == 10) octets.now }
+    ensures { IsFirstByte (is_byte 10) octets.now result }
 {
-    octets.iter().position(|octet| *octet == b'\n')
+    memchr(b'\n', octets)
 }
 
 impl ListStream for JsonReader {
@@ -193,6 +197,7 @@ impl ListStream for JsonReader {
         JsonReader {
             alloc,
             request,
+            scratch: Scratch::new(alloc),
             line: Vec::new(alloc),
             text: Vec::new(alloc),
             lines: 0,

@@ -1,8 +1,10 @@
 //! Laws of listings and of conversions. Each is the contract of a function that does nothing.
-ghost use Rattle.krb_tool.specs.Laws.{DecodedComesBack, KeysAreNotListed, SessionKeysAreNotListed, UpgradeIsListedAlike, CapturesAreListed};
+ghost use Rattle.krb_tool.specs.Laws.{CapturesAreListed, DecodedComesBack, DecodedIsLines, EncodedIsMessages, KeysAreNotListed, SessionKeysAreNotListed, UnsealedIsNotDecoded, UpgradeIsListedAlike};
 
 use krb_ccache::law::{session_keys_change_nothing_else, upgrade_holds_the_same};
-use krb_json::law::{texts_are_json, texts_come_back};
+use krb_json::law::{
+    lines_spell_messages, texts_are_json, texts_come_back, unsealed_changes_nothing,
+};
 use krb_keytab::law::keys_change_nothing_else;
 use krb_list::{keys_are_not_shown, session_keys_are_not_shown};
 
@@ -42,3 +44,30 @@ pub fn keys_are_not_listed()
 pub fn captures_are_listed()
     ensures { CapturesAreListed }
 {}
+
+/// What [`run_encode`](crate::run_encode) writes of any text is a stream of messages of the profile,
+/// none of more octets than the limit: nothing in it is refused, and it is decoded to the line of
+/// each message, if all are sealed. What [`run_encode_unframed`](crate::run_encode_unframed) writes
+/// is nothing or one such message, and the message if it ends without a fault.
+pub fn encoded_is_messages()
+    ensures { EncodedIsMessages }
+{
+    lines_spell_messages();
+}
+
+/// What is not sealed is not decoded: streams that differ in nothing but the ciphers of
+/// EncryptedDatas of encryption type 0 become the same lines by [`run_decode`](crate::run_decode),
+/// with the same end, and so do messages by [`run_decode_unframed`](crate::run_decode_unframed).
+pub fn unsealed_is_not_decoded()
+    ensures { UnsealedIsNotDecoded }
+{
+    unsealed_changes_nothing();
+}
+
+/// What [`run_decode`](crate::run_decode) and [`run_decode_unframed`](crate::run_decode_unframed)
+/// write of any octets is lines of JSON, of printable ASCII, in which no object has a name twice.
+pub fn decoded_is_lines()
+    ensures { DecodedIsLines }
+{
+    texts_are_json();
+}

@@ -3,7 +3,7 @@
 use super::octets::{KRB_ERROR, message_of};
 use krb_der::{Memory, Profile};
 use krb_frame::Limit;
-use krb_json::{LineFault, put_text, read_line, unsealed_path};
+use krb_json::{LineFault, Scratch, put_text, read_line, unsealed_path};
 use krb_tool::{
     DecodeEnd, EncodeEnd, RunFault, run_decode, run_decode_unframed, run_encode,
     run_encode_unframed,
@@ -110,7 +110,8 @@ fn encodes(alloc: Global, is_framed: bool) -> Result<bool, Memory> {
 
 /// Returns whether a line spells the KRB-ERROR, or whether its fault has the path.
 fn reads(alloc: Global, line: &[u8]) -> Result<bool, Memory> {
-    match read_line(alloc, Profile::Lenient, 1000, line) {
+    let mut scratch = Scratch::new(alloc);
+    match read_line(alloc, &mut scratch, Profile::Lenient, 1000, line) {
         Ok(octets) => Ok(octets.as_slice() == message_of(KRB_ERROR)),
         Err(LineFault::At(fault)) => Ok(fault.path.as_str() == FAULT),
         Err(LineFault::Memory) => Err(Memory),

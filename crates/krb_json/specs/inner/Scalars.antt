@@ -3,6 +3,7 @@ use Rattle.std.specs.Prelude.{ℕ, ◌≡◌, ⊤, nat_lt, ◌==◌, ◌||◌, B
 use Rattle.std.specs.List.{list_any}
 use Rattle.std.specs.Option.{option_map}
 use Rattle.std.specs.Borrow.{Bor}
+use Rattle.hex.specs.Hex.{decode_of}
 use Rattle.json.specs.Json.{Json}
 use Rattle.json.specs.Find.{get}
 use Rattle.krb_judge.specs.Paths.{field_path}
@@ -40,3 +41,13 @@ IsFirstShown text (Some first) = unshown text ≡ option_map (λ octets. first.0
 abbrev pub IsTimeOf : List ℕ → Option (List ℕ) → Type 0
 IsTimeOf text None = is_time_from 14 text ≡ false
 IsTimeOf text (Some time) = (is_time_from 14 text ≡ true) × (time ≡ text)
+
+-- The octets of a text of digits were appended, or it is no such text.
+pub record AreDecoded (text old new : List ℕ) : Type 0 where
+  pub octets : List ℕ
+  pub decoded : decode_of text ≡ Ok octets
+  pub appended : new ≡ old ++ octets
+
+abbrev pub Decodes : (text old new : List ℕ) → Bool → Type 0
+Decodes text old new true = AreDecoded text old new
+Decodes text old new false = (octets : List ℕ) → decode_of text ≡ Ok octets → ⊥

@@ -1,4 +1,4 @@
-use Rattle.std.proofs.Common.{[], Some, not, ◌&&◌, ◌==◌, sym, ap, subst, ◌∙◌, arith}
+use Rattle.std.proofs.Common.{[], ◌+◌, ◌-◌, Some, not, ◌&&◌, ◌==◌, sym, ap, subst, ◌∙◌, arith}
 use Rattle.std.specs.List.{flat_map}
 use Rattle.std.proofs.lemmas.Result.{err_from_is_err_and}
 use Rattle.json.specs.Find.{as_array}
@@ -8,12 +8,14 @@ use Rattle.json.proofs.Trees.{view-Array}
 use Rattle.krb_msg.specs.Nodes.{nodes, term_at}
 use Rattle.krb_msg.specs.Table.{IsFormOf, fields_from}
 use Rattle.krb_msg.specs.Term.{der, der_of_fields}
+use Rattle.krb_msg.specs.inner.Values.{contents}
+use Rattle.std.specs.Vec.{vec_len}
 use Rattle.krb_judge.specs.Named.{named}
 use Rattle.krb_judge.specs.Paths.{field_path, element_path}
 use Rattle.krb_json.specs.Spelled.{fields_spelled, is_field, members_spelled, spelled}
 use Rattle.krb_json.specs.inner.Reading.{Reads}
 use Rattle.krb_json.specs.inner.Sizes.{size}
-use Rattle.krb_json.proofs.ReadLemmas.{integer-read-as, text-read, octets-read, time-read, bits-read, inner-read, list-read, sequence-read, headed, there-read, field-read, element-read, no-fields, more-fields, stopped-fields, size-slots, length-slots, slots-known, after-step}
+use Rattle.krb_json.proofs.ReadLemmas.{has-head, integer-read-as, text-read, octets-read, time-read, bits-read, inner-read, list-read, sequence-read, headed, there-read, field-read, element-read, no-fields, more-fields, stopped-fields, size-slots, length-slots, slots-known, after-step}
 use Rattle.krb_json.proofs.ReadLists.{array-read, empty-view, members-of, get-member, item-read, item-fault, item-numbers-at}
 use Rattle.krb_json.proofs.reading.+read.Goals as goal
 
@@ -78,9 +80,15 @@ read_fields-returns t c members is =
     more-fields c.args.slots.now c.args.names c.args.index (named c.field.result) members c.args.out.now.items c.read_field.new.out.items c.read_fields.new.out.items c.read_fields.result c.in-len1-up.len_at_least c.field.ensures
     (c.in_ok-read_field.ensures members is) (c.read_fields.ensures members is)
 
+pub read_item-end_item-requires : goal.read_item-end_item-requires
+read_item-end_item-requires t c =
+    let head = has-head (λ path. spelled (term_at c.args.node) c.args.names path (value_view c.args.value.now)) (contents (term_at c.args.node)) c.args.out.now.items c.begin_item.new.out.items c.read_contents.new.out.items c.len-start.result c.tag_of.result (omega (arith, c.len-start.ensures, c.args.out.now.ok.0)) c.in_ok-begin_item.ensures c.in_ok-read_contents.ensures in
+    omega (arith, head, c.read_contents.new.out.ok.0)
+
 pub read_item-returns : goal.read_item-returns
 read_item-returns t c =
-    headed (term_at c.args.node) (λ path. spelled (term_at c.args.node) c.args.names path (value_view c.args.value.now)) c.args.out.now.items c.read_contents.new.out.items c.put_head.new.out.items c.len-start.result c.tag_of.result (omega (arith, c.len-start.ensures, c.args.out.now.ok.0)) c.tag_of.ensures c.in_ok-put_head.ensures c.in_ok-read_contents.ensures
+    headed (term_at c.args.node) (λ path. spelled (term_at c.args.node) c.args.names path (value_view c.args.value.now)) c.args.out.now.items c.begin_item.new.out.items c.read_contents.new.out.items c.end_item.new.out.items c.len-start.result (vec_len c.read_contents.new.out - (c.len-start.result + 2)) c.tag_of.result
+    (omega (arith, c.len-start.ensures, c.args.out.now.ok.0)) (omega (arith, c.read_contents.new.out.ok.0)) c.tag_of.ensures c.in_ok-begin_item.ensures c.in_ok-end_item.ensures c.in_ok-read_contents.ensures
 
 pub read_items-read_item-requires : goal.read_items-read_item-requires
 read_items-read_item-requires t c = (

@@ -8,7 +8,7 @@ pub returns : goal.returns
 returns c =
     IsNew-made encoding Begins-waits refl
     (record {
-      listed = HasRead-start _ c.new.ensures.items c.new-2.ensures.items refl refl;
+      listed = HasRead-start _ c.new-2.ensures.items c.new-3.ensures.items refl refl;
       waits = refl;
       few = omega arith;
     })
