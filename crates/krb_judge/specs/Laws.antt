@@ -51,3 +51,7 @@ PathsLeadToRefusals = (profile : Profile) (n : ℕ) (octets : List ℕ) (r : Ref
 -- Unless something is missing, the path goes on to the last such item: the path of any other begins it.
 abbrev pub PathsGoOnToTheLast : Type 0
 PathsGoOnToTheLast = (profile : Profile) (n : ℕ) (octets : List ℕ) (r : Refusal) (path other : List ℕ) → IsPathOf profile n octets r path → (r.why ≡ why.Missing → ⊥) → LiesInMessage ⊥ profile n octets r.place other → BeginsPath other path
+
+-- The path of a message that is cut, by the octets that are there, names an item in which the next octet would lie.
+abbrev pub PathsLeadToEnds : Type 0
+PathsLeadToEnds = (profile : Profile) (n : ℕ) (octets path : List ℕ) → length octets ≤ n → judgement profile n octets ≡ verdict.Open → message_path profile n octets ≡ Some path → LiesInMessage ⊥ profile n octets (length octets) path

@@ -1,6 +1,6 @@
 //! The laws of slices, each the contract of a function that does nothing.
 
-ghost use Rattle.krb_judge.specs.Laws.{FieldsHaveNames, NamesAreOwn, PathsGoOnToTheLast, PathsLeadToRefusals, RefusalsAreInside};
+ghost use Rattle.krb_judge.specs.Laws.{FieldsHaveNames, NamesAreOwn, PathsGoOnToTheLast, PathsLeadToEnds, PathsLeadToRefusals, RefusalsAreInside};
 
 /// Octets that are no message, no Ticket or no METHOD-DATA are refused at one of them, if there are
 /// some.
@@ -21,8 +21,10 @@ pub fn names_are_own()
 
 /// The path of the octets of a message up to and with the refused one names an item that this octet
 /// lies in, and the last one of these, each of which is in the one before it; or a field that is to
-/// be there and is not, if that is the reason.
+/// be there and is not, if that is the reason. The path of the octets of a message that is cut names
+/// an item that the next octet would lie in.
 pub fn paths_lead_to_refusals()
     ensures lies { PathsLeadToRefusals }
     ensures last { PathsGoOnToTheLast }
+    ensures cut { PathsLeadToEnds }
 {}

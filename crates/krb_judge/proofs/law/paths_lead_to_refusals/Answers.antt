@@ -1,4 +1,4 @@
-use Rattle.krb_judge.proofs.MessagePaths.{paths-lead, paths-last}
+use Rattle.krb_judge.proofs.MessagePaths.{paths-lead, paths-last, paths-end}
 use Rattle.krb_judge.proofs.law.paths_lead_to_refusals.Goals as goal
 
 pub returns-clause-lies : goal.returns-clause-lies
@@ -6,3 +6,6 @@ returns-clause-lies c = paths-lead
 
 pub returns-clause-last : goal.returns-clause-last
 returns-clause-last c = paths-last
+
+pub returns-clause-cut : goal.returns-clause-cut
+returns-clause-cut c = paths-end
