@@ -8,9 +8,11 @@ use Rattle.krb_der.specs.Hex.{hex}
 use Rattle.krb_der.specs.declared.profile.Profile.{Profile}
 use Rattle.krb_der.specs.declared.profile.Profile.TheVariants.{Lenient, Strict}
 use Rattle.krb_msg.specs.Views.{message_of_der}
-use Rattle.krb_msg.specs.Views.{message_der}
+use Rattle.krb_msg.specs.Views.{message_der, message_value}
+use Rattle.krb_msg.specs.declared.message.Kind.TheVariants as kind
 use Rattle.krb_msg.specs.declared.message.Message.{Message}
 use Rattle.krb_json.specs.Lines.{LineFault, message_text, value_spells, line_fault_text}
+use Rattle.krb_json.specs.Masked.{masked_in}
 use Rattle.krb_json.specs.Unsealed.{unsealed_in}
 
 abbrev text : List ℕ → List ℕ
@@ -176,3 +178,11 @@ a_sealed_message = refl
 
 an_unsealed_message : unsealed_in (message_of_der (hex (codes "6F193017 A003020105 A10302010F A20B3009 A003020100 A2020400"))) ≡ Some (codes "AP-REP.enc-part")
 an_unsealed_message = refl
+
+-- with a cipher, and with zeros in its place
+masked_cipher : masked_in (message_of_der (hex (codes "6F1D301B A003020105 A10302010F A20F300D A003020100 A2060404DEADBEEF"))) ≡ masked_in (message_of_der (hex (codes "6F1D301B A003020105 A10302010F A20F300D A003020100 A206040400000000")))
+masked_cipher = refl
+
+-- a sealed one stays
+kept_cipher : masked_in (message_of_der (hex (codes "6F1D301B A003020105 A10302010F A20F300D A003020112 A2060404DEADBEEF"))) ≡ (kind.ApRep, message_value (message_of_der (hex (codes "6F1D301B A003020105 A10302010F A20F300D A003020112 A2060404DEADBEEF"))))
+kept_cipher = refl
