@@ -7,11 +7,15 @@ use Rattle.json.specs.Print.{print_from, escape_byte}
 use Rattle.krb_der.specs.Hex.{hex}
 use Rattle.krb_der.specs.declared.profile.Profile.{Profile}
 use Rattle.krb_der.specs.declared.profile.Profile.TheVariants.{Lenient, Strict}
+use Rattle.krb_msg.specs.Term.{Text, Bits}
 use Rattle.krb_msg.specs.Views.{message_of_der}
 use Rattle.krb_msg.specs.Views.{message_der}
+use Rattle.krb_msg.specs.declared.message.Kind.TheVariants.{ApRep, AsReq, KrbError}
 use Rattle.krb_msg.specs.declared.message.Message.{Message}
+use Rattle.krb_judge.specs.FieldNames.{names_of_kind}
 use Rattle.krb_json.specs.Lines.{LineFault, message_text, value_spells, line_fault_text}
 use Rattle.krb_json.specs.Unsealed.{unsealed_in}
+use Rattle.krb_json.specs.OtherCase.{InOtherCase, MessageInOtherCase}
 
 abbrev text : List ℕ → List ℕ
 text octets = message_text (message_of_der (hex octets))
@@ -176,3 +180,13 @@ a_sealed_message = refl
 
 an_unsealed_message : unsealed_in (message_of_der (hex (codes "6F193017 A003020105 A10302010F A20B3009 A003020100 A2020400"))) ≡ Some (codes "AP-REP.enc-part")
 an_unsealed_message = refl
+
+-- ---- digits of either case
+capital_digits : MessageInOtherCase Lenient (ap_rep (object (member (codes "cipher") (string (codes "DEADBEEF")) (member (codes "etype") (number (codes "18")) no_members)))) (ap_rep (object (member (codes "cipher") (string (codes "DeadBeef")) (member (codes "etype") (number (codes "18")) no_members))))
+capital_digits = (ApRep, _, _, refl, refl, (refl, (refl, (refl, ((refl, (refl, (tt, (refl, tt)))), tt)))))
+
+a_capital_in_flags : InOtherCase (Bits 0) (names_of_kind AsReq) (object (member (codes "value") (string (codes "4A")) (member (codes "length") (number (codes "7")) no_members))) (object (member (codes "value") (string (codes "4a")) (member (codes "length") (number (codes "7")) no_members)))
+a_capital_in_flags = (refl, (refl, refl))
+
+a_capital_in_a_text : InOtherCase (Text 255) (names_of_kind KrbError) (string (codes "\\xE9")) (string (codes "\\xe9"))
+a_capital_in_a_text = refl
