@@ -17,4 +17,5 @@ mod Unshown
 mod BitStrings
 mod Digits
 mod Masks
+mod OtherCases
 mod Reorders

@@ -21,10 +21,11 @@ use Rattle.krb_json.specs.Faults.{Fault, ◌>>=◌}
 use Rattle.krb_json.specs.Lines.{in_line, kind_named, line_spells, member_spells, message_spelled, named_spells, sole_member, value_of_line, value_spells, within}
 use Rattle.krb_json.specs.Spelling.{shown}
 use Rattle.krb_json.specs.Spelled.{bits_from, bits_spelled, checked_members, count_of, fields_spelled, if_there, integer_spelled, is_among, is_bits_field, is_empty, is_field, items_spelled, members_spelled, octets_spelled, optional, or_fault, required, spelled, text_spelled, time_spelled, unless}
+use Rattle.krb_json.specs.OtherCase.{AreAlike}
 use Rattle.krb_json.specs.Reordered.{IsInserted, Reordered, AreReordered, HaveOtherOrder}
 use Rattle.krb_json.specs.Laws.{SpellingChangesNothing}
-use Rattle.krb_json.proofs.Digits.{case-same}
 use Rattle.krb_json.proofs.Fit.{ok, passed, same_ok, steps}
+use Rattle.krb_json.proofs.OtherCases.{line-same}
 
 -- ---- one step after another
 both-steps : {A B : Type 0} (r : Result A Fault) (next : A → Result B Fault) (a : A) (b : B) → r ≡ Ok a → next a ≡ Ok b → (r >>= next) ≡ Ok b
@@ -135,13 +136,7 @@ module _ (name : List ℕ) (k : Json) where
       ∙ ap (λ others. later_or (get_member x others) (cond (bytes_eq name x) (Some k) None)) (sym there.1)
 
 -- ---- members in another order
-abbrev AreAlike : Option Json → Option Json → Type 0
-AreAlike None None = ⊤
-AreAlike None (Some k) = ⊥
-AreAlike (Some j) None = ⊥
-AreAlike (Some j) (Some k) = Reordered j k
-
-later-alike : (found others : Option Json) (j k : Json) (b : Bool) → AreAlike found others → Reordered j k → AreAlike (later_or found (cond b (Some j) None)) (later_or others (cond b (Some k) None))
+later-alike : (found others : Option Json) (j k : Json) (b : Bool) → AreAlike Reordered found others → Reordered j k → AreAlike Reordered (later_or found (cond b (Some j) None)) (later_or others (cond b (Some k) None))
 later-alike None None j k true a r = r
 later-alike None None j k false a r = tt
 later-alike None (Some other) j k b a r = absurd a
@@ -158,10 +153,10 @@ order-allowed is_allowed before no_members others a o = subst (Allowed is_allowe
 order-allowed is_allowed before (member first j members) others a o =
     inserted-allowed first o.0 is_allowed before o.1 others a.0 a.1 (order-none first members o.1 a.2 o.4) (order-allowed is_allowed before members o.1 a.3 o.4) o.2
 
-order-found : (is_allowed : List ℕ → Bool) (before : List (List ℕ)) (x : List ℕ) (members others : Members) → Allowed is_allowed before members → HaveOtherOrder members others → AreAlike (get_member x members) (get_member x others)
-order-found is_allowed before x no_members others a o = subst (λ m. AreAlike None (get_member x m)) (sym o) tt
+order-found : (is_allowed : List ℕ → Bool) (before : List (List ℕ)) (x : List ℕ) (members others : Members) → Allowed is_allowed before members → HaveOtherOrder members others → AreAlike Reordered (get_member x members) (get_member x others)
+order-found is_allowed before x no_members others a o = subst (λ m. AreAlike Reordered None (get_member x m)) (sym o) tt
 order-found is_allowed before x (member first j members) others a o =
-    subst (AreAlike (later_or (get_member x members) (cond (bytes_eq first x) (Some j) None))) (sym (inserted-found first o.0 x o.1 others (order-none first members o.1 a.2 o.4) o.2))
+    subst (AreAlike Reordered (later_or (get_member x members) (cond (bytes_eq first x) (Some j) None))) (sym (inserted-found first o.0 x o.1 others (order-none first members o.1 a.2 o.4) o.2))
     (later-alike (get_member x members) (get_member x o.1) j o.0 (bytes_eq first x) (order-found is_allowed before x members o.1 a.3 o.4) o.3)
 
 -- ---- what a value spells, whatever the order
@@ -187,7 +182,7 @@ octets-kept path = scalar-kept (octets_spelled path) (λ items value e. cc e) (�
 record HasMembers (is_allowed : List ℕ → Bool) (path : List ℕ) (k : Json) (members : Members) : Type 0 where
   others : Members
   spelled_others : members_spelled is_allowed path k ≡ Ok others
-  alike : (x : List ℕ) → AreAlike (get_member x members) (get_member x others)
+  alike : (x : List ℕ) → AreAlike Reordered (get_member x members) (get_member x others)
 
 object-kept : (is_allowed : List ℕ → Bool) (path : List ℕ) (j k : Json) (found : Members) → Reordered j k → members_spelled is_allowed path j ≡ Ok found → HasMembers is_allowed path k found
 object-kept is_allowed path null k found r e = cc e
@@ -202,16 +197,16 @@ object-kept is_allowed path (object given) k found r e =
     record {
       others = r.0;
       spelled_others = ap (members_spelled is_allowed path) r.1 ∙ ap (λ x. x >>= λ _. Ok r.0) (checked-allowed is_allowed path [] r.0 (order-allowed is_allowed [] given r.0 a r.2));
-      alike = λ x. subst (λ m. AreAlike (get_member x m) (get_member x r.0)) same (order-found is_allowed [] x given r.0 a r.2);
+      alike = λ x. subst (λ m. AreAlike Reordered (get_member x m) (get_member x r.0)) same (order-found is_allowed [] x given r.0 a r.2);
     }
 
-required-of : {A : Type 0} (read : List ℕ → Json → Result A Fault) (path name : List ℕ) (found others : Option Json) (wrong : Wrong) (value : A) → ((p : List ℕ) → Keeps (read p)) → AreAlike found others → (or_fault (field_path path name) wrong found >>= read (field_path path name)) ≡ Ok value → (or_fault (field_path path name) wrong others >>= read (field_path path name)) ≡ Ok value
+required-of : {A : Type 0} (read : List ℕ → Json → Result A Fault) (path name : List ℕ) (found others : Option Json) (wrong : Wrong) (value : A) → ((p : List ℕ) → Keeps (read p)) → AreAlike Reordered found others → (or_fault (field_path path name) wrong found >>= read (field_path path name)) ≡ Ok value → (or_fault (field_path path name) wrong others >>= read (field_path path name)) ≡ Ok value
 required-of read path name None None wrong value keeps a e = e
 required-of read path name None (Some k) wrong value keeps a e = absurd a
 required-of read path name (Some j) None wrong value keeps a e = absurd a
 required-of read path name (Some j) (Some k) wrong value keeps a e = keeps (field_path path name) j k value a e
 
-optional-of : {A : Type 0} (read : Json → Result A Fault) (found others : Option Json) (value : Option A) → Keeps read → AreAlike found others → if_there read found ≡ Ok value → if_there read others ≡ Ok value
+optional-of : {A : Type 0} (read : Json → Result A Fault) (found others : Option Json) (value : Option A) → Keeps read → AreAlike Reordered found others → if_there read found ≡ Ok value → if_there read others ≡ Ok value
 optional-of read None None value keeps a e = e
 optional-of read None (Some k) value keeps a e = absurd a
 optional-of read (Some j) None value keeps a e = absurd a
@@ -272,7 +267,7 @@ mutual
   term-kept (Tagged index term) names path j k value r e = term-kept term names path j k value r e
   term-kept (Application tag term) names path j k value r e = term-kept term names path j k value r e
 
-  fields-kept : (fields : Fields) (names : Names) (path : List ℕ) (index : ℕ) (given others : Members) (values : Values fields) → ((x : List ℕ) → AreAlike (get_member x given) (get_member x others)) → fields_spelled fields names path index given ≡ Ok values → fields_spelled fields names path index others ≡ Ok values
+  fields-kept : (fields : Fields) (names : Names) (path : List ℕ) (index : ℕ) (given others : Members) (values : Values fields) → ((x : List ℕ) → AreAlike Reordered (get_member x given) (get_member x others)) → fields_spelled fields names path index given ≡ Ok values → fields_spelled fields names path index others ≡ Ok values
   fields-kept End names path index given others values alike e = e
   fields-kept (Required term fields) names path index given others values alike e =
       let name : List ℕ = (field_at names index).name in
@@ -329,4 +324,4 @@ line-kept : (profile : Profile) (limit : ℕ) (line other : List ℕ) (j k : Jso
 line-kept profile limit line other j k m is also r e = ap (value_spells profile limit) also ∙ value-kept profile limit j k m r (ap (value_spells profile limit) (sym is) ∙ e)
 
 pub spelling_changes_nothing : SpellingChangesNothing
-spelling_changes_nothing = record { of_one_value = λ profile limit line other same. ap (value_spells profile limit) same; in_any_order = line-kept; in_either_case = case-same }
+spelling_changes_nothing = record { of_one_value = λ profile limit line other same. ap (value_spells profile limit) same; in_any_order = line-kept; in_either_case = line-same }

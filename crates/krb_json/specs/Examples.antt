@@ -7,13 +7,16 @@ use Rattle.json.specs.Print.{print_from, escape_byte}
 use Rattle.krb_der.specs.Hex.{hex}
 use Rattle.krb_der.specs.declared.profile.Profile.{Profile}
 use Rattle.krb_der.specs.declared.profile.Profile.TheVariants.{Lenient, Strict}
+use Rattle.krb_msg.specs.Term.{Text, Bits}
 use Rattle.krb_msg.specs.Views.{message_of_der}
 use Rattle.krb_msg.specs.Views.{message_der, message_value}
-use Rattle.krb_msg.specs.declared.message.Kind.TheVariants as kind
+use Rattle.krb_msg.specs.declared.message.Kind.TheVariants.{ApRep, AsReq, KrbError}
 use Rattle.krb_msg.specs.declared.message.Message.{Message}
+use Rattle.krb_judge.specs.FieldNames.{names_of_kind}
 use Rattle.krb_json.specs.Lines.{LineFault, message_text, value_spells, line_fault_text}
 use Rattle.krb_json.specs.Masked.{masked_in}
 use Rattle.krb_json.specs.Unsealed.{unsealed_in}
+use Rattle.krb_json.specs.OtherCase.{InOtherCase, MessageInOtherCase}
 
 abbrev text : List ℕ → List ℕ
 text octets = message_text (message_of_der (hex octets))
@@ -184,5 +187,15 @@ masked_cipher : masked_in (message_of_der (hex (codes "6F1D301B A003020105 A1030
 masked_cipher = refl
 
 -- a sealed one stays
-kept_cipher : masked_in (message_of_der (hex (codes "6F1D301B A003020105 A10302010F A20F300D A003020112 A2060404DEADBEEF"))) ≡ (kind.ApRep, message_value (message_of_der (hex (codes "6F1D301B A003020105 A10302010F A20F300D A003020112 A2060404DEADBEEF"))))
+kept_cipher : masked_in (message_of_der (hex (codes "6F1D301B A003020105 A10302010F A20F300D A003020112 A2060404DEADBEEF"))) ≡ (ApRep, message_value (message_of_der (hex (codes "6F1D301B A003020105 A10302010F A20F300D A003020112 A2060404DEADBEEF"))))
 kept_cipher = refl
+
+-- ---- digits of either case
+capital_digits : MessageInOtherCase Lenient (ap_rep (object (member (codes "cipher") (string (codes "DEADBEEF")) (member (codes "etype") (number (codes "18")) no_members)))) (ap_rep (object (member (codes "cipher") (string (codes "DeadBeef")) (member (codes "etype") (number (codes "18")) no_members))))
+capital_digits = (ApRep, _, _, refl, refl, (refl, (refl, (refl, ((refl, (refl, (tt, (refl, tt)))), tt)))))
+
+a_capital_in_flags : InOtherCase (Bits 0) (names_of_kind AsReq) (object (member (codes "value") (string (codes "4A")) (member (codes "length") (number (codes "7")) no_members))) (object (member (codes "value") (string (codes "4a")) (member (codes "length") (number (codes "7")) no_members)))
+a_capital_in_flags = (refl, (refl, refl))
+
+a_capital_in_a_text : InOtherCase (Text 255) (names_of_kind KrbError) (string (codes "\\xE9")) (string (codes "\\xe9"))
+a_capital_in_a_text = refl

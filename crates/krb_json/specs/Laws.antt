@@ -1,9 +1,8 @@
 -- The laws of the JSON of messages. Each is the contract of a function of the module `law`.
-use Rattle.std.specs.Prelude.{ℕ, ◌+◌, ◌<◌, ◌≤◌, ◌≡◌, ◌^◌, ◌&&◌, not, pos, negsuc, nat_lt, nat_le, int_le, Bool, true, List, take, length, map, Some, None, Ok}
+use Rattle.std.specs.Prelude.{ℕ, ◌+◌, ◌<◌, ◌≤◌, ◌≡◌, ◌^◌, ◌&&◌, not, pos, negsuc, nat_lt, nat_le, int_le, Bool, true, List, take, length, Some, None, Ok}
 use Rattle.std.specs.List.{list_all, AllByRecursion}
 use Rattle.std.specs.Str.{bytes_eq}
-use Rattle.hex.specs.Hex.{hex_digit_value}
-use Rattle.json.specs.Json.{Json, string, document}
+use Rattle.json.specs.Json.{Json, document}
 use Rattle.json.specs.Strict.{HasUniqueKeys}
 use Rattle.krb_der.specs.declared.profile.Profile.{Profile}
 use Rattle.krb_msg.specs.Term.{Term, Fields, Integer, Text, Octets, Time, Bits, Sequence, SequenceOf, Tagged, Application, End, Required, Optional, Value, Fits, der}
@@ -13,10 +12,11 @@ use Rattle.krb_msg.specs.declared.message.Message.{Message}
 use Rattle.krb_judge.specs.FieldNames.{fields_of, field_at, names_of_kind}
 use Rattle.krb_judge.specs.declared.locating.names.Names.{Names}
 use Rattle.krb_json.specs.Objects.{json, message_json}
-use Rattle.krb_json.specs.Spelled.{octets_spelled, spelled}
+use Rattle.krb_json.specs.Spelled.{spelled}
 use Rattle.krb_json.specs.Lines.{message_text, line_spells, value_of_line}
 use Rattle.krb_json.specs.Masked.{masked_in}
 use Rattle.krb_json.specs.Reordered.{Reordered}
+use Rattle.krb_json.specs.OtherCase.{MessageInOtherCase}
 use Rattle.krb_json.specs.Unsealed.{unsealed_in}
 
 -- ---- terms and names
@@ -86,8 +86,8 @@ pub record UnsealedChangesNothing : Type 0 where
   pub paths : (m other : Message) → masked_in m ≡ masked_in other → unsealed_in m ≡ unsealed_in other
   pub texts : (m other : Message) → masked_in m ≡ masked_in other → unsealed_in m ≡ None → message_text m ≡ message_text other
 
--- The order of members, blanks, JSON's escapes and the case of hexadecimal digits change nothing of a line that spells a message.
+-- The order of members, blanks, JSON's escapes and the case of hexadecimal digits change nothing of a line that spells a message; and all but the order nothing of a fault.
 pub record SpellingChangesNothing : Type 0 where
   pub of_one_value : (profile : Profile) (limit : ℕ) (line other : List ℕ) → value_of_line line ≡ value_of_line other → line_spells profile limit line ≡ line_spells profile limit other
   pub in_any_order : (profile : Profile) (limit : ℕ) (line other : List ℕ) (j k : Json) (m : Message) → value_of_line line ≡ Some j → value_of_line other ≡ Some k → Reordered j k → line_spells profile limit line ≡ Ok m → line_spells profile limit other ≡ Ok m
-  pub in_either_case : (path text other : List ℕ) → map hex_digit_value text ≡ map hex_digit_value other → octets_spelled path (string text) ≡ octets_spelled path (string other)
+  pub in_either_case : (profile : Profile) (limit : ℕ) (line other : List ℕ) (j k : Json) → value_of_line line ≡ Some j → value_of_line other ≡ Some k → MessageInOtherCase profile j k → line_spells profile limit line ≡ line_spells profile limit other

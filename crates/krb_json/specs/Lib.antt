@@ -7,6 +7,7 @@ pub mod Masked
 pub mod AllKinds
 pub mod Lines
 pub mod Reordered
+pub mod OtherCase
 pub mod Laws
 pub mod Reading
 pub mod Examples

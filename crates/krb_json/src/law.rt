@@ -43,8 +43,8 @@ pub fn unsealed_changes_nothing()
     ensures { UnsealedChangesNothing }
 {}
 
-/// What a line spells it spells in any order of members, with any blanks and any of JSON's escapes,
-/// and its octets with hexadecimal digits of either case.
+/// What a line spells it spells in any order of members, with any blanks, any of JSON's escapes and
+/// hexadecimal digits of either case.
 pub fn spelling_changes_nothing()
     ensures { SpellingChangesNothing }
 {}
