@@ -1,2 +1,3 @@
 mod Conversions
+mod Jobs
 mod Sources
