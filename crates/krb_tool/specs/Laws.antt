@@ -24,7 +24,7 @@ use Rattle.krb_text.specs.declared.form.Form.{Form}
 use Rattle.krb_capture.specs.Captures.{Progress, Settings, all_counts, at_first, end_taken, lines_of}
 use Rattle.krb_capture.specs.WholeCaptures.{capture_found}
 use Rattle.krb_tool.specs.declared.run.RunEnd.TheVariants as run
-use Rattle.krb_tool.specs.Files.{keytab_listing, ccache_listing}
+use Rattle.krb_tool.specs.Files.{keytab_listing, ccache_listing, text_of}
 use Rattle.krb_tool.specs.Captures.{after_packets, capture_listing}
 use Rattle.krb_tool.specs.Decoding as decoding
 use Rattle.krb_tool.specs.Encoding as encoding
@@ -64,7 +64,7 @@ last_line settings (Some refusal) progress = capture_refused_line settings.form 
 
 -- The listing of a capture is the records of what is found in its packets, in order, and then the last line.
 abbrev pub CapturesAreListed : Type 0
-CapturesAreListed = (settings : Settings) (file : List ℕ) → (capture_listing settings file).lines ++ (capture_listing settings file).last ≡ lines_of settings.form (capture_found settings (packets file).packets) ++ last_line settings (packets file).refusal (after_packets settings (packets file).packets at_first)
+CapturesAreListed = (settings : Settings) (file : List ℕ) → text_of (capture_listing settings file) ≡ lines_of settings.form (capture_found settings (packets file).packets) ++ last_line settings (packets file).refusal (after_packets settings (packets file).packets at_first)
 
 -- Octets are frames of messages of a profile, none of which has more octets than a limit: these are found in them, and nothing is refused. If all are sealed their lines are what is decoded.
 pub record AreFrames (profile : Profile) (limit : ℕ) (octets : List ℕ) : Type 0 where
