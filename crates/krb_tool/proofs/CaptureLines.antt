@@ -1,5 +1,5 @@
 -- The records of a capture, one packet after another.
-use Rattle.std.proofs.Common.{◌≡◌, ℕ, suc, List, [], ◌∷◌, ◌++◌, length, drop, Option, Some, None, Box, Result, Ok, Err, IfOk, refl, sym, ◌∙◌, ap, subst, arith, append_assoc, length-append, drop_of_length-le, drop_at}
+use Rattle.std.proofs.Common.{◌≡◌, ℕ, suc, List, [], ◌∷◌, ◌++◌, length, drop, Option, Some, None, Box, Result, Ok, Err, IfOk, refl, sym, ◌∙◌, ap, arith, append_assoc, length-append, drop_of_length-le, drop_at}
 use Rattle.std.specs.declared.alloc.Global.{Global}
 use Rattle.krb_file.specs.declared.fault.FileFault.{FileFault}
 use Rattle.krb_file.specs.declared.fault.FileFault.TheVariants as faults

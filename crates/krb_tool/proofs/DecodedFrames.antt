@@ -1,5 +1,5 @@
 -- The lines of the frames of a stream.
-use Rattle.std.proofs.Common.{◌≡◌, ℕ, ◌+◌, ◌^◌, ◌<◌, List, [], ◌∷◌, ◌++◌, length, Option, Some, None, refl, sym, ◌∙◌, ap, subst, arith, append-nil}
+use Rattle.std.proofs.Common.{◌≡◌, ℕ, ◌+◌, ◌^◌, ◌<◌, List, [], ◌∷◌, ◌++◌, length, Some, None, sym, ◌∙◌, ap, subst, arith, append-nil}
 use Rattle.std.specs.List.{flat_map}
 use Rattle.krb_der.specs.Octets.{AreOctets}
 use Rattle.krb_der.specs.declared.profile.Profile.{Profile}
@@ -8,13 +8,12 @@ use Rattle.krb_der.specs.declared.verdict.Verdict.TheVariants.{Whole}
 use Rattle.krb_msg.specs.Grammar.{messages}
 use Rattle.krb_msg.specs.Judgement.{judgement}
 use Rattle.krb_msg.specs.Laws.{AreMessage}
-use Rattle.krb_msg.specs.Stream.{Frames, frames}
+use Rattle.krb_msg.specs.Stream.{frames}
 use Rattle.krb_msg.specs.Views.{message_der, message_of_der, IsInProfile}
-use Rattle.krb_msg.specs.declared.message.Message.{Message}
 use Rattle.krb_msg.proofs.Judged.{whole_is_message}
 use Rattle.krb_msg.proofs.MessageOfDer.{message_of_der_is_message}
 use Rattle.krb_json.specs.Unsealed.{unsealed_in}
-use Rattle.krb_tool.specs.Conversions.{Converted, after_text}
+use Rattle.krb_tool.specs.Conversions.{after_text}
 use Rattle.krb_tool.specs.Decoding.{Ending, Unsealed, ending_at, line_and, lines_after, decoded, AllAreSealed}
 use Rattle.krb_tool.specs.Paths.{found_path}
 use Rattle.krb_tool.specs.inner.Conversions.{IsBeginning}

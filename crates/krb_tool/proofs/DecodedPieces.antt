@@ -1,18 +1,15 @@
 -- A stream that is decoded piece by piece.
-use Rattle.std.proofs.Common.{String, Global, ◌≡◌, ℕ, ◌+◌, ◌-◌, ◌*◌, ◌^◌, ◌<◌, ◌≤◌, inl, inr, Bool, true, false, List, [], ◌∷◌, ◌++◌, length, take, drop, Option, Some, None, refl, sym, ◌∙◌, ap, ap₂, subst, arith, append-nil, append_assoc, length-append, take-append-drop, drop_at}
+use Rattle.std.proofs.Common.{String, Global, ◌≡◌, ℕ, ◌+◌, ◌-◌, ◌≤◌, inl, inr, Bool, true, false, List, [], ◌∷◌, ◌++◌, length, take, drop, Option, Some, None, refl, sym, ◌∙◌, ap, ap₂, subst, arith, append-nil, append_assoc, length-append, take-append-drop, drop_at}
 use Rattle.std.proofs.lemmas.Grind.{flat_map-append}
 use Rattle.std.proofs.lemmas.List.{take_at}
 use Rattle.std.specs.List.{flat_map}
 use Rattle.std.specs.Option.{option_map}
 use Rattle.std.specs.Prelude.{string_bytes}
 use Rattle.std.specs.Io.KnownBytes.{IsAtEnd}
-use Rattle.krb_der.specs.declared.profile.Profile.{Profile}
 use Rattle.krb_der.specs.declared.verdict.Refusal.{Refusal}
 use Rattle.krb_msg.specs.Grammar.{messages}
-use Rattle.krb_msg.specs.Stream.{End, Refused, Frames, frames}
-use Rattle.krb_msg.specs.Views.{message_of_der}
-use Rattle.krb_json.specs.Unsealed.{unsealed_in}
-use Rattle.krb_frame.specs.Decoding.{Decoding, found, status_of, borrowed}
+use Rattle.krb_msg.specs.Stream.{Refused, Frames, frames}
+use Rattle.krb_frame.specs.Decoding.{Decoding, found, status_of}
 use Rattle.krb_frame.specs.Decoded.{HasDecoded, after_frames}
 use Rattle.krb_frame.specs.Feeds.{Feeds as Uses}
 use Rattle.krb_frame.specs.Frame.{frame_length, framed}
@@ -23,7 +20,7 @@ use Rattle.krb_frame.specs.declared.decoder.Status.TheVariants as status
 use Rattle.krb_frame.specs.declared.pass.Passed.{Passed}
 use Rattle.krb_frame.proofs.Ends.{none_found, refused_end, found_of, refusal_ends}
 use Rattle.krb_tool.specs.Conversions.{StopsInPiece}
-use Rattle.krb_tool.specs.Decoding.{Ending, Unsealed, ending_of, ending_at, decoded, AllAreSealed, GoesOn}
+use Rattle.krb_tool.specs.Decoding.{Unsealed, ending_of, ending_at, decoded, AllAreSealed, GoesOn}
 use Rattle.krb_tool.specs.Listing.{IsNotRefused}
 use Rattle.krb_tool.specs.Paths.{frame_path, end_path}
 use Rattle.krb_tool.specs.declared.decode_run.DecodeEnd.{DecodeEnd}
@@ -31,13 +28,13 @@ use Rattle.krb_tool.specs.declared.decode_run.DecodeEnd.TheVariants as ends
 use Rattle.krb_tool.specs.declared.json_lines.JsonLines.{JsonLines}
 use Rattle.krb_tool.specs.declared.json_lines.JsonLister.{JsonLister}
 use Rattle.krb_tool.specs.inner.Conversions.{IsBeginning}
-use Rattle.krb_tool.specs.inner.JsonLines.{octets_line, AddsLine, KeepsPath, PutsLine, PutsReady, HasListed, request_of, MeetsUnsealed, IsRefusedAfter, IsUnsealedAfter, decoding_rules, decoding, StopsInside, PutsPassed}
+use Rattle.krb_tool.specs.inner.JsonLines.{octets_line, AddsLine, KeepsPath, PutsLine, PutsReady, HasListed, request_of, MeetsUnsealed, IsRefusedAfter, decoding_rules, decoding, StopsInside, PutsPassed}
 use Rattle.krb_tool.specs.inner.Pieces.{NeedsMore, IsFed, Goes, TakesPiece, WaitsAfter, IsLastOf, listing_of}
 use Rattle.krb_tool.specs.inner.Streams.{Taken, with_piece, Begins, EndsListing, Feeds}
 use Rattle.krb_tool.proofs.DecodedFrames.{all_sealed-one_more, one_sealed, stream_ending, decoded-begins, decoded-all, decoded-unsealed}
 use Rattle.krb_tool.proofs.LastFrames.{more_not_refused, path-at}
 use Rattle.krb_tool.proofs.DecoderResults.{is_status, more_ready, memory_more, memory_refused, some_used, cleared_is, cleared_waits}
-use Rattle.krb_tool.proofs.Pieces.{together, IsFed-used, IsFed-frame, IsFed-both, Feeds-stopped}
+use Rattle.krb_tool.proofs.Pieces.{together, IsFed-used, IsFed-frame, Feeds-stopped}
 
 abbrev frames_of : JsonLister → List ℕ → Frames
 frames_of lister octets = frames (messages lister.decoder.profile) lister.decoder.limit octets

@@ -1,10 +1,9 @@
 -- Lines that are encoded, piece by piece.
-use Rattle.std.proofs.Common.{◌≡◌, ℕ, ◌+◌, ◌*◌, ◌^◌, ◌<◌, ◌≤◌, inl, inr, Bool, true, false, List, [], ◌∷◌, ◌++◌, ◌-◌, length, take, drop, Option, Some, None, refl, sym, ◌∙◌, ap, subst, arith, append-nil, append_assoc, take-append-drop, take_all}
+use Rattle.std.proofs.Common.{◌≡◌, ℕ, ◌+◌, ◌≤◌, inl, inr, Bool, true, false, List, [], ◌∷◌, ◌++◌, ◌-◌, length, take, drop, Option, Some, None, refl, sym, ◌∙◌, ap, subst, arith, append-nil, append_assoc, take-append-drop, take_all}
 use Rattle.std.specs.Option.{option_map}
 use Rattle.std.specs.Prelude.{◌&&◌, not, IsSome, IfSome, Result, Err}
-use Rattle.std.specs.Io.KnownBytes.{IsAtEnd}
-use Rattle.krb_tool.specs.Conversions.{Converted, after_text, StopsInPiece}
-use Rattle.krb_tool.specs.Encoding.{Ending, Faulty, SecondMessage, is_blank_line, written_as, message_and, ending_of, ending_after, parts, without_empty_last, ended_of, lines_of, encoded_lines, encoded, IsNoFault, GoesOn}
+use Rattle.krb_tool.specs.Conversions.{Converted, after_text}
+use Rattle.krb_tool.specs.Encoding.{Ending, Faulty, SecondMessage, is_blank_line, written_as, message_and, ending_of, ending_after, parts, without_empty_last, ended_of, lines_of, encoded, IsNoFault, GoesOn}
 use Rattle.krb_der.specs.Octets.{when}
 use Rattle.krb_msg.specs.declared.message.Message.{Message}
 use Rattle.krb_json.specs.Lines as lines
@@ -15,11 +14,11 @@ use Rattle.krb_tool.specs.declared.encode_run.EncodeEnd.{EncodeEnd}
 use Rattle.krb_tool.specs.declared.json_reader.EncodeRequest.{EncodeRequest}
 use Rattle.krb_tool.specs.declared.json_reader.JsonReader.{JsonReader}
 use Rattle.krb_tool.specs.inner.Conversions.{IsBeginning}
-use Rattle.krb_tool.specs.inner.EncodedLines.{encoded_from, read_and, ReadsLine, EndsWell, EndsAtFault, EndsLine, EndsFull, EndsEmpty, EndsLast, ending_or, ending_by, HasRead, IsFaultyAfter, encoding_rules, encoding}
+use Rattle.krb_tool.specs.inner.EncodedLines.{encoded_from, read_and, ReadsLine, EndsWell, EndsAtFault, EndsLine, EndsLast, ending_or, ending_by, HasRead, IsFaultyAfter, encoding_rules, encoding}
 use Rattle.krb_tool.specs.inner.Pieces.{IsFed, TakesPiece, WaitsAfter, IsLastOf, listing_of}
 use Rattle.krb_tool.specs.inner.Streams.{Taken, with_piece, Begins, EndsListing, Feeds}
 use Rattle.krb_tool.proofs.ConversionRuns.{after_text-both}
-use Rattle.krb_tool.proofs.Pieces.{together, IsFed-used, IsFed-both, Feeds-stopped}
+use Rattle.krb_tool.proofs.Pieces.{together, IsFed-used, Feeds-stopped}
 use Rattle.krb_tool.proofs.SourceLineParts.{lines-more, lines-from, parts_grow, parts_end, HasLine, line_stays, ended_of-last, ended_of-line, lines-empty, lines-last, lines-line, HasFirst}
 
 -- ---- a line

@@ -1,7 +1,6 @@
 -- The last frame of a stream that is decoded.
-use Rattle.std.proofs.Common.{◌≡◌, ℕ, ◌+◌, List, [], ◌∷◌, ◌++◌, length, drop, Option, sym, ◌∙◌, ap, ap₂, subst, append-nil, append_assoc, drop_at}
+use Rattle.std.proofs.Common.{◌≡◌, ℕ, ◌+◌, List, [], ◌∷◌, ◌++◌, drop, sym, ◌∙◌, ap, ap₂, subst, append-nil, append_assoc, drop_at}
 use Rattle.std.proofs.lemmas.List.{take_at}
-use Rattle.krb_der.specs.declared.profile.Profile.{Profile}
 use Rattle.krb_msg.specs.Grammar.{messages}
 use Rattle.krb_msg.specs.Stream.{End, Boundary, Within, Refused, Frames, frames}
 use Rattle.krb_frame.specs.Decoding.{Decoding, AreOfOne, found, status_at}

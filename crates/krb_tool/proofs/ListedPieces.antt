@@ -1,22 +1,18 @@
 -- A stream that is listed piece by piece, up to its end or the first refusal.
-use Rattle.std.proofs.Common.{◌≡◌, ℕ, ◌≤◌, inl, inr, false, List, [], ◌∷◌, ◌++◌, length, map, take, drop, Option, refl, sym, ◌∙◌, ap, subst, arith, append-nil, append_assoc, take-append-drop, drop_at, ap₂, ◌+◌}
-use Rattle.std.proofs.lemmas.List.{take_at}
+use Rattle.std.proofs.Common.{◌≡◌, ℕ, ◌≤◌, inl, inr, false, List, [], ◌++◌, length, map, take, drop, Option, refl, sym, ◌∙◌, ap, subst, arith, append-nil, append_assoc, take-append-drop, ap₂}
 use Rattle.std.specs.List.{flat_map}
 use Rattle.std.specs.Io.KnownBytes.{IsAtEnd}
 use Rattle.krb_msg.specs.Grammar.{messages}
 use Rattle.krb_msg.specs.Stream.{End, Boundary, Within, Refused, Frames, frames}
 use Rattle.krb_msg.specs.Views.{message_der}
-use Rattle.krb_der.specs.declared.profile.Profile.{Profile}
-use Rattle.krb_frame.specs.Decoding.{AreOfOne, found, status_at}
-use Rattle.krb_frame.specs.GoingOn.{after_contents}
-use Rattle.krb_frame.specs.Decoded.{after_frames, frames_size}
-use Rattle.krb_frame.specs.declared.decoder.Status.TheVariants as status
+use Rattle.krb_frame.specs.Decoding.{found}
+use Rattle.krb_frame.specs.Decoded.{after_frames}
 use Rattle.krb_frame.proofs.Ends.{none_found, refused_end, found_of, refusal_ends}
 use Rattle.krb_tool.proofs.LastFrames.{more_not_refused, path-at}
 use Rattle.krb_tool.proofs.DecoderResults.{more_ready}
 use Rattle.krb_tool.specs.Lines.{message_line}
 use Rattle.krb_tool.specs.Lines.{end_line}
-use Rattle.krb_tool.specs.Paths.{frame_path, last_octets, end_path}
+use Rattle.krb_tool.specs.Paths.{frame_path, end_path}
 use Rattle.krb_tool.specs.Listing.{end_of, run_end, AllIsRead, IsNotRefused, StopsInPiece, Lists, AreLines}
 use Rattle.krb_tool.specs.inner.Streams.{Taken, with_piece, Begins, EndsListing, ListsBy}
 use Rattle.krb_tool.specs.inner.Pieces.{TakesPiece, WaitsAfter, IsLastOf}

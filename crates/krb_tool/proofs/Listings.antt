@@ -1,33 +1,28 @@
 -- Frames listed one after another.
-use Rattle.std.proofs.Common.{◌≡◌, ℕ, zero, suc, ◌+◌, ◌^◌, ◌<◌, ◌⊎◌, inl, inr, Bool, true, false, List, [], ◌∷◌, ◌++◌, length, take, drop, map, Some, refl, sym, ◌∙◌, ap, subst, arith, append_assoc, append-nil, length-append}
-use Rattle.std.specs.Prelude.{IsSome, if◌then◌else◌, is_some}
+use Rattle.std.proofs.Common.{◌≡◌, ℕ, ◌+◌, ◌^◌, ◌<◌, Bool, true, false, List, [], ◌∷◌, ◌++◌, length, take, drop, map, refl, sym, ◌∙◌, ap, subst, arith, append_assoc, append-nil, length-append}
 use Rattle.std.proofs.lemmas.List.{map-append}
 use Rattle.std.proofs.lemmas.Grind.{flat_map-append}
 use Rattle.std.specs.List.{flat_map}
-use Rattle.krb_der.specs.declared.profile.Profile.{Profile}
 use Rattle.krb_der.specs.declared.verdict.Refusal.{Refusal}
 use Rattle.krb_msg.specs.Grammar.{messages}
-use Rattle.krb_msg.specs.Stream.{End, Boundary, Within, Refused}
 use Rattle.krb_msg.specs.Views.{message_der}
 use Rattle.krb_msg.specs.declared.message.Message.{Message}
-use Rattle.krb_frame.specs.Decoding.{Decoding, found, status_at, status_of, first_of, borrowed}
+use Rattle.krb_frame.specs.Decoding.{Decoding, status_of}
 use Rattle.krb_frame.specs.Frame.{framed}
 use Rattle.krb_frame.specs.Passes.{Passes, contents_of}
 use Rattle.krb_frame.specs.Decoded.{HasDecoded}
 use Rattle.krb_msg.specs.ViewValues.{message_of_view}
-use Rattle.krb_frame.specs.Feeds.{Clears}
 use Rattle.krb_frame.specs.Feeds.{Feeds as Uses}
 use Rattle.krb_frame.specs.declared.decoder.Fed.{Fed}
 use Rattle.krb_frame.specs.declared.pass.Passed.{Passed}
 use Rattle.krb_frame.specs.declared.decoder.Status.{Status}
 use Rattle.krb_frame.specs.declared.decoder.Status.TheVariants as status
-use Rattle.krb_frame.proofs.DecoderFrames.{more-nothing, same-status}
 use Rattle.krb_text.specs.declared.form.Form.{Form}
 use Rattle.krb_tool.specs.Lines.{message_line}
 use Rattle.krb_tool.specs.inner.Pieces.{request_of, IsFed, Goes, TakesPiece}
 use Rattle.krb_tool.specs.inner.Listers.{HasListed, ListsReady, AddsLine, stopping}
 use Rattle.krb_tool.specs.declared.listing.Lister.{Lister}
-use Rattle.krb_tool.proofs.DecoderResults.{is_status, memory_more, memory_refused, is_ready, some_used, cleared_is, cleared_waits}
+use Rattle.krb_tool.proofs.DecoderResults.{is_status, memory_more, memory_refused, some_used, cleared_is, cleared_waits}
 use Rattle.krb_tool.proofs.Pieces.{IsFed-used, IsFed-frame}
 
 -- ---- a frame that is listed

@@ -1,5 +1,5 @@
 -- The lines of the messages of a stream, up to its end, to what is refused, or to a message with something that is not sealed.
-use Rattle.std.specs.Prelude.{ℕ, ◌+◌, ◌≡◌, ◌≤◌, nat_lt, List, [], ◌∷◌, ◌++◌, length, Option, Some, None, string_bytes}
+use Rattle.std.specs.Prelude.{ℕ, ◌+◌, ◌≡◌, ◌≤◌, nat_lt, List, [], ◌∷◌, length, Option, Some, None, string_bytes}
 use Rattle.std.specs.Option.{option_map}
 use Rattle.krb_der.specs.Octets.{when}
 use Rattle.krb_der.specs.declared.profile.Profile.{Profile}

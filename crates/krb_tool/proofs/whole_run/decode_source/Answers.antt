@@ -3,7 +3,6 @@ use Rattle.std.specs.Io.KnownBytes.{Appends}
 use Rattle.krb_tool.specs.Decoding.{decoded_whole}
 use Rattle.krb_tool.specs.Files.{AppendsPrefix}
 use Rattle.krb_tool.specs.inner.WholeRuns.{ReadsMost, converted_of}
-use Rattle.krb_tool.proofs.Files.{some-taken}
 use Rattle.krb_tool.proofs.WholeRuns.{DecodesWhole-made, whole-unwritten, whole-written}
 use Rattle.krb_tool.proofs.whole_run.decode_source.Goals as goal
 

@@ -1,8 +1,8 @@
-use Rattle.std.proofs.Common.{true, false, refl, subst, ap, arith, length-drop, option_map}
+use Rattle.std.proofs.Common.{refl, subst, ap, arith, length-drop, option_map}
 use Rattle.std.proofs.lemmas.List.{take_rest}
-use Rattle.krb_tool.specs.inner.JsonLines.{decoding, PutsReady, StopsInside}
+use Rattle.krb_tool.specs.inner.JsonLines.{decoding, PutsReady}
 use Rattle.krb_tool.specs.declared.json_lines.JsonLister.{JsonLister}
-use Rattle.krb_tool.proofs.Pieces.{IsFed-start, IsFed-both, TakesPiece-both, may_wait, few_left, one_more, Feeds-made}
+use Rattle.krb_tool.proofs.Pieces.{IsFed-both, TakesPiece-both, Feeds-made}
 use Rattle.krb_tool.proofs.DecoderResults.{some_used}
 use Rattle.krb_tool.proofs.DecodedPieces.{Begins-waits, stops-refused, Feeds-unsealed, TakesPiece-more, TakesPiece-refused, IsFed-ready, Meets-ready, stopped_inside, went_on}
 use Rattle.krb_tool.proofs.json_lines.JsonListerListStream.feed.Goals as goal

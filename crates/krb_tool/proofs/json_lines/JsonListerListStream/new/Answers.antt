@@ -1,4 +1,4 @@
-use Rattle.std.proofs.Common.{◌≡◌, [], refl, sym, ◌∙◌, ap, subst, arith}
+use Rattle.std.proofs.Common.{◌≡◌, [], sym, ◌∙◌, ap, subst, arith}
 use Rattle.krb_msg.specs.Grammar.{messages}
 use Rattle.krb_frame.specs.Decoding.{status_of}
 use Rattle.krb_frame.specs.Decoded.{HasDecoded}

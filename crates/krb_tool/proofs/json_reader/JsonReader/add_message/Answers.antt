@@ -1,4 +1,4 @@
-use Rattle.std.proofs.Common.{◌≡◌, ◌+◌, ◌++◌, ◌<◌, ◌^◌, length, refl, sym, ◌∙◌, ap, ap₂, subst, arith, Err, IfSome}
+use Rattle.std.proofs.Common.{◌+◌, ◌++◌, ◌<◌, ◌^◌, length, refl, sym, ◌∙◌, ap, ap₂, subst, arith}
 use Rattle.krb_json.specs.Lines.{line_spells}
 use Rattle.krb_json.specs.Reading.{AreSpelled, IsFaultOf, line_fault_of}
 use Rattle.krb_tool.specs.Encoding.{Faulty, written_as}
