@@ -21,7 +21,7 @@ use Rattle.krb_flow.specs.Serial.{behind, distance}
 use Rattle.krb_flow.specs.Waiting.{Waiting, keep_one, keep, ready, early}
 use Rattle.krb_flow.specs.Progress.{Progress, begun}
 use Rattle.krb_flow.specs.declared.had.Had.{Had}
-use Rattle.krb_flow.specs.Directions.{Outcome, first_number, distance_to, start, kept, delivered, advanced, is_far, passes_all, is_skipped, glimpsed, deliver, had, is_over, ending, is_first, may_join, at_data, Begun, begins, Delivery, unless_over, goes_on, joined, step, after}
+use Rattle.krb_flow.specs.Directions.{Outcome, first_number, distance_to, start, kept, delivered, advanced, is_far, passes_all, is_skipped, glimpsed, deliver, had, is_over, ending, may_join, at_data, Begun, begins, Delivery, unless_over, goes_on, joined, step, after}
 use Rattle.krb_flow.specs.Laws.{at_first, IsFirst, HasAt, Piece, IsPiece, PieceOf, PiecesOf, delivered_of, DeliversTheStream}
 use Rattle.krb_flow.proofs.Distances.{only_one}
 

@@ -1,5 +1,5 @@
 -- A refusal of a capture file is at a place of the file or at its end.
-use Rattle.std.proofs.Common.{◌≡◌, ℕ, zero, suc, ◌+◌, ◌-◌, ◌≤◌, ◌⊎◌, inl, inr, Option, Some, None, Result, Ok, Err, List, [], ◌∷◌, length, refl, sym, ap, ◌∙◌, subst, arith}
+use Rattle.std.proofs.Common.{◌≡◌, ℕ, zero, suc, ◌+◌, ◌-◌, ◌≤◌, ◌⊎◌, inl, inr, Option, Some, None, Result, Ok, Err, List, [], ◌∷◌, length, refl, ap, ◌∙◌, subst, arith}
 use Rattle.std.specs.Prelude.{◌*◌, ◌%◌, ◌^◌, max, IfErr}
 use Rattle.std.specs.Int.{w32, from_be_bytes}
 use Rattle.std.proofs.lemmas.List.{length-take-le}
@@ -12,7 +12,7 @@ use Rattle.krb_packet.specs.declared.fault.CaptureFault.{CaptureFault}
 use Rattle.krb_packet.specs.Streaming.{PacketsModel, FailsAfter, ReturnsNext}
 use Rattle.krb_packet.specs.Values.{link_type, time_of}
 use Rattle.krb_file.specs.FieldReaders.{skipped_at}
-use Rattle.krb_file.proofs.Fields.{and_then-err, and_then-ok, piece-ok, ok_is, at}
+use Rattle.krb_file.proofs.Fields.{and_then-err, piece-ok, at}
 use Rattle.krb_packet.specs.declared.order.ByteOrder.{ByteOrder}
 use Rattle.krb_packet.specs.declared.order.ByteOrder.TheVariants as orders
 use Rattle.krb_packet.specs.declared.block.BlockKind.{BlockKind}
@@ -34,16 +34,15 @@ use Rattle.krb_packet.specs.declared.field.CaptureField.{CaptureField}
 use Rattle.krb_packet.specs.declared.field.CaptureField.TheVariants as capture
 use Rattle.krb_packet.specs.declared.field.BlockField.TheVariants as block
 use Rattle.krb_packet.specs.Numbers.{in_order, number_in, checked_at, checked_number, refused_at}
-use Rattle.krb_packet.specs.Numbers.{from_here as here}
-use Rattle.krb_packet.specs.Parsers.{Refusal, Parser, and_then, ◌>>=◌, succeed, from_here, naming, fields, named}
+use Rattle.krb_packet.specs.Parsers.{Refusal, Parser, and_then, ◌>>=◌, succeed, naming, fields, named}
 use Rattle.krb_packet.specs.Pcaps.{magic_of, magic_at, version, header_at, captured, packet_head_at, packet_at, next_at, unit, most_captured}
 use Rattle.krb_packet.specs.Bodies.{byte_order, body_size, after_byte_order, section_head_at, head_of, head_at, same_length, next_kind_at, content_at, in_body, block_kind}
-use Rattle.krb_packet.specs.Blocks.{body_field, head_field, head_in, skipped_body, content_in_file, read_body, body_in, end_in, block_in, after_content, block_after, after_kind, next_block}
-use Rattle.krb_packet.specs.Captures.{header_field, packet_field, header_in, packet_in, after_magic, after_packet, next_in, Packets, no_packets, with_first, packets_from, packets_within, packets_after, packets}
-use Rattle.krb_packet.proofs.Reaching.{Passes, Passes-then, Passes-fewer, Passes-made, Passes-piece, Passes-octets, Passes-checked_at, Passes-check, Passes-from_here, Passes-refused, Stops, Stops-succeed, Stops-then, Stops-piece, Stops-octets, Stops-number, Stops-checked_at, moved-ok, moved-err, checked_at-err}
-use Rattle.krb_packet.proofs.Parsing.{Onward, Onward-fields, Onward-succeed, Onward-then, Onward-from_here, parsed-ok, parsed_is, naming-ok}
+use Rattle.krb_packet.specs.Blocks.{body_field, head_field, skipped_body, content_in_file, read_body, body_in, end_in, block_in, after_content, block_after, after_kind, next_block}
+use Rattle.krb_packet.specs.Captures.{header_field, packet_field, packet_in, after_magic, after_packet, next_in, Packets, packets_from, packets_within, packets}
+use Rattle.krb_packet.proofs.Reaching.{Passes, Passes-then, Passes-fewer, Passes-made, Passes-piece, Passes-checked_at, Passes-check, Passes-from_here, Stops, Stops-succeed, Stops-then, Stops-piece, Stops-octets, Stops-number, Stops-checked_at, moved-ok, moved-err, checked_at-err}
+use Rattle.krb_packet.proofs.Parsing.{Onward, Onward-fields, Onward-succeed, Onward-then, naming-ok}
 use Rattle.krb_packet.proofs.Bodies.{Stops-content, value-err}
-use Rattle.krb_packet.proofs.Steps.{Passes-header, Passes-head, Onward-body, Onward-block, next_kind_passes, step_advances}
+use Rattle.krb_packet.proofs.Steps.{Passes-head, Onward-body, next_kind_passes, step_advances}
 
 abbrev onward : {A B : Type 0} → Reader A → (A → Reader B) → Reader B
 onward reader next = λ bounds source. read_onward (reader bounds source) (λ p. next p.0 bounds p.1)

@@ -1,5 +1,5 @@
 -- The parts of a datagram's fragments, in the order of their places.
-use Rattle.std.proofs.Common.{◌≡◌, ℕ, ◌+◌, ◌-◌, ◌<◌, ◌≤◌, ◌⊎◌, inl, inr, zero, suc, Bool, true, false, not, ◌&&◌, ◌||◌, Some, None, Option, List, [], ◌∷◌, ◌++◌, length, take, drop, map, get_or, refl, sym, ap, subst, ◌∙◌, arith, append_assoc, length-append}
+use Rattle.std.proofs.Common.{◌≡◌, ℕ, ◌+◌, ◌-◌, ◌<◌, ◌≤◌, ◌⊎◌, inl, inr, zero, suc, Bool, true, false, ◌&&◌, Some, None, List, [], ◌∷◌, ◌++◌, length, take, drop, map, get_or, refl, sym, ap, subst, ◌∙◌, arith, append_assoc, length-append}
 use Rattle.std.specs.Prelude.{nat_eq, nat_le}
 use Rattle.std.specs.List.{list_all, list_any, insert}
 use Rattle.std.specs.List.Sorted.{IsPartitionedBy}
@@ -10,7 +10,6 @@ use Rattle.std.proofs.lemmas.List.{map-append, take-map, length-map, get_or-map}
 use Rattle.std.proofs.lemmas.List.Folds.{list_all-map, list_any_at, list_all_at}
 use Rattle.std.proofs.lemmas.List.Edits.{get_or-insert_below, get_or-insert_at, get_or-insert_above, length-insert}
 use Rattle.std.proofs.lemmas.Grind.{common_steps}
-use Rattle.krb_der.specs.Octets.{when}
 use Rattle.krb_packet.specs.declared.contents.Fragment.{Fragment}
 use Rattle.krb_packet.specs.declared.assembly.Span.{Span}
 use Rattle.krb_packet.specs.declared.assembly.Part.{Part}

@@ -1,5 +1,5 @@
 -- How the fragments of a datagram are kept: their octets in the order in which they came, and their parts in the order of their places.
-use Rattle.std.specs.Prelude.{◌≡◌, ℕ, ◌+◌, ◌-◌, ◌<◌, ◌≤◌, true, false, Some, None, List, length, take, drop, map}
+use Rattle.std.specs.Prelude.{◌≡◌, ℕ, ◌+◌, ◌-◌, ◌<◌, ◌≤◌, true, false, Some, None, List, length, take, drop}
 use Rattle.std.specs.List.{insert, slice_index_or}
 use Rattle.krb_packet.specs.declared.contents.Fragment.{Fragment}
 use Rattle.krb_packet.specs.declared.assembly.Span.{Span}

@@ -1,6 +1,6 @@
 use Rattle.std.proofs.Common.{ℕ, List, ◌++◌, false, map, take, arith, ap, sym, ◌∙◌}
 use Rattle.krb_packet.specs.Parts.{joined}
-use Rattle.krb_packet.specs.inner.Pieces.{piece_in, octets_in}
+use Rattle.krb_packet.specs.inner.Pieces.{piece_in}
 use Rattle.krb_packet.proofs.Pieces.{append_step, joined_more}
 use Rattle.krb_packet.proofs.assembly.append.Goals as goal
 

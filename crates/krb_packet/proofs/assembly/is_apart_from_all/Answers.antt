@@ -1,4 +1,4 @@
-use Rattle.std.proofs.Common.{◌≡◌, ◌-◌, ◌<◌, ◌≤◌, zero, true, length, get_or, arith, rules}
+use Rattle.std.proofs.Common.{◌≡◌, ◌-◌, ◌<◌, ◌≤◌, true, length, get_or, arith, rules}
 use Rattle.krb_packet.specs.declared.assembly.Part.{Part}
 use Rattle.krb_packet.specs.Parts.{are_apart}
 use Rattle.krb_packet.proofs.Pieces.{apart_is}

@@ -1,4 +1,4 @@
-use Rattle.std.proofs.Common.{◌≡◌, ℕ, ◌<◌, false, length, arith, rules, get_or}
+use Rattle.std.proofs.Common.{◌≡◌, ◌<◌, false, length, rules, get_or}
 use Rattle.krb_packet.specs.declared.assembly.Part.{Part}
 use Rattle.krb_packet.specs.Parts.{same_span}
 use Rattle.krb_packet.proofs.Pieces.{none_same}

@@ -1,4 +1,4 @@
-use Rattle.std.proofs.Common.{None, refl, sym, ◌∙◌, ap, append-nil, subst}
+use Rattle.std.proofs.Common.{None, sym, ◌∙◌, ap, append-nil, subst}
 use Rattle.std.proofs.lemmas.Result.{IfOk-weaker}
 use Rattle.krb_capture.specs.Captures.{and_counted, nothing_in, whole_taken, with_unread}
 use Rattle.krb_capture.specs.Rests.{Lists}

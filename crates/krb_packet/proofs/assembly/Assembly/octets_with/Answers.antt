@@ -1,7 +1,7 @@
-use Rattle.std.proofs.Common.{◌≡◌, ◌++◌, ◌≤◌, List, ℕ, length, map, take, drop, sym, ap, arith, rules}
-use Rattle.krb_packet.specs.Parts.{Parts, joined}
+use Rattle.std.proofs.Common.{◌≡◌, map, sym, ap, rules}
+use Rattle.krb_packet.specs.Parts.{Parts}
 use Rattle.krb_packet.specs.inner.Pieces.{piece_in}
-use Rattle.krb_packet.proofs.Pieces.{octets_of_all, within_take, within_drop}
+use Rattle.krb_packet.proofs.Pieces.{octets_of_all}
 use Rattle.krb_packet.proofs.assembly.Assembly.octets_with.Goals as goal
 
 pub returns : goal.returns

@@ -1,9 +1,8 @@
-use Rattle.std.proofs.Common.{◌≡◌, ◌+◌, ◌-◌, ◌<◌, ◌≤◌, ◌&&◌, true, false, length, map, get_or, refl, sym, ap, ◌∙◌, arith, rules}
+use Rattle.std.proofs.Common.{◌≡◌, ◌+◌, ◌-◌, ◌<◌, ◌≤◌, ◌&&◌, true, false, length, map, get_or, sym, ap, ◌∙◌, rules}
 use Rattle.std.specs.Prelude.{nat_eq, nat_le}
 use Rattle.std.specs.List.{list_all, list_any}
 use Rattle.std.specs.Cmp.Lexicographic.{pointwise}
-use Rattle.krb_packet.specs.declared.assembly.Span.{Span}
-use Rattle.krb_packet.specs.Parts.{Parts, is_copy, is_sound, span_of, piece_of, same_span, fits, agrees, are_apart, most_octets}
+use Rattle.krb_packet.specs.Parts.{Parts, is_sound, span_of, piece_of, same_span, agrees, are_apart, most_octets}
 use Rattle.krb_packet.specs.inner.Pieces.{IsPlace, octets_in, piece_in}
 use Rattle.krb_packet.proofs.Pieces.{copied, copy_there, no_copy_there, no_fit_there, refused, is_new, fits_is, same_pieces}
 use Rattle.krb_packet.proofs.assembly.Assembly.relation.Goals as goal

@@ -1,4 +1,4 @@
-use Rattle.std.proofs.Common.{◌≡◌, Some, None, ◌++◌, [], ◌∷◌, List, sym, ap, ◌∙◌, rules}
+use Rattle.std.proofs.Common.{◌≡◌, Some, None, ◌++◌, [], ◌∷◌, sym, ap, ◌∙◌, rules}
 use Rattle.krb_packet.specs.Table.{Table, pending_in}
 use Rattle.krb_packet.specs.Fragments.{no_fragments_of, pending_with, whole_of}
 use Rattle.krb_packet.specs.declared.fragments.Pending.{Pending}

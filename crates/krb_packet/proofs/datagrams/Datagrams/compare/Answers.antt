@@ -1,4 +1,4 @@
-use Rattle.std.proofs.Common.{◌≤◌, length, arith, rules}
+use Rattle.std.proofs.Common.{◌≤◌, length, rules}
 use Rattle.krb_packet.proofs.Places.{no_box}
 use Rattle.krb_packet.proofs.datagrams.Datagrams.compare.Goals as goal
 

@@ -1,7 +1,6 @@
-use Rattle.std.proofs.Common.{◌≡◌, ℕ, length, min, get_or, ◌+◌, sym, ap, ◌∙◌, arith, rules}
+use Rattle.std.proofs.Common.{◌≡◌, get_or, ap, ◌∙◌}
 use Rattle.krb_packet.specs.Table.{Table, pending_in}
 use Rattle.krb_packet.specs.Fragments.{plus}
-use Rattle.krb_packet.specs.declared.contents.Original.{Original}
 use Rattle.krb_packet.specs.declared.fragments.Pending.{Pending}
 use Rattle.krb_packet.proofs.Places.{first_given_up, first_there, held}
 use Rattle.krb_packet.proofs.datagrams.Datagrams.give_up_first.Goals as goal

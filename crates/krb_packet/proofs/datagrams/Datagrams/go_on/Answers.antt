@@ -1,7 +1,7 @@
-use Rattle.std.proofs.Common.{◌≡◌, ◌<◌, ℕ, Some, None, List, length, map, set, get_or, refl, sym, ap, subst, ◌∙◌, rules}
+use Rattle.std.proofs.Common.{◌≡◌, ◌<◌, ℕ, Some, None, List, length, set, get_or, refl, sym, ap, subst, ◌∙◌, rules}
 use Rattle.std.specs.List.{remove}
 use Rattle.std.specs.Box.{with_value}
-use Rattle.krb_packet.specs.Table.{Table, pending_in, table_of}
+use Rattle.krb_packet.specs.Table.{Table, pending_in}
 use Rattle.krb_packet.specs.Fragments.{no_fragments_of, pending_with, whole_of}
 use Rattle.krb_packet.specs.declared.fragments.Pending.{Pending}
 use Rattle.krb_packet.specs.inner.Places.{IsIndex}

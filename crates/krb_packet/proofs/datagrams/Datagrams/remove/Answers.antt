@@ -1,4 +1,4 @@
-use Rattle.std.proofs.Common.{◌≡◌, ◌++◌, length, map, take, drop, get_or, refl, sym, ap, ◌∙◌, rules}
+use Rattle.std.proofs.Common.{◌≡◌, ◌++◌, length, map, take, drop, get_or, ap, ◌∙◌, rules}
 use Rattle.std.specs.List.{remove}
 use Rattle.krb_packet.specs.Table.{pending_in}
 use Rattle.krb_packet.specs.inner.Places.{place_without}

@@ -1,4 +1,4 @@
-use Rattle.std.proofs.Common.{get_or, arith, rules}
+use Rattle.std.proofs.Common.{get_or, rules}
 use Rattle.std.proofs.lemmas.Fn.{always_returns_same}
 use Rattle.krb_packet.specs.Fragments.{no_fragments_of}
 use Rattle.krb_packet.specs.Table.{pending_in}
