@@ -26,10 +26,10 @@ needs:
 	@command -v python3 > /dev/null || { echo 'krbls: no python3: the tests need it' >&2; exit 1; }
 	@test -w . || { echo "krbls: cannot write in $$PWD: a build leaves its files here" >&2; exit 1; }
 
-# Lists a file of one's own without a proof, which takes a minute: make try FILE=a.pcap COMMAND=capture
-COMMAND := stream
+# Lists a file of one's own without a proof, which takes a minute: make try FILE=a.pcap
+COMMAND := list
 try:
-	@test -r "$(FILE)" || { echo 'krbls: make try FILE=.. COMMAND=stream (or message, keytab, ccache, capture)' >&2; exit 1; }
+	@test -r "$(FILE)" || { echo 'krbls: make try FILE=.. (COMMAND=stream, message, keytab, ccache or capture; list if it is left out)' >&2; exit 1; }
 	@file=$$(realpath "$(FILE)") && cd crates/krbls && rt try --data "input=$$file" -- $(COMMAND) input
 
 # Proves all that the program uses, compiles it, and leaves it at bin/krbls: in a fresh checkout the crates side by side, and
@@ -55,8 +55,8 @@ library:
 	@test -x bin/krbls || $(MAKE) --no-print-directory build
 	c/build
 
-# Puts the program that `make build` left, its manual page and the completions of three shells under $(DESTDIR)$(PREFIX), and
-# the C library if `make library` left it, with its header, its module for Python and what pkg-config reads.
+# Puts the program that `make build` left, its manual pages, the pages on its lines and the completions of three shells under
+# $(DESTDIR)$(PREFIX), and the C library if `make library` left it, with its header, its module for Python and what pkg-config reads.
 share := $(DESTDIR)$(PREFIX)/share
 lib := $(DESTDIR)$(PREFIX)/lib
 version = $(shell sed -n 's/^.define KRBLS_VERSION "\(.*\)"/\1/p' c/krbls.h)
@@ -65,6 +65,10 @@ install:
 	@test -x bin/krbls || { echo 'make build first' >&2; exit 1; }
 	install -D -m 755 bin/krbls "$(DESTDIR)$(PREFIX)/bin/krbls"
 	install -D -m 644 docs/krbls.1 "$(share)/man/man1/krbls.1"
+	tools/manual > bin/krbls.5
+	install -D -m 644 bin/krbls.5 "$(share)/man/man5/krbls.5"
+	install -d "$(share)/doc/krbls"
+	install -m 644 docs/LISTING.md docs/FORMATS.md docs/JSON.md "$(share)/doc/krbls"
 	install -D -m 644 completions/krbls.bash "$(share)/bash-completion/completions/krbls"
 	install -D -m 644 completions/_krbls "$(share)/zsh/site-functions/_krbls"
 	install -D -m 644 completions/krbls.fish "$(share)/fish/vendor_completions.d/krbls.fish"
@@ -82,8 +86,10 @@ install-library:
 
 # Takes the same away.
 uninstall:
-	rm -f "$(DESTDIR)$(PREFIX)/bin/krbls" "$(share)/man/man1/krbls.1" "$(share)/bash-completion/completions/krbls" \
-		"$(share)/zsh/site-functions/_krbls" "$(share)/fish/vendor_completions.d/krbls.fish"
+	rm -f "$(DESTDIR)$(PREFIX)/bin/krbls" "$(share)/man/man1/krbls.1" "$(share)/man/man5/krbls.5" \
+		"$(share)/doc/krbls/LISTING.md" "$(share)/doc/krbls/FORMATS.md" "$(share)/doc/krbls/JSON.md" \
+		"$(share)/bash-completion/completions/krbls" "$(share)/zsh/site-functions/_krbls" \
+		"$(share)/fish/vendor_completions.d/krbls.fish"
 	rm -f "$(DESTDIR)$(PREFIX)/include/krbls.h" "$(lib)/libkrbls.a" "$(lib)/libkrbls.so" "$(lib)/libkrbls.so."* \
 		"$(lib)/pkgconfig/krbls.pc" "$(share)/krbls/krbls.py"
 
@@ -113,7 +119,7 @@ fuzz: build
 # Octets per second: of the listing of streams, of a keytab, of a cache and of captures, of messages as JSON and back, and of
 # messages judged, scanned, parsed and encoded; and memory, of what costs most of it.
 bench: build
-	cd crates/krb_roundtrip && rt run < stdin > /dev/null
+	cd crates/krb_damage && rt run -- encode < ../../tests/data/again.stream > /dev/null
 	bench/stream
 	bench/keytab
 	bench/ccache

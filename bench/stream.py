@@ -1,6 +1,6 @@
 """Times bin/krbls on streams of framed messages, beside cat, in 8 MiB of address space: real messages
 of nine kinds, and AP-REPs; on both in turns with a walk in C that prints the same lines; and on the real
-messages in turns with MIT's decoder, if its library is installed. Then what krb_roundtrip does with streams: to
+messages in turns with MIT's decoder, if its library is installed. Then what krb_damage does with streams: to
 judge their messages, to scan them octet by octet and at once, to parse them, and to encode them again, beside a
 memcpy of the same octets."""
 
@@ -15,7 +15,7 @@ from frames import real_frames, repeated
 from timing import best_of, best_run, best_runs, output_of, rate
 
 KRBLS = ["bash", "-c", "ulimit -v 8192; exec bin/krbls stream"]
-AGAIN = "crates/krb_roundtrip/out/krb_roundtrip"
+AGAIN = "crates/krb_damage/out/krb_damage"
 MIXED_OCTETS = 64 << 20
 CACHED_OCTETS = 1 << 20
 

@@ -2,7 +2,8 @@
 _krbls() {
     local word=${COMP_WORDS[COMP_CWORD]} before=${COMP_WORDS[COMP_CWORD-1]} command=${COMP_WORDS[1]}
     if [ "$COMP_CWORD" -eq 1 ]; then
-        COMPREPLY=($(compgen -W "stream message keytab ccache capture decode encode --help --version" -- "$word"))
+        compopt -o filenames
+        mapfile -t COMPREPLY < <(compgen -W "list stream message keytab ccache capture decode encode help --help --version" -- "$word"; compgen -f -- "$word")
         return
     fi
     case $before in
@@ -14,12 +15,12 @@ _krbls() {
     esac
     case $word in
         -*)
-            local options="--file --help" forms="--names --json"
+            local options="--file --help" forms="--names --json --with-filename"
             case $command in
                 stream) options="--limit --keep-going --strict $forms $options" ;;
-                message) options="--strict $forms $options" ;;
+                message) options="--lines --strict $forms $options" ;;
                 keytab) options="$forms $options" ;;
-                ccache) options="--now $forms $options" ;;
+                list|ccache) options="--now $forms $options" ;;
                 capture) options="--limit --port $forms $options" ;;
                 decode|encode) options="--limit --strict --unframed $options" ;;
             esac

@@ -1,7 +1,8 @@
 # fish completion for krbls
-set -l commands stream message keytab ccache capture decode encode
+set -l commands list stream message keytab ccache capture decode encode
+complete -c krbls -n "not __fish_seen_subcommand_from $commands" -a list -d "Each file, as its first octets say"
 complete -c krbls -f -n "not __fish_seen_subcommand_from $commands" -a stream -d "Framed messages"
-complete -c krbls -f -n "not __fish_seen_subcommand_from $commands" -a message -d "One message in hexadecimal"
+complete -c krbls -f -n "not __fish_seen_subcommand_from $commands" -a message -d "A message, a Ticket or a token, as octets or text"
 complete -c krbls -f -n "not __fish_seen_subcommand_from $commands" -a keytab -d "A keytab"
 complete -c krbls -f -n "not __fish_seen_subcommand_from $commands" -a ccache -d "A credential cache"
 complete -c krbls -f -n "not __fish_seen_subcommand_from $commands" -a capture -d "The messages in a capture"
@@ -9,12 +10,14 @@ complete -c krbls -f -n "not __fish_seen_subcommand_from $commands" -a decode -d
 complete -c krbls -f -n "not __fish_seen_subcommand_from $commands" -a encode -d "Framed messages made of JSON"
 complete -c krbls -s h -l help -d "Print help"
 complete -c krbls -n "not __fish_seen_subcommand_from $commands" -s V -l version -d "Print the version"
-complete -c krbls -n "__fish_seen_subcommand_from stream message keytab ccache capture" -l names -d "Show the names of numbers"
-complete -c krbls -n "__fish_seen_subcommand_from stream message keytab ccache capture" -l json -d "Print JSON, an object a line"
+complete -c krbls -n "__fish_seen_subcommand_from list stream message keytab ccache capture" -l names -d "Show the names of numbers"
+complete -c krbls -n "__fish_seen_subcommand_from list stream message keytab ccache capture" -l json -d "Print JSON, an object a line"
+complete -c krbls -n "__fish_seen_subcommand_from list stream message keytab ccache capture" -s H -l with-filename -d "Put the name of the file into each line"
+complete -c krbls -n "__fish_seen_subcommand_from message" -l lines -d "An input a line"
 complete -c krbls -n "__fish_seen_subcommand_from $commands" -l file -r -d "Read this file first"
 complete -c krbls -n "__fish_seen_subcommand_from stream capture decode encode" -l limit -x -d "Refuse longer frames"
 complete -c krbls -n "__fish_seen_subcommand_from stream" -l keep-going -d "Go on after a refused frame"
 complete -c krbls -n "__fish_seen_subcommand_from stream message decode encode" -l strict -d "Refuse messages that have a note"
-complete -c krbls -n "__fish_seen_subcommand_from ccache" -l now -x -d "The time, in seconds since 1970"
+complete -c krbls -n "__fish_seen_subcommand_from list ccache" -l now -x -d "The time: now, a date, or seconds since 1970"
 complete -c krbls -n "__fish_seen_subcommand_from capture" -l port -x -d "The port of Kerberos"
 complete -c krbls -n "__fish_seen_subcommand_from decode encode" -l unframed -d "One message, without its length"

@@ -10,8 +10,10 @@ from reference.grammar import (
     METHOD_DATA,
     TICKET,
     Bits,
+    Choice,
     Integer,
     ListOf,
+    ObjectIdentifier,
     Sequence,
     String,
     Tagged,
@@ -26,6 +28,7 @@ from reference.registries import (
     NAME_TYPES,
     PA_DATA_TYPES,
 )
+from reference.tokens import KERBEROS, SPNEGO
 from reference.values import NAMED_CODES
 
 # The numbers that have a name in some registry.
@@ -52,6 +55,8 @@ class Maker:
         return self.dice.randbytes(size)
 
     def item(self, item):
+        if isinstance(item, Choice):
+            item = self.dice.choice(item.items)
         return self.wrapped(item.tag, self.contents(item))
 
     def wrapped(self, tag, contents):
@@ -86,6 +91,8 @@ class Maker:
                 return self.bits()
             case Time():
                 return self.time()
+            case ObjectIdentifier():
+                return self.identifier()
             case String():
                 return self.string()
             case Tagged():
@@ -122,6 +129,14 @@ class Maker:
             )
         return octets
 
+    def identifier(self):
+        """An object identifier: one that tokens have, or other numbers."""
+        octets = self.dice.choice([*KERBEROS, SPNEGO, bytes.fromhex("2B06010401823702020A"), b"\x2a", b"\x81\x00\x7f"])
+        if self.is_wrong(OFTEN):
+            place = self.dice.randrange(len(octets))
+            octets = self.dice.choice([b"", octets[:place] + b"\x80" + octets[place:], octets + b"\x81", self.octets(3)])
+        return octets
+
     def bits(self):
         octets = bytearray(self.octets(self.dice.choice([0, 1, 4, 4, 5])))
         unused = self.dice.choice([0, 0, self.dice.randint(0, 7)]) if octets else 0
@@ -152,7 +167,7 @@ class Maker:
 
     def sequence(self, item):
         fields = [field for field in item.fields if not field.optional or self.dice.random() < 0.5]
-        if self.is_wrong(OFTEN):
+        if fields and self.is_wrong(OFTEN):
             field = fields.pop(self.dice.randrange(len(fields)))
             for _ in range(self.dice.randint(0, 2)):
                 fields.insert(self.dice.randint(0, len(fields)), field)

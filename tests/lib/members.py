@@ -3,7 +3,7 @@
 A table is one of the kinds that the heading before it names, or has the kind of a record in its first column.
 Each of its rows has fields and their values, and a kind may have several tables: the end of a stream and that of
 a keytab have other fields. The table of the heading Origin has the fields that come before those of its kind in a
-record of a capture.
+record of a capture, and that of the heading What a message is in those of an input of `message`, if they are there.
 """
 
 import pathlib
@@ -67,6 +67,7 @@ SHAPES = {
     "string": is_text,
     "text": is_text,
     "word": is_text,
+    "layers": list_of(is_text),
     "file name": is_text,
     "time": spelled("[0-9]{14}Z"),
     "date": or_null(spelled("[0-9]{4}(-[0-9]{2}){2}T[0-9]{2}(:[0-9]{2}){2}Z")),
@@ -90,7 +91,7 @@ SHAPES = {
 SECOND_MEMBERS = {
     "named number": ("_name", is_name),
     "code": ("_name", is_name),
-    "reason": ("_name", is_text),
+    "reason": ("_name", is_name),
     "list": ("_names", list_of(is_name)),
 }
 
@@ -138,6 +139,7 @@ def kinds_of_records():
 
 KINDS = kinds_of_records()
 [ORIGIN] = KINDS.pop("Origin")
+[LAYERS] = KINDS.pop("What a message is in")
 
 
 def members_after_kind(fields, record):
@@ -146,15 +148,16 @@ def members_after_kind(fields, record):
         is_optional, value = value.endswith(OPTIONAL), value.removesuffix(OPTIONAL)
         shape = or_null(SHAPES[value]) if is_optional else SHAPES[value]
         yield name, shape
-        if value in SECOND_MEMBERS and record.get(name) is not None:
+        if value in SECOND_MEMBERS and (value == "reason" or record.get(name) is not None):
             ending, second = SECOND_MEMBERS[value]
             yield f"{name}{ending}", second
 
 
 def is_as_listed(record):
     """Whether an object has the members of its kind, in their order and of their types."""
-    before = ORIGIN if "packet" in record else []
+    before = ORIGIN if "packet" in record else [field for field in LAYERS if field[0] in record]
+    after = [("file", "file name")] if "file" in record else []
     return any(
-        members(kind=is_text, **dict(members_after_kind(before + fields, record)))(record)
+        members(kind=is_text, **dict(members_after_kind([*before, *fields, *after], record)))(record)
         for fields in KINDS.get(record["kind"], [])
     )

@@ -18,12 +18,17 @@ CODE = re.compile(r"^```(?:rust|c|python)\n(.*?)^```\n", re.DOTALL | re.MULTILIN
 LINK = re.compile(r"\]\((?:\.\./)?(crates/[^)]*\.rt|examples/[^)]*\.(?:c|py))\)")
 
 
+def examples(text):
+    """The commands of a page, each with what it prints."""
+    found = (example for block in CONSOLE.findall(text) for example in EXAMPLE.findall(block))
+    return [(command.replace("\n> ", "\n"), lines) for command, lines in found]
+
+
 def take(page, folder):
     """Writes the examples and the code of a page."""
     text = page.read_text()
-    examples = (example for block in CONSOLE.findall(text) for example in EXAMPLE.findall(block))
-    for number, (command, lines) in enumerate(examples, 1):
-        (folder / f"{page.stem}-{number}.command").write_text(command.replace("\n> ", "\n") + "\n")
+    for number, (command, lines) in enumerate(examples(text), 1):
+        (folder / f"{page.stem}-{number}.command").write_text(f"{command}\n")
         (folder / f"{page.stem}-{number}.want").write_text(lines)
     for number, block in enumerate(CODE.finditer(text), 1):
         *_, link = LINK.findall(text[: block.start()])
@@ -38,4 +43,5 @@ def main(folder):
         take(page, folder)
 
 
-main(pathlib.Path(sys.argv[1]))
+if __name__ == "__main__":
+    main(pathlib.Path(sys.argv[1]))

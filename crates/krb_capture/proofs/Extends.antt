@@ -1,9 +1,9 @@
 -- What is found with more octets of a stream, and with others after them.
-use Rattle.std.proofs.Common.{◌≡◌, ℕ, Bool, true, false, List, [], ◌++◌, map, drop, refl, sym, ◌∙◌, ap, subst, append_assoc, append-nil}
+use Rattle.std.proofs.Common.{◌≡◌, ℕ, Bool, true, false, List, [], ◌++◌, drop, refl, sym, ◌∙◌, ap, subst, append_assoc, append-nil}
 use Rattle.krb_frame.specs.GoingOn.{Skipping}
 use Rattle.krb_capture.specs.Found.{Found}
-use Rattle.krb_capture.specs.Streams.{Framed, entry_found, found_with, framed}
-use Rattle.krb_capture.specs.Taken.{IsOver, Keeps, KeepsUnless, PasswordsAreOver, Took, TookMessages, TookPasswords, Waits, WaitsUnless, WaitsWith, fed_with, passwords, service_of}
+use Rattle.krb_capture.specs.Streams.{Framed, entries_found, found_with, framed, passwords_framed}
+use Rattle.krb_capture.specs.Taken.{IsOver, Keeps, KeepsUnless, PasswordsAreOver, Took, TookMessages, TookPasswords, Waits, WaitsUnless, WaitsWith, fed_with, service_of}
 use Rattle.krb_capture.specs.declared.flow.Service.{Service}
 use Rattle.krb_capture.specs.declared.flow.Service.TheVariants as services
 use Rattle.krb_capture.specs.declared.frames.Frames.{Frames}
@@ -41,9 +41,9 @@ messages-extend taker limit stream t more = by taker.is_over refl
         extends-of services.Kerberos limit stream more (framed services.Kerberos limit stream).found [] refl ((o more).0 ∙ sym (append-nil (framed services.Kerberos limit stream).found))
     by false e =
         let with_part : WaitsWith taker limit stream = subst (λ b. WaitsUnless b taker limit stream) e t.state in
-        let s : Skipping = fed_with taker.part taker.decoder in
+        let s : Skipping = fed_with taker.part taker.placed.decoder in
         let w : Waits s stream = (waits-all taker limit stream with_part t.limit_is).waits in
-        extends-of services.Kerberos limit stream more (map entry_found w.before) _ (found-waiting limit s stream w t.limit_is) (found-more limit s stream w t.limit_is more)
+        extends-of services.Kerberos limit stream more (entries_found 0 w.before) _ (found-waiting limit s stream w t.limit_is) (found-more limit s stream w t.limit_is more)
 
 passwords-extend_at : (taker : PasswordFrames) (stream : List ℕ) → KeepsUnless taker.is_over taker stream → (more : List ℕ) → Extends services.Passwords taker.limit stream more
 passwords-extend_at taker stream state more = by taker.is_over refl
@@ -54,7 +54,7 @@ passwords-extend_at taker stream state more = by taker.is_over refl
         extends-of services.Passwords taker.limit stream more (framed services.Passwords taker.limit stream).found [] refl ((o more).0 ∙ sym (append-nil (framed services.Passwords taker.limit stream).found))
     by false e =
         let k : Keeps taker stream = subst (λ b. KeepsUnless b taker stream) e state in
-        extends-of services.Passwords taker.limit stream more k.before (passwords taker.limit (taker.octets.items ++ drop taker.skipped more)).found (keeps-found taker stream k) (ap (λ (f : Framed). f.found) (k.goes_on more))
+        extends-of services.Passwords taker.limit stream more k.before (passwords_framed taker.limit taker.offset (taker.octets.items ++ drop taker.skipped more)).found (keeps-found taker stream k) (ap (λ (f : Framed). f.found) (k.goes_on more))
 
 pub passwords-extend : (taker : PasswordFrames) (limit : ℕ) (stream : List ℕ) → TookPasswords taker limit stream → (more : List ℕ) → Extends services.Passwords limit stream more
 passwords-extend taker limit stream t more = subst (λ n. Extends services.Passwords n stream more) t.limit_is (passwords-extend_at taker stream t.state more)

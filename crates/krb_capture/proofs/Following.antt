@@ -9,6 +9,7 @@ use Rattle.krb_packet.specs.declared.contents.Fragment.{Fragment}
 use Rattle.krb_packet.specs.declared.contents.Segment.{Segment}
 use Rattle.krb_file.specs.declared.fault.FileWhy.{FileWhy}
 use Rattle.krb_text.specs.Captures.{capture_end_line, capture_refused_line}
+use Rattle.krb_text.specs.declared.extent.Extent.{Extent}
 use Rattle.krb_text.specs.declared.capture.CaptureCounts.{CaptureCounts}
 use Rattle.krb_text.specs.declared.form.Form.{Form}
 use Rattle.krb_text.specs.declared.origin.Origin.{Origin}
@@ -187,6 +188,6 @@ pub end-listed : (old : Capture) (settings : Settings) (progress : Progress) (wr
 unfolding end_text
 end-listed old settings progress written ended shown h l t e = last-listed old settings progress written ended shown capture_end_line h l t e
 
-pub refusal-listed : (old : Capture) (settings : Settings) (progress : Progress) (written ended : Written) (shown : CaptureCounts) (place : ℕ) (why : FileWhy) (path : Option (List ℕ)) → HasFollowed old settings progress → written ≡ with_each (over_tcp old.last (last_of settings.limit progress.table.active)) old.listing → shown ≡ totals (unread old.fragments) written.counts → ended ≡ record written { text = written.text ++ capture_refused_line written.form shown place why path } → ended.text ≡ old.listing.text ++ refusal_text settings progress place why path
+pub refusal-listed : (old : Capture) (settings : Settings) (progress : Progress) (written ended : Written) (shown : CaptureCounts) (place : ℕ) (why : FileWhy) (path : Option (List ℕ)) (extent : Extent) → HasFollowed old settings progress → written ≡ with_each (over_tcp old.last (last_of settings.limit progress.table.active)) old.listing → shown ≡ totals (unread old.fragments) written.counts → ended ≡ record written { text = written.text ++ capture_refused_line written.form shown place why path extent } → ended.text ≡ old.listing.text ++ refusal_text settings progress place why path extent
 unfolding refusal_text
-refusal-listed old settings progress written ended shown place why path h l t e = last-listed old settings progress written ended shown (λ form counts. capture_refused_line form counts place why path) h l t e
+refusal-listed old settings progress written ended shown place why path extent h l t e = last-listed old settings progress written ended shown (λ form counts. capture_refused_line form counts place why path extent) h l t e

@@ -1,5 +1,5 @@
 -- What is written of several findings, and what a path and a place of a finding have to do with it.
-use Rattle.std.proofs.Common.{◌≡◌, ℕ, ◌<◌, ◌^◌, inl, inr, Bool, true, false, List, [], ◌∷◌, ◌++◌, length, Some, None, refl, sym, ◌∙◌, ap, arith}
+use Rattle.std.proofs.Common.{◌≡◌, ℕ, ◌<◌, ◌^◌, inl, inr, Bool, true, false, List, [], ◌∷◌, ◌++◌, length, Some, None, refl, sym, ◌∙◌, ap, ap₂, arith}
 use Rattle.std.specs.Prelude.{Option, pos, codes, nat_lt, ◌==◌, if◌then◌else◌, take, drop}
 use Rattle.std.proofs.lemmas.Bool.{cases_lt, lt-ltb}
 use Rattle.krb_der.specs.Octets.{number}
@@ -10,8 +10,9 @@ use Rattle.krb_der.specs.declared.verdict.Verdict.{Verdict}
 use Rattle.krb_der.specs.declared.verdict.Verdict.TheVariants as verdict
 use Rattle.krb_der.specs.declared.why.Why.TheVariants as why
 use Rattle.krb_text.specs.Captures.{captured_line}
-use Rattle.krb_text.specs.Refusals.{path_in}
+use Rattle.krb_text.specs.Refusals.{extent_in, path_in}
 use Rattle.krb_text.specs.Values.{Field, Number, Reason, printed, the}
+use Rattle.krb_text.specs.declared.extent.Extent.{Extent}
 use Rattle.krb_text.specs.declared.form.Form.{Form}
 use Rattle.krb_text.specs.declared.origin.Origin.{Origin}
 use Rattle.krb_msg.specs.Grammar.{messages}
@@ -22,7 +23,7 @@ use Rattle.krb_judge.specs.Paths.{message_path}
 use Rattle.krb_frame.specs.GoingOn.{Fault}
 use Rattle.krb_capture.specs.Found.{Found, Faulty, Written, counted, with_all, with_found}
 use Rattle.krb_capture.specs.Messages.{most_octets, path_of}
-use Rattle.krb_capture.specs.Streams.{entry_found, frame_path}
+use Rattle.krb_capture.specs.Streams.{entry_found, extent_at, frame_path}
 
 pub with_all-append : (origin : Origin) (xs ys : List Found) (w : Written) → with_all origin (xs ++ ys) w ≡ with_all origin ys (with_all origin xs w)
 with_all-append origin [] ys w = refl
@@ -66,13 +67,13 @@ unfolding path_of
 no_path octets e = ap (λ l. if nat_lt most_octets (number (take 4 octets)) then None else message_path Lenient (number (take 4 octets)) l) e ∙ none_either (nat_lt most_octets (number (take 4 octets)))
 
 -- paths that a form shows as the same
-pub same_path : (origin : Origin) (refusal : Refusal) (p q : Option (List ℕ)) (w : Written) → path_in w.form p ≡ path_in w.form q → with_found origin (Faulty refusal p) w ≡ with_found origin (Faulty refusal q) w
-same_path origin refusal p q w e =
+pub same_path : (origin : Origin) (refusal : Refusal) (p q : Option (List ℕ)) (extent : Extent) (w : Written) → path_in w.form p ≡ path_in w.form q → with_found origin (Faulty refusal p extent) w ≡ with_found origin (Faulty refusal q extent) w
+same_path origin refusal p q extent w e =
     ap
-    (λ (fields : List Field). record { form = w.form; text = w.text ++ captured_line w.form origin (printed (codes "refused") (the (codes "place") (Number (pos refusal.place)) ∷ the (codes "why") (Reason (reason_number refusal.why) (reason_name refusal.why)) ∷ fields)); counts = counted (Faulty refusal p) w.counts }) e
+    (λ (fields : List Field). record { form = w.form; text = w.text ++ captured_line w.form origin (printed (codes "refused") (the (codes "place") (Number (pos refusal.place)) ∷ the (codes "why") (Reason (reason_number refusal.why) (reason_name refusal.why)) ∷ (fields ++ extent_in w.form extent))); counts = counted (Faulty refusal p extent) w.counts }) e
 
-pub refused_listed : (origin : Origin) (refusal : Refusal) (octets : List ℕ) (form : Form) (shown path : Option (List ℕ)) (before after : Written) → form ≡ before.form → path_in form shown ≡ path_in form (frame_path octets) → path ≡ shown → after ≡ with_found origin (Faulty refusal path) before → after ≡ with_found origin (entry_found (Fault refusal.place refusal.why octets)) before
-refused_listed origin refusal octets form shown path before after f e p l =
+pub refused_listed : (origin : Origin) (refusal : Refusal) (offset : ℕ) (octets : List ℕ) (form : Form) (shown path : Option (List ℕ)) (extent : Extent) (before after : Written) → form ≡ before.form → path_in form shown ≡ path_in form (frame_path octets) → path ≡ shown → extent ≡ extent_at offset octets → after ≡ with_found origin (Faulty refusal path extent) before → after ≡ with_found origin (entry_found offset (Fault refusal.place refusal.why octets)) before
+refused_listed origin refusal offset octets form shown path extent before after f e p x l =
     l
-    ∙ ap (λ q. with_found origin (Faulty refusal q) before) p
-    ∙ same_path origin refusal shown (frame_path octets) before (ap (λ n. path_in n shown) (sym f) ∙ e ∙ ap (λ n. path_in n (frame_path octets)) f)
+    ∙ ap₂ (λ q k. with_found origin (Faulty refusal q k) before) p x
+    ∙ same_path origin refusal shown (frame_path octets) (extent_at offset octets) before (ap (λ n. path_in n shown) (sym f) ∙ e ∙ ap (λ n. path_in n (frame_path octets)) f)

@@ -1,7 +1,7 @@
 -- What is found in the frames of messages, by what is known of their decoder.
-use Rattle.std.proofs.Common.{◌≡◌, ℕ, ◌+◌, ◌-◌, ◌^◌, ◌≤◌, inl, inr, true, false, List, [], ◌∷◌, ◌++◌, length, map, take, drop, Some, None, refl, sym, ◌∙◌, ap, ap₂, subst, arith, append-nil, drop_at}
+use Rattle.std.proofs.Common.{◌≡◌, ℕ, ◌+◌, ◌-◌, ◌^◌, ◌≤◌, inl, inr, true, false, List, [], ◌∷◌, ◌++◌, length, take, drop, Some, None, refl, sym, ◌∙◌, ap, ap₂, subst, arith, append-nil, drop_at}
 use Rattle.std.specs.Prelude.{cond, not, ◌&&◌, ◌||◌, nat_le, nat_lt, if◌then◌else◌}
-use Rattle.std.specs.List.{AllByRecursion, filter, list_any}
+use Rattle.std.specs.List.{AllByRecursion, list_any}
 use Rattle.std.proofs.lemmas.Bool.{cases_lt, lt-leb, le-leb, lt-ltb, le-ltb}
 use Rattle.krb_der.specs.Octets.{number}
 use Rattle.krb_der.specs.declared.profile.Profile.TheVariants.{Lenient}
@@ -15,7 +15,7 @@ use Rattle.krb_frame.specs.declared.decoder.Status.TheVariants as status
 use Rattle.krb_frame.proofs.Ends.{refused_end}
 use Rattle.krb_frame.proofs.Skips.{IsLast, entries-waiting, entries-last}
 use Rattle.krb_capture.specs.Found.{Found}
-use Rattle.krb_capture.specs.Streams.{Framed, before_frames, cut_octets, entry_found, found_with, framed, framed_entries, is_cut, is_unknown, no_frames}
+use Rattle.krb_capture.specs.Streams.{Framed, after_entries, after_entry, before_frames, cut_octets, entries_found, entry_found, found_with, framed, framed_entries, is_cut, is_unknown, messages_framed, no_frames, not_cut}
 use Rattle.krb_capture.specs.Taken.{IsDone, Waits}
 use Rattle.krb_capture.specs.declared.flow.Service.{Service}
 use Rattle.krb_capture.specs.declared.flow.Service.TheVariants as services
@@ -25,60 +25,71 @@ pub found_with-of : (service : Service) (limit : ℕ) (stream more : List ℕ) (
 unfolding found_with
 found_with-of service limit stream more xs ys e f = ap₂ (λ a b. drop (length a) b) e f ∙ drop_at xs ys (length xs) refl
 
+-- ---- frames, and others after them
+pub entries_found-append : (offset : ℕ) (xs ys : List Entry) → entries_found offset (xs ++ ys) ≡ entries_found offset xs ++ entries_found (after_entries offset xs) ys
+entries_found-append offset [] ys = refl
+entries_found-append offset (x ∷ xs) ys = ap (λ l. entry_found offset x ∷ l) (entries_found-append (after_entry offset x) xs ys)
+
+pub after_entries-append : (offset : ℕ) (xs ys : List Entry) → after_entries offset (xs ++ ys) ≡ after_entries (after_entries offset xs) ys
+after_entries-append offset [] ys = refl
+after_entries-append offset (x ∷ xs) ys = after_entries-append (after_entry offset x) xs ys
+
 -- ---- frames that are whole, or refused with a known length
 pub all_done : (xs ys : List Entry) → AllByRecursion IsDone xs → AllByRecursion IsDone ys → AllByRecursion IsDone (xs ++ ys)
 all_done [] ys d e = e
 all_done (x ∷ xs) ys d e = (d.0, all_done xs ys d.1 e)
 
-one_done : (x : Entry) (l : List Entry) → is_cut x ≡ false → is_unknown x ≡ false → framed_entries (x ∷ l) ≡ before_frames (entry_found x ∷ []) (framed_entries l)
-one_done (Contents contents) l c u = refl
-one_done (Fault place reason prefix) l c u = λ i. record {
-  found = map entry_found (cond (not (c i)) (Fault place reason prefix ∷ filter (λ entry. not (is_cut entry)) l) (filter (λ entry. not (is_cut entry)) l));
+one_done : (offset : ℕ) (x : Entry) (l : List Entry) → is_cut x ≡ false → is_unknown x ≡ false → framed_entries offset (x ∷ l) ≡ before_frames (entry_found offset x ∷ []) (framed_entries (after_entry offset x) l)
+one_done offset (Contents contents) l c u = refl
+one_done offset (Fault place reason prefix) l c u = λ i. record {
+  found = entries_found offset (cond (not (c i)) (Fault place reason prefix ∷ not_cut l) (not_cut l));
   partial = if c i then prefix else cut_octets l;
+  offset = after_entries offset (cond (not (c i)) (Fault place reason prefix ∷ not_cut l) (not_cut l));
   over = u i || list_any is_unknown l;
 }
 
-pub framed-before : (xs ys : List Entry) → AllByRecursion IsDone xs → framed_entries (xs ++ ys) ≡ before_frames (map entry_found xs) (framed_entries ys)
-framed-before [] ys d = refl
-framed-before (x ∷ xs) ys d = one_done x (xs ++ ys) d.0.0 d.0.1 ∙ ap (before_frames (entry_found x ∷ [])) (framed-before xs ys d.1)
+pub framed-before : (offset : ℕ) (xs ys : List Entry) → AllByRecursion IsDone xs → framed_entries offset (xs ++ ys) ≡ before_frames (entries_found offset xs) (framed_entries (after_entries offset xs) ys)
+framed-before offset [] ys d = refl
+framed-before offset (x ∷ xs) ys d = one_done offset x (xs ++ ys) d.0.0 d.0.1 ∙ ap (before_frames (entry_found offset x ∷ [])) (framed-before (after_entry offset x) xs ys d.1)
 
 -- ---- a decoder that waits
-cut_frame : (octets : List ℕ) (present : ℕ) → length octets ≡ present → framed_entries (Fault present why.Truncated octets ∷ []) ≡ no_frames octets
-cut_frame octets present one =
+cut_frame : (offset : ℕ) (octets : List ℕ) (present : ℕ) → length octets ≡ present → framed_entries offset (Fault present why.Truncated octets ∷ []) ≡ no_frames offset octets
+cut_frame offset octets present one =
     let c : nat_le (length octets) present ≡ true = le-leb (length octets) present (omega (arith, one)) in
     let u : nat_lt present (length octets) ≡ false = le-ltb present (length octets) (omega (arith, one)) in
     λ i. record {
-      found = map entry_found (cond (not (c i)) (Fault present why.Truncated octets ∷ []) []);
+      found = entries_found offset (cond (not (c i)) (Fault present why.Truncated octets ∷ []) []);
       partial = if c i then octets else [];
+      offset = after_entries offset (cond (not (c i)) (Fault present why.Truncated octets ∷ []) []);
       over = (u i && nat_le (2 ^ 31) (number (take 4 octets))) || false;
     }
 
-last_cut : (octets : List ℕ) (contents : List (List ℕ)) (end : End) → AreOfOne octets contents end → status_at contents end ≡ status.More → framed_entries (last_entry end octets) ≡ no_frames octets
-last_cut octets [] Boundary one e = λ i. record { found = []; partial = sym one i; over = false }
-last_cut octets [] (Within present) one e = cut_frame octets present one
-last_cut octets [] (Refused place reason) one e = absurd cc
-last_cut octets (first ∷ others) end one e = absurd cc
+last_cut : (offset : ℕ) (octets : List ℕ) (contents : List (List ℕ)) (end : End) → AreOfOne octets contents end → status_at contents end ≡ status.More → framed_entries offset (last_entry end octets) ≡ no_frames offset octets
+last_cut offset octets [] Boundary one e = λ i. record { found = []; partial = sym one i; offset = offset; over = false }
+last_cut offset octets [] (Within present) one e = cut_frame offset octets present one
+last_cut offset octets [] (Refused place reason) one e = absurd cc
+last_cut offset octets (first ∷ others) end one e = absurd cc
 
-pub framed-waiting : (limit : ℕ) (s : Skipping) (stream : List ℕ) (w : Waits s stream) → s.current.limit ≡ limit → framed services.Kerberos limit stream ≡ before_frames (map entry_found w.before) (no_frames s.current.octets)
-unfolding framed found
+pub framed-waiting : (limit : ℕ) (s : Skipping) (stream : List ℕ) (w : Waits s stream) → s.current.limit ≡ limit → framed services.Kerberos limit stream ≡ before_frames (entries_found 0 w.before) (no_frames (after_entries 0 w.before) s.current.octets)
+unfolding messages_framed found
 framed-waiting limit s stream w l =
     let f = found (messages Lenient) s.current in
-    ap (λ n. framed_entries (entries (messages Lenient) n stream)) (sym l)
-    ∙ ap framed_entries (entries-waiting (messages Lenient) s stream w.before w.goes_on w.waits)
-    ∙ framed-before w.before (last_entry f.end s.current.octets) w.done
-    ∙ ap (before_frames (map entry_found w.before)) (last_cut s.current.octets f.contents f.end w.goes_on.one w.waits)
+    ap (λ n. framed_entries 0 (entries (messages Lenient) n stream)) (sym l)
+    ∙ ap (framed_entries 0) (entries-waiting (messages Lenient) s stream w.before w.goes_on w.waits)
+    ∙ framed-before 0 w.before (last_entry f.end s.current.octets) w.done
+    ∙ ap (before_frames (entries_found 0 w.before)) (last_cut (after_entries 0 w.before) s.current.octets f.contents f.end w.goes_on.one w.waits)
 
-pub found-waiting : (limit : ℕ) (s : Skipping) (stream : List ℕ) (w : Waits s stream) → s.current.limit ≡ limit → (framed services.Kerberos limit stream).found ≡ map entry_found w.before
-found-waiting limit s stream w l = ap (λ (f : Framed). f.found) (framed-waiting limit s stream w l) ∙ append-nil (map entry_found w.before)
+pub found-waiting : (limit : ℕ) (s : Skipping) (stream : List ℕ) (w : Waits s stream) → s.current.limit ≡ limit → (framed services.Kerberos limit stream).found ≡ entries_found 0 w.before
+found-waiting limit s stream w l = ap (λ (f : Framed). f.found) (framed-waiting limit s stream w l) ∙ append-nil (entries_found 0 w.before)
 
 -- whatever follows
-pub found-more : (limit : ℕ) (s : Skipping) (stream : List ℕ) (w : Waits s stream) → s.current.limit ≡ limit → (more : List ℕ) → (framed services.Kerberos limit (stream ++ more)).found ≡ map entry_found w.before ++ (framed services.Kerberos limit (s.current.octets ++ drop s.skipped more)).found
-unfolding framed
+pub found-more : (limit : ℕ) (s : Skipping) (stream : List ℕ) (w : Waits s stream) → s.current.limit ≡ limit → (more : List ℕ) → (framed services.Kerberos limit (stream ++ more)).found ≡ entries_found 0 w.before ++ (framed_entries (after_entries 0 w.before) (entries (messages Lenient) limit (s.current.octets ++ drop s.skipped more))).found
+unfolding messages_framed
 found-more limit s stream w l more =
-    ap (λ n. (framed_entries (entries (messages Lenient) n (stream ++ more))).found) (sym l)
-    ∙ ap (λ e. (framed_entries e).found) (w.goes_on.goes_on more)
-    ∙ ap (λ (f : Framed). f.found) (framed-before w.before (entries (messages Lenient) s.current.limit (s.current.octets ++ drop s.skipped more)) w.done)
-    ∙ ap (λ n. map entry_found w.before ++ (framed_entries (entries (messages Lenient) n (s.current.octets ++ drop s.skipped more))).found) l
+    ap (λ n. (framed_entries 0 (entries (messages Lenient) n (stream ++ more))).found) (sym l)
+    ∙ ap (λ e. (framed_entries 0 e).found) (w.goes_on.goes_on more)
+    ∙ ap (λ (f : Framed). f.found) (framed-before 0 w.before (entries (messages Lenient) s.current.limit (s.current.octets ++ drop s.skipped more)) w.done)
+    ∙ ap (λ n. entries_found 0 w.before ++ (framed_entries (after_entries 0 w.before) (entries (messages Lenient) n (s.current.octets ++ drop s.skipped more))).found) l
 
 -- ---- a frame whose length is not known
 unknown_big : (size used : ℕ) → rest_of size used ≡ None → 2 ^ 31 ≤ size
@@ -95,28 +106,33 @@ entry_at Boundary octets = Fault 0 why.Truncated octets
 entry_at (Within present) octets = Fault present why.Truncated octets
 entry_at (Refused place reason) octets = Fault place reason octets
 
-last_frame : (octets : List ℕ) → length octets ≡ 3 + 1 → 2 ^ 31 ≤ number (take 4 octets) → framed_entries (Fault 3 why.HighBit octets ∷ []) ≡ record { found = entry_found (Fault 3 why.HighBit octets) ∷ []; partial = []; over = true }
-last_frame octets four big =
+-- nothing follows it
+abbrev alone : ℕ → Entry → Framed
+alone offset last = record { found = entry_found offset last ∷ []; partial = []; offset = after_entry offset last; over = true }
+
+last_frame : (offset : ℕ) (octets : List ℕ) → length octets ≡ 3 + 1 → 2 ^ 31 ≤ number (take 4 octets) → framed_entries offset (Fault 3 why.HighBit octets ∷ []) ≡ alone offset (Fault 3 why.HighBit octets)
+last_frame offset octets four big =
     let c : nat_le (length octets) 3 ≡ false = lt-leb (length octets) 3 (omega (arith, four)) in
     let u : nat_lt 3 (length octets) ≡ true = lt-ltb 3 (length octets) (omega (arith, four)) in
     let b : nat_le (2 ^ 31) (number (take 4 octets)) ≡ true = le-leb (2 ^ 31) (number (take 4 octets)) big in
     λ i. record {
-      found = map entry_found (cond (not (c i)) (Fault 3 why.HighBit octets ∷ []) []);
+      found = entries_found offset (cond (not (c i)) (Fault 3 why.HighBit octets ∷ []) []);
       partial = if c i then octets else [];
+      offset = after_entries offset (cond (not (c i)) (Fault 3 why.HighBit octets ∷ []) []);
       over = (u i && b i) || false;
     }
 
 abbrev pub last_framed : List Entry → Refusal → List ℕ → Framed
-last_framed before refusal octets = before_frames (map entry_found before) (record { found = entry_found (Fault refusal.place refusal.why octets) ∷ []; partial = []; over = true })
+last_framed before refusal octets = before_frames (entries_found 0 before) (alone (after_entries 0 before) (Fault refusal.place refusal.why octets))
 
 pub framed-last : (limit : ℕ) (s : Skipping) (stream : List ℕ) (before : List Entry) (refusal : Refusal) → s.current.limit ≡ limit → AllByRecursion IsDone before → GoesOn (messages Lenient) s stream before → status_of (messages Lenient) s.current ≡ status.Refused refusal → rest_to_come (messages Lenient) s.current ≡ None → (more : List ℕ) → framed services.Kerberos limit (stream ++ more) ≡ last_framed before refusal s.current.octets
-unfolding framed found
+unfolding messages_framed found
 framed-last limit s stream before refusal l done g st none more =
-    ap (λ n. framed_entries (entries (messages Lenient) n (stream ++ more))) (sym l)
-    ∙ ap framed_entries (last.last more)
-    ∙ framed-before before (Fault 3 why.HighBit octets ∷ []) done
-    ∙ ap (before_frames (map entry_found before)) (last_frame octets four big)
-    ∙ ap (λ e. before_frames (map entry_found before) (record { found = entry_found e ∷ []; partial = []; over = true })) same
+    ap (λ n. framed_entries 0 (entries (messages Lenient) n (stream ++ more))) (sym l)
+    ∙ ap (framed_entries 0) (last.last more)
+    ∙ framed-before 0 before (Fault 3 why.HighBit octets ∷ []) done
+    ∙ ap (before_frames (entries_found 0 before)) (last_frame (after_entries 0 before) octets four big)
+    ∙ ap (λ e. before_frames (entries_found 0 before) (alone (after_entries 0 before) e)) same
   where
     octets : List ℕ
     octets = s.current.octets

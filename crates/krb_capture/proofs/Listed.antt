@@ -1,15 +1,16 @@
 -- Frames listed one after another.
-use Rattle.std.proofs.Common.{◌≡◌, ℕ, ◌+◌, ◌^◌, ◌<◌, ◌≤◌, inl, inr, Bool, true, false, List, [], ◌∷◌, ◌++◌, length, map, take, drop, Some, None, refl, sym, ◌∙◌, ap, subst, arith, append_assoc, append-nil, take-append-drop, length-append}
-use Rattle.std.specs.Prelude.{Option, is_some, ◌&&◌, nat_le, nat_lt, if◌then◌else◌}
+use Rattle.std.proofs.Common.{◌≡◌, ℕ, ◌+◌, ◌^◌, ◌<◌, ◌≤◌, inl, inr, Bool, true, false, List, [], ◌∷◌, ◌++◌, length, take, drop, Some, None, refl, sym, ◌∙◌, ap, subst, arith, append_assoc, append-nil, take-append-drop, length-append}
+use Rattle.std.specs.Prelude.{Option, is_some, ◌-◌, ◌&&◌, nat_le, nat_lt, if◌then◌else◌}
+use Rattle.std.specs.Option.{unwrap_or}
 use Rattle.std.proofs.lemmas.Bool.{cases_lt, lt-leb, le-leb}
-use Rattle.std.proofs.lemmas.List.{drop_all, map-append}
+use Rattle.std.proofs.lemmas.List.{drop_all}
 use Rattle.krb_der.specs.Octets.{number}
 use Rattle.krb_der.specs.declared.verdict.Refusal.{Refusal}
 use Rattle.krb_msg.specs.Grammar.{messages}
 use Rattle.krb_msg.specs.ViewValues.{IsMessageView, message_of_view}
 use Rattle.krb_msg.specs.Stream.{Refused}
 use Rattle.krb_msg.specs.declared.message_view.MessageView.{MessageView}
-use Rattle.krb_frame.specs.Decoding.{AreOfOne, Decoding, borrowed, found, status_of}
+use Rattle.krb_frame.specs.Decoding.{AreOfOne, Decoding, announced, borrowed, found, status_of}
 use Rattle.krb_frame.specs.Frame.{framed}
 use Rattle.krb_frame.specs.GoingOn.{Entry, Contents, Fault, Skipping, GoesOn, FeedsAfter, PassesEntry, ClearsEntry, GivesUp, Skips, rest_of, rest_at, rest_to_come}
 use Rattle.krb_frame.specs.Passes.{contents_of}
@@ -17,61 +18,71 @@ use Rattle.krb_frame.specs.declared.decoder.Fed.{Fed}
 use Rattle.krb_frame.specs.declared.decoder.Status.TheVariants as status
 use Rattle.krb_frame.specs.declared.pass.Passed.{Passed}
 use Rattle.krb_frame.proofs.Ends.{refused_end}
+use Rattle.krb_frame.proofs.Announced.{announced-size, refused-four}
 use Rattle.krb_frame.proofs.DecoderFrames.{more-nothing}
 use Rattle.krb_text.specs.declared.origin.Origin.{Origin}
-use Rattle.krb_capture.specs.Found.{Whole, Written, with_all, with_found}
+use Rattle.krb_capture.specs.Found.{Whole, Written, and_more, with_all, with_found}
 use Rattle.krb_capture.specs.Listed.{Lists, ListsPrefix, ListsLast, ListsOne, ListsRefused, ListsUpTo, status_in}
-use Rattle.krb_capture.specs.Streams.{entry_found}
+use Rattle.krb_capture.specs.Streams.{after_entries, entries_found, entry_found}
 use Rattle.krb_capture.specs.Taken.{IsDone}
 use Rattle.krb_capture.proofs.Found.{with_all-append}
-use Rattle.krb_capture.proofs.Framed.{all_done}
+use Rattle.krb_capture.specs.declared.message_frames.Placed.{Placed}
+use Rattle.krb_capture.proofs.Framed.{after_entries-append, all_done, entries_found-append}
 
 -- ---- none
-pub lists-none : (s : Skipping) (origin : Origin) (w : Written) → Lists s s [] origin w w
+pub lists-none : (s : Placed) (origin : Origin) (w : Written) → Lists s s [] origin w w
 lists-none s origin w = record {
   frames = [];
   done = λ stream first g. tt;
   listed = refl;
+  offset = refl;
   profile = refl;
   limit = refl;
-  goes_on = λ stream first g. subst (λ l. GoesOn (messages s.current.profile) s l (first ++ [])) (sym (append-nil stream)) (subst (GoesOn (messages s.current.profile) s stream) (sym (append-nil first)) g);
+  goes_on = λ stream first g. subst (λ l. GoesOn (messages s.decoder.current.profile) s.decoder l (first ++ [])) (sym (append-nil stream)) (subst (GoesOn (messages s.decoder.current.profile) s.decoder stream) (sym (append-nil first)) g);
 }
 
-pub lists-fed : (old new : Skipping) (piece : List ℕ) (fed : Fed) (origin : Origin) (w : Written) → FeedsAfter (messages old.current.profile) old piece new fed → Lists old new (take fed.used piece) origin w w
+-- the decoder was fed
+abbrev pub with_decoder : Placed → Skipping → Placed
+with_decoder placed decoder = record { decoder = decoder; offset = placed.offset }
+
+pub lists-fed : (old : Placed) (new : Skipping) (piece : List ℕ) (fed : Fed) (origin : Origin) (w : Written) → FeedsAfter (messages old.decoder.current.profile) old.decoder piece new fed → Lists old (with_decoder old new) (take fed.used piece) origin w w
 lists-fed old new piece fed origin w f = record {
   frames = [];
   done = λ stream first g. tt;
   listed = refl;
+  offset = refl;
   profile = f.others.same_profile;
   limit = f.others.same_limit;
-  goes_on = λ stream first g. subst (GoesOn (messages old.current.profile) new (stream ++ take fed.used piece)) (sym (append-nil first)) (f.goes_on stream first g);
+  goes_on = λ stream first g. subst (GoesOn (messages old.decoder.current.profile) new (stream ++ take fed.used piece)) (sym (append-nil first)) (f.goes_on stream first g);
 }
 
 -- ---- some and then others
-pub lists-both : (a b c : Skipping) (xs ys : List ℕ) (origin : Origin) (u v w : Written) → Lists a b xs origin u v → Lists b c ys origin v w → Lists a c (xs ++ ys) origin u w
+pub lists-both : (a b c : Placed) (xs ys : List ℕ) (origin : Origin) (u v w : Written) → Lists a b xs origin u v → Lists b c ys origin v w → Lists a c (xs ++ ys) origin u w
 lists-both a b c xs ys origin u v w l m = record {
   frames = l.frames ++ m.frames;
   done = λ stream first g. all_done l.frames m.frames (l.done stream first g) (m.done (stream ++ xs) (first ++ l.frames) (between stream first g));
   listed =
       m.listed
-      ∙ ap (with_all origin (map entry_found m.frames)) l.listed
-      ∙ sym (with_all-append origin (map entry_found l.frames) (map entry_found m.frames) u)
-      ∙ ap (λ x. with_all origin x u) (sym (map-append entry_found l.frames m.frames));
+      ∙ ap (λ n. with_all origin (entries_found n m.frames) v) l.offset
+      ∙ ap (with_all origin (entries_found (after_entries a.offset l.frames) m.frames)) l.listed
+      ∙ sym (with_all-append origin (entries_found a.offset l.frames) (entries_found (after_entries a.offset l.frames) m.frames) u)
+      ∙ ap (λ x. with_all origin x u) (sym (entries_found-append a.offset l.frames m.frames));
+  offset = m.offset ∙ ap (λ n. after_entries n m.frames) l.offset ∙ sym (after_entries-append a.offset l.frames m.frames);
   profile = m.profile ∙ l.profile;
   limit = m.limit ∙ l.limit;
   goes_on = λ stream first g.
-      subst (λ s. GoesOn (messages a.current.profile) c s (first ++ (l.frames ++ m.frames))) (append_assoc stream xs ys)
-      (subst (GoesOn (messages a.current.profile) c ((stream ++ xs) ++ ys)) (append_assoc first l.frames m.frames)
-      (subst (λ p. GoesOn (messages p) c ((stream ++ xs) ++ ys) ((first ++ l.frames) ++ m.frames)) l.profile (m.goes_on (stream ++ xs) (first ++ l.frames) (between stream first g))));
+      subst (λ s. GoesOn (messages a.decoder.current.profile) c.decoder s (first ++ (l.frames ++ m.frames))) (append_assoc stream xs ys)
+      (subst (GoesOn (messages a.decoder.current.profile) c.decoder ((stream ++ xs) ++ ys)) (append_assoc first l.frames m.frames)
+      (subst (λ p. GoesOn (messages p) c.decoder ((stream ++ xs) ++ ys) ((first ++ l.frames) ++ m.frames)) l.profile (m.goes_on (stream ++ xs) (first ++ l.frames) (between stream first g))));
 }
   where
-    between : (stream : List ℕ) (first : List Entry) → GoesOn (messages a.current.profile) a stream first → GoesOn (messages b.current.profile) b (stream ++ xs) (first ++ l.frames)
-    between stream first g = subst (λ p. GoesOn (messages p) b (stream ++ xs) (first ++ l.frames)) (sym l.profile) (l.goes_on stream first g)
+    between : (stream : List ℕ) (first : List Entry) → GoesOn (messages a.decoder.current.profile) a.decoder stream first → GoesOn (messages b.decoder.current.profile) b.decoder (stream ++ xs) (first ++ l.frames)
+    between stream first g = subst (λ p. GoesOn (messages p) b.decoder (stream ++ xs) (first ++ l.frames)) (sym l.profile) (l.goes_on stream first g)
 
-pub prefix-start : (s : Skipping) (piece : List ℕ) (origin : Origin) (w : Written) → ListsPrefix s s piece piece origin w w
+pub prefix-start : (s : Placed) (piece : List ℕ) (origin : Origin) (w : Written) → ListsPrefix s s piece piece origin w w
 prefix-start s piece origin w = record { used = []; parts = refl; lists = lists-none s origin w }
 
-pub prefix-more : (a b c : Skipping) (piece rest : List ℕ) (n : ℕ) (origin : Origin) (u v w : Written) → ListsPrefix a b piece rest origin u v → Lists b c (take n rest) origin v w → ListsPrefix a c piece (drop n rest) origin u w
+pub prefix-more : (a b c : Placed) (piece rest : List ℕ) (n : ℕ) (origin : Origin) (u v w : Written) → ListsPrefix a b piece rest origin u v → Lists b c (take n rest) origin v w → ListsPrefix a c piece (drop n rest) origin u w
 prefix-more a b c piece rest n origin u v w l m = record {
   used = l.used ++ take n rest;
   parts = l.parts ∙ ap (λ x. l.used ++ x) (sym (take-append-drop n rest)) ∙ sym (append_assoc l.used (take n rest) (drop n rest));
@@ -79,18 +90,18 @@ prefix-more a b c piece rest n origin u v w l m = record {
 }
 
 -- a prefix of the rest, and then the rest of that
-pub prefix-both : (a b c : Skipping) (piece rest others : List ℕ) (origin : Origin) (u v w : Written) → ListsPrefix a b piece rest origin u v → ListsPrefix b c rest others origin v w → ListsPrefix a c piece others origin u w
+pub prefix-both : (a b c : Placed) (piece rest others : List ℕ) (origin : Origin) (u v w : Written) → ListsPrefix a b piece rest origin u v → ListsPrefix b c rest others origin v w → ListsPrefix a c piece others origin u w
 prefix-both a b c piece rest others origin u v w l m = record {
   used = l.used ++ m.used;
   parts = l.parts ∙ ap (λ x. l.used ++ x) m.parts ∙ sym (append_assoc l.used m.used others);
   lists = lists-both a b c l.used m.used origin u v w l.lists m.lists;
 }
 
-pub prefix_shorter : (a b : Skipping) (piece rest : List ℕ) (origin : Origin) (u v : Written) → ListsPrefix a b piece rest origin u v → length rest ≤ length piece
+pub prefix_shorter : (a b : Placed) (piece rest : List ℕ) (origin : Origin) (u v : Written) → ListsPrefix a b piece rest origin u v → length rest ≤ length piece
 prefix_shorter a b piece rest origin u v l = omega (arith, ap length l.parts, length-append l.used rest)
 
 -- one frame after octets
-pub prefix-one : (a b c : Skipping) (piece rest : List ℕ) (origin : Origin) (u v w : Written) → ListsPrefix a b piece rest origin u v → ListsOne b c origin v w → ListsPrefix a c piece rest origin u w
+pub prefix-one : (a b c : Placed) (piece rest : List ℕ) (origin : Origin) (u v w : Written) → ListsPrefix a b piece rest origin u v → ListsOne b c origin v w → ListsPrefix a c piece rest origin u w
 prefix-one a b c piece rest origin u v w l m = record {
   used = l.used;
   parts = l.parts;
@@ -98,23 +109,27 @@ prefix-one a b c piece rest origin u v w l m = record {
 }
 
 -- all of a piece
-pub prefix-all : (a b : Skipping) (piece rest : List ℕ) (n : ℕ) (origin : Origin) (u v : Written) → ListsPrefix a b piece (drop n rest) origin u v → length rest ≤ n → Lists a b piece origin u v
+pub prefix-all : (a b : Placed) (piece rest : List ℕ) (n : ℕ) (origin : Origin) (u v : Written) → ListsPrefix a b piece (drop n rest) origin u v → length rest ≤ n → Lists a b piece origin u v
 prefix-all a b piece rest n origin u v l h = subst (λ x. Lists a b x origin u v) (sym (l.parts ∙ ap (λ x. l.used ++ x) (drop_all n rest h) ∙ append-nil l.used)) l.lists
 
 -- ---- the frame that is passed
-pub prefix-passed : (s : Skipping) (piece : List ℕ) (passed : Passed) (origin : Origin) (before after : Written) → PassesEntry (messages s.current.profile) s piece passed → after ≡ with_found origin (Whole (message_of_view passed.message)) before → ListsPrefix s s piece passed.rest.now origin before after
-prefix-passed s piece passed origin before after p l = record {
+pub prefix-passed : (old new : Placed) (piece : List ℕ) (passed : Passed) (origin : Origin) (before after : Written) → new.decoder ≡ old.decoder → new.offset ≡ and_more old.offset (length piece - length passed.rest.now) → PassesEntry (messages old.decoder.current.profile) old.decoder piece passed → after ≡ with_found origin (Whole (message_of_view passed.message)) before → ListsPrefix old new piece passed.rest.now origin before after
+prefix-passed old new piece passed origin before after same moved p l = record {
   used = framed (contents_of passed);
   parts = p.passes.parts;
   lists = record {
     frames = Contents (contents_of passed) ∷ [];
     done = λ stream first g. ((refl, refl), tt);
     listed = l ∙ ap (λ m. with_found origin (Whole m) before) p.passes.view.read;
-    profile = refl;
-    limit = refl;
-    goes_on = p.goes_on;
+    offset = moved ∙ ap (and_more old.offset) (frame_size piece (contents_of passed) passed.rest.now p.passes.parts);
+    profile = ap (λ (s : Skipping). s.current.profile) same;
+    limit = ap (λ (s : Skipping). s.current.limit) same;
+    goes_on = λ stream first g. subst (λ s. GoesOn (messages old.decoder.current.profile) s (stream ++ framed (contents_of passed)) (first ++ Contents (contents_of passed) ∷ [])) (sym same) (p.goes_on stream first g);
   };
 }
+  where
+    frame_size : (piece contents rest : List ℕ) → piece ≡ framed contents ++ rest → length piece - length rest ≡ 4 + length contents
+    frame_size piece contents rest parts = omega (arith, ap length parts, length-append (framed contents) rest)
 
 pub passed_shorter : (s : Skipping) (piece : List ℕ) (passed : Passed) → PassesEntry (messages s.current.profile) s piece passed → length passed.rest.now < length piece
 passed_shorter s piece passed p = omega (arith, ap length p.passes.parts, length-append (framed (contents_of passed)) passed.rest.now)
@@ -126,19 +141,20 @@ cleared_is old new answer contents c e = c.clears.left ∙ ap (λ (o : Option (L
 left_waits : (old new : Skipping) → new.current ≡ record old.current { octets = []; capacity = new.current.capacity } → status_in new ≡ status.More
 left_waits old new e = ap (λ (d : Decoding). status_of (messages d.profile) d) e ∙ more-nothing (messages old.current.profile) old.current.profile old.current.limit old.current.looks new.current.capacity
 
-pub lists-ready : (old new : Skipping) (answer : Bool) (contents : List ℕ) (view : MessageView) (origin : Origin) (before after : Written) → borrowed (messages old.current.profile) old.current ≡ Some contents → ClearsEntry (messages old.current.profile) old new answer → IsMessageView contents view → after ≡ with_found origin (Whole (message_of_view view)) before → ListsOne old new origin before after
-lists-ready old new answer contents view origin before after b c v l =
-    let left = cleared_is old new answer contents c b in
+pub lists-ready : (old new : Placed) (answer : Bool) (contents : List ℕ) (view : MessageView) (origin : Origin) (before after : Written) → borrowed (messages old.decoder.current.profile) old.decoder.current ≡ Some contents → new.offset ≡ and_more old.offset (4 + length contents) → ClearsEntry (messages old.decoder.current.profile) old.decoder new.decoder answer → IsMessageView contents view → after ≡ with_found origin (Whole (message_of_view view)) before → ListsOne old new origin before after
+lists-ready old new answer contents view origin before after b moved c v l =
+    let left = cleared_is old.decoder new.decoder answer contents c b in
     record {
       lists = record {
         frames = Contents contents ∷ [];
         done = λ stream first g. ((refl, refl), tt);
         listed = l ∙ ap (λ m. with_found origin (Whole m) before) v.read;
+        offset = moved;
         profile = ap (λ (d : Decoding). d.profile) left;
         limit = ap (λ (d : Decoding). d.limit) left;
-        goes_on = λ stream first g. subst (λ s. GoesOn (messages old.current.profile) new s (first ++ Contents contents ∷ [])) (sym (append-nil stream)) (c.goes_on stream contents first g b);
+        goes_on = λ stream first g. subst (λ s. GoesOn (messages old.decoder.current.profile) new.decoder s (first ++ Contents contents ∷ [])) (sym (append-nil stream)) (c.goes_on stream contents first g b);
       };
-      waits = left_waits old new left;
+      waits = left_waits old.decoder new.decoder left;
     }
 
 -- ---- a frame that is refused
@@ -188,27 +204,29 @@ refused_done old refusal stream first st s g = (cut, and_false (nat_lt refusal.p
     known : nat_le (2 ^ 31) (number (take 4 octets)) ≡ false
     known = known_length (number (take 4 octets)) (length octets) (s ∙ ap (λ t. is_some (rest_at t octets)) st)
 
-pub lists-refused : (old new : Skipping) (refusal : Refusal) (skipped : Bool) (origin : Origin) (before after : Written) → status_in old ≡ status.Refused refusal → Skips (messages old.current.profile) old new skipped → after ≡ with_found origin (entry_found (Fault refusal.place refusal.why old.current.octets)) before → ListsRefused skipped old refusal new origin before after
-lists-refused old new refusal false origin before after st s l =
-    let none = none_of (rest_to_come (messages old.current.profile) old.current) s.is_known in
-    (s.none none, record { refused = st; unknown = none; listed = l })
-lists-refused old new refusal true origin before after st s l =
-    let o = some_of (rest_to_come (messages old.current.profile) old.current) s.is_known in
-    let left : new.current ≡ record old.current { octets = []; capacity = new.current.capacity } = (subst (GivesUp (messages old.current.profile) old.current new.current) o.1 s.gives_up).left in
+pub lists-refused : (old new : Placed) (refusal : Refusal) (skipped : Bool) (origin : Origin) (before after : Written) → status_in old.decoder ≡ status.Refused refusal → Skips (messages old.decoder.current.profile) old.decoder new.decoder skipped → new.offset ≡ (if skipped then and_more old.offset (4 + unwrap_or (announced old.decoder.current.octets) 0) else old.offset) → after ≡ with_found origin (entry_found old.offset (Fault refusal.place refusal.why old.decoder.current.octets)) before → ListsRefused skipped old refusal new origin before after
+lists-refused old new refusal false origin before after st s moved l =
+    let none = none_of (rest_to_come (messages old.decoder.current.profile) old.decoder.current) s.is_known in
+    ((λ i. record { decoder = s.none none i; offset = moved i }), record { refused = st; unknown = none; listed = l })
+lists-refused old new refusal true origin before after st s moved l =
+    let d : Decoding = old.decoder.current in
+    let o = some_of (rest_to_come (messages d.profile) d) s.is_known in
+    let left : new.decoder.current ≡ record d { octets = []; capacity = new.decoder.current.capacity } = (subst (GivesUp (messages d.profile) d new.decoder.current) o.1 s.gives_up).left in
     record {
       lists = record {
-        frames = Fault refusal.place refusal.why old.current.octets ∷ [];
-        done = λ stream first g. (refused_done old refusal stream first st s.is_known g, tt);
+        frames = Fault refusal.place refusal.why d.octets ∷ [];
+        done = λ stream first g. (refused_done old.decoder refusal stream first st s.is_known g, tt);
         listed = l;
+        offset = moved ∙ ap (λ n. and_more old.offset (4 + n)) (announced-size d.octets (refused-four (messages d.profile) d refusal st));
         profile = ap (λ (d : Decoding). d.profile) left;
         limit = ap (λ (d : Decoding). d.limit) left;
-        goes_on = λ stream first g. subst (λ t. GoesOn (messages old.current.profile) new t (first ++ Fault refusal.place refusal.why old.current.octets ∷ [])) (sym (append-nil stream)) (s.goes_on stream first refusal.place refusal.why g st refl);
+        goes_on = λ stream first g. subst (λ t. GoesOn (messages d.profile) new.decoder t (first ++ Fault refusal.place refusal.why d.octets ∷ [])) (sym (append-nil stream)) (s.goes_on stream first refusal.place refusal.why g st refl);
       };
-      waits = left_waits old new left;
+      waits = left_waits old.decoder new.decoder left;
     }
 
 -- ---- the octets before a rest
-pub up-to : (limit : ℕ) (old new : Skipping) (piece rest : List ℕ) (origin : Origin) (before after : Written) → ListsPrefix old new piece rest origin before after → status_in new ≡ status.More → ListsUpTo limit rest old new piece origin before after
+pub up-to : (limit : ℕ) (old new : Placed) (piece rest : List ℕ) (origin : Origin) (before after : Written) → ListsPrefix old new piece rest origin before after → status_in new.decoder ≡ status.More → ListsUpTo limit rest old new piece origin before after
 up-to limit old new piece rest origin before after l e = record {
   used = l.used;
   parts = l.parts;
@@ -216,11 +234,11 @@ up-to limit old new piece rest origin before after l e = record {
 }
 
 -- ---- what becomes of a frame that is refused
-pub one-of : (old new : Skipping) (origin : Origin) (before after : Written) (refusal : Refusal) (skipped : Bool) → skipped ≡ true → ListsRefused skipped old refusal new origin before after → ListsOne old new origin before after
+pub one-of : (old new : Placed) (origin : Origin) (before after : Written) (refusal : Refusal) (skipped : Bool) → skipped ≡ true → ListsRefused skipped old refusal new origin before after → ListsOne old new origin before after
 one-of old new origin before after refusal true e l = l
 one-of old new origin before after refusal false e l = absurd cc
 
-pub last-of : (a b c : Skipping) (piece rest : List ℕ) (origin : Origin) (u v w : Written) (refusal : Refusal) (skipped : Bool) → ListsPrefix a b piece rest origin u v → skipped ≡ false → ListsRefused skipped b refusal c origin v w → ListsLast a c piece origin u w
+pub last-of : (a b c : Placed) (piece rest : List ℕ) (origin : Origin) (u v w : Written) (refusal : Refusal) (skipped : Bool) → ListsPrefix a b piece rest origin u v → skipped ≡ false → ListsRefused skipped b refusal c origin v w → ListsLast a c piece origin u w
 last-of a b c piece rest origin u v w refusal true prefix e l = absurd cc
 last-of a b c piece rest origin u v w refusal false prefix e l =
     subst (λ d. ListsLast a d piece origin u w) (sym l.0) (record { rest = rest; between = v; refusal = refusal; prefix = prefix; stopped = l.1 })

@@ -1,9 +1,9 @@
 -- The packets of a file are numbered in order.
-use Rattle.std.proofs.Common.{◌≡◌, ℕ, zero, suc, ◌+◌, Bool, true, false, List, [], length, Option, Some, None, Result, Ok, Err, refl, sym, subst, arith}
+use Rattle.std.proofs.Common.{◌≡◌, ℕ, zero, suc, ◌+◌, ◌-◌, Bool, true, false, List, [], length, Option, Some, None, Result, Ok, Err, refl, sym, subst, arith}
 use Rattle.krb_der.specs.Octets.{when}
 use Rattle.std.specs.Int.{w16, w32}
 use Rattle.krb_file.specs.FieldReaders.{skipped_at}
-use Rattle.krb_file.specs.Fields.{Bounds, Fault, Source, ended, is_empty, limited, octets_at, source_of}
+use Rattle.krb_file.specs.Fields.{Bounds, Fault, Source, begun_at, ended, is_empty, limited, octets_at, source_of}
 use Rattle.krb_file.specs.Fields.{and_then as read_onward}
 use Rattle.krb_packet.specs.declared.block.BlockKind.{BlockKind}
 use Rattle.krb_packet.specs.declared.block.BlockKind.TheVariants as kinds
@@ -30,7 +30,7 @@ use Rattle.krb_packet.specs.Bodies.{announced, content_at, enhanced_packet_at, f
 use Rattle.krb_packet.specs.Interfaces.{interface_at}
 use Rattle.krb_packet.specs.Numbers.{checked_number, number_in, refused_at}
 use Rattle.krb_packet.specs.Captures.{after_magic, after_packet, begin_in, header_in, next_in, packet_in, packets_from, packets_within, with_others}
-use Rattle.krb_packet.specs.Parsers.{Refusal, and_then, named, naming}
+use Rattle.krb_packet.specs.Parsers.{Refusal, and_then, named, naming, part_at}
 use Rattle.krb_packet.specs.Pcaps.{magic_at, most_captured, next_at, packet_at, packet_head_at}
 use Rattle.krb_capture.specs.WholeCaptures.{AreNumbered, PacketsAreNumbered}
 
@@ -64,6 +64,14 @@ on_naming : {A : Type 0} (P : A → Type 0) (field_of : ℕ → CaptureField) (r
 on_naming P field_of (Ok read) p = record { is = p.is }
 on_naming P field_of (Err fault) p = record { is = tt }
 
+on_begun : {A : Type 0} (P : A → Type 0) (place : ℕ) (r : Result (A × Source) Fault) → OnRead P r → OnRead P (begun_at place r)
+on_begun P place (Ok read) p = record { is = p.is }
+on_begun P place (Err fault) p = record { is = tt }
+
+on_part : {A : Type 0} (P : A → Type 0) (place : ℕ) (r : Result (A × Source) Refusal) → OnRead P r → OnRead P (part_at place r)
+on_part P place (Ok read) p = record { is = p.is }
+on_part P place (Err refusal) p = record { is = tt }
+
 -- ---- the packet after `count` others
 module _ (count : ℕ) where
   abbrev IsNext : Packet → Type 0
@@ -96,7 +104,7 @@ module _ (count : ℕ) where
       by false = read_from IsNext IfPacket (packet_at header count bounds source) (λ read. Ok (Some read.0, read.1)) (packet-read header bounds source) (λ read p. record { is = p })
 
   pcap-next : (header : Header) (bounds : Bounds) (source : Source) → OnRead IfNext (next_in (formats.Pcap header) count bounds source)
-  pcap-next header bounds source = parsed_from IfPacket IfNext (packet_in header count bounds source) (λ read. Ok (after_packet header read.0, read.1)) (on_naming IfPacket _ (next_at header count bounds source) (next-read header bounds source)) (λ read p. record { is = by read.0 p })
+  pcap-next header bounds source = parsed_from IfPacket IfNext (packet_in header count bounds source) (λ read. Ok (after_packet header read.0, read.1)) (on_naming IfPacket _ (begun_at source.place (next_at header count bounds source)) (on_begun IfPacket source.place (next_at header count bounds source) (next-read header bounds source))) (λ read p. record { is = by read.0 p })
     where
       by : (packet : Option Packet) → IfPacket packet → IfNext (after_packet header packet)
       by None p = tt
@@ -152,7 +160,7 @@ module _ (count : ℕ) where
     block-content kind source = parsed_next IfContent (head_in kind section bounds source) _ (λ head. parsed_from IfContent IfContent (body_in kind section count (source.place + 4) head.0 bounds head.1) _ (any-body kind (source.place + 4) head.0 head.1) (λ content p. parsed_next IfContent (end_in section.blocks head.0 bounds content.1) _ (λ same. record { is = p })))
 
     block-next : (kind : BlockKind) (source : Source) → OnRead IfNext (block_after kind section count bounds source)
-    block-next kind source = parsed_from IfContent IfNext (block_in kind section count bounds source) (λ read. Ok (after_content section read.0, read.1)) (block-content kind source) (λ read p. record { is = by read.0 p })
+    block-next kind source = parsed_from IfContent IfNext (part_at (source.place - 4) (block_in kind section count bounds source)) (λ read. Ok (after_content section read.0, read.1)) (on_part IfContent (source.place - 4) (block_in kind section count bounds source) (block-content kind source)) (λ read p. record { is = by read.0 p })
       where
         by : (content : Content) → IfContent content → IfNext (after_content section content)
         by (contents.Section order) p = tt

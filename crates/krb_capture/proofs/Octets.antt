@@ -6,7 +6,7 @@ use Rattle.krb_der.specs.Octets.{number}
 use Rattle.krb_text.specs.declared.origin.Origin.{Origin}
 use Rattle.krb_capture.specs.Found.{Written, with_all}
 use Rattle.krb_capture.specs.Passed.{Holds, ListsWhole, TakesPasswords}
-use Rattle.krb_capture.specs.Streams.{before_frames, found_with, framed}
+use Rattle.krb_capture.specs.Streams.{before_frames, found_with, framed, passwords_framed}
 use Rattle.krb_capture.specs.Taken.{IsAllowed, IsPart, Keeps, KeepsUnless, PasswordsAreOver, TookPasswords, passwords}
 use Rattle.krb_capture.specs.declared.flow.Service.TheVariants as services
 use Rattle.krb_capture.specs.declared.password_frames.PasswordFrames.{PasswordFrames}
@@ -66,8 +66,8 @@ drop_one : (n octet : ℕ) (more : List ℕ) → 0 < n → drop n (octet ∷ mor
 drop_one zero octet more h = absurd (omega (arith, h))
 drop_one (suc n) octet more h = let e : n ≡ suc n - 1 = omega arith in ap (λ k. drop k more) e
 
-pub takes-skipped : (old new : PasswordFrames) (octet : ℕ) (origin : Origin) (w : Written) → old.is_over ≡ false → 0 < old.skipped → new.limit ≡ old.limit → new.is_over ≡ old.is_over → new.skipped ≡ old.skipped - 1 → new.octets.items ≡ old.octets.items → TakesPasswords old new (octet ∷ []) origin w w
-takes-skipped old new octet origin w o h l same k i = record {
+pub takes-skipped : (old new : PasswordFrames) (octet : ℕ) (origin : Origin) (w : Written) → old.is_over ≡ false → 0 < old.skipped → new.limit ≡ old.limit → new.is_over ≡ old.is_over → new.skipped ≡ old.skipped - 1 → new.octets.items ≡ old.octets.items → new.offset ≡ old.offset → TakesPasswords old new (octet ∷ []) origin w w
+takes-skipped old new octet origin w o h l same k i at = record {
   took = λ limit stream t. record { limit_is = l ∙ t.limit_is; state = subst (λ b. KeepsUnless b new (stream ++ octet ∷ [])) (sym (same ∙ o)) (after stream (keeps stream t.state)) };
   listed = λ limit stream t.
       let s : Keeps old stream = keeps stream t.state in
@@ -87,9 +87,9 @@ takes-skipped old new octet origin w o h l same k i = record {
           ap (λ n. passwords n ((stream ++ octet ∷ []) ++ more)) l
           ∙ ap (passwords old.limit) (append_assoc stream (octet ∷ []) more)
           ∙ s.goes_on (octet ∷ more)
-          ∙ ap (λ x. before_frames s.before (passwords old.limit (old.octets.items ++ x))) (drop_one old.skipped octet more h)
-          ∙ ap (λ n. before_frames s.before (passwords n (old.octets.items ++ drop (old.skipped - 1) more))) (sym l)
-          ∙ ap₂ (λ x n. before_frames s.before (passwords new.limit (x ++ drop n more))) (sym i) (sym k);
+          ∙ ap (λ x. before_frames s.before (passwords_framed old.limit old.offset (old.octets.items ++ x))) (drop_one old.skipped octet more h)
+          ∙ ap₂ (λ n k. before_frames s.before (passwords_framed n k (old.octets.items ++ drop (old.skipped - 1) more))) (sym l) (sym at)
+          ∙ ap₂ (λ x n. before_frames s.before (passwords_framed new.limit new.offset (x ++ drop n more))) (sym i) (sym k);
       partial = subst (λ x. IsPart new.limit x) (sym i) (subst (λ n. IsPart n old.octets.items) (sym l) s.partial);
       alone = inr (i ∙ none_kept old.skipped old.octets.items h s.alone);
     }
@@ -102,8 +102,8 @@ few_after limit octet octets (inr p) =
     let size : length (octets ++ octet ∷ []) ≤ 4 + number (take 4 octets) = omega (arith, p.2, length-append octets (octet ∷ [])) in
     inr (subst (λ l. IsAllowed limit (number l) × (length (octets ++ octet ∷ []) ≤ 4 + number l)) same (p.0, size))
 
-holds-pushed : (old new : PasswordFrames) (octet : ℕ) → old.is_over ≡ false → old.skipped ≡ 0 → new.limit ≡ old.limit → new.is_over ≡ old.is_over → new.skipped ≡ old.skipped → new.octets.items ≡ old.octets.items ++ octet ∷ [] → (stream : List ℕ) → Keeps old stream → Holds new (stream ++ octet ∷ [])
-holds-pushed old new octet o z l same k i stream s = record {
+holds-pushed : (old new : PasswordFrames) (octet : ℕ) → old.is_over ≡ false → old.skipped ≡ 0 → new.limit ≡ old.limit → new.is_over ≡ old.is_over → new.skipped ≡ old.skipped → new.octets.items ≡ old.octets.items ++ octet ∷ [] → new.offset ≡ old.offset → (stream : List ℕ) → Keeps old stream → Holds new (stream ++ octet ∷ [])
+holds-pushed old new octet o z l same k i at stream s = record {
   goes = same ∙ o;
   none_skipped = k ∙ z;
   before = s.before;
@@ -111,18 +111,19 @@ holds-pushed old new octet o z l same k i stream s = record {
       ap (λ n. passwords n ((stream ++ octet ∷ []) ++ more)) l
       ∙ ap (passwords old.limit) (append_assoc stream (octet ∷ []) more)
       ∙ s.goes_on (octet ∷ more)
-      ∙ ap (λ n. before_frames s.before (passwords old.limit (old.octets.items ++ drop n (octet ∷ more)))) z
-      ∙ ap (λ x. before_frames s.before (passwords old.limit x)) (sym (append_assoc old.octets.items (octet ∷ []) more))
-      ∙ ap₂ (λ n x. before_frames s.before (passwords n (x ++ more))) (sym l) (sym i);
+      ∙ ap (λ n. before_frames s.before (passwords_framed old.limit old.offset (old.octets.items ++ drop n (octet ∷ more)))) z
+      ∙ ap (λ x. before_frames s.before (passwords_framed old.limit old.offset x)) (sym (append_assoc old.octets.items (octet ∷ []) more))
+      ∙ ap₂ (λ n x. before_frames s.before (passwords_framed n old.offset (x ++ more))) (sym l) (sym i)
+      ∙ ap (λ k. before_frames s.before (passwords_framed new.limit k (new.octets.items ++ more))) (sym at);
   few = subst (λ x. (length x ≤ 4) ⊎ (IsAllowed new.limit (number (take 4 x)) × (length x ≤ 4 + number (take 4 x)))) (sym i) (subst (λ n. (length items ≤ 4) ⊎ (IsAllowed n (number (take 4 items)) × (length items ≤ 4 + number (take 4 items)))) (sym l) (few_after old.limit octet old.octets.items s.partial));
 }
   where
     items : List ℕ
     items = old.octets.items ++ octet ∷ []
 
-pub takes-pushed : (old between new : PasswordFrames) (octet : ℕ) (origin : Origin) (before after : Written) → old.is_over ≡ false → old.skipped ≡ 0 → between.limit ≡ old.limit → between.is_over ≡ old.is_over → between.skipped ≡ old.skipped → between.octets.items ≡ old.octets.items ++ octet ∷ [] → ListsWhole between new origin before after → TakesPasswords old new (octet ∷ []) origin before after
+pub takes-pushed : (old between new : PasswordFrames) (octet : ℕ) (origin : Origin) (before after : Written) → old.is_over ≡ false → old.skipped ≡ 0 → between.limit ≡ old.limit → between.is_over ≡ old.is_over → between.skipped ≡ old.skipped → between.octets.items ≡ old.octets.items ++ octet ∷ [] → between.offset ≡ old.offset → ListsWhole between new origin before after → TakesPasswords old new (octet ∷ []) origin before after
 unfolding found_with holds-pushed
-takes-pushed old between new octet origin before after o z l same k i whole = record {
+takes-pushed old between new octet origin before after o z l same k i at whole = record {
   took = λ limit stream t.
       let next = whole (stream ++ octet ∷ []) (holds stream (keeps stream t.state)) in
       record { limit_is = next.limit ∙ l ∙ t.limit_is; state = next.state };
@@ -137,7 +138,7 @@ takes-pushed old between new octet origin before after o z l same k i whole = re
     keeps stream s = subst (λ b. KeepsUnless b old stream) o s
 
     holds : (stream : List ℕ) → Keeps old stream → Holds between (stream ++ octet ∷ [])
-    holds stream s = holds-pushed old between octet o z l same k i stream s
+    holds stream s = holds-pushed old between octet o z l same k i at stream s
 
 -- ---- all octets of a piece
 pub takes-next : (a b c : PasswordFrames) (octets : List ℕ) (i : ℕ) (origin : Origin) (u v w : Written) → i < length octets → TakesPasswords a b (take i octets) origin u v → TakesPasswords b c (get_or octets i 0 ∷ []) origin v w → TakesPasswords a c (take (i + 1) octets) origin u w

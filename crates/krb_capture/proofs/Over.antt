@@ -10,7 +10,7 @@ use Rattle.krb_frame.specs.Decoding.{Decoding, AreOfOne, finish_at, finish_of, f
 use Rattle.krb_frame.specs.GoingOn.{GoesOn, Skipping}
 use Rattle.krb_frame.specs.declared.decoder.Status.TheVariants as status
 use Rattle.krb_frame.proofs.DecoderFrames.{more-nothing}
-use Rattle.krb_capture.specs.Streams.{Framed, cut_refusal, framed}
+use Rattle.krb_capture.specs.Streams.{Framed, after_entries, cut_refusal, framed}
 use Rattle.krb_capture.specs.Taken.{IsOver, TookMessages, Waits, WaitsUnless, WaitsWith, fed_with, kept_of}
 use Rattle.krb_capture.specs.declared.flow.Service.TheVariants as services
 use Rattle.krb_capture.specs.declared.message_frames.MessageFrames.{MessageFrames}
@@ -19,7 +19,7 @@ use Rattle.krb_capture.proofs.Framed.{framed-waiting}
 use Rattle.krb_capture.proofs.Unfinished.{waits-all}
 
 -- of a direction of which nothing came
-pub took-new : (alloc : Global) (decoder : Decoding) (s : Skipping) (limit looks : ℕ) (room : ℕ) → decoder ≡ record { profile = Lenient; limit = limit; octets = []; looks = looks; capacity = room } → s ≡ record { current = decoder; skipped = 0 } → (decoder.octets ≡ [] → GoesOn (messages decoder.profile) s [] []) → TookMessages (record { alloc = alloc; limit = limit; decoder = s; part = None; is_over = false }) limit []
+pub took-new : (alloc : Global) (decoder : Decoding) (s : Skipping) (limit looks : ℕ) (room : ℕ) → decoder ≡ record { profile = Lenient; limit = limit; octets = []; looks = looks; capacity = room } → s ≡ record { current = decoder; skipped = 0 } → (decoder.octets ≡ [] → GoesOn (messages decoder.profile) s [] []) → TookMessages (record { alloc = alloc; limit = limit; placed = record { decoder = s; offset = 0 }; part = None; is_over = false }) limit []
 took-new alloc decoder s limit looks room e f g =
     let same : s.current ≡ decoder = ap (λ (t : Skipping). t.current) f in
     record {
@@ -36,6 +36,7 @@ took-new alloc decoder s limit looks room e f g =
           waits = ap (λ d. status_of (messages Lenient) d) (same ∙ e) ∙ more-nothing (messages Lenient) Lenient limit looks room;
         };
         part = tt;
+        offset = refl;
       };
     }
 
@@ -49,13 +50,20 @@ over-is taker limit stream t = by taker.is_over refl
         e ∙ sym (o []).1 ∙ ap (λ s. (framed services.Kerberos limit s).over) (append-nil stream)
     by false e =
         let w : WaitsWith taker limit stream = subst (λ b. WaitsUnless b taker limit stream) e t.state in
-        e ∙ ap (λ (f : Framed). f.over) (sym (framed-waiting limit (fed_with taker.part taker.decoder) stream (waits-all taker limit stream w t.limit_is).waits t.limit_is))
+        e ∙ ap (λ (f : Framed). f.over) (sym (framed-waiting limit (fed_with taker.part taker.placed.decoder) stream (waits-all taker limit stream w t.limit_is).waits t.limit_is))
 
 -- the octets of the frame that is not whole
-pub partial-is : (taker : MessageFrames) (limit : ℕ) (stream : List ℕ) → TookMessages taker limit stream → taker.is_over ≡ false → kept_of taker.part taker.decoder.current.octets ≡ (framed services.Kerberos limit stream).partial
+pub partial-is : (taker : MessageFrames) (limit : ℕ) (stream : List ℕ) → TookMessages taker limit stream → taker.is_over ≡ false → kept_of taker.part taker.placed.decoder.current.octets ≡ (framed services.Kerberos limit stream).partial
 partial-is taker limit stream t e =
     let w : WaitsWith taker limit stream = subst (λ b. WaitsUnless b taker limit stream) e t.state in
-    ap (λ (f : Framed). f.partial) (sym (framed-waiting limit (fed_with taker.part taker.decoder) stream (waits-all taker limit stream w t.limit_is).waits t.limit_is))
+    ap (λ (f : Framed). f.partial) (sym (framed-waiting limit (fed_with taker.part taker.placed.decoder) stream (waits-all taker limit stream w t.limit_is).waits t.limit_is))
+
+-- and where it begins
+pub offset-is : (taker : MessageFrames) (limit : ℕ) (stream : List ℕ) → TookMessages taker limit stream → taker.is_over ≡ false → taker.placed.offset ≡ (framed services.Kerberos limit stream).offset
+offset-is taker limit stream t e =
+    let w : WaitsWith taker limit stream = subst (λ b. WaitsUnless b taker limit stream) e t.state in
+    let all = waits-all taker limit stream w t.limit_is in
+    w.offset ∙ ap (after_entries 0) (sym all.same) ∙ ap (λ (f : Framed). f.offset) (sym (framed-waiting limit (fed_with taker.part taker.placed.decoder) stream all.waits t.limit_is))
 
 -- why it is refused
 cut_at : (octets : List ℕ) (f : Frames) → (octets ≡ [] → f ≡ ends Boundary) → AreOfOne octets f.contents f.end → status_at f.contents f.end ≡ status.More → result_err (finish_at f.end) ≡ cut_refusal octets
@@ -75,8 +83,8 @@ pub cut-is : (s : Skipping) (stream : List ℕ) → Waits s stream → result_er
 unfolding found
 cut-is s stream w = cut_at s.current.octets (frames (messages Lenient) s.current.limit s.current.octets) (λ z. ap (frames (messages Lenient) s.current.limit) z ∙ frames-nil (messages Lenient) s.current.limit) w.goes_on.one w.waits
 
-pub finish-is : (taker : MessageFrames) (limit : ℕ) (stream : List ℕ) → TookMessages taker limit stream → taker.is_over ≡ false → result_err (finish_of (messages taker.decoder.current.profile) taker.decoder.current) ≡ cut_refusal taker.decoder.current.octets
+pub finish-is : (taker : MessageFrames) (limit : ℕ) (stream : List ℕ) → TookMessages taker limit stream → taker.is_over ≡ false → result_err (finish_of (messages taker.placed.decoder.current.profile) taker.placed.decoder.current) ≡ cut_refusal taker.placed.decoder.current.octets
 finish-is taker limit stream t e =
     let w : WaitsWith taker limit stream = subst (λ b. WaitsUnless b taker limit stream) e t.state in
-    ap (λ p. result_err (finish_of (messages p) taker.decoder.current)) t.profile
-    ∙ cut-is taker.decoder w.fed w.waits
+    ap (λ p. result_err (finish_of (messages p) taker.placed.decoder.current)) t.profile
+    ∙ cut-is taker.placed.decoder w.fed w.waits

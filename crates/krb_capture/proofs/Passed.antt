@@ -6,110 +6,114 @@ use Rattle.std.proofs.lemmas.List.{drop_all, take-append-le, drop-append-le, tak
 use Rattle.std.proofs.Math.Seq.{drop-append-add}
 use Rattle.krb_der.specs.Octets.{number}
 use Rattle.krb_der.specs.declared.why.Why.TheVariants as why
+use Rattle.krb_text.specs.declared.extent.Extent.{Extent}
 use Rattle.krb_text.specs.declared.origin.Origin.{Origin}
 use Rattle.krb_capture.specs.Found.{Found, Written, with_all}
 use Rattle.krb_capture.specs.Passed.{Holds, ListsNext}
 use Rattle.krb_capture.specs.Passwords.{password_found}
-use Rattle.krb_capture.specs.Streams.{Framed, before_frames, framed, length_found, no_frames, password_frame, password_frames}
+use Rattle.krb_capture.specs.Streams.{Framed, after_frame, before_frames, frame_of, length_found, no_frames, password_frame, password_frames, passwords_framed}
 use Rattle.krb_capture.specs.Taken.{IsAllowed, IsPart, Keeps, KeepsUnless, PasswordsAreOver, passwords}
 use Rattle.krb_capture.specs.declared.password_frames.PasswordFrames.{PasswordFrames}
 
 module _ (limit : ℕ) where
   -- ---- the bound on how many frames there are
-  frame-same : (n : ℕ) (octets : List ℕ) (f g : List ℕ → Framed) → f (drop (4 + n) octets) ≡ g (drop (4 + n) octets) → password_frame limit n octets f ≡ password_frame limit n octets g
-  frame-same n octets f g e = rw e refl
+  frame-same : (offset n : ℕ) (octets : List ℕ) (f g : ℕ → List ℕ → Framed) → f (after_frame offset n) (drop (4 + n) octets) ≡ g (after_frame offset n) (drop (4 + n) octets) → password_frame limit offset n octets f ≡ password_frame limit offset n octets g
+  frame-same offset n octets f g e = rw e refl
 
-  none : (b : ℕ) → password_frames b limit [] ≡ no_frames []
-  none zero = refl
-  none (suc b) = refl
+  none : (b offset : ℕ) → password_frames b limit offset [] ≡ no_frames offset []
+  none zero offset = refl
+  none (suc b) offset = refl
 
-  bound : (b c : ℕ) (octets : List ℕ) → length octets ≤ b → length octets ≤ c → password_frames b limit octets ≡ password_frames c limit octets
-  bound b c [] p q = none b ∙ sym (none c)
-  bound zero c (octet ∷ rest) p q = absurd (omega arith)
-  bound (suc b) zero (octet ∷ rest) p q = absurd (omega arith)
-  bound (suc b) (suc c) (octet ∷ rest) p q =
+  bound : (b c offset : ℕ) (octets : List ℕ) → length octets ≤ b → length octets ≤ c → password_frames b limit offset octets ≡ password_frames c limit offset octets
+  bound b c offset [] p q = none b offset ∙ sym (none c offset)
+  bound zero c offset (octet ∷ rest) p q = absurd (omega arith)
+  bound (suc b) zero offset (octet ∷ rest) p q = absurd (omega arith)
+  bound (suc b) (suc c) offset (octet ∷ rest) p q =
       let n : ℕ = number (take 4 (octet ∷ rest)) in
       let next : List ℕ = drop (4 + n) (octet ∷ rest) in
-      ap (λ x. if nat_lt (length (octet ∷ rest)) 4 then no_frames (octet ∷ rest) else x)
-      (frame-same n (octet ∷ rest) (password_frames b limit) (password_frames c limit) (bound b c next (omega (arith, p, length-drop (4 + n) (octet ∷ rest))) (omega (arith, q, length-drop (4 + n) (octet ∷ rest)))))
+      ap (λ x. if nat_lt (length (octet ∷ rest)) 4 then no_frames offset (octet ∷ rest) else x)
+      (frame-same offset n (octet ∷ rest) (password_frames b limit) (password_frames c limit) (bound b c (after_frame offset n) next (omega (arith, p, length-drop (4 + n) (octet ∷ rest))) (omega (arith, q, length-drop (4 + n) (octet ∷ rest)))))
 
-  pub passwords-short : (octets : List ℕ) → length octets < 4 → passwords limit octets ≡ no_frames octets
-  unfolding framed
-  passwords-short [] h = refl
-  passwords-short (octet ∷ rest) h = ap (λ b. if b then no_frames (octet ∷ rest) else password_frame limit (number (take 4 (octet ∷ rest))) (octet ∷ rest) (password_frames (length rest) limit)) (lt-ltb (length (octet ∷ rest)) 4 h)
+  pub passwords-short : (offset : ℕ) (octets : List ℕ) → length octets < 4 → passwords_framed limit offset octets ≡ no_frames offset octets
+  unfolding passwords_framed
+  passwords-short offset [] h = refl
+  passwords-short offset (octet ∷ rest) h = ap (λ b. if b then no_frames offset (octet ∷ rest) else password_frame limit offset (number (take 4 (octet ∷ rest))) (octet ∷ rest) (password_frames (length rest) limit)) (lt-ltb (length (octet ∷ rest)) 4 h)
 
-  pub passwords-step : (octets : List ℕ) → 4 ≤ length octets → passwords limit octets ≡ password_frame limit (number (take 4 octets)) octets (passwords limit)
-  unfolding framed
-  passwords-step [] h = absurd (omega arith)
-  passwords-step (octet ∷ rest) h =
+  pub passwords-step : (offset : ℕ) (octets : List ℕ) → 4 ≤ length octets → passwords_framed limit offset octets ≡ password_frame limit offset (number (take 4 octets)) octets (passwords_framed limit)
+  unfolding passwords_framed
+  passwords-step offset [] h = absurd (omega arith)
+  passwords-step offset (octet ∷ rest) h =
       let n : ℕ = number (take 4 (octet ∷ rest)) in
       let next : List ℕ = drop (4 + n) (octet ∷ rest) in
-      ap (λ b. if b then no_frames (octet ∷ rest) else password_frame limit n (octet ∷ rest) (password_frames (length rest) limit)) (le-ltb (length (octet ∷ rest)) 4 h)
-      ∙ frame-same n (octet ∷ rest) (password_frames (length rest) limit) (λ l. password_frames (length l) limit l) (bound (length rest) (length next) next (omega (arith, length-drop (4 + n) (octet ∷ rest))) (le_refl (length next)))
+      ap (λ b. if b then no_frames offset (octet ∷ rest) else password_frame limit offset n (octet ∷ rest) (password_frames (length rest) limit)) (le-ltb (length (octet ∷ rest)) 4 h)
+      ∙ frame-same offset n (octet ∷ rest) (password_frames (length rest) limit) (λ k l. password_frames (length l) limit k l) (bound (length rest) (length next) (after_frame offset n) next (omega (arith, length-drop (4 + n) (octet ∷ rest))) (le_refl (length next)))
 
   -- ---- a frame, by its length
-  module _ (n : ℕ) (octets : List ℕ) (f : List ℕ → Framed) where
-    pub frame-high : 2 ^ 31 ≤ n → password_frame limit n octets f ≡ record { found = length_found why.HighBit ∷ []; partial = []; over = true }
+  module _ (offset n : ℕ) (octets : List ℕ) (f : ℕ → List ℕ → Framed) where
+    pub frame-high : 2 ^ 31 ≤ n → password_frame limit offset n octets f ≡ record { found = length_found (frame_of offset n) why.HighBit ∷ []; partial = []; offset = offset; over = true }
     frame-high h = rw (le-leb (2 ^ 31) n h) refl
 
-    pub frame-long : n < 2 ^ 31 → limit < n → password_frame limit n octets f ≡ before_frames (length_found why.TooLong ∷ []) (f (drop (4 + n) octets))
+    pub frame-long : n < 2 ^ 31 → limit < n → password_frame limit offset n octets f ≡ before_frames (length_found (frame_of offset n) why.TooLong ∷ []) (f (after_frame offset n) (drop (4 + n) octets))
     frame-long s h = rw (lt-leb (2 ^ 31) n s, lt-ltb limit n h) refl
 
-    pub frame-empty : n ≡ 0 → password_frame limit n octets f ≡ before_frames (length_found why.Empty ∷ []) (f (drop (4 + n) octets))
+    pub frame-empty : n ≡ 0 → password_frame limit offset n octets f ≡ before_frames (length_found (frame_of offset n) why.Empty ∷ []) (f (after_frame offset n) (drop (4 + n) octets))
     frame-empty z = rw (lt-leb (2 ^ 31) n (omega (arith, z)), le-ltb limit n (omega (arith, z)), eq-eqb n 0 z) refl
 
     module _ (a : IsAllowed limit n) where
       some : n ≡ 0 → ⊥
       some z = absurd (omega (arith, a.some, z))
 
-      pub frame-open : length octets < 4 + n → password_frame limit n octets f ≡ no_frames octets
+      pub frame-open : length octets < 4 + n → password_frame limit offset n octets f ≡ no_frames offset octets
       frame-open h = rw (lt-leb (2 ^ 31) n a.short, le-ltb limit n a.within, ne_eqb n 0 some, lt-ltb (length octets) (4 + n) h) refl
 
-      pub frame-whole : 4 + n ≤ length octets → password_frame limit n octets f ≡ before_frames (password_found 4 (take n (drop 4 octets))) (f (drop (4 + n) octets))
+      pub frame-whole : 4 + n ≤ length octets → password_frame limit offset n octets f ≡ before_frames (password_found (frame_of offset n) 4 (take n (drop 4 octets))) (f (after_frame offset n) (drop (4 + n) octets))
       frame-whole h = rw (lt-leb (2 ^ 31) n a.short, le-ltb limit n a.within, ne_eqb n 0 some, le-ltb (length octets) (4 + n) h) refl
 
   -- ---- octets that are kept, and others
-  pub passwords-part : (octets : List ℕ) → IsPart limit octets → passwords limit octets ≡ no_frames octets
-  passwords-part octets (inl h) = passwords-short octets h
-  passwords-part octets (inr p) = passwords-step octets p.1 ∙ frame-open (number (take 4 octets)) octets (passwords limit) p.0 p.2
+  pub passwords-part : (offset : ℕ) (octets : List ℕ) → IsPart limit octets → passwords_framed limit offset octets ≡ no_frames offset octets
+  passwords-part offset octets (inl h) = passwords-short offset octets h
+  passwords-part offset octets (inr p) = passwords-step offset octets p.1 ∙ frame-open offset (number (take 4 octets)) octets (passwords_framed limit) p.0 p.2
 
-  module _ (octets : List ℕ) (four : 4 ≤ length octets) (more : List ℕ) where
+  module _ (offset : ℕ) (octets : List ℕ) (four : 4 ≤ length octets) (more : List ℕ) where
     abbrev pub size : ℕ
     size = number (take 4 octets)
 
-    first : passwords limit (octets ++ more) ≡ password_frame limit size (octets ++ more) (passwords limit)
-    first =
-        passwords-step (octets ++ more) (omega (arith, four, length-append octets more))
-        ∙ ap (λ l. password_frame limit (number l) (octets ++ more) (passwords limit)) (take-append-le 4 octets more four)
+    abbrev pub extent : Extent
+    extent = frame_of offset size
 
-    pub next-high : 2 ^ 31 ≤ size → passwords limit (octets ++ more) ≡ record { found = length_found why.HighBit ∷ []; partial = []; over = true }
-    next-high h = first ∙ frame-high size (octets ++ more) (passwords limit) h
+    first : passwords_framed limit offset (octets ++ more) ≡ password_frame limit offset size (octets ++ more) (passwords_framed limit)
+    first =
+        passwords-step offset (octets ++ more) (omega (arith, four, length-append octets more))
+        ∙ ap (λ l. password_frame limit offset (number l) (octets ++ more) (passwords_framed limit)) (take-append-le 4 octets more four)
+
+    pub next-high : 2 ^ 31 ≤ size → passwords_framed limit offset (octets ++ more) ≡ record { found = length_found extent why.HighBit ∷ []; partial = []; offset = offset; over = true }
+    next-high h = first ∙ frame-high offset size (octets ++ more) (passwords_framed limit) h
 
     -- the contents are skipped
     after_length : length octets ≡ 4 → drop (4 + size) (octets ++ more) ≡ drop size more
     after_length e = ap (λ k. drop (k + size) (octets ++ more)) (sym e) ∙ drop-append-add octets more size
 
-    pub next-long : length octets ≡ 4 → size < 2 ^ 31 → limit < size → passwords limit (octets ++ more) ≡ before_frames (length_found why.TooLong ∷ []) (passwords limit (drop size more))
-    next-long e s h = first ∙ frame-long size (octets ++ more) (passwords limit) s h ∙ ap (λ l. before_frames (length_found why.TooLong ∷ []) (passwords limit l)) (after_length e)
+    pub next-long : length octets ≡ 4 → size < 2 ^ 31 → limit < size → passwords_framed limit offset (octets ++ more) ≡ before_frames (length_found extent why.TooLong ∷ []) (passwords_framed limit (after_frame offset size) (drop size more))
+    next-long e s h = first ∙ frame-long offset size (octets ++ more) (passwords_framed limit) s h ∙ ap (λ l. before_frames (length_found extent why.TooLong ∷ []) (passwords_framed limit (after_frame offset size) l)) (after_length e)
 
-    pub next-empty : length octets ≡ 4 → size ≡ 0 → passwords limit (octets ++ more) ≡ before_frames (length_found why.Empty ∷ []) (passwords limit (drop size more))
-    next-empty e z = first ∙ frame-empty size (octets ++ more) (passwords limit) z ∙ ap (λ l. before_frames (length_found why.Empty ∷ []) (passwords limit l)) (after_length e)
+    pub next-empty : length octets ≡ 4 → size ≡ 0 → passwords_framed limit offset (octets ++ more) ≡ before_frames (length_found extent why.Empty ∷ []) (passwords_framed limit (after_frame offset size) (drop size more))
+    next-empty e z = first ∙ frame-empty offset size (octets ++ more) (passwords_framed limit) z ∙ ap (λ l. before_frames (length_found extent why.Empty ∷ []) (passwords_framed limit (after_frame offset size) l)) (after_length e)
 
-    pub next-whole : IsAllowed limit size → length octets ≡ 4 + size → passwords limit (octets ++ more) ≡ before_frames (password_found 4 (drop 4 octets)) (passwords limit more)
+    pub next-whole : IsAllowed limit size → length octets ≡ 4 + size → passwords_framed limit offset (octets ++ more) ≡ before_frames (password_found extent 4 (drop 4 octets)) (passwords_framed limit (after_frame offset size) more)
     next-whole a e =
         let there : length (drop 4 octets) ≡ size = omega (arith, e, length-drop 4 octets) in
         first
-        ∙ frame-whole size (octets ++ more) (passwords limit) a (omega (arith, e, length-append octets more))
-        ∙ ap₂ (λ l r. before_frames (password_found 4 l) (passwords limit r)) (ap (take size) (drop-append-le 4 octets more four) ∙ take_at (drop 4 octets) more size there) (drop_at octets more (4 + size) e)
+        ∙ frame-whole offset size (octets ++ more) (passwords_framed limit) a (omega (arith, e, length-append octets more))
+        ∙ ap₂ (λ l r. before_frames (password_found extent 4 l) (passwords_framed limit (after_frame offset size) r)) (ap (take size) (drop-append-le 4 octets more four) ∙ take_at (drop 4 octets) more size there) (drop_at octets more (4 + size) e)
 
 -- ---- a frame that is not whole is kept
-pub keeps-framed : (taker : PasswordFrames) (stream : List ℕ) (k : Keeps taker stream) → passwords taker.limit stream ≡ before_frames k.before (no_frames taker.octets.items)
+pub keeps-framed : (taker : PasswordFrames) (stream : List ℕ) (k : Keeps taker stream) → passwords taker.limit stream ≡ before_frames k.before (no_frames taker.offset taker.octets.items)
 keeps-framed taker stream k =
     ap (passwords taker.limit) (sym (append-nil stream))
     ∙ k.goes_on []
-    ∙ ap (λ l. before_frames k.before (passwords taker.limit (taker.octets.items ++ l))) (drop_all taker.skipped [] (omega arith))
-    ∙ ap (λ l. before_frames k.before (passwords taker.limit l)) (append-nil taker.octets.items)
-    ∙ ap (before_frames k.before) (passwords-part taker.limit taker.octets.items k.partial)
+    ∙ ap (λ l. before_frames k.before (passwords_framed taker.limit taker.offset (taker.octets.items ++ l))) (drop_all taker.skipped [] (omega arith))
+    ∙ ap (λ l. before_frames k.before (passwords_framed taker.limit taker.offset l)) (append-nil taker.octets.items)
+    ∙ ap (before_frames k.before) (passwords-part taker.limit taker.offset taker.octets.items k.partial)
 
 pub keeps-found : (taker : PasswordFrames) (stream : List ℕ) (k : Keeps taker stream) → (passwords taker.limit stream).found ≡ k.before
 keeps-found taker stream k = ap (λ (f : Framed). f.found) (keeps-framed taker stream k) ∙ append-nil k.before
@@ -130,13 +134,13 @@ module _ (old : PasswordFrames) (stream : List ℕ) (h : Holds old stream) (orig
       keeps : Keeps old stream
       keeps = record {
         before = h.before;
-        goes_on = λ more. h.goes_on more ∙ ap (λ n. before_frames h.before (passwords old.limit (s ++ drop n more))) (sym h.none_skipped);
+        goes_on = λ more. h.goes_on more ∙ ap (λ n. before_frames h.before (passwords_framed old.limit old.offset (s ++ drop n more))) (sym h.none_skipped);
         partial = p;
         alone = inl h.none_skipped;
       }
 
   -- these are found, and then octets are skipped
-  pub next-passed : (new : PasswordFrames) (xs : List Found) (count : ℕ) (after : Written) → new.limit ≡ old.limit → new.is_over ≡ false → new.skipped ≡ count → new.octets.items ≡ [] → ((more : List ℕ) → passwords old.limit (s ++ more) ≡ before_frames xs (passwords old.limit (drop count more))) → after ≡ with_all origin xs before → ListsNext old new stream h origin before after
+  pub next-passed : (new : PasswordFrames) (xs : List Found) (count : ℕ) (after : Written) → new.limit ≡ old.limit → new.is_over ≡ false → new.skipped ≡ count → new.octets.items ≡ [] → ((more : List ℕ) → passwords_framed old.limit old.offset (s ++ more) ≡ before_frames xs (passwords_framed old.limit new.offset (drop count more))) → after ≡ with_all origin xs before → ListsNext old new stream h origin before after
   next-passed new xs count after l o k i each w = record {
     limit = l;
     state = subst (λ b. KeepsUnless b new stream) (sym o) keeps;
@@ -150,9 +154,9 @@ module _ (old : PasswordFrames) (stream : List ℕ) (h : Holds old stream) (orig
             ap (λ n. passwords n (stream ++ more)) l
             ∙ h.goes_on more
             ∙ ap (before_frames h.before) (each more)
-            ∙ ap (λ x. record { found = x; partial = (passwords old.limit (drop count more)).partial; over = (passwords old.limit (drop count more)).over }) (sym (append_assoc h.before xs (passwords old.limit (drop count more)).found))
-            ∙ ap (λ n. before_frames (h.before ++ xs) (passwords n (drop count more))) (sym l)
-            ∙ ap₂ (λ n x. before_frames (h.before ++ xs) (passwords new.limit (x ++ drop n more))) (sym k) (sym i);
+            ∙ ap (λ x. record { found = x; partial = (passwords_framed old.limit new.offset (drop count more)).partial; offset = (passwords_framed old.limit new.offset (drop count more)).offset; over = (passwords_framed old.limit new.offset (drop count more)).over }) (sym (append_assoc h.before xs (passwords_framed old.limit new.offset (drop count more)).found))
+            ∙ ap (λ n. before_frames (h.before ++ xs) (passwords_framed n new.offset (drop count more))) (sym l)
+            ∙ ap₂ (λ n x. before_frames (h.before ++ xs) (passwords_framed new.limit new.offset (x ++ drop n more))) (sym k) (sym i);
         partial = inl (omega (arith, ap length i));
         alone = inr i;
       }
@@ -161,15 +165,15 @@ module _ (old : PasswordFrames) (stream : List ℕ) (h : Holds old stream) (orig
       found = ap (drop (length h.before)) (ap (λ n. (passwords n stream).found) (sym l) ∙ keeps-found new stream keeps) ∙ drop_at h.before xs (length h.before) refl
 
   -- its length is not known
-  pub next-stopped : (new : PasswordFrames) (x : Found) (after : Written) → new.limit ≡ old.limit → new.is_over ≡ true → ((more : List ℕ) → passwords old.limit (s ++ more) ≡ record { found = x ∷ []; partial = []; over = true }) → after ≡ with_all origin (x ∷ []) before → ListsNext old new stream h origin before after
+  pub next-stopped : (new : PasswordFrames) (x : Found) (after : Written) → new.limit ≡ old.limit → new.is_over ≡ true → ((more : List ℕ) → passwords_framed old.limit old.offset (s ++ more) ≡ record { found = x ∷ []; partial = []; offset = old.offset; over = true }) → after ≡ with_all origin (x ∷ []) before → ListsNext old new stream h origin before after
   next-stopped new x after l o each w = record {
     limit = l;
     state = subst (λ b. KeepsUnless b new stream) (sym o) (subst (λ n. PasswordsAreOver n stream) (sym l) (λ more. (ap (λ (f : Framed). f.found) (all more ∙ sym at), ap (λ (f : Framed). f.over) (all more))));
     listed = w ∙ ap (λ x. with_all origin x before) (sym (ap (λ (f : Framed). drop (length h.before) f.found) at ∙ drop_at h.before (x ∷ []) (length h.before) refl));
   }
     where
-      all : (more : List ℕ) → passwords old.limit (stream ++ more) ≡ record { found = h.before ++ x ∷ []; partial = []; over = true }
+      all : (more : List ℕ) → passwords old.limit (stream ++ more) ≡ record { found = h.before ++ x ∷ []; partial = []; offset = old.offset; over = true }
       all more = h.goes_on more ∙ ap (before_frames h.before) (each more)
 
-      at : passwords old.limit stream ≡ record { found = h.before ++ x ∷ []; partial = []; over = true }
+      at : passwords old.limit stream ≡ record { found = h.before ++ x ∷ []; partial = []; offset = old.offset; over = true }
       at = ap (passwords old.limit) (sym (append-nil stream)) ∙ all []

@@ -15,6 +15,12 @@ password-partial taker limit stream t e =
     ap (λ (f : Framed). f.partial) (sym (keeps-framed taker stream (keeps-of taker limit stream t e)))
     ∙ ap (λ n. (passwords n stream).partial) t.limit_is
 
+-- and where it begins
+pub password-offset : (taker : PasswordFrames) (limit : ℕ) (stream : List ℕ) → TookPasswords taker limit stream → taker.is_over ≡ false → taker.offset ≡ (framed services.Passwords limit stream).offset
+password-offset taker limit stream t e =
+    ap (λ (f : Framed). f.offset) (sym (keeps-framed taker stream (keeps-of taker limit stream t e)))
+    ∙ ap (λ n. (passwords n stream).offset) t.limit_is
+
 pub password-over : (taker : PasswordFrames) (limit : ℕ) (stream : List ℕ) → TookPasswords taker limit stream → taker.is_over ≡ (framed services.Passwords limit stream).over
 password-over taker limit stream t = by taker.is_over refl
   where

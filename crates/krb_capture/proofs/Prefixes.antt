@@ -1,9 +1,9 @@
 -- What is found in a stream, whatever follows it.
-use Rattle.std.proofs.Common.{◌≡◌, ℕ, zero, suc, ◌+◌, ◌-◌, ◌^◌, ◌<◌, ◌≤◌, ◌⊎◌, inl, inr, Bool, true, false, List, [], ◌∷◌, ◌++◌, length, map, take, drop, refl, sym, ◌∙◌, ap, ap₂, subst, arith, le_refl, append_assoc, append-nil, length-append, length-take, length-drop}
+use Rattle.std.proofs.Common.{◌≡◌, ℕ, zero, suc, ◌+◌, ◌-◌, ◌^◌, ◌<◌, ◌≤◌, ◌⊎◌, inl, inr, Bool, true, false, List, [], ◌∷◌, ◌++◌, length, take, drop, refl, sym, ◌∙◌, ap, ap₂, subst, arith, le_refl, append_assoc, append-nil, length-append, length-take, length-drop}
 use Rattle.std.specs.Prelude.{cond, not, ◌&&◌, ◌||◌, nat_le, nat_lt, if◌then◌else◌}
 use Rattle.std.specs.List.{AllByRecursion}
 use Rattle.std.proofs.lemmas.Bool.{cases_lt, lt-leb, le-leb, lt-ltb}
-use Rattle.std.proofs.lemmas.List.{drop_all, drop-append-le, map-append, take-append-drop, take-append-le, take-take}
+use Rattle.std.proofs.lemmas.List.{drop_all, drop-append-le, take-append-drop, take-append-le, take-take}
 use Rattle.std.proofs.Math.Seq.{drop-append-add}
 use Rattle.krb_der.specs.Octets.{number}
 use Rattle.krb_der.specs.declared.profile.Profile.TheVariants.{Lenient}
@@ -28,12 +28,12 @@ use Rattle.krb_flow.specs.declared.stream.End.TheVariants as flow_ends
 use Rattle.krb_capture.specs.Found.{Found, Faulty}
 use Rattle.krb_capture.specs.Laws.{stream_found}
 use Rattle.krb_capture.specs.Passwords.{password_found}
-use Rattle.krb_capture.specs.Streams.{Framed, before_frames, cut_refusal, end_found, entry_found, found_with, frame_path, framed, framed_entries, is_cut, is_unknown, known_end, length_found, no_frames, password_frame, refusal_found}
+use Rattle.krb_capture.specs.Streams.{Framed, after_entries, after_frame, before_frames, cut_refusal, end_found, entries_found, entry_found, extent_at, found_with, frame_of, frame_path, framed, framed_entries, is_cut, is_unknown, known_end, length_found, messages_framed, no_frames, password_frame, passwords_framed, refusal_found}
 use Rattle.krb_capture.specs.Taken.{IsAllowed, IsDone, Waits, passwords}
 use Rattle.krb_capture.specs.declared.flow.Service.{Service}
 use Rattle.krb_capture.specs.declared.flow.Service.TheVariants as services
 use Rattle.krb_capture.proofs.Extends.{Extends, extends-of}
-use Rattle.krb_capture.proofs.Framed.{found_with-of, framed-before, framed-waiting, found-more, found-waiting}
+use Rattle.krb_capture.proofs.Framed.{entries_found-append, found_with-of, framed-before, framed-waiting, found-more, found-waiting}
 use Rattle.krb_capture.proofs.Passed.{frame-high, frame-long, frame-empty, frame-open, frame-whole, passwords-short, passwords-step}
 
 -- ---- frames of messages
@@ -198,137 +198,138 @@ known limit stream = known_within limit (length stream) stream (le_refl (length 
 
 -- ---- what is found of messages
 
-last_one : (last : Entry) → is_cut last ≡ false → is_unknown last ≡ true → ((framed_entries (last ∷ [])).found ≡ entry_found last ∷ []) × ((framed_entries (last ∷ [])).over ≡ true)
-last_one last cut unknown = (
-  ap (λ (b : Bool). map entry_found (cond (not b) (last ∷ []) [])) cut,
+last_one : (offset : ℕ) (last : Entry) → is_cut last ≡ false → is_unknown last ≡ true → ((framed_entries offset (last ∷ [])).found ≡ entry_found offset last ∷ []) × ((framed_entries offset (last ∷ [])).over ≡ true)
+last_one offset last cut unknown = (
+  ap (λ (b : Bool). entries_found offset (cond (not b) (last ∷ []) [])) cut,
   ap (λ (b : Bool). b || false) unknown,
 )
 
 -- nothing follows
-stopped_found : (limit : ℕ) (stream : List ℕ) (before : List Entry) (last : Entry) → AllByRecursion IsDone before → is_cut last ≡ false → is_unknown last ≡ true → entries (messages Lenient) limit stream ≡ before ++ last ∷ [] → ((framed services.Kerberos limit stream).found ≡ map entry_found (entries (messages Lenient) limit stream)) × ((framed services.Kerberos limit stream).over ≡ true)
-unfolding framed
+stopped_found : (limit : ℕ) (stream : List ℕ) (before : List Entry) (last : Entry) → AllByRecursion IsDone before → is_cut last ≡ false → is_unknown last ≡ true → entries (messages Lenient) limit stream ≡ before ++ last ∷ [] → ((framed services.Kerberos limit stream).found ≡ entries_found 0 (entries (messages Lenient) limit stream)) × ((framed services.Kerberos limit stream).over ≡ true)
+unfolding messages_framed
 stopped_found limit stream before last done cut unknown is =
-    let all : framed_entries (entries (messages Lenient) limit stream) ≡ before_frames (map entry_found before) (framed_entries (last ∷ [])) = ap framed_entries is ∙ framed-before before (last ∷ []) done in
-    let one = last_one last cut unknown in (
+    let all : framed_entries 0 (entries (messages Lenient) limit stream) ≡ before_frames (entries_found 0 before) (framed_entries (after_entries 0 before) (last ∷ [])) = ap (framed_entries 0) is ∙ framed-before 0 before (last ∷ []) done in
+    let one = last_one (after_entries 0 before) last cut unknown in (
       ap (λ (f : Framed). f.found) all
-          ∙ ap (λ l. map entry_found before ++ l) one.0
-          ∙ sym (ap (map entry_found) is ∙ map-append entry_found before (last ∷ [])),
+          ∙ ap (λ l. entries_found 0 before ++ l) one.0
+          ∙ sym (ap (entries_found 0) is ∙ entries_found-append 0 before (last ∷ [])),
       ap (λ (f : Framed). f.over) all ∙ one.1,
     )
 
 messages_extend : (limit : ℕ) (stream more : List ℕ) → Known limit stream → Extends services.Kerberos limit stream more
 messages_extend limit stream more (Waiting octets skipped w) =
-    extends-of services.Kerberos limit stream more (map entry_found w.before) _ (found-waiting limit (waiting limit octets skipped) stream w refl) (found-more limit (waiting limit octets skipped) stream w refl more)
+    extends-of services.Kerberos limit stream more (entries_found 0 w.before) _ (found-waiting limit (waiting limit octets skipped) stream w refl) (found-more limit (waiting limit octets skipped) stream w refl more)
 messages_extend limit stream more (Stopped before last done cut unknown ends) =
     let none : entries (messages Lenient) limit stream ≡ before ++ last ∷ [] = ap (entries (messages Lenient) limit) (sym (append-nil stream)) ∙ ends [] in
-    let first : (framed services.Kerberos limit stream).found ≡ map entry_found (entries (messages Lenient) limit stream) = (stopped_found limit stream before last done cut unknown none).0 in
-    let longer : (framed services.Kerberos limit (stream ++ more)).found ≡ map entry_found (entries (messages Lenient) limit (stream ++ more)) = (stopped_found limit (stream ++ more) before last done cut unknown (ends more)).0 in
+    let first : (framed services.Kerberos limit stream).found ≡ entries_found 0 (entries (messages Lenient) limit stream) = (stopped_found limit stream before last done cut unknown none).0 in
+    let longer : (framed services.Kerberos limit (stream ++ more)).found ≡ entries_found 0 (entries (messages Lenient) limit (stream ++ more)) = (stopped_found limit (stream ++ more) before last done cut unknown (ends more)).0 in
     extends-of services.Kerberos limit stream more (framed services.Kerberos limit stream).found [] refl
-    (longer ∙ ap (map entry_found) (ends more ∙ sym none) ∙ sym first ∙ sym (append-nil (framed services.Kerberos limit stream).found))
+    (longer ∙ ap (entries_found 0) (ends more ∙ sym none) ∙ sym first ∙ sym (append-nil (framed services.Kerberos limit stream).found))
 
 -- the frame that is not whole is refused at the end
-cut_found : (octets : List ℕ) (f : Frames) → (octets ≡ [] → f ≡ ends Boundary) → AreOfOne octets f.contents f.end → status_at f.contents f.end ≡ status.More → map entry_found (last_entry f.end octets) ≡ refusal_found services.Kerberos octets (cut_refusal octets)
-cut_found octets f nil one more = by octets f.contents f.end (λ z. ap (λ (g : Frames). g.end) (nil z)) one more
+cut_found : (offset : ℕ) (octets : List ℕ) (f : Frames) → (octets ≡ [] → f ≡ ends Boundary) → AreOfOne octets f.contents f.end → status_at f.contents f.end ≡ status.More → entries_found offset (last_entry f.end octets) ≡ refusal_found services.Kerberos offset octets (cut_refusal octets)
+cut_found offset octets f nil one more = by octets f.contents f.end (λ z. ap (λ (g : Frames). g.end) (nil z)) one more
   where
-    by : (octets : List ℕ) (contents : List (List ℕ)) (end : End) → (octets ≡ [] → end ≡ Boundary) → AreOfOne octets contents end → status_at contents end ≡ status.More → map entry_found (last_entry end octets) ≡ refusal_found services.Kerberos octets (cut_refusal octets)
+    by : (octets : List ℕ) (contents : List (List ℕ)) (end : End) → (octets ≡ [] → end ≡ Boundary) → AreOfOne octets contents end → status_at contents end ≡ status.More → entries_found offset (last_entry end octets) ≡ refusal_found services.Kerberos offset octets (cut_refusal octets)
     by octets (first ∷ others) end nil one more = absurd cc
-    by octets [] Boundary nil one more = ap (λ l. refusal_found services.Kerberos l (cut_refusal l)) (sym one)
+    by octets [] Boundary nil one more = ap (λ l. refusal_found services.Kerberos offset l (cut_refusal l)) (sym one)
     by [] [] (Within present) nil one more = absurd (no (nil refl))
       where
         no : Within present ≡ Boundary → ⊥
         no e = cc
-    by (octet ∷ octets) [] (Within present) nil one more = ap (λ n. Faulty (record { place = n; why = why.Truncated }) (frame_path (octet ∷ octets)) ∷ []) (sym one)
+    by (octet ∷ octets) [] (Within present) nil one more = ap (λ n. Faulty (record { place = n; why = why.Truncated }) (frame_path (octet ∷ octets)) (extent_at offset (octet ∷ octets)) ∷ []) (sym one)
     by octets [] (Refused place reason) nil one more = absurd cc
 
-messages_all : (limit : ℕ) (stream : List ℕ) → Known limit stream → (framed services.Kerberos limit stream).found ++ end_found services.Kerberos limit stream flow_ends.Complete ≡ map entry_found (entries (messages Lenient) limit stream)
+messages_all : (limit : ℕ) (stream : List ℕ) → Known limit stream → (framed services.Kerberos limit stream).found ++ end_found services.Kerberos limit stream flow_ends.Complete ≡ entries_found 0 (entries (messages Lenient) limit stream)
 unfolding end_found found
 messages_all limit stream (Waiting octets skipped w) =
-    let is : framed services.Kerberos limit stream ≡ before_frames (map entry_found w.before) (no_frames octets) = framed-waiting limit (waiting limit octets skipped) stream w refl in
-    ap (λ (g : Framed). g.found ++ (if g.over then [] else known_end services.Kerberos flow_ends.Complete g.partial)) is
-    ∙ ap (λ l. l ++ refusal_found services.Kerberos octets (cut_refusal octets)) (append-nil (map entry_found w.before))
-    ∙ ap (λ l. map entry_found w.before ++ l) (sym (cut_found octets (frames (messages Lenient) limit octets) (λ z. ap (frames (messages Lenient) limit) z ∙ frames-nil (messages Lenient) limit) w.goes_on.one w.waits))
-    ∙ sym (map-append entry_found w.before (last_entry (frames (messages Lenient) limit octets).end octets))
-    ∙ ap (map entry_found) (sym (entries-waiting (messages Lenient) (waiting limit octets skipped) stream w.before w.goes_on w.waits))
+    let offset : ℕ = after_entries 0 w.before in
+    let is : framed services.Kerberos limit stream ≡ before_frames (entries_found 0 w.before) (no_frames (after_entries 0 w.before) octets) = framed-waiting limit (waiting limit octets skipped) stream w refl in
+    ap (λ (g : Framed). g.found ++ (if g.over then [] else known_end services.Kerberos flow_ends.Complete g.offset g.partial)) is
+    ∙ ap (λ l. l ++ refusal_found services.Kerberos offset octets (cut_refusal octets)) (append-nil (entries_found 0 w.before))
+    ∙ ap (λ l. entries_found 0 w.before ++ l) (sym (cut_found offset octets (frames (messages Lenient) limit octets) (λ z. ap (frames (messages Lenient) limit) z ∙ frames-nil (messages Lenient) limit) w.goes_on.one w.waits))
+    ∙ sym (entries_found-append 0 w.before (last_entry (frames (messages Lenient) limit octets).end octets))
+    ∙ ap (entries_found 0) (sym (entries-waiting (messages Lenient) (waiting limit octets skipped) stream w.before w.goes_on w.waits))
 messages_all limit stream (Stopped before last done cut unknown ends) =
     let none : entries (messages Lenient) limit stream ≡ before ++ last ∷ [] = ap (entries (messages Lenient) limit) (sym (append-nil stream)) ∙ ends [] in
     let all = stopped_found limit stream before last done cut unknown none in
-    ap (λ (b : Bool). (framed services.Kerberos limit stream).found ++ (if b then [] else known_end services.Kerberos flow_ends.Complete (framed services.Kerberos limit stream).partial)) all.1
+    ap (λ (b : Bool). (framed services.Kerberos limit stream).found ++ (if b then [] else known_end services.Kerberos flow_ends.Complete (framed services.Kerberos limit stream).offset (framed services.Kerberos limit stream).partial)) all.1
     ∙ append-nil (framed services.Kerberos limit stream).found
     ∙ all.0
 
 -- ---- messages that change passwords
 
 -- with others, more is found, or nothing
-abbrev Longer : ℕ → List ℕ → List ℕ → Type 0
-Longer limit stream longer = (others : List Found) × ((passwords limit longer).found ≡ (passwords limit stream).found ++ others)
+abbrev Longer : ℕ → ℕ → List ℕ → List ℕ → Type 0
+Longer limit offset stream longer = (others : List Found) × ((passwords_framed limit offset longer).found ≡ (passwords_framed limit offset stream).found ++ others)
 
-longer_after : (limit : ℕ) (xs : List Found) (stream longer : List ℕ) (rest more : List ℕ) → passwords limit stream ≡ before_frames xs (passwords limit rest) → passwords limit longer ≡ before_frames xs (passwords limit more) → Longer limit rest more → Longer limit stream longer
-longer_after limit xs stream longer rest more e f l = (
+longer_after : (limit offset next : ℕ) (xs : List Found) (stream longer : List ℕ) (rest more : List ℕ) → passwords_framed limit offset stream ≡ before_frames xs (passwords_framed limit next rest) → passwords_framed limit offset longer ≡ before_frames xs (passwords_framed limit next more) → Longer limit next rest more → Longer limit offset stream longer
+longer_after limit offset next xs stream longer rest more e f l = (
   l.0,
   ap (λ (g : Framed). g.found) f
       ∙ ap (λ k. xs ++ k) l.1
-      ∙ sym (append_assoc xs (passwords limit rest).found l.0)
+      ∙ sym (append_assoc xs (passwords_framed limit next rest).found l.0)
       ∙ ap (λ (g : Framed). g.found ++ l.0) (sym e),
 )
 
-longer_none : (limit : ℕ) (stream longer : List ℕ) → (passwords limit stream).found ≡ [] → Longer limit stream longer
-longer_none limit stream longer e = ((passwords limit longer).found, ap (λ k. k ++ (passwords limit longer).found) (sym e))
+longer_none : (limit offset : ℕ) (stream longer : List ℕ) → (passwords_framed limit offset stream).found ≡ [] → Longer limit offset stream longer
+longer_none limit offset stream longer e = ((passwords_framed limit offset longer).found, ap (λ k. k ++ (passwords_framed limit offset longer).found) (sym e))
 
-module _ (limit : ℕ) (stream : List ℕ) (four : 4 ≤ length stream) (more : List ℕ) (each : (rest : List ℕ) → length rest < length stream → Longer limit rest (rest ++ more)) where
+module _ (limit offset : ℕ) (stream : List ℕ) (four : 4 ≤ length stream) (more : List ℕ) (each : (next : ℕ) (rest : List ℕ) → length rest < length stream → Longer limit next rest (rest ++ more)) where
   abbrev m : ℕ
   m = number (take 4 stream)
 
-  here : passwords limit stream ≡ password_frame limit m stream (passwords limit)
-  here = passwords-step limit stream four
+  here : passwords_framed limit offset stream ≡ password_frame limit offset m stream (passwords_framed limit)
+  here = passwords-step limit offset stream four
 
-  there : passwords limit (stream ++ more) ≡ password_frame limit m (stream ++ more) (passwords limit)
+  there : passwords_framed limit offset (stream ++ more) ≡ password_frame limit offset m (stream ++ more) (passwords_framed limit)
   there =
-      passwords-step limit (stream ++ more) (omega (arith, four, length-append stream more))
-      ∙ ap (λ l. password_frame limit (number l) (stream ++ more) (passwords limit)) (take-append-le 4 stream more four)
+      passwords-step limit offset (stream ++ more) (omega (arith, four, length-append stream more))
+      ∙ ap (λ l. password_frame limit offset (number l) (stream ++ more) (passwords_framed limit)) (take-append-le 4 stream more four)
 
   -- octets after the first of them
-  longer_rest : (k : ℕ) → 0 < k → Longer limit (drop k stream) (drop k (stream ++ more))
-  longer_rest k some =
+  longer_rest : (next k : ℕ) → 0 < k → Longer limit next (drop k stream) (drop k (stream ++ more))
+  longer_rest next k some =
       elim (cases_lt (length stream) k) [
-        | inl past ↦ longer_none limit (drop k stream) (drop k (stream ++ more)) (ap (λ l. (passwords limit l).found) (drop_all k stream (omega (arith, past))) ∙ ap (λ (g : Framed). g.found) (passwords-short limit [] (omega arith)))
-        | inr le ↦ subst (Longer limit (drop k stream)) (sym (drop-append-le k stream more le)) (each (drop k stream) (omega (arith, four, some, length-drop k stream)))
+        | inl past ↦ longer_none limit next (drop k stream) (drop k (stream ++ more)) (ap (λ l. (passwords_framed limit next l).found) (drop_all k stream (omega (arith, past))) ∙ ap (λ (g : Framed). g.found) (passwords-short limit next [] (omega arith)))
+        | inr le ↦ subst (Longer limit next (drop k stream)) (sym (drop-append-le k stream more le)) (each next (drop k stream) (omega (arith, four, some, length-drop k stream)))
       ]
 
-  passed_on : (xs : List Found) → passwords limit stream ≡ before_frames xs (passwords limit (drop (4 + m) stream)) → passwords limit (stream ++ more) ≡ before_frames xs (passwords limit (drop (4 + m) (stream ++ more))) → Longer limit stream (stream ++ more)
-  passed_on xs e f = longer_after limit xs stream (stream ++ more) (drop (4 + m) stream) (drop (4 + m) (stream ++ more)) e f (longer_rest (4 + m) (omega arith))
+  passed_on : (xs : List Found) → passwords_framed limit offset stream ≡ before_frames xs (passwords_framed limit (after_frame offset m) (drop (4 + m) stream)) → passwords_framed limit offset (stream ++ more) ≡ before_frames xs (passwords_framed limit (after_frame offset m) (drop (4 + m) (stream ++ more))) → Longer limit offset stream (stream ++ more)
+  passed_on xs e f = longer_after limit offset (after_frame offset m) xs stream (stream ++ more) (drop (4 + m) stream) (drop (4 + m) (stream ++ more)) e f (longer_rest (after_frame offset m) (4 + m) (omega arith))
 
-  longer_allowed : IsAllowed limit m → (length stream < 4 + m) ⊎ (4 + m ≤ length stream) → Longer limit stream (stream ++ more)
-  longer_allowed a (inl part) = longer_none limit stream (stream ++ more) (ap (λ (g : Framed). g.found) (here ∙ frame-open limit m stream (passwords limit) a part))
+  longer_allowed : IsAllowed limit m → (length stream < 4 + m) ⊎ (4 + m ≤ length stream) → Longer limit offset stream (stream ++ more)
+  longer_allowed a (inl part) = longer_none limit offset stream (stream ++ more) (ap (λ (g : Framed). g.found) (here ∙ frame-open limit offset m stream (passwords_framed limit) a part))
   longer_allowed a (inr whole) =
       let same : take m (drop 4 (stream ++ more)) ≡ take m (drop 4 stream) = ap (take m) (drop-append-le 4 stream more four) ∙ take-append-le m (drop 4 stream) more (omega (arith, whole, length-drop 4 stream)) in
-      passed_on (password_found 4 (take m (drop 4 stream)))
-      (here ∙ frame-whole limit m stream (passwords limit) a whole)
-      (there ∙ frame-whole limit m (stream ++ more) (passwords limit) a (omega (arith, whole, length-append stream more)) ∙ ap (λ l. before_frames (password_found 4 l) (passwords limit (drop (4 + m) (stream ++ more)))) same)
+      passed_on (password_found (frame_of offset m) 4 (take m (drop 4 stream)))
+      (here ∙ frame-whole limit offset m stream (passwords_framed limit) a whole)
+      (there ∙ frame-whole limit offset m (stream ++ more) (passwords_framed limit) a (omega (arith, whole, length-append stream more)) ∙ ap (λ l. before_frames (password_found (frame_of offset m) 4 l) (passwords_framed limit (after_frame offset m) (drop (4 + m) (stream ++ more)))) same)
 
-  longer_of : (m < 2 ^ 31) ⊎ (2 ^ 31 ≤ m) → (limit < m) ⊎ (m ≤ limit) → (0 < m) ⊎ (m ≤ 0) → Longer limit stream (stream ++ more)
+  longer_of : (m < 2 ^ 31) ⊎ (2 ^ 31 ≤ m) → (limit < m) ⊎ (m ≤ limit) → (0 < m) ⊎ (m ≤ 0) → Longer limit offset stream (stream ++ more)
   longer_of (inr big) c d = (
     [],
-    ap (λ (g : Framed). g.found) (there ∙ frame-high limit m (stream ++ more) (passwords limit) big ∙ sym (frame-high limit m stream (passwords limit) big) ∙ sym here)
-        ∙ sym (append-nil (passwords limit stream).found),
+    ap (λ (g : Framed). g.found) (there ∙ frame-high limit offset m (stream ++ more) (passwords_framed limit) big ∙ sym (frame-high limit offset m stream (passwords_framed limit) big) ∙ sym here)
+        ∙ sym (append-nil (passwords_framed limit offset stream).found),
   )
-  longer_of (inl s) (inl long) d = passed_on (length_found why.TooLong ∷ []) (here ∙ frame-long limit m stream (passwords limit) s long) (there ∙ frame-long limit m (stream ++ more) (passwords limit) s long)
-  longer_of (inl s) (inr w) (inr z) = passed_on (length_found why.Empty ∷ []) (here ∙ frame-empty limit m stream (passwords limit) (omega arith)) (there ∙ frame-empty limit m (stream ++ more) (passwords limit) (omega arith))
+  longer_of (inl s) (inl long) d = passed_on (length_found (frame_of offset m) why.TooLong ∷ []) (here ∙ frame-long limit offset m stream (passwords_framed limit) s long) (there ∙ frame-long limit offset m (stream ++ more) (passwords_framed limit) s long)
+  longer_of (inl s) (inr w) (inr z) = passed_on (length_found (frame_of offset m) why.Empty ∷ []) (here ∙ frame-empty limit offset m stream (passwords_framed limit) (omega arith)) (there ∙ frame-empty limit offset m (stream ++ more) (passwords_framed limit) (omega arith))
   longer_of (inl s) (inr w) (inl p) = longer_allowed (record { some = p; within = w; short = s }) (cases_lt (length stream) (4 + m))
 
-longer_within : (limit bound : ℕ) (stream more : List ℕ) → length stream ≤ bound → Longer limit stream (stream ++ more)
-longer_within limit bound [] more few = longer_none limit [] more (ap (λ (g : Framed). g.found) (passwords-short limit [] (omega arith)))
-longer_within limit zero (octet ∷ octets) more few = absurd (omega arith)
-longer_within limit (suc bound) (octet ∷ octets) more few =
+longer_within : (limit bound offset : ℕ) (stream more : List ℕ) → length stream ≤ bound → Longer limit offset stream (stream ++ more)
+longer_within limit bound offset [] more few = longer_none limit offset [] more (ap (λ (g : Framed). g.found) (passwords-short limit offset [] (omega arith)))
+longer_within limit zero offset (octet ∷ octets) more few = absurd (omega arith)
+longer_within limit (suc bound) offset (octet ∷ octets) more few =
     elim (cases_lt (length (octet ∷ octets)) 4) [
-      | inl short ↦ longer_none limit (octet ∷ octets) ((octet ∷ octets) ++ more) (ap (λ (g : Framed). g.found) (passwords-short limit (octet ∷ octets) short))
+      | inl short ↦ longer_none limit offset (octet ∷ octets) ((octet ∷ octets) ++ more) (ap (λ (g : Framed). g.found) (passwords-short limit offset (octet ∷ octets) short))
       | inr four ↦
-          longer_of limit (octet ∷ octets) four more (λ rest less. longer_within limit bound rest more (omega (arith, less, few)))
+          longer_of limit offset (octet ∷ octets) four more (λ next rest less. longer_within limit bound next rest more (omega (arith, less, few)))
           (cases_lt (number (take 4 (octet ∷ octets))) (2 ^ 31)) (cases_lt limit (number (take 4 (octet ∷ octets)))) (cases_lt 0 (number (take 4 (octet ∷ octets))))
     ]
 
 passwords_extend : (limit : ℕ) (stream more : List ℕ) → Extends services.Passwords limit stream more
 passwords_extend limit stream more =
-    let l = longer_within limit (length stream) stream more (le_refl (length stream)) in
+    let l = longer_within limit (length stream) 0 stream more (le_refl (length stream)) in
     extends-of services.Passwords limit stream more (passwords limit stream).found l.0 refl l.1
 
 -- ---- either
@@ -349,9 +350,9 @@ found_with-none service limit stream =
     (ap (λ s. (framed service limit s).found) (append-nil stream) ∙ sym (append-nil (framed service limit stream).found))
 
 nothing_found : (service : Service) (limit : ℕ) → (framed service limit []).found ≡ []
-unfolding framed
-nothing_found services.Kerberos limit = ap (λ l. (framed_entries l).found) (entries-nil (messages Lenient) limit)
-nothing_found services.Passwords limit = ap (λ (g : Framed). g.found) (passwords-short limit [] (omega arith))
+unfolding messages_framed
+nothing_found services.Kerberos limit = ap (λ l. (framed_entries 0 l).found) (entries-nil (messages Lenient) limit)
+nothing_found services.Passwords limit = ap (λ (g : Framed). g.found) (passwords-short limit 0 [] (omega arith))
 
 pub found_with-all : (service : Service) (limit : ℕ) (stream : List ℕ) → found_with service limit [] stream ≡ (framed service limit stream).found
 found_with-all service limit stream = found_with-of service limit [] stream [] (framed service limit stream).found (nothing_found service limit) refl

@@ -1,23 +1,23 @@
 -- What the frames of messages have to do with the octets that they took.
-use Rattle.std.proofs.Common.{◌≡◌, ◌+◌, ◌-◌, ◌≤◌, ℕ, Bool, true, false, List, [], ◌∷◌, ◌++◌, length, map, take, drop, None, refl, sym, ◌∙◌, ap, ap₂, subst, arith, append_assoc, append-nil, length-append}
+use Rattle.std.proofs.Common.{◌≡◌, ◌+◌, ◌-◌, ◌≤◌, ℕ, Bool, true, false, List, [], ◌∷◌, ◌++◌, length, take, drop, None, refl, sym, ◌∙◌, ap, ap₂, subst, arith, append_assoc, append-nil, length-append}
 use Rattle.std.specs.Option.{option_map}
 use Rattle.std.specs.List.{AllByRecursion}
 use Rattle.std.proofs.Math.Seq.{take-append-add, take-append_seam}
-use Rattle.std.proofs.lemmas.List.{map-append}
 use Rattle.krb_der.specs.declared.profile.Profile.TheVariants.{Lenient}
 use Rattle.krb_msg.specs.Grammar.{messages}
 use Rattle.krb_frame.specs.Decoding.{status_of}
-use Rattle.krb_frame.specs.GoingOn.{Entry, Fault, Skipping, GoesOn, rest_to_come}
+use Rattle.krb_frame.specs.GoingOn.{Entry, Fault, GoesOn, rest_to_come}
 use Rattle.krb_frame.specs.declared.decoder.Status.TheVariants as status
 use Rattle.krb_text.specs.declared.origin.Origin.{Origin}
-use Rattle.krb_capture.specs.Found.{Written, with_all, with_found}
+use Rattle.krb_capture.specs.Found.{Found, Written, with_all, with_found}
 use Rattle.krb_capture.specs.Listed.{Lists, ListsLast, ListsNext, ListsPiece, ListsWith, status_in}
-use Rattle.krb_capture.specs.Streams.{Framed, entry_found, found_with, framed}
+use Rattle.krb_capture.specs.Streams.{Framed, after_entries, entries_found, entry_found, found_with, framed}
 use Rattle.krb_capture.specs.Taken.{IsDone, IsOver, TookMessages, Waits, WaitsUnless, WaitsWith, fed_with, kept_of}
 use Rattle.krb_capture.specs.declared.flow.Service.TheVariants as services
 use Rattle.krb_capture.specs.declared.message_frames.MessageFrames.{MessageFrames}
+use Rattle.krb_capture.specs.declared.message_frames.Placed.{Placed}
 use Rattle.krb_capture.proofs.Found.{with_all-append}
-use Rattle.krb_capture.proofs.Framed.{all_done, found_with-of, found-waiting, framed-last, last_framed}
+use Rattle.krb_capture.proofs.Framed.{after_entries-append, all_done, entries_found-append, found_with-of, found-waiting, framed-last, last_framed}
 use Rattle.krb_capture.proofs.Unfinished.{rest-is, next-part-is, waits-all}
 
 -- ---- nothing more is found
@@ -31,72 +31,75 @@ pub over-none : (limit : ℕ) (stream octets : List ℕ) → IsOver limit stream
 over-none limit stream octets o = found_with-of services.Kerberos limit stream octets (framed services.Kerberos limit stream).found [] refl ((o octets).0 ∙ sym (append-nil (framed services.Kerberos limit stream).found))
 
 -- ---- frames that were listed
-module _ (old new : Skipping) (octets : List ℕ) (origin : Origin) (before after : Written) (lenient : old.current.profile ≡ Lenient) (l : Lists old new octets origin before after) (stream : List ℕ) (w : Waits old stream) where
-  given : GoesOn (messages old.current.profile) old stream w.before
-  given = subst (λ p. GoesOn (messages p) old stream w.before) (sym lenient) w.goes_on
+module _ (old new : Placed) (octets : List ℕ) (origin : Origin) (before after : Written) (lenient : old.decoder.current.profile ≡ Lenient) (l : Lists old new octets origin before after) (stream : List ℕ) (w : Waits old.decoder stream) where
+  given : GoesOn (messages old.decoder.current.profile) old.decoder stream w.before
+  given = subst (λ p. GoesOn (messages p) old.decoder stream w.before) (sym lenient) w.goes_on
 
   pub lists-done : AllByRecursion IsDone (w.before ++ l.frames)
   lists-done = all_done w.before l.frames w.done (l.done stream w.before given)
 
-  pub lists-goes_on : GoesOn (messages Lenient) new (stream ++ octets) (w.before ++ l.frames)
-  lists-goes_on = subst (λ p. GoesOn (messages p) new (stream ++ octets) (w.before ++ l.frames)) lenient (l.goes_on stream w.before given)
+  pub lists-goes_on : GoesOn (messages Lenient) new.decoder (stream ++ octets) (w.before ++ l.frames)
+  lists-goes_on = subst (λ p. GoesOn (messages p) new.decoder (stream ++ octets) (w.before ++ l.frames)) lenient (l.goes_on stream w.before given)
 
-  pub lists-waits : status_in new ≡ status.More → Waits new (stream ++ octets)
+  pub lists-waits : status_in new.decoder ≡ status.More → Waits new.decoder (stream ++ octets)
   lists-waits e = record {
     before = w.before ++ l.frames;
     done = lists-done;
     goes_on = lists-goes_on;
-    waits = subst (λ p. status_of (messages p) new.current ≡ status.More) (l.profile ∙ lenient) e;
+    waits = subst (λ p. status_of (messages p) new.decoder.current ≡ status.More) (l.profile ∙ lenient) e;
   }
 
-  pub lists-found : (limit : ℕ) → old.current.limit ≡ limit → status_in new ≡ status.More → found_with services.Kerberos limit stream octets ≡ map entry_found l.frames
-  unfolding lists-waits
-  lists-found limit n e =
-      found_with-of services.Kerberos limit stream octets (map entry_found w.before) (map entry_found l.frames) (found-waiting limit old stream w n)
-      (found-waiting limit new (stream ++ octets) (lists-waits e) (l.limit ∙ n) ∙ map-append entry_found w.before l.frames)
-
 -- the last of them has no known length
-module _ (old new : Skipping) (piece : List ℕ) (origin : Origin) (before after : Written) (lenient : old.current.profile ≡ Lenient) (l : ListsLast old new piece origin before after) (stream : List ℕ) (w : Waits old stream) (limit : ℕ) (n : old.current.limit ≡ limit) where
+module _ (old new : Placed) (piece : List ℕ) (origin : Origin) (before after : Written) (lenient : old.decoder.current.profile ≡ Lenient) (l : ListsLast old new piece origin before after) (stream : List ℕ) (w : Waits old.decoder stream) (start : old.offset ≡ after_entries 0 w.before) (limit : ℕ) (n : old.decoder.current.limit ≡ limit) where
   abbrev pub frames : List Entry
   frames = l.prefix.lists.frames
 
   abbrev pub last : Entry
-  last = Fault l.refusal.place l.refusal.why new.current.octets
+  last = Fault l.refusal.place l.refusal.why new.decoder.current.octets
 
-  same : new.current.profile ≡ Lenient
+  same : new.decoder.current.profile ≡ Lenient
   same = l.prefix.lists.profile ∙ lenient
 
-  all_framed : (more : List ℕ) → framed services.Kerberos limit ((stream ++ piece) ++ more) ≡ last_framed (w.before ++ frames) l.refusal new.current.octets
+  all_framed : (more : List ℕ) → framed services.Kerberos limit ((stream ++ piece) ++ more) ≡ last_framed (w.before ++ frames) l.refusal new.decoder.current.octets
   all_framed more =
       ap (framed services.Kerberos limit)
       (ap (λ x. (stream ++ x) ++ more) l.prefix.parts
       ∙ ap (λ x. x ++ more) (sym (append_assoc stream l.prefix.used l.rest))
       ∙ append_assoc (stream ++ l.prefix.used) l.rest more)
-      ∙ framed-last limit new (stream ++ l.prefix.used) (w.before ++ frames) l.refusal (l.prefix.lists.limit ∙ n)
+      ∙ framed-last limit new.decoder (stream ++ l.prefix.used) (w.before ++ frames) l.refusal (l.prefix.lists.limit ∙ n)
       (lists-done old new l.prefix.used origin before l.between lenient l.prefix.lists stream w)
       (lists-goes_on old new l.prefix.used origin before l.between lenient l.prefix.lists stream w)
-      (subst (λ p. status_of (messages p) new.current ≡ status.Refused l.refusal) same l.stopped.refused)
-      (subst (λ p. rest_to_come (messages p) new.current ≡ None) same l.stopped.unknown)
+      (subst (λ p. status_of (messages p) new.decoder.current ≡ status.Refused l.refusal) same l.stopped.refused)
+      (subst (λ p. rest_to_come (messages p) new.decoder.current ≡ None) same l.stopped.unknown)
       (l.rest ++ more)
 
-  at_piece : framed services.Kerberos limit (stream ++ piece) ≡ last_framed (w.before ++ frames) l.refusal new.current.octets
+  at_piece : framed services.Kerberos limit (stream ++ piece) ≡ last_framed (w.before ++ frames) l.refusal new.decoder.current.octets
   at_piece = ap (framed services.Kerberos limit) (sym (append-nil (stream ++ piece))) ∙ all_framed []
 
   pub last-over : IsOver limit (stream ++ piece)
   last-over = λ more. (ap (λ (f : Framed). f.found) (all_framed more ∙ sym at_piece), ap (λ (f : Framed). f.over) (all_framed more))
 
-  pub last-found : found_with services.Kerberos limit stream piece ≡ map entry_found frames ++ entry_found last ∷ []
+  -- where they are
+  abbrev pub listed_from : List Found
+  listed_from = entries_found old.offset frames ++ entry_found new.offset last ∷ []
+
+  found_all : entries_found 0 (w.before ++ frames) ++ entry_found (after_entries 0 (w.before ++ frames)) last ∷ [] ≡ entries_found 0 w.before ++ listed_from
+  found_all =
+      ap (λ x. x ++ entry_found (after_entries 0 (w.before ++ frames)) last ∷ []) (entries_found-append 0 w.before frames ∙ ap (λ k. entries_found 0 w.before ++ entries_found k frames) (sym start))
+      ∙ append_assoc (entries_found 0 w.before) (entries_found old.offset frames) (entry_found (after_entries 0 (w.before ++ frames)) last ∷ [])
+      ∙ ap (λ k. entries_found 0 w.before ++ (entries_found old.offset frames ++ entry_found k last ∷ []))
+      (after_entries-append 0 w.before frames ∙ ap (λ k. after_entries k frames) (sym start) ∙ sym l.prefix.lists.offset)
+
+  pub last-found : found_with services.Kerberos limit stream piece ≡ listed_from
   last-found =
-      found_with-of services.Kerberos limit stream piece (map entry_found w.before) (map entry_found frames ++ entry_found last ∷ []) (found-waiting limit old stream w n)
-      (ap (λ (f : Framed). f.found) at_piece
-      ∙ ap (λ x. x ++ entry_found last ∷ []) (map-append entry_found w.before frames)
-      ∙ append_assoc (map entry_found w.before) (map entry_found frames) (entry_found last ∷ []))
+      found_with-of services.Kerberos limit stream piece (entries_found 0 w.before) listed_from (found-waiting limit old.decoder stream w n)
+      (ap (λ (f : Framed). f.found) at_piece ∙ found_all)
 
   pub last-listed : after ≡ with_all origin (found_with services.Kerberos limit stream piece) before
   last-listed =
       l.stopped.listed
-      ∙ ap (with_found origin (entry_found last)) l.prefix.lists.listed
-      ∙ sym (with_all-append origin (map entry_found frames) (entry_found last ∷ []) before)
+      ∙ ap (with_found origin (entry_found new.offset last)) l.prefix.lists.listed
+      ∙ sym (with_all-append origin (entries_found old.offset frames) (entry_found new.offset last ∷ []) before)
       ∙ ap (λ x. with_all origin x before) (sym last-found)
 
 -- ---- a piece was taken
@@ -121,45 +124,53 @@ module _ (old new : MessageFrames) (piece octets : List ℕ) (origin : Origin) (
   joined : w.fed ++ piece ≡ stream ++ octets
   joined = ap (λ x. w.fed ++ x) parts ∙ sym (append_assoc w.fed (kept_of old.part []) octets) ∙ ap (λ x. x ++ octets) (sym w.parts)
 
-  found-before : (framed services.Kerberos limit stream).found ≡ map entry_found w.waits.before
+  found-before : (framed services.Kerberos limit stream).found ≡ entries_found 0 w.waits.before
   found-before =
       let all = waits-all old limit stream w t.limit_is in
-      found-waiting limit (fed_with old.part old.decoder) stream all.waits t.limit_is ∙ ap (map entry_found) all.same
+      found-waiting limit (fed_with old.part old.placed.decoder) stream all.waits t.limit_is ∙ ap (entries_found 0) all.same
 
-  module _ (l : ListsWith old.limit (option_map (λ p. p.octets) new.part) old.decoder new.decoder piece origin before after) where
+  module _ (l : ListsWith old.limit (option_map (λ p. p.octets) new.part) old.placed new.placed piece origin before after) where
     pub with-waits : WaitsWith new limit (stream ++ octets)
+    unfolding lists-waits
     with-waits = record {
       fed = w.fed ++ l.prefix.used;
       parts = sym joined ∙ ap (λ x. w.fed ++ x) (l.prefix.parts ∙ ap (λ x. l.prefix.used ++ x) (rest-is new.part)) ∙ sym (append_assoc w.fed l.prefix.used (kept_of new.part []));
-      waits = lists-waits old.decoder new.decoder l.prefix.used origin before after t.profile l.prefix.lists w.fed w.waits l.waits;
-      part = next-part-is limit old.limit new.decoder new.part t.own_limit l.next_part;
+      waits = lists-waits old.placed new.placed l.prefix.used origin before after t.profile l.prefix.lists w.fed w.waits l.waits;
+      part = next-part-is limit old.limit new.placed.decoder new.part t.own_limit l.next_part;
+      offset =
+          l.prefix.lists.offset
+          ∙ ap (λ k. after_entries k l.prefix.lists.frames) w.offset
+          ∙ sym (after_entries-append 0 w.waits.before l.prefix.lists.frames);
     }
 
-    with-found : found_with services.Kerberos limit stream octets ≡ map entry_found l.prefix.lists.frames
+    with-found : found_with services.Kerberos limit stream octets ≡ entries_found old.placed.offset l.prefix.lists.frames
     unfolding lists-waits with-waits
     with-found =
         let all = waits-all new limit (stream ++ octets) with-waits (l.prefix.lists.limit ∙ t.limit_is) in
-        found_with-of services.Kerberos limit stream octets (map entry_found w.waits.before) (map entry_found l.prefix.lists.frames) found-before
-        (found-waiting limit (fed_with new.part new.decoder) (stream ++ octets) all.waits (l.prefix.lists.limit ∙ t.limit_is) ∙ ap (map entry_found) all.same ∙ map-append entry_found w.waits.before l.prefix.lists.frames)
+        found_with-of services.Kerberos limit stream octets (entries_found 0 w.waits.before) (entries_found old.placed.offset l.prefix.lists.frames) found-before
+        (found-waiting limit (fed_with new.part new.placed.decoder) (stream ++ octets) all.waits (l.prefix.lists.limit ∙ t.limit_is)
+        ∙ ap (entries_found 0) all.same
+        ∙ entries_found-append 0 w.waits.before l.prefix.lists.frames
+        ∙ ap (λ k. entries_found 0 w.waits.before ++ entries_found k l.prefix.lists.frames) (sym w.offset))
 
     pub with-listed : after ≡ with_all origin (found_with services.Kerberos limit stream octets) before
     with-listed = l.prefix.lists.listed ∙ ap (λ x. with_all origin x before) (sym with-found)
 
-  module _ (l : ListsLast old.decoder new.decoder piece origin before after) where
+  module _ (l : ListsLast old.placed new.placed piece origin before after) where
     pub past-over : IsOver limit (stream ++ octets)
-    past-over = subst (IsOver limit) joined (last-over old.decoder new.decoder piece origin before after t.profile l w.fed w.waits limit t.limit_is)
+    past-over = subst (IsOver limit) joined (last-over old.placed new.placed piece origin before after t.profile l w.fed w.waits w.offset limit t.limit_is)
 
     pub past-listed : after ≡ with_all origin (found_with services.Kerberos limit stream octets) before
     unfolding found_with
     past-listed =
-        last-listed old.decoder new.decoder piece origin before after t.profile l w.fed w.waits limit t.limit_is
+        last-listed old.placed new.placed piece origin before after t.profile l w.fed w.waits w.offset limit t.limit_is
         ∙ ap (λ x. with_all origin x before)
         (ap₂ (λ a b. drop (length a) b)
-        (found-waiting limit old.decoder w.fed w.waits t.limit_is ∙ sym found-before)
+        (found-waiting limit old.placed.decoder w.fed w.waits t.limit_is ∙ sym found-before)
         (ap (λ s. (framed services.Kerberos limit s).found) joined))
 
 abbrev pub ListsBy : MessageFrames → MessageFrames → List ℕ → Origin → Written → Written → Bool → Type 0
-ListsBy old new piece origin before after b = ListsPiece b old.limit (option_map (λ p. p.octets) new.part) old.decoder new.decoder piece origin before after
+ListsBy old new piece origin before after b = ListsPiece b old.limit (option_map (λ p. p.octets) new.part) old.placed new.placed piece origin before after
 
 takes-all : (old new : MessageFrames) (piece octets : List ℕ) (origin : Origin) (before after : Written) → old.is_over ≡ false → piece ≡ kept_of old.part [] ++ octets → new.limit ≡ old.limit → ListsBy old new piece origin before after new.is_over → TakesMessages old new octets origin before after
 takes-all old new piece octets origin before after o parts same l = record {
@@ -177,7 +188,7 @@ takes-all old new piece octets origin before after o parts same l = record {
     waits : (limit : ℕ) (stream : List ℕ) → TookMessages old limit stream → WaitsWith old limit stream
     waits limit stream t = subst (λ b. WaitsUnless b old limit stream) o t.state
 
-    kept-profile : (b : Bool) → ListsBy old new piece origin before after b → (new.decoder.current.profile ≡ old.decoder.current.profile) × (new.decoder.current.limit ≡ old.decoder.current.limit)
+    kept-profile : (b : Bool) → ListsBy old new piece origin before after b → (new.placed.decoder.current.profile ≡ old.placed.decoder.current.profile) × (new.placed.decoder.current.limit ≡ old.placed.decoder.current.limit)
     kept-profile true l = (l.prefix.lists.profile, l.prefix.lists.limit)
     kept-profile false l = (l.prefix.lists.profile, l.prefix.lists.limit)
 

@@ -74,16 +74,16 @@ module _ (s : Skipping) (limit : ℕ) (n : s.current.limit ≡ limit) (fed : Lis
 
 -- the frames that were listed are those before it
 pub record WaitsAll (taker : MessageFrames) (stream : List ℕ) (before : List Entry) : Type 0 where
-  pub waits : Waits (fed_with taker.part taker.decoder) stream
+  pub waits : Waits (fed_with taker.part taker.placed.decoder) stream
   pub same : waits.before ≡ before
 
-pub waits-all : (taker : MessageFrames) (limit : ℕ) (stream : List ℕ) (w : WaitsWith taker limit stream) → taker.decoder.current.limit ≡ limit → WaitsAll taker stream w.waits.before
+pub waits-all : (taker : MessageFrames) (limit : ℕ) (stream : List ℕ) (w : WaitsWith taker limit stream) → taker.placed.decoder.current.limit ≡ limit → WaitsAll taker stream w.waits.before
 unfolding part-waits
 waits-all taker limit stream w n = by taker.part w.parts w.part
   where
-    by : (part : Option Unfinished) → stream ≡ w.fed ++ kept_of part [] → IsNextPart limit taker.decoder part → WaitsAll (record taker { part = part }) stream w.waits.before
+    by : (part : Option Unfinished) → stream ≡ w.fed ++ kept_of part [] → IsNextPart limit taker.placed.decoder part → WaitsAll (record taker { part = part }) stream w.waits.before
     by None e p = subst (λ x. WaitsAll (record taker { part = None }) x w.waits.before) (sym (e ∙ append-nil w.fed)) (record { waits = w.waits; same = refl })
-    by (Some part) e p = subst (λ x. WaitsAll (record taker { part = Some part }) x w.waits.before) (sym e) (record { waits = part-waits taker.decoder limit n w.fed w.waits part.octets p.0 p.1; same = refl })
+    by (Some part) e p = subst (λ x. WaitsAll (record taker { part = Some part }) x w.waits.before) (sym e) (record { waits = part-waits taker.placed.decoder limit n w.fed w.waits part.octets p.0 p.1; same = refl })
 
 pub empty_of : (xs : List ℕ) → length xs ≡ 0 → xs ≡ []
 empty_of [] e = refl

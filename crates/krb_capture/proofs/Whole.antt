@@ -1,14 +1,14 @@
 -- What becomes of a frame whose length is there.
-use Rattle.std.proofs.Common.{◌≡◌, ℕ, ◌+◌, ◌^◌, ◌<◌, ◌≤◌, ◌⊎◌, inl, inr, Bool, true, false, List, [], ◌∷◌, length, take, drop, Some, None, refl, sym, ◌∙◌, subst, arith}
+use Rattle.std.proofs.Common.{◌≡◌, ℕ, ◌+◌, ◌^◌, ◌<◌, ◌≤◌, ◌⊎◌, inl, inr, Bool, true, false, List, [], ◌∷◌, length, take, drop, Some, None, refl, sym, ◌∙◌, ap, subst, arith}
 use Rattle.std.specs.Prelude.{Option, nat_lt, if◌then◌else◌}
 use Rattle.std.proofs.lemmas.Bool.{ltb-true, ltb-false}
 use Rattle.krb_der.specs.Octets.{number}
 use Rattle.krb_der.specs.declared.why.Why.TheVariants as why
 use Rattle.krb_text.specs.declared.origin.Origin.{Origin}
-use Rattle.krb_capture.specs.Found.{Written, with_found}
+use Rattle.krb_capture.specs.Found.{Written, with_all, with_found}
 use Rattle.krb_capture.specs.Passed.{Holds, ListsContents, ListsContentsIf, ListsNext, PassesOver, frame_length}
 use Rattle.krb_capture.specs.Passwords.{password_found}
-use Rattle.krb_capture.specs.Streams.{length_found}
+use Rattle.krb_capture.specs.Streams.{after_frame, before_frames, extent_at, frame_of, length_found, passwords_framed}
 use Rattle.krb_capture.specs.Taken.{IsAllowed}
 use Rattle.krb_capture.specs.declared.password_frames.PasswordFrames.{PasswordFrames}
 use Rattle.krb_capture.proofs.Passed.{next-empty, next-high, next-kept, next-long, next-passed, next-stopped, next-whole}
@@ -46,20 +46,34 @@ module _ (old new : PasswordFrames) (n : ℕ) (origin : Origin) (before after : 
       by (inl few) = omega (arith, few, four)
       by (inr p) = absurd (never (subst (IsAllowed old.limit) (length_is octets n e) p.0))
 
-  pub whole-high : 2 ^ 31 ≤ n → new.limit ≡ old.limit → new.is_over ≡ true → after ≡ with_found origin (length_found why.HighBit) before → ListsNext old new stream h origin before after
-  whole-high big l o w = next-stopped old stream h origin before new (length_found why.HighBit) after l o (λ more. next-high old.limit octets four more (omega (arith, big, length_is octets n e))) w
+  -- where it is
+  pub extent_is : extent_at old.offset octets ≡ frame_of old.offset (number (take 4 octets))
+  extent_is = let size : number (take 4 octets) ≡ n = length_is octets n e in λ i. record { at = old.offset; length = (e ∙ ap Some (sym size)) i }
 
-  pub whole-long : n < 2 ^ 31 → old.limit < n → PassesOver old n new → after ≡ with_found origin (length_found why.TooLong) before → ListsNext old new stream h origin before after
+  pub whole-high : 2 ^ 31 ≤ n → new.limit ≡ old.limit → new.is_over ≡ true → after ≡ with_found origin (length_found (extent_at old.offset octets) why.HighBit) before → ListsNext old new stream h origin before after
+  whole-high big l o w =
+      next-stopped old stream h origin before new (length_found (frame_of old.offset (number (take 4 octets))) why.HighBit) after l o (λ more. next-high old.limit old.offset octets four more (omega (arith, big, length_is octets n e)))
+      (w ∙ ap (λ x. with_found origin (length_found x why.HighBit) before) extent_is)
+
+  -- and where the next one is
+  next_is : (count : ℕ) → PassesOver old n count new → new.offset ≡ after_frame old.offset (number (take 4 octets))
+  next_is count p = p.offset ∙ ap (after_frame old.offset) (sym (length_is octets n e))
+
+  pub whole-long : n < 2 ^ 31 → old.limit < n → PassesOver old n n new → after ≡ with_found origin (length_found (extent_at old.offset octets) why.TooLong) before → ListsNext old new stream h origin before after
   whole-long short long p w =
       let size : number (take 4 octets) ≡ n = length_is octets n e in
       let none : length octets ≡ 4 = alone (λ a. absurd (omega (arith, a.within, long))) in
-      next-passed old stream h origin before new (length_found why.TooLong ∷ []) (number (take 4 octets)) after p.limit (p.is_over ∙ h.goes) (p.skipped ∙ sym size) p.octets (λ more. next-long old.limit octets four more none (omega (arith, size, short)) (omega (arith, size, long))) w
+      next-passed old stream h origin before new (length_found (frame_of old.offset (number (take 4 octets))) why.TooLong ∷ []) (number (take 4 octets)) after p.limit (p.is_over ∙ h.goes) (p.skipped ∙ sym size) p.octets
+      (λ more. next-long old.limit old.offset octets four more none (omega (arith, size, short)) (omega (arith, size, long)) ∙ ap (λ k. before_frames (length_found (frame_of old.offset (number (take 4 octets))) why.TooLong ∷ []) (passwords_framed old.limit k (drop (number (take 4 octets)) more))) (sym (next_is n p)))
+      (w ∙ ap (λ x. with_found origin (length_found x why.TooLong) before) extent_is)
 
-  pub whole-empty : n ≡ 0 → PassesOver old n new → after ≡ with_found origin (length_found why.Empty) before → ListsNext old new stream h origin before after
+  pub whole-empty : n ≡ 0 → PassesOver old n n new → after ≡ with_found origin (length_found (extent_at old.offset octets) why.Empty) before → ListsNext old new stream h origin before after
   whole-empty z p w =
       let size : number (take 4 octets) ≡ n = length_is octets n e in
       let none : length octets ≡ 4 = alone (λ a. absurd (omega (arith, a.some, z))) in
-      next-passed old stream h origin before new (length_found why.Empty ∷ []) (number (take 4 octets)) after p.limit (p.is_over ∙ h.goes) (p.skipped ∙ sym size) p.octets (λ more. next-empty old.limit octets four more none (omega (arith, size, z))) w
+      next-passed old stream h origin before new (length_found (frame_of old.offset (number (take 4 octets))) why.Empty ∷ []) (number (take 4 octets)) after p.limit (p.is_over ∙ h.goes) (p.skipped ∙ sym size) p.octets
+      (λ more. next-empty old.limit old.offset octets four more none (omega (arith, size, z)) ∙ ap (λ k. before_frames (length_found (frame_of old.offset (number (take 4 octets))) why.Empty ∷ []) (passwords_framed old.limit k (drop (number (take 4 octets)) more))) (sym (next_is n p)))
+      (w ∙ ap (λ x. with_found origin (length_found x why.Empty) before) extent_is)
 
   pub whole-contents : IsAllowed old.limit n → ListsContents old n new origin before after → ListsNext old new stream h origin before after
   whole-contents a c = by (nat_lt (length octets) (4 + n)) refl c
@@ -74,14 +88,16 @@ module _ (old new : PasswordFrames) (n : ℕ) (origin : Origin) (before after : 
       most (inl few) = omega (arith, few)
       most (inr p) = omega (arith, p.1, size)
 
-      by : (b : Bool) → nat_lt (length octets) (4 + n) ≡ b → ListsContentsIf b old new origin before after → ListsNext old new stream h origin before after
+      by : (b : Bool) → nat_lt (length octets) (4 + n) ≡ b → ListsContentsIf b old n new origin before after → ListsNext old new stream h origin before after
       by true t l =
           let open_at : length octets < 4 + number (take 4 octets) = omega (arith, ltb-true (length octets) (4 + n) t, size) in
           let kept : ListsNext old old stream h origin before before = next-kept old stream h origin before (inr (allowed, four, open_at)) in
           subst (λ w. ListsNext old new stream h origin before w) (sym l.1) (subst (λ t. ListsNext old t stream h origin before before) (sym l.0) kept)
       by false t l =
           let all : length octets ≡ 4 + number (take 4 octets) = omega (arith, ltb-false (length octets) (4 + n) t, most h.few, size) in
-          next-passed old stream h origin before new (password_found 4 (drop 4 octets)) 0 after l.passes.limit (l.passes.is_over ∙ h.goes) l.passes.skipped l.passes.octets (λ more. next-whole old.limit octets four more allowed all) l.listed
+          next-passed old stream h origin before new (password_found (frame_of old.offset (number (take 4 octets))) 4 (drop 4 octets)) 0 after l.passes.limit (l.passes.is_over ∙ h.goes) l.passes.skipped l.passes.octets
+          (λ more. next-whole old.limit old.offset octets four more allowed all ∙ ap (λ k. before_frames (password_found (frame_of old.offset (number (take 4 octets))) 4 (drop 4 octets)) (passwords_framed old.limit k more)) (sym (next_is 0 l.passes)))
+          (l.listed ∙ ap (λ k. with_all origin (password_found (frame_of old.offset k) 4 (drop 4 octets)) before) (sym size))
 
 -- none of it came
 pub whole-none : (old : PasswordFrames) (origin : Origin) (w : Written) → frame_length old.octets.items ≡ None → (stream : List ℕ) (h : Holds old stream) → ListsNext old old stream h origin w w

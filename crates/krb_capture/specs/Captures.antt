@@ -13,6 +13,7 @@ use Rattle.krb_packet.specs.declared.packet.Packet.{Packet}
 use Rattle.krb_file.specs.declared.fault.FileWhy.{FileWhy}
 use Rattle.krb_text.specs.Captures.{capture_end_line, capture_refused_line}
 use Rattle.krb_text.specs.declared.capture.CaptureCounts.{CaptureCounts}
+use Rattle.krb_text.specs.declared.extent.Extent.{Extent}
 use Rattle.krb_text.specs.declared.form.Form.{Form}
 use Rattle.krb_text.specs.declared.origin.Origin.{Origin}
 use Rattle.krb_text.specs.declared.origin.Transport.TheVariants as transports
@@ -147,9 +148,9 @@ end_text settings progress =
     let taken = end_taken settings progress in lines_of settings.form taken.found ++ capture_end_line settings.form (all_counts taken.progress)
 
 -- the same of a file that is itself at fault: the directions end, too
-unfoldable pub refusal_text : Settings → Progress → ℕ → FileWhy → Option (List ℕ) → List ℕ
-refusal_text settings progress place why path =
-    let taken = end_taken settings progress in lines_of settings.form taken.found ++ capture_refused_line settings.form (all_counts taken.progress) place why path
+unfoldable pub refusal_text : Settings → Progress → ℕ → FileWhy → Option (List ℕ) → Extent → List ℕ
+refusal_text settings progress place why path extent =
+    let taken = end_taken settings progress in lines_of settings.form taken.found ++ capture_refused_line settings.form (all_counts taken.progress) place why path extent
 
 abbrev pub is_clean : CaptureCounts → Bool
 is_clean counts = (counts.refused == 0 && counts.lost == 0) && counts.unread == 0

@@ -4,20 +4,21 @@ use Rattle.krb_der.specs.declared.verdict.Refusal.{Refusal}
 use Rattle.krb_msg.specs.declared.message.Message.{Message}
 use Rattle.krb_text.specs.Captures.{captured_message_line, captured_refused_line, joined_line, lost_line, password_line}
 use Rattle.krb_text.specs.declared.capture.CaptureCounts.{CaptureCounts}
+use Rattle.krb_text.specs.declared.extent.Extent.{Extent}
 use Rattle.krb_text.specs.declared.form.Form.{Form}
 use Rattle.krb_text.specs.declared.origin.Origin.{Origin}
 
--- A message; a message or a frame that is refused, and the path of the field at fault; that a direction begins without its SYN; octets that are not in the capture, and the path of the field that has the first of them; a message that changes a password, with the lengths of its parts.
+-- A message; a message or a frame that is refused, the path of the field at fault, and where the frame is and its length; that a direction begins without its SYN; octets that are not in the capture, and the path of the field that has the first of them; a message that changes a password, with the lengths of its parts.
 pub data Found : Type 0 where
   Whole : (message : Message) → Found
-  Faulty : (refusal : Refusal) → (path : Option (List ℕ)) → Found
+  Faulty : (refusal : Refusal) → (path : Option (List ℕ)) → (extent : Extent) → Found
   Joined : Found
   Missing : (place : ℕ) → (octets : ℕ) → (path : Option (List ℕ)) → Found
   Password : (version : ℕ) → (ap : ℕ) → (rest : ℕ) → Found
 
 abbrev pub found_line : Form → Origin → Found → List ℕ
 found_line form origin (Whole message) = captured_message_line form origin message
-found_line form origin (Faulty refusal path) = captured_refused_line form origin refusal path
+found_line form origin (Faulty refusal path extent) = captured_refused_line form origin refusal path extent
 found_line form origin Joined = joined_line form origin
 found_line form origin (Missing place octets path) = lost_line form origin place octets path
 found_line form origin (Password version ap rest) = password_line form origin version ap rest
@@ -28,7 +29,7 @@ and_more count more = min (count + more) (2 ^ 64 - 1)
 
 abbrev pub counted : Found → CaptureCounts → CaptureCounts
 counted (Whole message) counts = record counts { messages = and_more counts.messages 1 }
-counted (Faulty refusal path) counts = record counts { refused = and_more counts.refused 1 }
+counted (Faulty refusal path extent) counts = record counts { refused = and_more counts.refused 1 }
 counted Joined counts = counts
 counted (Missing place octets path) counts = record counts { lost = and_more counts.lost 1 }
 counted (Password version ap rest) counts = counts

@@ -1,5 +1,5 @@
 -- The law of the directions of TCP.
-use Rattle.std.specs.Prelude.{◌≡◌, ℕ, List, [], ◌∷◌, ◌++◌, map, Some}
+use Rattle.std.specs.Prelude.{◌≡◌, ℕ, List, [], ◌∷◌, ◌++◌, Some}
 use Rattle.krb_der.specs.declared.profile.Profile.TheVariants.{Lenient}
 use Rattle.krb_packet.specs.declared.contents.Segment.{Segment}
 use Rattle.krb_msg.specs.Grammar.{messages}
@@ -10,7 +10,7 @@ use Rattle.krb_flow.specs.declared.direction.Beginning.{Beginning}
 use Rattle.krb_flow.specs.declared.stream.End.TheVariants as ends
 use Rattle.krb_capture.specs.Found.{Found}
 use Rattle.krb_capture.specs.Sending.{Sent, after_segment, beginning_found, last_found, nothing_sent, segment_found}
-use Rattle.krb_capture.specs.Streams.{end_found, entry_found, framed}
+use Rattle.krb_capture.specs.Streams.{end_found, entries_found, framed}
 use Rattle.krb_capture.specs.declared.flow.Flow.{Flow}
 use Rattle.krb_capture.specs.declared.flow.Service.{Service}
 use Rattle.krb_capture.specs.declared.flow.Service.TheVariants as services
@@ -22,7 +22,7 @@ direction_found limit sent (segment ∷ segments) = segment_found limit sent seg
 
 -- What is found in a stream. In one of messages that is each of its frames, as they are listed if one goes on after a refusal.
 abbrev pub stream_found : Service → ℕ → List ℕ → List Found
-stream_found services.Kerberos limit stream = map entry_found (entries (messages Lenient) limit stream)
+stream_found services.Kerberos limit stream = entries_found 0 (entries (messages Lenient) limit stream)
 stream_found services.Passwords limit stream = (framed services.Passwords limit stream).found ++ end_found services.Passwords limit stream ends.Complete
 
 -- Whatever way a stream is cut into segments, in whatever order and how often these are captured: what is found in the direction is what is found in the stream, after `Joined` if its SYN does not come first.

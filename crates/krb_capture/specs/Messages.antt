@@ -7,6 +7,7 @@ use Rattle.krb_msg.specs.Judgement.{judgement}
 use Rattle.krb_msg.specs.Views.{message_of_der}
 use Rattle.krb_judge.specs.Parses.{refused, refusal_of}
 use Rattle.krb_judge.specs.Paths.{message_path}
+use Rattle.krb_text.specs.declared.extent.Extent.{Extent}
 use Rattle.krb_capture.specs.Found.{Found, Whole, Faulty, Missing}
 
 -- the greatest number of octets of a message
@@ -17,28 +18,28 @@ most_octets = 2147483647
 unfoldable pub path_of : ℕ → List ℕ → Option (List ℕ)
 path_of size prefix = if nat_lt most_octets size then None else message_path Lenient size prefix
 
--- a message of n octets that follows others, and of which these are present, is refused
-abbrev pub refused_found : ℕ → ℕ → List ℕ → Refusal → Found
-refused_found before size octets refusal =
-    Faulty (record { place = before + refusal.place; why = refusal.why }) (path_of size (take (refusal.place + 1) octets))
+-- a message of n octets that follows others of a frame or a datagram, and of which these are present, is refused
+abbrev pub refused_found : Extent → ℕ → ℕ → List ℕ → Refusal → Found
+refused_found extent before size octets refusal =
+    Faulty (record { place = before + refusal.place; why = refusal.why }) (path_of size (take (refusal.place + 1) octets)) extent
 
-abbrev pub found_unless : Option Refusal → ℕ → List ℕ → Found
-found_unless None before octets = Whole (message_of_der octets)
-found_unless (Some refusal) before octets = refused_found before (length octets) octets refusal
+abbrev pub found_unless : Option Refusal → Extent → ℕ → List ℕ → Found
+found_unless None extent before octets = Whole (message_of_der octets)
+found_unless (Some refusal) extent before octets = refused_found extent before (length octets) octets refusal
 
--- octets that are all there, after others
-unfoldable pub message_found : ℕ → List ℕ → Found
-message_found before octets = found_unless (refusal_of Lenient octets) before octets
+-- octets that are all there, after others of a frame or a datagram
+unfoldable pub message_found : Extent → ℕ → List ℕ → Found
+message_found extent before octets = found_unless (refusal_of Lenient octets) extent before octets
 
 -- why the first octets of a message of n octets are refused, if they are
 abbrev pub prefix_refusal : ℕ → List ℕ → Option Refusal
 prefix_refusal size octets =
     if nat_lt most_octets size then Some (record { place = 0; why = why.TooLong }) else refused (judgement Lenient size octets)
 
-abbrev pub missing_unless : Option Refusal → ℕ → List ℕ → Found
-missing_unless None size octets = Missing (length octets) (size - length octets) (path_of size octets)
-missing_unless (Some refusal) size octets = refused_found 0 size octets refusal
+abbrev pub missing_unless : Option Refusal → Extent → ℕ → List ℕ → Found
+missing_unless None extent size octets = Missing (length octets) (size - length octets) (path_of size octets)
+missing_unless (Some refusal) extent size octets = refused_found extent 0 size octets refusal
 
--- the first octets of a message of n octets, of which the others are not in the capture
-unfoldable pub cut_found : ℕ → List ℕ → Found
-cut_found size octets = missing_unless (prefix_refusal size octets) size octets
+-- the first octets of a datagram that is a message of n octets, of which the others are not in the capture
+unfoldable pub cut_found : Extent → ℕ → List ℕ → Found
+cut_found extent size octets = missing_unless (prefix_refusal size octets) extent size octets

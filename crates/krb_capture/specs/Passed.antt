@@ -4,7 +4,7 @@ use Rattle.krb_der.specs.Octets.{number}
 use Rattle.krb_text.specs.declared.origin.Origin.{Origin}
 use Rattle.krb_capture.specs.Found.{Found, Written, with_all}
 use Rattle.krb_capture.specs.Passwords.{password_found}
-use Rattle.krb_capture.specs.Streams.{before_frames, found_with}
+use Rattle.krb_capture.specs.Streams.{after_frame, before_frames, found_with, frame_of, passwords_framed}
 use Rattle.krb_capture.specs.Taken.{IsAllowed, KeepsUnless, TookPasswords, passwords}
 use Rattle.krb_capture.specs.declared.flow.Service.TheVariants as services
 use Rattle.krb_capture.specs.declared.password_frames.PasswordFrames.{PasswordFrames}
@@ -19,7 +19,7 @@ pub record Holds (taker : PasswordFrames) (stream : List ℕ) : Type 0 where
   pub goes : taker.is_over ≡ false
   pub none_skipped : taker.skipped ≡ 0
   pub before : List Found
-  pub goes_on : (more : List ℕ) → passwords taker.limit (stream ++ more) ≡ before_frames before (passwords taker.limit (taker.octets.items ++ more))
+  pub goes_on : (more : List ℕ) → passwords taker.limit (stream ++ more) ≡ before_frames before (passwords_framed taker.limit taker.offset (taker.octets.items ++ more))
   pub few : (length taker.octets.items ≤ 4) ⊎ (IsAllowed taker.limit (number (take 4 taker.octets.items)) × (length taker.octets.items ≤ 4 + number (take 4 taker.octets.items)))
 
 -- that frame was listed if it is whole or refused
@@ -35,22 +35,23 @@ ListsWhole old new origin before after = (stream : List ℕ) (h : Holds old stre
 abbrev pub frame_length : List ℕ → Option ℕ
 frame_length octets = if nat_lt (length octets) 4 then None else Some (number (take 4 octets))
 
--- nothing of the next frame is kept, and octets before it are skipped
-pub record PassesOver (old : PasswordFrames) (count : ℕ) (new : PasswordFrames) : Type 0 where
+-- nothing of the frame after one of n octets is kept, and octets before it are skipped
+pub record PassesOver (old : PasswordFrames) (n count : ℕ) (new : PasswordFrames) : Type 0 where
   pub limit : new.limit ≡ old.limit
   pub is_over : new.is_over ≡ old.is_over
   pub skipped : new.skipped ≡ count
   pub octets : new.octets.items ≡ []
+  pub offset : new.offset ≡ after_frame old.offset n
 
 -- the contents of a frame that is whole were listed
-pub record ListsContentsOf (old new : PasswordFrames) (origin : Origin) (before after : Written) : Type 0 where
-  pub passes : PassesOver old 0 new
-  pub listed : after ≡ with_all origin (password_found 4 (drop 4 old.octets.items)) before
+pub record ListsContentsOf (old : PasswordFrames) (n : ℕ) (new : PasswordFrames) (origin : Origin) (before after : Written) : Type 0 where
+  pub passes : PassesOver old n 0 new
+  pub listed : after ≡ with_all origin (password_found (frame_of old.offset n) 4 (drop 4 old.octets.items)) before
 
 -- if it is not whole nothing changes
-abbrev pub ListsContentsIf : Bool → PasswordFrames → PasswordFrames → Origin → Written → Written → Type 0
-ListsContentsIf true old new origin before after = (new ≡ old) × (after ≡ before)
-ListsContentsIf false old new origin before after = ListsContentsOf old new origin before after
+abbrev pub ListsContentsIf : Bool → PasswordFrames → ℕ → PasswordFrames → Origin → Written → Written → Type 0
+ListsContentsIf true old n new origin before after = (new ≡ old) × (after ≡ before)
+ListsContentsIf false old n new origin before after = ListsContentsOf old n new origin before after
 
 abbrev pub ListsContents : PasswordFrames → ℕ → PasswordFrames → Origin → Written → Written → Type 0
-ListsContents old n new origin before after = ListsContentsIf (nat_lt (length old.octets.items) (4 + n)) old new origin before after
+ListsContents old n new origin before after = ListsContentsIf (nat_lt (length old.octets.items) (4 + n)) old n new origin before after

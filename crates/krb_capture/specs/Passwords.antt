@@ -3,6 +3,7 @@ use Rattle.std.specs.Prelude.{ℕ, ◌+◌, ◌-◌, nat_lt, if◌then◌else◌
 use Rattle.std.specs.Int.{w16, from_be_bytes}
 use Rattle.krb_der.specs.declared.why.Why.{Why}
 use Rattle.krb_der.specs.declared.why.Why.TheVariants as why
+use Rattle.krb_text.specs.declared.extent.Extent.{Extent}
 use Rattle.krb_capture.specs.Found.{Found, Faulty, Password}
 use Rattle.krb_capture.specs.Messages.{message_found}
 use Rattle.krb_capture.specs.declared.password.Field.{Field}
@@ -50,16 +51,16 @@ header octets =
     checked (length octets) all version ap)))
 
 -- a part that follows others, unless it is left out
-abbrev pub part_found : ℕ → List ℕ → List Found
-part_found before [] = []
-part_found before (octet ∷ octets) = message_found before (octet ∷ octets) ∷ []
+abbrev pub part_found : Extent → ℕ → List ℕ → List Found
+part_found extent before [] = []
+part_found extent before (octet ∷ octets) = message_found extent before (octet ∷ octets) ∷ []
 
-abbrev pub parts_found : ℕ → List ℕ → Result Header Fault → List Found
-parts_found before octets (Err fault) = Faulty (record { place = before + place_of fault.field; why = fault.why }) (Some (path_of fault.field)) ∷ []
-parts_found before octets (Ok header) =
+abbrev pub parts_found : Extent → ℕ → List ℕ → Result Header Fault → List Found
+parts_found extent before octets (Err fault) = Faulty (record { place = before + place_of fault.field; why = fault.why }) (Some (path_of fault.field)) extent ∷ []
+parts_found extent before octets (Ok header) =
     Password header.version header.ap (length octets - (6 + header.ap))
-    ∷ (part_found (before + 6) (take header.ap (drop 6 octets)) ++ part_found (before + (6 + header.ap)) (drop (6 + header.ap) octets))
+    ∷ (part_found extent (before + 6) (take header.ap (drop 6 octets)) ++ part_found extent (before + (6 + header.ap)) (drop (6 + header.ap) octets))
 
--- octets that are all there, after others
-unfoldable pub password_found : ℕ → List ℕ → List Found
-password_found before octets = parts_found before octets (header octets)
+-- octets that are all there, after others of a frame or a datagram
+unfoldable pub password_found : Extent → ℕ → List ℕ → List Found
+password_found extent before octets = parts_found extent before octets (header octets)

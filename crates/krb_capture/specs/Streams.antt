@@ -1,5 +1,5 @@
 -- What is found in the octets that one end of a connection sends: frames (RFC 4120, 7.2.2), after each of which the next one begins, also after one that is refused.
-use Rattle.std.specs.Prelude.{ℕ, zero, suc, ◌+◌, ◌^◌, nat_lt, nat_le, ◌==◌, not, ◌&&◌, Bool, true, false, if◌then◌else◌, List, [], ◌∷◌, ◌++◌, length, map, take, drop, Option, Some, None, codes}
+use Rattle.std.specs.Prelude.{ℕ, zero, suc, ◌+◌, ◌^◌, nat_lt, nat_le, ◌==◌, not, ◌&&◌, Bool, true, false, if◌then◌else◌, List, [], ◌∷◌, ◌++◌, length, take, drop, Option, Some, None, codes}
 use Rattle.std.specs.List.{filter, list_any}
 use Rattle.krb_der.specs.Octets.{number}
 use Rattle.krb_der.specs.declared.profile.Profile.TheVariants.{Lenient}
@@ -8,20 +8,38 @@ use Rattle.krb_der.specs.declared.why.Why.{Why}
 use Rattle.krb_der.specs.declared.why.Why.TheVariants as why
 use Rattle.krb_msg.specs.Grammar.{messages}
 use Rattle.krb_msg.specs.Views.{message_of_der}
-use Rattle.krb_frame.specs.GoingOn.{Entry, Contents, Fault, entries}
+use Rattle.krb_frame.specs.Decoding.{announced}
+use Rattle.krb_frame.specs.GoingOn.{Entry, Contents, Fault, entries, entry_size}
 use Rattle.krb_flow.specs.declared.stream.End.{End}
 use Rattle.krb_flow.specs.declared.stream.End.TheVariants as ends
-use Rattle.krb_capture.specs.Found.{Found, Whole, Faulty, Missing}
+use Rattle.krb_text.specs.declared.extent.Extent.{Extent}
+use Rattle.krb_capture.specs.Found.{Found, Whole, Faulty, Missing, and_more}
 use Rattle.krb_capture.specs.Messages.{path_of}
 use Rattle.krb_capture.specs.Passwords.{password_found}
 use Rattle.krb_capture.specs.declared.flow.Service.{Service}
 use Rattle.krb_capture.specs.declared.flow.Service.TheVariants as services
 
--- What is found in frames; the octets of the last one, if it is not whole yet; and whether its length is not known, so that nothing follows it.
+-- What is found in frames; the octets of the last one, if it is not whole yet, and the offset at which these begin; and whether its length is not known, so that nothing follows it.
 pub record Framed : Type 0 where
   pub found : List Found
   pub partial : List ℕ
+  pub offset : ℕ
   pub over : Bool
+
+-- ---- where frames are
+
+-- where a frame is that begins at an offset, and the length that it announces, by its octets that are there
+abbrev pub extent_at : ℕ → List ℕ → Extent
+extent_at offset octets = record { at = offset; length = announced octets }
+
+-- the offset after a frame that begins at another; offsets stop at the greatest number of 64 bits, as counts do
+abbrev pub after_entry : ℕ → Entry → ℕ
+after_entry offset entry = and_more offset (entry_size entry)
+
+-- the offset after frames
+abbrev pub after_entries : ℕ → List Entry → ℕ
+after_entries offset [] = offset
+after_entries offset (entry ∷ others) = after_entries (after_entry offset entry) others
 
 -- ---- messages of Kerberos
 
@@ -39,9 +57,15 @@ abbrev pub is_unknown : Entry → Bool
 is_unknown (Contents contents) = false
 is_unknown (Fault place reason prefix) = nat_lt place (length prefix) && nat_le (2 ^ 31) (number (take 4 prefix))
 
-abbrev pub entry_found : Entry → Found
-entry_found (Contents contents) = Whole (message_of_der contents)
-entry_found (Fault place reason prefix) = Faulty (record { place = place; why = reason }) (frame_path prefix)
+-- what is found in a frame that begins at an offset
+abbrev pub entry_found : ℕ → Entry → Found
+entry_found offset (Contents contents) = Whole (message_of_der contents)
+entry_found offset (Fault place reason prefix) = Faulty (record { place = place; why = reason }) (frame_path prefix) (extent_at offset prefix)
+
+-- in frames, the first of which does
+abbrev pub entries_found : ℕ → List Entry → List Found
+entries_found offset [] = []
+entries_found offset (entry ∷ others) = entry_found offset entry ∷ entries_found (after_entry offset entry) others
 
 -- the octets of the frame that is cut, if one is
 abbrev pub cut_octets : List Entry → List ℕ
@@ -49,40 +73,58 @@ cut_octets [] = []
 cut_octets (Contents contents ∷ others) = cut_octets others
 cut_octets (Fault place reason prefix ∷ others) = if nat_le (length prefix) place then prefix else cut_octets others
 
-abbrev pub framed_entries : List Entry → Framed
-framed_entries found = record { found = map entry_found (filter (λ entry. not (is_cut entry)) found); partial = cut_octets found; over = list_any is_unknown found }
+abbrev pub not_cut : List Entry → List Entry
+not_cut found = filter (λ entry. not (is_cut entry)) found
+
+abbrev pub framed_entries : ℕ → List Entry → Framed
+framed_entries offset found = record { found = entries_found offset (not_cut found); partial = cut_octets found; offset = after_entries offset (not_cut found); over = list_any is_unknown found }
+
+unfoldable pub messages_framed : ℕ → List ℕ → Framed
+messages_framed limit stream = framed_entries 0 (entries (messages Lenient) limit stream)
 
 -- ---- messages that change passwords, each of which is looked at once it is whole
 
-abbrev pub no_frames : List ℕ → Framed
-no_frames octets = record { found = []; partial = octets; over = false }
+abbrev pub no_frames : ℕ → List ℕ → Framed
+no_frames offset octets = record { found = []; partial = octets; offset = offset; over = false }
 
 abbrev pub before_frames : List Found → Framed → Framed
-before_frames found framed = record { found = found ++ framed.found; partial = framed.partial; over = framed.over }
+before_frames found framed = record { found = found ++ framed.found; partial = framed.partial; offset = framed.offset; over = framed.over }
 
--- a frame that is refused for its length
-abbrev pub length_found : Why → Found
-length_found reason = Faulty (record { place = 3; why = reason }) None
+-- a frame at an offset that announces n octets
+abbrev pub frame_of : ℕ → ℕ → Extent
+frame_of offset n = record { at = offset; length = Some n }
 
-abbrev pub password_frame : ℕ → ℕ → List ℕ → (List ℕ → Framed) → Framed
-password_frame limit n octets frames =
-    if nat_le (2 ^ 31) n then record { found = length_found why.HighBit ∷ []; partial = []; over = true }
-    else if nat_lt limit n then before_frames (length_found why.TooLong ∷ []) (frames (drop (4 + n) octets))
-    else if n == 0 then before_frames (length_found why.Empty ∷ []) (frames (drop (4 + n) octets))
-    else if nat_lt (length octets) (4 + n) then no_frames octets
-    else before_frames (password_found 4 (take n (drop 4 octets))) (frames (drop (4 + n) octets))
+-- the offset after it
+abbrev pub after_frame : ℕ → ℕ → ℕ
+after_frame offset n = and_more offset (4 + n)
+
+-- it is refused for its length
+abbrev pub length_found : Extent → Why → Found
+length_found extent reason = Faulty (record { place = 3; why = reason }) None extent
+
+abbrev pub password_frame : ℕ → ℕ → ℕ → List ℕ → (ℕ → List ℕ → Framed) → Framed
+password_frame limit offset n octets frames =
+    if nat_le (2 ^ 31) n then record { found = length_found (frame_of offset n) why.HighBit ∷ []; partial = []; offset = offset; over = true }
+    else if nat_lt limit n then before_frames (length_found (frame_of offset n) why.TooLong ∷ []) (frames (after_frame offset n) (drop (4 + n) octets))
+    else if n == 0 then before_frames (length_found (frame_of offset n) why.Empty ∷ []) (frames (after_frame offset n) (drop (4 + n) octets))
+    else if nat_lt (length octets) (4 + n) then no_frames offset octets
+    else before_frames (password_found (frame_of offset n) 4 (take n (drop 4 octets))) (frames (after_frame offset n) (drop (4 + n) octets))
 
 -- the first number bounds how many frames there are
-abbrev pub password_frames : ℕ → ℕ → List ℕ → Framed
-password_frames zero limit octets = no_frames octets
-password_frames (suc bound) limit octets =
-    if nat_lt (length octets) 4 then no_frames octets
-    else password_frame limit (number (take 4 octets)) octets (password_frames bound limit)
+abbrev pub password_frames : ℕ → ℕ → ℕ → List ℕ → Framed
+password_frames zero limit offset octets = no_frames offset octets
+password_frames (suc bound) limit offset octets =
+    if nat_lt (length octets) 4 then no_frames offset octets
+    else password_frame limit offset (number (take 4 octets)) octets (password_frames bound limit)
+
+-- in octets that begin at an offset
+unfoldable pub passwords_framed : ℕ → ℕ → List ℕ → Framed
+passwords_framed limit offset octets = password_frames (length octets) limit offset octets
 
 -- ---- by what the flow carries, with frames of at most n octets
-unfoldable pub framed : Service → ℕ → List ℕ → Framed
-framed services.Kerberos limit stream = framed_entries (entries (messages Lenient) limit stream)
-framed services.Passwords limit stream = password_frames (length stream) limit stream
+abbrev pub framed : Service → ℕ → List ℕ → Framed
+framed services.Kerberos limit stream = messages_framed limit stream
+framed services.Passwords limit stream = passwords_framed limit 0 stream
 
 abbrev pub open_path : Service → List ℕ → Option (List ℕ)
 open_path services.Kerberos octets = frame_path octets
@@ -97,15 +139,15 @@ abbrev pub cut_refusal : List ℕ → Option Refusal
 cut_refusal [] = None
 cut_refusal (octet ∷ octets) = Some (record { place = length (octet ∷ octets); why = why.Truncated })
 
-abbrev pub refusal_found : Service → List ℕ → Option Refusal → List Found
-refusal_found service octets None = []
-refusal_found service octets (Some refusal) = Faulty refusal (open_path service octets) ∷ []
+abbrev pub refusal_found : Service → ℕ → List ℕ → Option Refusal → List Found
+refusal_found service offset octets None = []
+refusal_found service offset octets (Some refusal) = Faulty refusal (open_path service octets) (extent_at offset octets) ∷ []
 
--- octets that are missing at the end, or else a frame that is not whole
-abbrev pub known_end : Service → End → List ℕ → List Found
-known_end service (ends.Lost lost) octets = Missing lost.place lost.octets (open_path service octets) ∷ []
-known_end service ends.Complete octets = refusal_found service octets (cut_refusal octets)
+-- octets that are missing at the end, or else a frame that is not whole, which begins at an offset
+abbrev pub known_end : Service → End → ℕ → List ℕ → List Found
+known_end service (ends.Lost lost) offset octets = Missing lost.place lost.octets (open_path service octets) ∷ []
+known_end service ends.Complete offset octets = refusal_found service offset octets (cut_refusal octets)
 
 -- what is found at the end of a stream; nothing if its last frame has no known length
 unfoldable pub end_found : Service → ℕ → List ℕ → End → List Found
-end_found service limit stream end = if (framed service limit stream).over then [] else known_end service end (framed service limit stream).partial
+end_found service limit stream end = if (framed service limit stream).over then [] else known_end service end (framed service limit stream).offset (framed service limit stream).partial

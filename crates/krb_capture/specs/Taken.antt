@@ -9,7 +9,7 @@ use Rattle.krb_frame.specs.GoingOn.{Entry, IsClear, Skipping, GoesOn}
 use Rattle.krb_frame.specs.declared.decoder.Status.TheVariants as status
 use Rattle.krb_capture.specs.Found.{Found}
 use Rattle.krb_capture.specs.Unfinished.{IsUnfinished, Unfinished}
-use Rattle.krb_capture.specs.Streams.{Framed, before_frames, framed, is_cut, is_unknown}
+use Rattle.krb_capture.specs.Streams.{Framed, after_entries, before_frames, framed, is_cut, is_unknown, passwords_framed}
 use Rattle.krb_capture.specs.declared.flow.Service.{Service}
 use Rattle.krb_capture.specs.declared.flow.Service.TheVariants as services
 use Rattle.krb_capture.specs.declared.frames.Frames.{Frames}
@@ -51,8 +51,10 @@ fed_with part decoder = record { current = record decoder.current { octets = kep
 pub record WaitsWith (taker : MessageFrames) (limit : ℕ) (stream : List ℕ) : Type 0 where
   pub fed : List ℕ
   pub parts : stream ≡ fed ++ kept_of taker.part []
-  pub waits : Waits taker.decoder fed
-  pub part : IsNextPart limit taker.decoder taker.part
+  pub waits : Waits taker.placed.decoder fed
+  pub part : IsNextPart limit taker.placed.decoder taker.part
+  -- the frame that is not whole begins after those before it
+  pub offset : taker.placed.offset ≡ after_entries 0 waits.before
 
 abbrev pub WaitsUnless : Bool → MessageFrames → ℕ → List ℕ → Type 0
 WaitsUnless false taker limit stream = WaitsWith taker limit stream
@@ -60,15 +62,15 @@ WaitsUnless true taker limit stream = IsOver limit stream
 
 -- they took a stream, with frames of at most n octets
 pub record TookMessages (taker : MessageFrames) (limit : ℕ) (stream : List ℕ) : Type 0 where
-  pub profile : taker.decoder.current.profile ≡ Lenient
-  pub limit_is : taker.decoder.current.limit ≡ limit
+  pub profile : taker.placed.decoder.current.profile ≡ Lenient
+  pub limit_is : taker.placed.decoder.current.limit ≡ limit
   pub own_limit : taker.limit ≡ limit
   pub state : WaitsUnless taker.is_over taker limit stream
 
 -- ---- messages that change passwords
 
 abbrev pub passwords : ℕ → List ℕ → Framed
-passwords limit stream = framed services.Passwords limit stream
+passwords limit stream = passwords_framed limit 0 stream
 
 -- a length that a frame can have
 pub record IsAllowed (limit n : ℕ) : Type 0 where
@@ -83,7 +85,7 @@ IsPart limit octets = (length octets < 4) ⊎ (IsAllowed limit (number (take 4 o
 -- The octets of a frame that is not whole are kept, and what was found before it was listed; whatever follows, what is found then is that, and what is found in the octets that are kept and those that follow the skipped ones.
 pub record Keeps (taker : PasswordFrames) (stream : List ℕ) : Type 0 where
   pub before : List Found
-  pub goes_on : (more : List ℕ) → passwords taker.limit (stream ++ more) ≡ before_frames before (passwords taker.limit (taker.octets.items ++ drop taker.skipped more))
+  pub goes_on : (more : List ℕ) → passwords taker.limit (stream ++ more) ≡ before_frames before (passwords_framed taker.limit taker.offset (taker.octets.items ++ drop taker.skipped more))
   pub partial : IsPart taker.limit taker.octets.items
   -- if octets are to be skipped, none of the frame after them came
   pub alone : (taker.skipped ≡ 0) ⊎ (taker.octets.items ≡ [])
@@ -117,5 +119,10 @@ over_in (frames.Passwords taker) = taker.is_over
 
 -- the octets of the frame that is not whole
 abbrev pub kept_in : Frames → List ℕ
-kept_in (frames.Messages taker) = kept_of taker.part taker.decoder.current.octets
+kept_in (frames.Messages taker) = kept_of taker.part taker.placed.decoder.current.octets
 kept_in (frames.Passwords taker) = taker.octets.items
+
+-- and the offset at which it begins
+abbrev pub offset_in : Frames → ℕ
+offset_in (frames.Messages taker) = taker.placed.offset
+offset_in (frames.Passwords taker) = taker.offset

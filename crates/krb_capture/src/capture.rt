@@ -16,7 +16,7 @@ use krb_der::Memory;
 use krb_file::FileWhy;
 use krb_frame::Limit;
 use krb_packet::{Contents, Datagram, Ends, Fragment, Fragments, Packet, Segment, contents_of};
-use krb_text::{CaptureCounts, Form, TextBuffer};
+use krb_text::{CaptureCounts, Extent, Form, TextBuffer};
 use std::alloc::Global;
 
 /// What was found in the packets of a capture so far. It allocates for the fragments of datagrams
@@ -249,23 +249,25 @@ impl Capture {
     }
 
     /// Appends the records that are due at the fault of a file to a text, as at its end, and the
-    /// last one: why and at which place it is refused, and the path of the field at fault. Out of
-    /// memory, the text may have a part of them.
+    /// last one: why and at which place it is refused, the path of the field at fault, and where the
+    /// first part of that path begins and the length that was read there. Out of memory, the text may
+    /// have a part of them.
     pub fn refuse(
         &mut self,
         place: u64,
         why: FileWhy,
         path: Option<&str>,
+        extent: Extent,
         text: &mut TextBuffer,
     ) -> Result<(), Memory>
-        ensures listed { OnOk result ((settings : Settings) (progress : Progress) → HasFollowed self.old settings progress → text.new ≡ text.old ++ refusal_text settings progress place why (option_copied path.entry)) }
+        ensures listed { OnOk result ((settings : Settings) (progress : Progress) → HasFollowed self.old settings progress → text.new ≡ text.old ++ refusal_text settings progress place why (option_copied path.entry) extent) }
         ensures failed { OnErr result (self.new.has_failed ≡ true) }
         ensures again { self.old.has_failed ≡ true → IsErr result × (self.new ≡ self.old) × (text.new ≡ text.old) }
     {
         if self.has_failed {
             return Err(Memory);
         }
-        let refused = self.list_refusal(place, why, path, text);
+        let refused = self.list_refusal(place, why, path, extent, text);
         self.has_failed = refused.is_err();
         refused
     }
@@ -276,23 +278,31 @@ impl Capture {
         place: u64,
         why: FileWhy,
         path: Option<&str>,
+        extent: Extent,
         text: &mut TextBuffer,
     ) -> Result<(), Memory>
-        ensures { OnOk result ((settings : Settings) (progress : Progress) → HasFollowed self.old settings progress → text.new ≡ text.old ++ refusal_text settings progress place why (option_copied path.entry)) }
+        ensures { OnOk result ((settings : Settings) (progress : Progress) → HasFollowed self.old settings progress → text.new ≡ text.old ++ refusal_text settings progress place why (option_copied path.entry) extent) }
     {
         self.listing.swap_text(text);
-        let refused = self.put_refusal(place, why, path);
+        let refused = self.put_refusal(place, why, path, extent);
         self.listing.swap_text(text);
         refused
     }
 
     /// Lists the fault of the file.
-    fn put_refusal(&mut self, place: u64, why: FileWhy, path: Option<&str>) -> Result<(), Memory>
-        ensures { OnOk result ((settings : Settings) (progress : Progress) → HasFollowed self.old settings progress → self.new.listing.text ≡ self.old.listing.text ++ refusal_text settings progress place why (option_copied path.entry)) }
+    fn put_refusal(
+        &mut self,
+        place: u64,
+        why: FileWhy,
+        path: Option<&str>,
+        extent: Extent,
+    ) -> Result<(), Memory>
+        ensures { OnOk result ((settings : Settings) (progress : Progress) → HasFollowed self.old settings progress → self.new.listing.text ≡ self.old.listing.text ++ refusal_text settings progress place why (option_copied path.entry) extent) }
     {
         let last = self.last;
         self.directions.finish(last, &mut self.listing)?;
         let totals = self.totals();
-        self.listing.put_file_refusal(&totals, place, why, path)
+        self.listing
+            .put_file_refusal(&totals, place, why, path, extent)
     }
 }

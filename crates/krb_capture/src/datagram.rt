@@ -11,7 +11,7 @@ use crate::password::list_password;
 use krb_der::{Memory, Refusal, Why};
 use krb_flow::Lost;
 use krb_packet::Payload;
-use krb_text::Origin;
+use krb_text::{Extent, Origin};
 
 /// Lists the message of a datagram.
 #[tactic(auto, unfolding(crate::specs::Datagrams::datagram_found))]
@@ -25,18 +25,22 @@ pub(crate) fn list_datagram(
 {
     let octets = payload.octets();
     let size = payload.size();
+    let extent = Extent {
+        at: 0,
+        length: Some(size),
+    };
     if size == 0 {
         let refusal = Refusal {
             place: 0,
             why: Why::Empty,
         };
-        return listing.put_refusal(origin, refusal, None);
+        return listing.put_refusal(origin, refusal, None, extent);
     }
     let is_whole = octets.len() as u64 == size;
     match service {
-        Service::Kerberos if is_whole => list_message(octets, 0, origin, listing),
-        Service::Kerberos => list_cut_message(octets, size, origin, listing),
-        Service::Passwords if is_whole => list_password(octets, 0, origin, listing),
+        Service::Kerberos if is_whole => list_message(octets, 0, extent, origin, listing),
+        Service::Kerberos => list_cut_message(octets, size, extent, origin, listing),
+        Service::Passwords if is_whole => list_password(octets, 0, extent, origin, listing),
         Service::Passwords => {
             let place = octets.len() as u64;
             let lost = Lost {

@@ -3,7 +3,7 @@
 ghost use Rattle.std.specs.Prelude.{◌≡◌, ◌<◌, ◌≤◌, ℕ, false, List, [], ◌++◌, length, take, IfOk, OnOk};
 ghost use Rattle.krb_capture.specs.Found.{IsFull, Missing, with_all, with_found};
 ghost use Rattle.krb_capture.specs.Streams.{cut_refusal, end_found, found_with, framed, open_path, refusal_found};
-ghost use Rattle.krb_capture.specs.Taken.{Took, kept_in, over_in, service_of};
+ghost use Rattle.krb_capture.specs.Taken.{Took, kept_in, offset_in, over_in, service_of};
 
 use crate::flow::Service;
 use crate::listing::{Listing, text_of};
@@ -101,7 +101,7 @@ impl Frames {
 
     /// Lists the refusal of the frame that is not whole, if there is one.
     fn list_cut(&self, origin: &Origin, listing: &mut Listing) -> Result<(), Memory>
-        ensures { OnOk result ((limit : ℕ) (stream : List ℕ) → Took self.now limit stream → over_in self.now ≡ false → listing.new ≡ with_all origin.now (refusal_found (service_of self.now) (kept_in self.now) (cut_refusal (kept_in self.now))) listing.old) }
+        ensures { OnOk result ((limit : ℕ) (stream : List ℕ) → Took self.now limit stream → over_in self.now ≡ false → listing.new ≡ with_all origin.now (refusal_found (service_of self.now) (offset_in self.now) (kept_in self.now) (cut_refusal (kept_in self.now))) listing.old) }
     {
         match self {
             Frames::Messages(frames) => {
@@ -109,13 +109,13 @@ impl Frames {
                     return Ok(());
                 };
                 let path = frames.path(listing.allocator(), listing.form())?;
-                listing.put_refusal(origin, refusal, text_of(&path))
+                listing.put_refusal(origin, refusal, text_of(&path), frames.extent())
             }
             Frames::Passwords(frames) => {
                 let Some(refusal) = frames.finish() else {
                     return Ok(());
                 };
-                listing.put_refusal(origin, refusal, frames.path())
+                listing.put_refusal(origin, refusal, frames.path(), frames.extent())
             }
         }
     }

@@ -11,7 +11,7 @@ use krb_file::FileWhy;
 use krb_flow::Lost;
 use krb_msg::MessageView;
 use krb_text::{
-    CaptureCounts, Form, Origin, TextBuffer, put_capture_end, put_capture_refusal,
+    CaptureCounts, Extent, Form, Origin, TextBuffer, put_capture_end, put_capture_refusal,
     put_captured_message, put_captured_refusal, put_joined, put_lost, put_password,
 };
 use std::alloc::Global;
@@ -41,7 +41,7 @@ impl Model for Listing {
 }
 
 /// Returns a count with more, or the greatest one that there is.
-fn and_more(count: u64, more: u64) -> u64
+pub(crate) fn and_more(count: u64, more: u64) -> u64
     ensures { result ≡ and_more count more }
 {
     count.saturating_add(more)
@@ -117,16 +117,18 @@ impl Listing {
         Ok(())
     }
 
-    /// Adds a refusal, and the path of the field at fault.
+    /// Adds a refusal, the path of the field at fault, and where the frame or datagram is and its
+    /// length.
     pub(crate) fn put_refusal(
         &mut self,
         origin: &Origin,
         refusal: Refusal,
         path: Option<&str>,
+        extent: Extent,
     ) -> Result<(), Memory>
-        ensures { OnOk result (self.new ≡ with_found origin.now (Faulty refusal (option_copied path.entry)) self.old) }
+        ensures { OnOk result (self.new ≡ with_found origin.now (Faulty refusal (option_copied path.entry) extent) self.old) }
     {
-        put_captured_refusal(&mut self.text, self.form, origin, refusal, path)?;
+        put_captured_refusal(&mut self.text, self.form, origin, refusal, path, extent)?;
         self.counts.refused = and_more(self.counts.refused, 1);
         Ok(())
     }
@@ -213,10 +215,11 @@ impl Listing {
         place: u64,
         why: FileWhy,
         path: Option<&str>,
+        extent: Extent,
     ) -> Result<(), Memory>
-        ensures { OnOk result (self.new ≡ record self.old { text = self.old.text ++ capture_refused_line self.old.form totals.now place why (option_copied path.entry) }) }
+        ensures { OnOk result (self.new ≡ record self.old { text = self.old.text ++ capture_refused_line self.old.form totals.now place why (option_copied path.entry) extent }) }
     {
-        put_capture_refusal(&mut self.text, self.form, totals, place, why, path)?;
+        put_capture_refusal(&mut self.text, self.form, totals, place, why, path, extent)?;
         Ok(())
     }
 }

@@ -10,7 +10,7 @@ use crate::listing::{Listing, text_of};
 use krb_der::{Memory, Profile, Refusal, Verdict, Why};
 use krb_flow::Lost;
 use krb_judge::{judge, path, read_message};
-use krb_text::{Form, Origin};
+use krb_text::{Extent, Form, Origin};
 use std::alloc::Global;
 
 /// The greatest number of octets of a message.
@@ -41,36 +41,40 @@ fn first(octets: &[u8], count: usize) -> &[u8]
     &octets[..octets.len().min(count)]
 }
 
-/// Lists octets that are refused as a message of `size` octets, which follows `before` others.
+/// Lists octets that are refused as a message of `size` octets, which follows `before` others of
+/// a frame or a datagram.
 pub(crate) fn list_refused(
     octets: &[u8],
     size: u64,
     before: u32,
+    extent: Extent,
     refusal: Refusal,
     origin: &Origin,
     listing: &mut Listing,
 ) -> Result<(), Memory>
     requires present { length octets.now ≤ size }
     requires fits { before + refusal.place < 2 ^ 32 }
-    ensures { OnOk result (listing.new ≡ with_found origin.now (refused_found before size octets.now refusal) listing.old) }
+    ensures { OnOk result (listing.new ≡ with_found origin.now (refused_found extent before size octets.now refusal) listing.old) }
 {
     let prefix = first(octets, refusal.place as usize + 1);
     let path = path_of(listing.allocator(), listing.form(), size, prefix)?;
     let place = before + refusal.place;
     let why = refusal.why;
-    listing.put_refusal(origin, Refusal { place, why }, text_of(&path))
+    listing.put_refusal(origin, Refusal { place, why }, text_of(&path), extent)
 }
 
-/// Lists octets that follow `before` others, as a message that is all there.
+/// Lists octets that follow `before` others of a frame or a datagram, as a message that is all
+/// there.
 #[tactic(auto, unfolding(crate::specs::Messages::message_found))]
 pub(crate) fn list_message(
     octets: &[u8],
     before: u32,
+    extent: Extent,
     origin: &Origin,
     listing: &mut Listing,
 ) -> Result<(), Memory>
     requires { before < 2 ^ 31 }
-    ensures { OnOk result (listing.new ≡ with_found origin.now (message_found before octets.now) listing.old) }
+    ensures { OnOk result (listing.new ≡ with_found origin.now (message_found extent before octets.now) listing.old) }
 {
     match read_message(octets) {
         Ok(message) => listing.put_message(origin, &message),
@@ -79,6 +83,7 @@ pub(crate) fn list_message(
                 octets,
                 octets.len() as u64,
                 before,
+                extent,
                 refusal,
                 origin,
                 listing,
@@ -105,20 +110,22 @@ fn prefix_refusal(octets: &[u8], size: u64) -> Option<Refusal>
     }
 }
 
-/// Lists the first octets of a message of `size` octets, of which the others are not there.
+/// Lists the first octets of a datagram that is a message of `size` octets, of which the others are
+/// not there.
 #[tactic(auto, unfolding(crate::specs::Messages::cut_found))]
 pub(crate) fn list_cut_message(
     octets: &[u8],
     size: u64,
+    extent: Extent,
     origin: &Origin,
     listing: &mut Listing,
 ) -> Result<(), Memory>
     requires some { 0 < size }
     requires present { length octets.now ≤ size }
-    ensures { OnOk result (listing.new ≡ with_found origin.now (cut_found size octets.now) listing.old) }
+    ensures { OnOk result (listing.new ≡ with_found origin.now (cut_found extent size octets.now) listing.old) }
 {
     match prefix_refusal(octets, size) {
-        Some(refusal) => list_refused(octets, size, 0, refusal, origin, listing),
+        Some(refusal) => list_refused(octets, size, 0, extent, refusal, origin, listing),
         None => list_missing(octets, size, origin, listing),
     }
 }

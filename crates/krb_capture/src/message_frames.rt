@@ -6,18 +6,28 @@ ghost use Rattle.krb_text.specs.Refusals.{path_in};
 ghost use Rattle.krb_frame.specs.declared.decoder.Status.TheVariants as status;
 ghost use Rattle.krb_capture.specs.Found.{IsFull, with_all};
 ghost use Rattle.krb_capture.specs.Listed.{ListsNext, ListsPrefix, ListsOne, ListsRefused, ListsSome, rest_after, status_in};
-ghost use Rattle.krb_capture.specs.Streams.{cut_refusal, found_with, framed, frame_path};
+ghost use Rattle.krb_capture.specs.Streams.{cut_refusal, extent_at, found_with, framed, frame_path};
 ghost use Rattle.krb_capture.specs.Taken.{TookMessages, kept_of};
 ghost use Rattle.krb_capture.specs.Unfinished.{IsUnfinished};
 ghost use Rattle.krb_capture.specs.declared.flow.Service.TheVariants as services;
 
-use crate::listing::{Listing, text_of};
+use crate::listing::{Listing, and_more, text_of};
 use crate::message::path_of;
 use crate::part::{Part, is_part};
 use krb_der::{Memory, Refusal, Why};
 use krb_frame::{Decoder, Limit, SkippingDecoder, Status};
-use krb_text::{Form, Origin};
+use krb_text::{Extent, Form, Origin};
 use std::alloc::Global;
+
+/// How many octets a frame's length has.
+const LENGTH: u64 = 4;
+
+/// A decoder, and where in the direction its current frame begins.
+#[derive(Drop)]
+pub(crate) struct Placed {
+    decoder: SkippingDecoder,
+    offset: u64,
+}
 
 /// The frames of messages that one end sends. It keeps the octets of the frame that is not whole
 /// yet.
@@ -25,7 +35,7 @@ use std::alloc::Global;
 pub(crate) struct MessageFrames {
     alloc: Global,
     limit: Limit,
-    decoder: SkippingDecoder,
+    placed: Placed,
     /// The first octets of the next frame, if the decoder was fed none of them. It is not, if the
     /// frame is whole with the next octets: then its message is viewed at once, which is faster.
     part: Option<Part>,
@@ -42,7 +52,10 @@ impl MessageFrames {
         MessageFrames {
             alloc,
             limit,
-            decoder: SkippingDecoder::new(Decoder::new(alloc, limit)),
+            placed: Placed {
+                decoder: SkippingDecoder::new(Decoder::new(alloc, limit)),
+                offset: 0,
+            },
             part: None,
             is_over: false,
         }
@@ -96,7 +109,7 @@ impl MessageFrames {
         ensures full { IfOk result (λ rest. 0 < length rest.now → IsFull listing.new.text) }
         ensures listed { IfOk result (λ rest. ListsNext self.old self.new octets.now rest.now origin.now listing.old listing.new) }
     {
-        match list_frames(&mut self.decoder, self.limit, kept, octets, origin, listing)? {
+        match list_frames(&mut self.placed, self.limit, kept, octets, origin, listing)? {
             Listed::All => Ok(&[]),
             Listed::Before(part) => {
                 self.part = Some(Part::new(self.alloc, self.limit, part)?);
@@ -113,12 +126,23 @@ impl MessageFrames {
     /// Returns the path of the field of which the next octet is due, or that has the octet that is
     /// refused, if records of the form show it.
     pub(crate) fn path(&self, alloc: Global, form: Form) -> Result<Option<String>, Memory>
-        ensures { IfOk result (λ path. path_in form (option_map string_bytes path) ≡ path_in form (frame_path (kept_of self.now.part self.now.decoder.current.octets))) }
+        ensures { IfOk result (λ path. path_in form (option_map string_bytes path) ≡ path_in form (frame_path (kept_of self.now.part self.now.placed.decoder.current.octets))) }
     {
         match &self.part {
-            None => path_in_frame(alloc, form, &self.decoder),
+            None => path_in_frame(alloc, form, &self.placed.decoder),
             Some(part) => part.path(alloc, form),
         }
+    }
+
+    /// Returns where the frame begins that is not whole, and the length that it announces.
+    pub(crate) fn extent(&self) -> Extent
+        ensures { result ≡ extent_at self.now.placed.offset (kept_of self.now.part self.now.placed.decoder.current.octets) }
+    {
+        let announced = match &self.part {
+            None => self.placed.decoder.decoder().announced(),
+            Some(part) => part.announced(),
+        };
+        extent_of(self.placed.offset, announced)
     }
 
     /// Returns whether all that follows is passed over.
@@ -131,10 +155,10 @@ impl MessageFrames {
 
     /// Returns why a frame is refused that is not whole at the end, if there is one.
     pub(crate) fn finish(&self) -> Option<Refusal>
-        ensures { (limit : ℕ) (stream : List ℕ) → TookMessages self.now limit stream → self.now.is_over ≡ false → (result ≡ cut_refusal (kept_of self.now.part self.now.decoder.current.octets)) × (kept_of self.now.part self.now.decoder.current.octets ≡ (framed services.Kerberos limit stream).partial) }
+        ensures { (limit : ℕ) (stream : List ℕ) → TookMessages self.now limit stream → self.now.is_over ≡ false → (result ≡ cut_refusal (kept_of self.now.part self.now.placed.decoder.current.octets)) × (kept_of self.now.part self.now.placed.decoder.current.octets ≡ (framed services.Kerberos limit stream).partial) }
     {
         match &self.part {
-            None => self.decoder.finish().err(),
+            None => self.placed.decoder.finish().err(),
             Some(part) => Some(Refusal {
                 place: part.len(),
                 why: Why::Truncated,
@@ -156,19 +180,32 @@ enum Listed<'a> {
     UpTo(&'a [u8]),
 }
 
+/// Returns where a frame begins, with the length that it announces.
+pub(crate) fn extent_of(offset: u64, announced: Option<u32>) -> Extent
+    ensures { result ≡ record { at = offset; length = announced } }
+{
+    let length = match announced {
+        None => None,
+        Some(length) => Some(u64::from(length)),
+    };
+    Extent { at: offset, length }
+}
+
 /// Lists the frames that lie whole at the beginning of octets, where they lie, until the listing is
-/// full, and returns what follows them. The decoder stays as it is.
+/// full, and returns what follows them.
 fn list_passed<'a>(
-    decoder: &SkippingDecoder,
+    placed: &mut Placed,
     octets: &'a [u8],
     origin: &Origin,
     listing: &mut Listing,
 ) -> Result<&'a [u8], Memory>
-    ensures { IfOk result (λ rest. ListsPrefix decoder.now decoder.now octets.now rest.now origin.now listing.old listing.new) }
+    ensures same { OnOk result (placed.new.decoder ≡ placed.old.decoder) }
+    ensures listed { IfOk result (λ rest. ListsPrefix placed.old placed.new octets.now rest.now origin.now listing.old listing.new) }
 {
     let mut rest = octets;
-    while let Some(passed) = decoder.pass(rest) {
+    while let Some(passed) = placed.decoder.pass(rest) {
         listing.put_message(origin, &passed.message)?;
+        placed.offset = and_more(placed.offset, (rest.len() - passed.rest.len()) as u64);
         rest = passed.rest;
         if rest.is_empty() | listing.is_full() {
             return Ok(rest);
@@ -183,7 +220,7 @@ fn list_passed<'a>(
 /// kept as a part before, so that none is judged more than twice. These are not left to be listed,
 /// either.
 fn list_frames<'a>(
-    decoder: &mut SkippingDecoder,
+    placed: &mut Placed,
     limit: Limit,
     kept: usize,
     octets: &'a [u8],
@@ -193,14 +230,14 @@ fn list_frames<'a>(
     requires { kept ≤ length octets.now }
     ensures few { IfOk result (λ listed. kept + length (rest_after listed) ≤ length octets.now) }
     ensures full { IfOk result (λ listed. 0 < length (rest_after listed) → IsFull listing.new.text) }
-    ensures listed { IfOk result (λ listed. ListsSome listed limit decoder.old decoder.new octets.now origin.now listing.old listing.new) }
+    ensures listed { IfOk result (λ listed. ListsSome listed limit placed.old placed.new octets.now origin.now listing.old listing.new) }
 {
     let mut rest = octets;
     let mut may_keep = kept == 0;
     'frames: loop {
-        let after = list_passed(decoder, rest, origin, listing)?;
+        let after = list_passed(placed, rest, origin, listing)?;
         may_keep = may_keep | (after.len() < rest.len());
-        if decoder.is_clear() {
+        if placed.decoder.is_clear() {
             if after.is_empty() {
                 return Ok(Listed::All);
             }
@@ -211,15 +248,15 @@ fn list_frames<'a>(
                 return Ok(Listed::Before(after));
             }
         }
-        let fed = decoder.feed(after);
+        let fed = placed.decoder.feed(after);
         rest = &after[fed.used..];
         may_keep = true;
         match fed.status {
             Status::More => return Ok(Listed::All),
             Status::Memory => return Err(Memory),
-            Status::Ready => list_ready(decoder, origin, listing)?,
+            Status::Ready => list_ready(placed, origin, listing)?,
             Status::Refused(refusal) => {
-                if !list_refused(decoder, refusal, origin, listing)? {
+                if !list_refused(placed, refusal, origin, listing)? {
                     return Ok(Listed::Over);
                 }
                 if may_stop(listing, kept, octets, rest) {
@@ -239,36 +276,41 @@ fn may_stop(listing: &Listing, kept: usize, octets: &[u8], rest: &[u8]) -> bool
 }
 
 /// Lists the frame that is ready, and clears it.
-fn list_ready(
-    decoder: &mut SkippingDecoder,
-    origin: &Origin,
-    listing: &mut Listing,
-) -> Result<(), Memory>
-    requires { status_in decoder.old ≡ status.Ready }
-    ensures { OnOk result (ListsOne decoder.old decoder.new origin.now listing.old listing.new) }
+fn list_ready(placed: &mut Placed, origin: &Origin, listing: &mut Listing) -> Result<(), Memory>
+    requires { status_in placed.old.decoder ≡ status.Ready }
+    ensures { OnOk result (ListsOne placed.old placed.new origin.now listing.old listing.new) }
 {
-    let Some(framed) = decoder.ready() else {
+    let Some(framed) = placed.decoder.ready() else {
         unreachable!()
     };
     listing.put_message(origin, &framed.view())?;
-    decoder.next();
+    let size = LENGTH + framed.octets().len() as u64;
+    placed.offset = and_more(placed.offset, size);
+    placed.decoder.next();
     Ok(())
 }
 
 /// Lists the frame that is refused, skips it, and returns true. If its length is not known it is
 /// not skipped, and this returns false.
 fn list_refused(
-    decoder: &mut SkippingDecoder,
+    placed: &mut Placed,
     refusal: Refusal,
     origin: &Origin,
     listing: &mut Listing,
 ) -> Result<bool, Memory>
-    requires { status_in decoder.old ≡ status.Refused refusal }
-    ensures { IfOk result (λ skipped. ListsRefused skipped decoder.old refusal decoder.new origin.now listing.old listing.new) }
+    requires { status_in placed.old.decoder ≡ status.Refused refusal }
+    ensures { IfOk result (λ skipped. ListsRefused skipped placed.old refusal placed.new origin.now listing.old listing.new) }
 {
-    let path = path_in_frame(listing.allocator(), listing.form(), decoder)?;
-    listing.put_refusal(origin, refusal, text_of(&path))?;
-    Ok(decoder.skip())
+    let path = path_in_frame(listing.allocator(), listing.form(), &placed.decoder)?;
+    let announced = placed.decoder.decoder().announced();
+    let extent = extent_of(placed.offset, announced);
+    listing.put_refusal(origin, refusal, text_of(&path), extent)?;
+    if !placed.decoder.skip() {
+        return Ok(false);
+    }
+    let size = LENGTH + u64::from(announced.unwrap_or(0));
+    placed.offset = and_more(placed.offset, size);
+    Ok(true)
 }
 
 /// Returns the path of the field of which the next octet is due, or that has the octet that is

@@ -33,6 +33,7 @@ ghost use Rattle.std.specs.Option.{option_map};
 ghost use Rattle.krb_der.specs.declared.profile.Profile.TheVariants.{Lenient};
 ghost use Rattle.krb_der.specs.declared.verdict.Verdict.TheVariants.{Open};
 ghost use Rattle.krb_text.specs.Refusals.{path_in};
+ghost use Rattle.krb_frame.specs.Decoding.{announced};
 ghost use Rattle.krb_msg.specs.Judgement.{judgement};
 ghost use Rattle.krb_capture.specs.Passed.{frame_length};
 ghost use Rattle.krb_capture.specs.Streams.{frame_path};
@@ -96,6 +97,13 @@ impl Part {
         let mut all = self.octets;
         all.extend_from_slice(octets)?;
         Ok(all)
+    }
+
+    /// Returns the length that the frame announces.
+    pub(crate) fn announced(&self) -> Option<u32>
+        ensures { result ≡ announced self.now.octets }
+    {
+        frame_length(self.octets.as_slice())
     }
 
     /// Returns how many octets it has.

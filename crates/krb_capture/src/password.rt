@@ -7,7 +7,7 @@ ghost use Rattle.krb_capture.specs.Passwords.{checked, header, number, part_foun
 use crate::listing::Listing;
 use crate::message::list_message;
 use krb_der::{Memory, Refusal, Why};
-use krb_text::Origin;
+use krb_text::{Extent, Origin};
 
 /// How many octets precede the AP-REQ or AP-REP: the length, the version, and the length of that.
 const HEADER: usize = 6;
@@ -108,70 +108,74 @@ fn read_header(octets: &[u8]) -> Result<Header, Fault>
 fn list_part(
     octets: &[u8],
     before: u32,
+    extent: Extent,
     origin: &Origin,
     listing: &mut Listing,
 ) -> Result<(), Memory>
     requires { before < 2 ^ 31 }
-    ensures { OnOk result (listing.new ≡ with_all origin.now (part_found before octets.now) listing.old) }
+    ensures { OnOk result (listing.new ≡ with_all origin.now (part_found extent before octets.now) listing.old) }
 {
     if octets.is_empty() {
         return Ok(());
     }
-    list_message(octets, before, origin, listing)
+    list_message(octets, before, extent, origin, listing)
 }
 
 /// Lists the refusal of a header that follows `before` octets.
 fn list_fault(
     before: u32,
+    extent: Extent,
     fault: Fault,
     origin: &Origin,
     listing: &mut Listing,
 ) -> Result<(), Memory>
     requires { before < 2 ^ 30 }
-    ensures { OnOk result (listing.new ≡ with_found origin.now (Faulty (record { place = before + place_of fault.field; why = fault.why }) (Some (path_of fault.field))) listing.old) }
+    ensures { OnOk result (listing.new ≡ with_found origin.now (Faulty (record { place = before + place_of fault.field; why = fault.why }) (Some (path_of fault.field)) extent) listing.old) }
 {
     let refusal = Refusal {
         place: before + fault.field.place(),
         why: fault.why,
     };
-    listing.put_refusal(origin, refusal, Some(fault.field.path()))
+    listing.put_refusal(origin, refusal, Some(fault.field.path()), extent)
 }
 
-/// Lists octets that follow `before` others, as a message that changes a password and is all
-/// there.
+/// Lists octets that follow `before` others of a frame or a datagram, as a message that changes a
+/// password and is all there.
 #[tactic(auto, unfolding(crate::specs::Passwords::password_found))]
 pub(crate) fn list_password(
     octets: &[u8],
     before: u32,
+    extent: Extent,
     origin: &Origin,
     listing: &mut Listing,
 ) -> Result<(), Memory>
     requires { before < 2 ^ 30 }
-    ensures { OnOk result (listing.new ≡ with_all origin.now (password_found before octets.now) listing.old) }
+    ensures { OnOk result (listing.new ≡ with_all origin.now (password_found extent before octets.now) listing.old) }
 {
     let header = match read_header(octets) {
         Ok(header) => header,
-        Err(fault) => return list_fault(before, fault, origin, listing),
+        Err(fault) => return list_fault(before, extent, fault, origin, listing),
     };
-    list_parts(octets, before, header, origin, listing)
+    list_parts(octets, before, extent, header, origin, listing)
 }
 
 /// Lists a message that changes a password, and its parts.
 fn list_parts(
     octets: &[u8],
     before: u32,
+    extent: Extent,
     header: Header,
     origin: &Origin,
     listing: &mut Listing,
 ) -> Result<(), Memory>
     requires few { before < 2 ^ 30 }
     requires parts { 6 + header.ap ≤ length octets.now }
-    ensures { OnOk result (listing.new ≡ with_all origin.now (parts_found before octets.now (Ok header)) listing.old) }
+    ensures { OnOk result (listing.new ≡ with_all origin.now (parts_found extent before octets.now (Ok header)) listing.old) }
 {
     let (_, parts) = octets.split_at(HEADER);
     let (ap, rest) = parts.split_at(usize::from(header.ap));
     let after_ap = HEADER as u32 + u32::from(header.ap);
     listing.put_password(origin, header.version, header.ap, rest.len() as u64)?;
-    list_part(ap, before + HEADER as u32, origin, listing)?;
-    list_part(rest, before + after_ap, origin, listing)
+    list_part(ap, before + HEADER as u32, extent, origin, listing)?;
+    list_part(rest, before + after_ap, extent, origin, listing)
 }

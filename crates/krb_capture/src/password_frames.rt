@@ -3,17 +3,18 @@
 ghost use Rattle.std.specs.Prelude.{◌≡◌, ◌<◌, ◌≤◌, ℕ, false, List, [], ◌∷◌, ◌++◌, length, take, IfOk, OnOk};
 ghost use Rattle.std.specs.Option.{option_copied};
 ghost use Rattle.krb_capture.specs.Found.{IsFull, with_all, with_found};
-ghost use Rattle.krb_capture.specs.Streams.{cut_refusal, found_with, framed, length_found, open_path};
+ghost use Rattle.krb_capture.specs.Streams.{cut_refusal, extent_at, found_with, framed, length_found, open_path};
 ghost use Rattle.krb_capture.specs.Passed.{ListsContents, ListsWhole, PassesOver, TakesPasswords, frame_length};
 ghost use Rattle.krb_capture.specs.Taken.{TookPasswords};
 ghost use Rattle.krb_capture.specs.declared.flow.Service.TheVariants as services;
 
-use crate::listing::Listing;
+use crate::listing::{Listing, and_more};
+use crate::message_frames::extent_of;
 use crate::part::frame_length;
 use crate::password::list_password;
 use krb_der::{Memory, Refusal, Why};
 use krb_frame::Limit;
-use krb_text::Origin;
+use krb_text::{Extent, Origin};
 use std::alloc::Global;
 
 /// How many octets a frame's length has.
@@ -29,6 +30,8 @@ pub(crate) struct PasswordFrames {
     /// How many octets of a frame that was refused are to come.
     skipped: u32,
     is_over: bool,
+    /// Where in the direction that frame begins.
+    offset: u64,
 }
 
 impl PasswordFrames {
@@ -41,6 +44,7 @@ impl PasswordFrames {
             octets: Vec::new(alloc),
             skipped: 0,
             is_over: false,
+            offset: 0,
         }
     }
 
@@ -92,17 +96,18 @@ impl PasswordFrames {
         let Some(length) = self.length() else {
             return Ok(());
         };
+        let extent = self.extent();
         if length >= 1 << 31 {
             self.is_over = true;
-            return list_refused(Why::HighBit, origin, listing);
+            return list_refused(Why::HighBit, extent, origin, listing);
         }
         if length > self.limit.get() {
-            self.pass_over(length);
-            return list_refused(Why::TooLong, origin, listing);
+            self.pass_over(length, length);
+            return list_refused(Why::TooLong, extent, origin, listing);
         }
         if length == 0 {
-            self.pass_over(length);
-            return list_refused(Why::Empty, origin, listing);
+            self.pass_over(length, length);
+            return list_refused(Why::Empty, extent, origin, listing);
         }
         self.list_contents(length, origin, listing)
     }
@@ -120,8 +125,15 @@ impl PasswordFrames {
         if self.octets.len() < LENGTH + size as usize {
             return Ok(());
         }
-        list_password(&self.octets[LENGTH..], LENGTH as u32, origin, listing)?;
-        self.pass_over(0);
+        let extent = extent_of(self.offset, Some(size));
+        list_password(
+            &self.octets[LENGTH..],
+            LENGTH as u32,
+            extent,
+            origin,
+            listing,
+        )?;
+        self.pass_over(size, 0);
         Ok(())
     }
 
@@ -132,13 +144,14 @@ impl PasswordFrames {
         frame_length(self.octets.as_slice())
     }
 
-    /// Begins the next frame, which comes after octets that are not kept, and frees the memory of
-    /// the last one.
-    fn pass_over(&mut self, count: u32)
-        ensures { PassesOver self.old count self.new }
+    /// Begins the frame after one of `size` octets, `count` of which are still to come and are not
+    /// kept, and frees the memory of that one.
+    fn pass_over(&mut self, size: u32, count: u32)
+        ensures { PassesOver self.old size count self.new }
     {
         self.skipped = count;
         self.octets = Vec::new(*self.octets.allocator());
+        self.offset = and_more(self.offset, LENGTH as u64 + u64::from(size));
     }
 
     /// Returns whether all that follows is passed over.
@@ -160,6 +173,13 @@ impl PasswordFrames {
         }
     }
 
+    /// Returns where the frame begins that is not whole, and the length that it announces.
+    pub(crate) fn extent(&self) -> Extent
+        ensures { result ≡ extent_at self.now.offset self.now.octets.items }
+    {
+        extent_of(self.offset, self.length())
+    }
+
     /// Returns why a frame is refused that is not whole at the end, if there is one.
     pub(crate) fn finish(&self) -> Option<Refusal>
         ensures { (limit : ℕ) (stream : List ℕ) → TookPasswords self.now limit stream → self.now.is_over ≡ false → (result ≡ cut_refusal self.now.octets.items) × (self.now.octets.items ≡ (framed services.Passwords limit stream).partial) }
@@ -176,8 +196,13 @@ impl PasswordFrames {
 }
 
 /// Lists a frame that is refused for its length.
-fn list_refused(why: Why, origin: &Origin, listing: &mut Listing) -> Result<(), Memory>
-    ensures { OnOk result (listing.new ≡ with_found origin.now (length_found why) listing.old) }
+fn list_refused(
+    why: Why,
+    extent: Extent,
+    origin: &Origin,
+    listing: &mut Listing,
+) -> Result<(), Memory>
+    ensures { OnOk result (listing.new ≡ with_found origin.now (length_found extent why) listing.old) }
 {
-    listing.put_refusal(origin, Refusal { place: 3, why }, None)
+    listing.put_refusal(origin, Refusal { place: 3, why }, None, extent)
 }

@@ -9,12 +9,12 @@ use Rattle.krb_file.specs.declared.field_name.FieldName.TheVariants as field
 use Rattle.krb_file.specs.declared.field_name.FilePart.{FilePart}
 use Rattle.krb_file.specs.declared.field_name.FilePart.TheVariants as parts
 use Rattle.krb_file.proofs.Fields.{done, failed, and_then-err}
-use Rattle.krb_file.proofs.Steps.{IsFault, IsFault-then, Moved, Steps, Steps-then, Steps-succeed, Steps-called, Steps-in_part, Steps-number, Steps-signed, Steps-counted, Steps-times, Steps-names, Steps-within, Steps-version}
+use Rattle.krb_file.proofs.Steps.{IsFault, IsFault-then, Moved, Steps, Steps-then, Steps-succeed, Steps-called, Steps-in_part, Steps-one_part, Steps-number, Steps-signed, Steps-counted, Steps-times, Steps-names, Steps-within, Steps-version}
 use Rattle.krb_ccache.specs.declared.value.Credential.{Credential}
 use Rattle.krb_ccache.specs.declared.value.FilePrincipal.{FilePrincipal}
 use Rattle.krb_ccache.specs.declared.reading.Start.{Start}
 use Rattle.krb_ccache.specs.Spelling.{no_header}
-use Rattle.krb_ccache.specs.Reading.{principal_at, principal_in, typed_at, typed_list_at, credential_from, again_at, credential_at, header_field_at, header_fields_at, header_at, header_in, start_at, started, Items, items_after, all_items, credentials_after, read_in}
+use Rattle.krb_ccache.specs.Reading.{principal_at, principal_in, typed_at, typed_list_at, credential_from, again_at, credential_fields_at, credential_at, header_field_at, header_fields_at, header_at, header_in, start_at, started, Items, items_after, all_items, credentials_after, read_in}
 use Rattle.krb_ccache.proofs.Items.{items_after-fault}
 
 pub Steps-principal : Steps principal_at
@@ -64,7 +64,7 @@ Steps-from_server kept version client =
     Steps-then (credential_from client server enctype) _ (Steps-from_key client server enctype) (λ credential. Steps-succeed (kept credential again)))))
 
 pub Steps-credential : {A : Type 0} (kept : Credential → ℕ → A) (version : ℕ) → Steps (credential_at kept version)
-Steps-credential kept version = Steps-then (principal_in parts.Client) _ (Steps-principal_in parts.Client) (Steps-from_server kept version)
+Steps-credential kept version = Steps-one_part (credential_fields_at kept version) (Steps-then (principal_in parts.Client) _ (Steps-principal_in parts.Client) (Steps-from_server kept version))
 
 pub Steps-header_field : Steps header_field_at
 Steps-header_field = Steps-then (called field.Tag (number_at w16)) _ (Steps-called field.Tag (number_at w16) (Steps-number w16)) (λ tag. Steps-then (called field.Value (counted_at w16)) _ (Steps-called field.Value (counted_at w16) (Steps-counted w16)) (λ value. Steps-succeed (record { tag = tag; value = value })))
@@ -123,7 +123,7 @@ module _ {A : Type 0} (kept : Credential → ℕ → A) (version : ℕ) where
   abbrev pair : Start → List A → Start × List A
   pair start credentials = (start, credentials)
 
-  pub file-fault : (file : List ℕ) (f : Fault) → read_in kept version file ≡ Err f → (f.place ≤ length file) × (f.why ≡ why.TooLong → ⊥)
+  pub file-fault : (file : List ℕ) (f : Fault) → read_in kept version file ≡ Err f → (f.place ≤ length file) × ((size : ℕ) → f.why ≡ why.TooLong size → ⊥)
   file-fault file f e =
       elim (and_then-err (started version file) (λ start. and_then (credentials_after kept version start.1) (λ credentials. done (pair start.0 credentials))) f e) [
         | inl a ↦ is_fault ((Steps-start (version ∷ [])).faults (limited None) (source_of file) f a)
@@ -132,7 +132,7 @@ module _ {A : Type 0} (kept : Credential → ℕ → A) (version : ℕ) where
             (credentials-fault a.0.1 f (only a.0 a.2)))
       ]
     where
-      is_fault : IsFault (limited None) (source_of file) f → (f.place ≤ length file) × (f.why ≡ why.TooLong → ⊥)
+      is_fault : IsFault (limited None) (source_of file) f → (f.place ≤ length file) × ((size : ℕ) → f.why ≡ why.TooLong size → ⊥)
       is_fault p = (omega (arith, p.upto), p.limited refl)
 
       only : (start : Start × Source) → and_then (credentials_after kept version start.1) (λ credentials. done (pair start.0 credentials)) ≡ failed (Start × List A) f → credentials_after kept version start.1 ≡ Err f

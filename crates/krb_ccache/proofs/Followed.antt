@@ -1,13 +1,14 @@
 -- The items of a cache that readers of fields read, one after another.
 use Rattle.std.proofs.Common.{◌≡◌, ℕ, ◌+◌, ◌-◌, ◌<◌, ◌≤◌, ◌⊎◌, inl, inr, Bool, true, false, Option, Some, None, Result, Ok, Err, List, [], ◌∷◌, ◌++◌, length, refl, sym, ◌∙◌, ap, subst, arith}
 use Rattle.krb_der.specs.Octets.{when}
-use Rattle.krb_file.specs.Fields.{Source, Fault, Bounds, Reader, and_then, ◌>>=◌, succeed, in_part, is_empty, within, Fails}
-use Rattle.krb_file.specs.FieldReaders.{Cursor, MayRemain, source_at, HasRead, FailsBy, bounded}
+use Rattle.krb_file.specs.Fields.{Source, Fault, Bounds, Reader, and_then, ◌>>=◌, succeed, one_part, in_part, with_part, fails_at, fault_begun, fails_begun, is_empty, within, Fails}
+use Rattle.krb_file.specs.FieldReaders.{Cursor, MayRemain, source_at, HasRead, FailsBy, Follows, bounded}
 use Rattle.krb_file.specs.declared.fault.FileFault.{FileFault}
 use Rattle.krb_file.specs.declared.fault.FileFault.TheVariants as faults
+use Rattle.krb_file.specs.declared.field_name.FilePart.{FilePart}
 use Rattle.krb_file.specs.declared.field_name.FilePart.TheVariants as parts
 use Rattle.krb_file.proofs.Fields.{done, ok_is, and_then-ok, and_then-err}
-use Rattle.krb_file.proofs.FieldReaders.{SomeRest, some_rest}
+use Rattle.krb_file.proofs.FieldReaders.{SomeRest, some_rest, follows_in_part, part_fails}
 use Rattle.krb_file.proofs.Loops.{with_prefix}
 use Rattle.krb_ccache.proofs.Loops.{field-goes_on, field-few, field-less, field-fails, fields-done}
 use Rattle.krb_ccache.specs.declared.reading.Start.{Start}
@@ -88,12 +89,24 @@ module _ {A : Type 0} (kept : Credential → ℕ → A) (version : ℕ) where
       go true test e = absurd (not_err (found None s) f e)
       go false test e = (test, refused (and_then-err (one b s) (λ p. Ok (Some p.0, p.1)) f e))
 
+-- ---- what was read of a part, which begins at a place
+pub follows_part : {A B : Type 0} (part : FilePart) (reader : Reader A) (view : B → A) (read result : Result B FileFault) (begin : ℕ) (MayFail : Type 0) (old new : Cursor) → begin ≡ old.place → result ≡ fails_begun begin (fails_at (with_part part) read)
+    → Follows view read reader MayFail old new → Follows view result (in_part part reader) MayFail old new
+follows_part {A} {B} part reader view read result begin MayFail old new here is follows =
+    let same : fails_begun old.place (fails_at (with_part part) read) ≡ result = ap (λ (place : ℕ). fails_begun place (fails_at (with_part part) read)) (sym here) ∙ sym is in
+    subst (λ (r : Result B FileFault). Follows view r (in_part part reader) MayFail old new) same (follows_in_part part reader view read MayFail old new follows)
+
+-- the fault of a part that begins at a place
+pub fails_part : {A : Type 0} (reader : Reader A) (e told : FileFault) (begin : ℕ) (MayFail : Type 0) (old : Cursor) → begin ≡ old.place → told ≡ fault_begun begin e → FailsBy e reader MayFail old → FailsBy told (one_part reader) MayFail old
+fails_part reader e told begin MayFail old here is fails =
+    let same : fault_begun old.place e ≡ told = ap (λ (place : ℕ). fault_begun place e) (sym here) ∙ sym is in
+    subst (λ (f : FileFault). FailsBy f (one_part reader) MayFail old) same (part_fails reader e MayFail old fails)
+
 -- ---- a value was read, and then a fault was met
 pub then-fails : {A B : Type 0} (first : Reader A) (next : A → Reader B) (v : A) (old mid : Cursor) (e : FileFault) (MayFail : Type 0) → HasRead first v old mid → FailsBy e (next v) MayFail mid → FailsBy e (first >>= next) MayFail old
 then-fails first next v old mid faults.Memory MayFail read fails = tt
 then-fails first next v old mid faults.Read MayFail read fails = fails
-then-fails {A} {B} first next v old mid (faults.Refused place why field) MayFail read fails =
-    let fault : Fault = record { place = place; why = why; field = field } in
+then-fails {A} {B} first next v old mid (faults.Refused fault) MayFail read fails =
     let a = read.from fails.octets fails.there in
     record {
       octets = a.0;
@@ -162,8 +175,7 @@ module _ (size : ℕ) (h : Cursor) where
   pub prefix-fails : (e : FileFault) (MayFail : Type 0) (prefix : List HeaderField) (t : Cursor) → t.place < header_end → HavePrefix size header_end prefix inside t → FailsBy e (field_at (length prefix)) MayFail t → FailsBy e (within size (header_fields_at size 0)) MayFail h
   prefix-fails faults.Memory MayFail prefix t lt before fails = tt
   prefix-fails faults.Read MayFail prefix t lt before fails = fails
-  prefix-fails (faults.Refused place why field) MayFail prefix t lt before fails =
-      let fault : Fault = record { place = place; why = why; field = field } in
+  prefix-fails (faults.Refused fault) MayFail prefix t lt before fails =
       let a = before.from fails.octets fails.there in
       record {
         octets = a.0;
@@ -195,5 +207,5 @@ module _ {A : Type 0} (kept : Credential → ℕ → A) (version : ℕ) where
   pub whole-fails : (e : FileFault) (file : List ℕ) (start : Start) (s : Source) → started version file ≡ Ok (start, s) → Fails e (credentials_after kept version s) → Fails e (read_in kept version file)
   whole-fails faults.Memory file start s begins fails = tt
   whole-fails faults.Read file start s begins fails = absurd fails
-  whole-fails (faults.Refused place why field) file start s begins fails =
+  whole-fails (faults.Refused fault) file start s begins fails =
       ap credentials_of begins ∙ ap (λ (r : Result (List A) Fault). and_then r (λ found. Ok (pair start found))) fails

@@ -10,16 +10,16 @@ use Rattle.krb_file.specs.declared.field_name.FilePart.TheVariants as parts
 use Rattle.krb_file.proofs.Fields.{at, done, ok_is, and_then-ok}
 use Rattle.krb_file.proofs.Steps.{Steps-then, Steps-called, Steps-number}
 use Rattle.krb_file.proofs.Limits.{bounded}
-use Rattle.krb_file.proofs.Stable.{IsReadBefore, Read, Fails, Stable, Stable-then, Stable-succeed, Stable-called, Stable-in_part, Stable-number, Stable-signed, Stable-counted, Stable-times, Stable-names, Stable-within, Stable-version, IsAlike, masked_read, alike, alike-then, IsSame, same-then, same-last, field-alike}
+use Rattle.krb_file.proofs.Stable.{IsReadBefore, Read, Fails, Stable, Stable-then, Stable-succeed, Stable-called, Stable-in_part, Stable-one_part, Stable-number, Stable-signed, Stable-counted, Stable-times, Stable-names, Stable-within, Stable-version, IsAlike, masked_read, alike, alike-then, alike-one_part, IsSame, same-then, same-last, field-alike}
 use Rattle.krb_ccache.specs.declared.value.Credential.{Credential}
 use Rattle.krb_ccache.specs.declared.value.FilePrincipal.{FilePrincipal}
 use Rattle.krb_ccache.specs.declared.reading.Start.{Start}
 use Rattle.krb_ccache.specs.Spelling.{no_header, masked_credential}
-use Rattle.krb_ccache.specs.Reading.{principal_at, principal_in, typed_at, typed_list_at, credential_from, again_at, credential_at, one_enctype, header_field_at, header_fields_at, header_at, header_in, start_at, Items, no_items, with_first, item_and, items_within}
+use Rattle.krb_ccache.specs.Reading.{principal_at, principal_in, typed_at, typed_list_at, credential_from, again_at, credential_fields_at, credential_at, one_enctype, header_field_at, header_fields_at, header_at, header_in, start_at, Items, no_items, with_first, item_and, items_within}
 use Rattle.krb_ccache.specs.Streaming.{file_start, credentials_of}
 use Rattle.krb_ccache.specs.Laws.{key_size_at, IsUpToKey, masked_items, start_alone, AreAlike}
 use Rattle.krb_ccache.proofs.Faults.{Steps-principal_in, Steps-again}
-use Rattle.krb_ccache.proofs.Stepwise.{Shortens, Shortens-then, Shortens-at, Shortens-principal, Shortens-credential}
+use Rattle.krb_ccache.proofs.Stepwise.{Shortens, Shortens-then, Shortens-in_part, Shortens-principal, Shortens-credential}
 
 -- ---- what octets have, whatever follows them
 number32 : (name : FieldName) → Stable (called name (number_at w32))
@@ -71,11 +71,12 @@ Stable-again version enctype = either_one (version == 3) (called field.Enctype (
 
 Stable-credential : (version : ℕ) → Stable (credential_at one_enctype version)
 Stable-credential version =
-    Stable-then (principal_in parts.Client) _ (Stable-principal_in parts.Client) (λ client.
+    Stable-one_part (credential_fields_at one_enctype version)
+    (Stable-then (principal_in parts.Client) _ (Stable-principal_in parts.Client) (λ client.
     Stable-then (principal_in parts.Server) _ (Stable-principal_in parts.Server) (λ server.
     Stable-then (called field.Enctype (number_at w16)) _ (number16 field.Enctype) (λ enctype.
     Stable-then (again_at version enctype) _ (Stable-again version enctype) (λ again.
-    Stable-then (credential_from client server enctype) _ (Stable-from_key client server enctype) (λ credential. Stable-succeed (one_enctype credential again))))))
+    Stable-then (credential_from client server enctype) _ (Stable-from_key client server enctype) (λ credential. Stable-succeed (one_enctype credential again)))))))
 
 -- a test of the place, or a reader
 Stable-unless : {A : Type 0} (value : A) (reader : Reader A) → Stable reader → Stable (λ bounds s. when (is_at_end bounds s) (λ _. Ok (value, s)) (λ _. reader bounds s))
@@ -162,12 +163,13 @@ credential-alike version place octets size t key other after e none le len =
     let c = and_then-ok (principal_in parts.Server b a.0.1) _ (size, t) a.2 in
     let d = and_then-ok (called field.Enctype (number_at w16) b c.0.1) _ (size, t) c.2 in
     let f = and_then-ok (again_at version d.0.0 b d.0.1) _ (size, t) d.2 in
-    alike-then (principal_in parts.Client) _ (Stable-principal_in parts.Client) a.0.0 a.0.1 a.1
+    alike-one_part (credential_fields_at one_enctype version)
+    (alike-then (principal_in parts.Client) _ (Stable-principal_in parts.Client) a.0.0 a.0.1 a.1
     (alike-then (principal_in parts.Server) _ (Stable-principal_in parts.Server) c.0.0 c.0.1 c.1
     (alike-then (called field.Enctype (number_at w16)) _ (number16 field.Enctype) d.0.0 d.0.1 d.1
     (alike-then (again_at version d.0.0) _ (Stable-again version d.0.0) f.0.0 f.0.1 f.1
     (kept-alike f.0.0 (credential_from a.0.0 c.0.0 d.0.0) f.0.1.place f.0.1.octets (key ++ after) (other ++ after)
-    (field-alike masked_credential w32 field.Key (after_key a.0.0 c.0.0 d.0.0) (after_key-same a.0.0 c.0.0 d.0.0) None f.0.1.place f.0.1.octets size t key other after f.2 none le len)))))
+    (field-alike masked_credential w32 field.Key (after_key a.0.0 c.0.0 d.0.0) (after_key-same a.0.0 c.0.0 d.0.0) None f.0.1.place f.0.1.octets size t key other after f.2 none le len))))))
 
 -- ---- credentials
 -- what is made of the next credential, its key masked
@@ -227,7 +229,7 @@ module _ (version : ℕ) where
 -- ---- a file
 Shortens-key_size : (version : ℕ) → Shortens (key_size_at version)
 Shortens-key_size version =
-    Shortens-then (principal_in parts.Client) _ (Shortens-at _ principal_at Shortens-principal) (λ client.
+    Shortens-then (principal_in parts.Client) _ (Shortens-in_part parts.Client principal_at Shortens-principal) (λ client.
     Steps-then (principal_in parts.Server) _ (Steps-principal_in parts.Server) (λ server.
     Steps-then (called field.Enctype (number_at w16)) _ (Steps-called field.Enctype (number_at w16) (Steps-number w16)) (λ enctype.
     Steps-then (again_at version enctype) _ (Steps-again version enctype) (λ again. Steps-called field.Key (number_at w32) (Steps-number w32)))))

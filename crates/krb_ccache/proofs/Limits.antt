@@ -4,24 +4,22 @@ use Rattle.std.specs.Int.{w8, w16, w32}
 use Rattle.krb_der.specs.Octets.{when}
 use Rattle.krb_file.specs.Fields.{Source, source_of, Fault, Bounds, limited, Reader, ◌>>=◌, succeed, called, in_part, number_at, signed_at, counted_at, names_at, within, is_at_end, version_at}
 use Rattle.krb_file.specs.Limits.{number_before}
-use Rattle.krb_file.specs.declared.fault.FileWhy.TheVariants as why
-use Rattle.krb_file.specs.declared.field_name.FileField.{FileField}
 use Rattle.krb_file.specs.declared.field_name.FieldName.{FieldName}
 use Rattle.krb_file.specs.declared.field_name.FieldName.TheVariants as field
 use Rattle.krb_file.specs.declared.field_name.FilePart.{FilePart}
 use Rattle.krb_file.specs.declared.field_name.FilePart.TheVariants as parts
-use Rattle.krb_file.proofs.Fields.{at, failed}
-use Rattle.krb_file.proofs.Limits.{bounded, IsOf, IsTooLong, IsSameOrTooLong, Limited, Limited-then, Limited-succeed, Limited-called, Limited-in_part, Limited-number, Limited-signed, Limited-counted, Limited-times, Limited-names, Limited-version}
+use Rattle.krb_file.proofs.Fields.{at}
+use Rattle.krb_file.proofs.Limits.{bounded, IsOf, IsTooLong, IsSameOrTooLong, Limited, Limited-then, Limited-succeed, Limited-called, Limited-in_part, Limited-one_part, Limited-number, Limited-signed, Limited-counted, Limited-times, Limited-names, Limited-version}
 use Rattle.krb_ccache.specs.declared.value.Credential.{Credential}
 use Rattle.krb_ccache.specs.declared.value.FilePrincipal.{FilePrincipal}
 use Rattle.krb_ccache.specs.declared.reading.Start.{Start}
 use Rattle.krb_ccache.specs.Spelling.{no_header}
-use Rattle.krb_ccache.specs.Reading.{principal_at, principal_in, typed_at, typed_list_at, credential_from, again_at, credential_at, one_enctype, header_field_at, header_fields_at, header_at, header_in, start_at, Items, with_first, item_and, items_within}
+use Rattle.krb_ccache.specs.Reading.{principal_at, principal_in, typed_at, typed_list_at, credential_from, again_at, credential_fields_at, credential_at, one_enctype, header_field_at, header_fields_at, header_at, header_in, start_at, Items, with_first, item_and, items_within}
 use Rattle.krb_ccache.specs.Streaming.{file_start, credentials_of, credentials}
 use Rattle.krb_ccache.specs.Laws.{IsLongStart, StartIsTooLong, AreCut}
 
 -- ---- by the octets before a field, which say how many it has
-module _ (file : List ℕ) (most : ℕ) (Long : ℕ → Type 0) (end : Option ℕ) where
+module _ (file : List ℕ) (most : ℕ) (Long : ℕ → ℕ → Type 0) (end : Option ℕ) where
   abbrev Is : {A : Type 0} → Reader A → Type 0
   Is reader = Limited file most Long end reader
 
@@ -65,7 +63,7 @@ module _ (file : List ℕ) (most : ℕ) (Long : ℕ → Type 0) (end : Option �
       alike false s is = limited.same s is
 
   -- ---- by the four octets before a field
-  module _ (long32 : (place : ℕ) → most < number_before w32 file place → Long place) where
+  module _ (long32 : (place : ℕ) → most < number_before w32 file place → Long place (number_before w32 file place)) where
     octets32 : (name : FieldName) → Is (called name (counted_at w32))
     octets32 name = Limited-called file most Long end name (counted_at w32) (Limited-counted file most Long end w32 long32)
 
@@ -105,14 +103,15 @@ module _ (file : List ℕ) (most : ℕ) (Long : ℕ → Type 0) (end : Option �
 
     pub Limited-credential : (version : ℕ) → Is (credential_at one_enctype version)
     Limited-credential version =
-        next (principal_in parts.Client) _ (Limited-principal_in parts.Client) (λ client.
+        Limited-one_part file most Long end (credential_fields_at one_enctype version)
+        (next (principal_in parts.Client) _ (Limited-principal_in parts.Client) (λ client.
         next (principal_in parts.Server) _ (Limited-principal_in parts.Server) (λ server.
         next (called field.Enctype (number_at w16)) _ (number16 field.Enctype) (λ enctype.
         next (again_at version enctype) _ (Limited-again version enctype) (λ again.
-        next (credential_from client server enctype) _ (Limited-from_key client server enctype) (λ credential. last (one_enctype credential again))))))
+        next (credential_from client server enctype) _ (Limited-from_key client server enctype) (λ credential. last (one_enctype credential again)))))))
 
   -- ---- by the two octets before a field of the header
-  module _ (long16 : (place : ℕ) → most < number_before w16 file place → Long place) where
+  module _ (long16 : (place : ℕ) → most < number_before w16 file place → Long place (number_before w16 file place)) where
     Limited-header_field : (index : ℕ) → Is (in_part (parts.Header index) header_field_at)
     Limited-header_field index =
         Limited-in_part file most Long end (parts.Header index) header_field_at
@@ -127,49 +126,42 @@ module _ (file : List ℕ) (most : ℕ) (Long : ℕ → Type 0) (end : Option �
 
 -- ---- what is before the credentials
 -- fields up to an end
-Limited-within : {A : Type 0} (file : List ℕ) (most : ℕ) (Long : ℕ → Type 0) (size : ℕ) (inner : Reader A) → ((end : Option ℕ) → Limited file most Long end inner) → Limited file most Long None (within size inner)
+Limited-within : {A : Type 0} (file : List ℕ) (most : ℕ) (Long : ℕ → ℕ → Type 0) (size : ℕ) (inner : Reader A) → ((end : Option ℕ) → Limited file most Long end inner) → Limited file most Long None (within size inner)
 Limited-within file most Long size inner limited = record {
   stays = λ s v t is e. (limited (Some (s.place + size))).stays s v t is e;
   same = λ s is. (limited (Some (s.place + size))).same s is;
 }
 
-Limited-header : (file : List ℕ) (most : ℕ) (Long : ℕ → Type 0) → ((place : ℕ) → most < number_before w16 file place → Long place) → Limited file most Long None header_at
+Limited-header : (file : List ℕ) (most : ℕ) (Long : ℕ → ℕ → Type 0) → ((place : ℕ) → most < number_before w16 file place → Long place (number_before w16 file place)) → Limited file most Long None header_at
 Limited-header file most Long long16 =
     Limited-then file most Long None (called field.HeaderLength (number_at w16)) _ (number16 file most Long None field.HeaderLength) (λ size.
     Limited-then file most Long None (within size (header_fields_at size 0)) _ (Limited-within file most Long size (header_fields_at size 0) (λ end. Limited-header_fields file most Long end long16 size 0)) (λ fields. Limited-succeed file most Long None (record { fields = fields })))
 
-Limited-start : (file : List ℕ) (most : ℕ) (Long : ℕ → Type 0) (versions : List ℕ) → ((place : ℕ) → most < number_before w16 file place → Long place) → ((place : ℕ) → most < number_before w32 file place → Long place) → Limited file most Long None (start_at versions)
+Limited-start : (file : List ℕ) (most : ℕ) (Long : ℕ → ℕ → Type 0) (versions : List ℕ) → ((place : ℕ) → most < number_before w16 file place → Long place (number_before w16 file place)) → ((place : ℕ) → most < number_before w32 file place → Long place (number_before w32 file place)) → Limited file most Long None (start_at versions)
 Limited-start file most Long versions long16 long32 =
     Limited-then file most Long None (version_at versions) _ (Limited-version file most Long None versions) (λ version.
     Limited-then file most Long None (header_in version) _ (either_one file most Long None (version == 3) (succeed no_header) header_at (Limited-succeed file most Long None no_header) (Limited-header file most Long long16)) (λ header.
     Limited-then file most Long None (principal_in parts.Principal) _ (Limited-principal_in file most Long None long32 parts.Principal) (λ principal. Limited-succeed file most Long None (record { version = version; header = header; principal = principal }))))
 
--- a refusal as TooLong
-abbrev too_long : ℕ → Option FileField → Fault
-too_long place field = record { place = place; why = why.TooLong; field = field }
-
-is-too_long : {A : Type 0} (Long : ℕ → Type 0) (r : Result A Fault) (l : IsTooLong Long r) → r ≡ failed A (too_long l.fault.place l.fault.field)
-is-too_long {A} Long r l = l.is ∙ ap (λ reason. failed A (record l.fault { why = reason })) l.reason
-
 -- ---- the credentials
 module _ (most : ℕ) (file : List ℕ) (version : ℕ) where
-  abbrev Long : ℕ → Type 0
-  Long place = most < number_before w32 file place
+  abbrev Long : ℕ → ℕ → Type 0
+  Long place size = (most < size) × (size ≡ number_before w32 file place)
 
   abbrev item_at : Reader Credential
   item_at = credential_at one_enctype version
 
   each : Limited file most Long None item_at
-  each = Limited-credential file most Long None (λ place lt. lt) version
+  each = Limited-credential file most Long None (λ place lt. (lt, refl)) version
 
   cut-here : (r : Result (Credential × Source) Fault) (others : Source → Items Credential) (whole : Items Credential) → IsTooLong Long r → AreCut most file (item_and r others) whole
   cut-here r others whole l =
-      subst (λ (x : Result (Credential × Source) Fault). AreCut most file (item_and x others) whole) (sym (is-too_long Long r l))
-      (record { others = whole.items; items = refl; place = l.fault.place; field = l.fault.field; end = refl; long = l.long })
+      subst (λ (x : Result (Credential × Source) Fault). AreCut most file (item_and x others) whole) (sym l.is)
+      (record { others = whole.items; items = refl; fault = l.fault; end = refl; octets = l.size; reason = l.reason; long = l.long })
 
   cut-after : (c : Credential) (under whole : Items Credential) → (under ≡ whole) ⊎ AreCut most file under whole → (with_first c under ≡ with_first c whole) ⊎ AreCut most file (with_first c under) (with_first c whole)
   cut-after c under whole (inl e) = inl (ap (with_first c) e)
-  cut-after c under whole (inr cut) = inr (record { others = cut.others; items = ap (λ (cs : List Credential). c ∷ cs) cut.items; place = cut.place; field = cut.field; end = cut.end; long = cut.long })
+  cut-after c under whole (inr cut) = inr (record { others = cut.others; items = ap (λ (cs : List Credential). c ∷ cs) cut.items; fault = cut.fault; end = cut.end; octets = cut.octets; reason = cut.reason; long = cut.long })
 
   cut-step : (under whole : Source → Items Credential) → ((t : Source) → IsOf file t → (under t ≡ whole t) ⊎ AreCut most file (under t) (whole t))
       → (r : Result (Credential × Source) Fault) → ((c : Credential) (t : Source) → r ≡ Ok (c, t) → IsOf file t) → (item_and r under ≡ item_and r whole) ⊎ AreCut most file (item_and r under) (item_and r whole)
@@ -202,7 +194,7 @@ limits-add most file = go (start.same s of)
     of = record { octets = refl }
 
     start : Limited file most (IsLongStart most file) None (start_at (3 ∷ 4 ∷ []))
-    start = Limited-start file most (IsLongStart most file) (3 ∷ 4 ∷ []) (λ place lt. inl lt) (λ place lt. inr lt)
+    start = Limited-start file most (IsLongStart most file) (3 ∷ 4 ∷ []) (λ place lt. (lt, inl refl)) (λ place lt. (lt, inr refl))
 
     after : (r : Result (Start × Source) Fault) → file_start None file ≡ r → (credentials_of (Some most) r ≡ credentials_of None r) ⊎ AreCut most file (credentials_of (Some most) r) (credentials_of None r)
     after (Err f) e = inl refl
@@ -211,4 +203,4 @@ limits-add most file = go (start.same s of)
     go : IsSameOrTooLong (IsLongStart most file) (file_start (Some most) file) (file_start None file)
         → StartIsTooLong most file ⊎ ((file_start (Some most) file ≡ file_start None file) × ((credentials (Some most) file ≡ credentials None file) ⊎ AreCut most file (credentials (Some most) file) (credentials None file)))
     go (inl e) = inr (e, subst (λ (r : Result (Start × Source) Fault). (credentials_of (Some most) r ≡ credentials None file) ⊎ AreCut most file (credentials_of (Some most) r) (credentials None file)) (sym e) (after (file_start None file) refl))
-    go (inr l) = inl (record { place = l.fault.place; field = l.fault.field; is = is-too_long (IsLongStart most file) (file_start (Some most) file) l; long = l.long })
+    go (inr l) = inl (record { fault = l.fault; is = l.is; octets = l.size; reason = l.reason; long = l.long })

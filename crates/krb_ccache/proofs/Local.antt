@@ -3,13 +3,13 @@ use Rattle.std.proofs.Common.{◌≡◌, ℕ, zero, suc, ◌+◌, ltb, Option, N
 use Rattle.std.proofs.lemmas.List.{take_at, append_cancel_right}
 use Rattle.std.specs.Int.{Width, w8, w16, w32, byte_len, from_be_bytes, cast_signed}
 use Rattle.krb_der.specs.Octets.{AreOctets}
-use Rattle.krb_file.specs.Fields.{Source, Fault, limited, Reader, and_then, ◌>>=◌, succeed, with_name, with_part, refused_at, called, in_part, exceeds, next_octets_at, octets_at, number_at, signed_at, counted_at, times, component_at, names_at}
+use Rattle.krb_file.specs.Fields.{Source, Fault, limited, Reader, and_then, ◌>>=◌, succeed, with_name, with_part, refused_at, begun_at, called, one_part, in_part, exceeds, next_octets_at, octets_at, number_at, signed_at, counted_at, times, component_at, names_at}
 use Rattle.krb_file.specs.declared.field_name.FieldName.{FieldName}
 use Rattle.krb_file.specs.declared.field_name.FieldName.TheVariants as field
 use Rattle.krb_file.specs.declared.field_name.FilePart.{FilePart}
 use Rattle.krb_file.specs.declared.field_name.FilePart.TheVariants as parts
 use Rattle.krb_file.specs.declared.field_name.FileField.{FileField}
-use Rattle.krb_file.proofs.Fields.{refused_at-ok, at_field, at, done, ok_is, and_then-ok, piece-ok, Reads}
+use Rattle.krb_file.proofs.Fields.{refused_at-ok, begun_at-ok, at_field, at, done, ok_is, and_then-ok, piece-ok, Reads}
 use Rattle.krb_ccache.specs.declared.value.FilePrincipal.{FilePrincipal}
 use Rattle.krb_ccache.specs.Reading.{principal_at, principal_in, typed_at, typed_list_at, credential_from}
 use Rattle.krb_ccache.proofs.Headers.{inside_file}
@@ -64,8 +64,16 @@ Local-at {A} other reader one = record {
 Local-called : {A : Type 0} (name : FieldName) (reader : Reader A) → Local reader → Local (called name reader)
 Local-called name reader one = Local-at (with_name name) reader one
 
+-- the same reader, whose faults tell where it begins
+Local-one_part : {A : Type 0} (reader : Reader A) → Local reader → Local (one_part reader)
+Local-one_part {A} reader one = record {
+  local = λ limit s t v e.
+      let a = one.local limit s t v (begun_at-ok s.place (reader (limited limit) s) (v, t) e) in
+      record { taken = a.taken; parts = a.parts; again = λ place rest. ap (λ (r : Result (A × Source) Fault). begun_at place r) (a.again place rest) };
+}
+
 pub Local-in_part : {A : Type 0} (part : FilePart) (reader : Reader A) → Local reader → Local (in_part part reader)
-Local-in_part part reader one = Local-at (with_part part) reader one
+Local-in_part part reader one = Local-one_part (at_field (with_part part) reader) (Local-at (with_part part) reader one)
 
 piece-local : (most : Option ℕ) (size : ℕ) (limit : Option ℕ) (s t : Source) (v : List ℕ) → next_octets_at most size (limited limit) s ≡ Ok (v, t) → Again (λ bounds source. next_octets_at most size bounds source) limit s t v
 piece-local most size limit s t v e =

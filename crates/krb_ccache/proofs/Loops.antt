@@ -34,8 +34,7 @@ module _ {A : Type 0} (item_at : Reader A) (shortens : Shortens item_at) where
   pub ends : (e : FileFault) (prefix : List A) (s : Source) (total : Items A) → is_empty s.octets ≡ false → Fails e (item_at (limited None) s) → before prefix (items_after item_at None s) ≡ total → Fails e (all_items total)
   ends faults.Memory prefix s total some h so_far = tt
   ends faults.Read prefix s total some h so_far = absurd h
-  ends (faults.Refused place why field) prefix s total some h so_far =
-      let fault : Fault = record { place = place; why = why; field = field } in
+  ends (faults.Refused fault) prefix s total some h so_far =
       ap all_items (sym so_far ∙ ap (before prefix) (after-fault item_at shortens None s fault some h))
 
 -- ---- the fields of a header

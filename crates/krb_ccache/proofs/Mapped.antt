@@ -1,13 +1,13 @@
 -- Readers that read the same octets and keep different parts of the value.
 use Rattle.std.proofs.Common.{◌≡◌, ℕ, zero, suc, Option, Result, Ok, Err, List, [], ◌∷◌, length, map, refl, ◌∙◌, ap}
 use Rattle.std.specs.Int.{w16}
-use Rattle.krb_file.specs.Fields.{Source, Fault, Bounds, limited, Reader, and_then, ◌>>=◌, succeed, called, number_at}
+use Rattle.krb_file.specs.Fields.{Source, Fault, Bounds, limited, Reader, and_then, ◌>>=◌, succeed, called, begun_at, one_part, number_at}
 use Rattle.krb_file.specs.declared.field_name.FieldName.TheVariants as field
 use Rattle.krb_file.specs.declared.field_name.FilePart.TheVariants as parts
 use Rattle.krb_file.proofs.Fields.{at}
 use Rattle.krb_ccache.specs.declared.value.Credential.{Credential}
 use Rattle.krb_ccache.specs.declared.value.Credential3.{Credential3}
-use Rattle.krb_ccache.specs.Reading.{principal_in, credential_from, again_at, credential_at, one_enctype, both_enctypes, Items, item_and, items_within, items_after}
+use Rattle.krb_ccache.specs.Reading.{principal_in, credential_from, again_at, credential_fields_at, credential_at, one_enctype, both_enctypes, Items, item_and, items_within, items_after}
 
 module _ {A B : Type 0} (part : A → B) where
   abbrev of_read : Result (A × Source) Fault → Result (B × Source) Fault
@@ -23,6 +23,13 @@ module _ {A B : Type 0} (part : A → B) where
 
   Mapped-then : {X : Type 0} (reader : Reader X) (next : X → Reader A) (others : X → Reader B) → ((x : X) → Mapped (next x) (others x)) → Mapped (reader >>= next) (reader >>= others)
   Mapped-then reader next others same bounds s = and_then-mapped (reader bounds s) next others bounds same
+
+  begun-mapped : (place : ℕ) (r : Result (A × Source) Fault) → of_read (begun_at place r) ≡ begun_at place (of_read r)
+  begun-mapped place (Ok p) = refl
+  begun-mapped place (Err f) = refl
+
+  Mapped-one_part : (reader : Reader A) (other : Reader B) → Mapped reader other → Mapped (one_part reader) (one_part other)
+  Mapped-one_part reader other same bounds s = begun-mapped s.place (reader bounds s) ∙ ap (begun_at s.place) (same bounds s)
 
   abbrev of_items : Items A → Items B
   of_items found = record { items = map part found.items; end = found.end }
@@ -49,8 +56,9 @@ credential_part c = c.credential
 
 pub Mapped-one_enctype : (version : ℕ) → Mapped credential_part (credential_at both_enctypes version) (credential_at one_enctype version)
 Mapped-one_enctype version =
-    Mapped-then credential_part (principal_in parts.Client) _ _ (λ client.
+    Mapped-one_part credential_part (credential_fields_at both_enctypes version) (credential_fields_at one_enctype version)
+    (Mapped-then credential_part (principal_in parts.Client) _ _ (λ client.
     Mapped-then credential_part (principal_in parts.Server) _ _ (λ server.
     Mapped-then credential_part (called field.Enctype (number_at w16)) _ _ (λ enctype.
     Mapped-then credential_part (again_at version enctype) _ _ (λ again.
-    Mapped-then credential_part (credential_from client server enctype) (λ credential. succeed (both_enctypes credential again)) (λ credential. succeed (one_enctype credential again)) (λ credential bounds s. refl)))))
+    Mapped-then credential_part (credential_from client server enctype) (λ credential. succeed (both_enctypes credential again)) (λ credential. succeed (one_enctype credential again)) (λ credential bounds s. refl))))))

@@ -8,14 +8,14 @@ use Rattle.krb_file.specs.declared.field_name.FieldName.{FieldName}
 use Rattle.krb_file.specs.declared.field_name.FieldName.TheVariants as field
 use Rattle.krb_file.specs.declared.field_name.FilePart.{FilePart}
 use Rattle.krb_file.specs.declared.field_name.FilePart.TheVariants as parts
-use Rattle.krb_file.proofs.Fields.{Reads-called, Reads-in_part, at, done, ok_is, and_then-ok, Took, Reads, Reads-as, wide8, wide16, wide32, Reads-number, Reads-signed, Reads-counted, Reads-names, Reads-list, Reads-then, Reads-fields, Reads-given, Fields, End, Field, Values, spell_fields, AllFit}
+use Rattle.krb_file.proofs.Fields.{Reads-called, Reads-in_part, Reads-one_part, at, done, ok_is, and_then-ok, Took, Reads, Reads-as, wide8, wide16, wide32, Reads-number, Reads-signed, Reads-counted, Reads-names, Reads-list, Reads-then, Reads-fields, Reads-given, Fields, End, Field, Values, spell_fields, AllFit}
 use Rattle.krb_ccache.specs.declared.value.Credential.{Credential}
 use Rattle.krb_ccache.specs.declared.value.Credential3.{Credential3}
 use Rattle.krb_ccache.specs.declared.value.FilePrincipal.{FilePrincipal}
 use Rattle.krb_ccache.specs.declared.value.HeaderField.{HeaderField}
 use Rattle.krb_ccache.specs.declared.value.Typed.{Typed}
 use Rattle.krb_ccache.specs.Spelling.{names_of, principal, PrincipalFits, typed, TypedFits, typed_list, TypedListFits, credential_before_key, credential_from_key, credential, CredentialFits, credential3, Credential3Fits, header_field, HeaderFieldFits}
-use Rattle.krb_ccache.specs.Reading.{principal_at, principal_in, typed_at, typed_list_at, credential_from, credential_at, one_enctype, both_enctypes, header_field_at}
+use Rattle.krb_ccache.specs.Reading.{principal_at, principal_in, typed_at, typed_list_at, credential_from, credential_fields_at, credential_at, one_enctype, both_enctypes, header_field_at}
 
 -- ---- fields that occur
 abbrev a_number32 : FieldName → Fields → Fields
@@ -209,11 +209,12 @@ Reads-one_enctype f =
 
 pub Reads-credential : Reads (credential_at one_enctype 4) credential CredentialFits
 Reads-credential =
-    Reads-as (credential_at one_enctype 4) _ credential _ CredentialFits
+    Reads-one_part (credential_fields_at one_enctype 4) credential CredentialFits
+    (Reads-as (credential_fields_at one_enctype 4) _ credential _ CredentialFits
     (Reads-then leading_fields Credential once_from_key leading_parts credential_from_key BackFits Reads-one_enctype)
     (λ c. ap (λ (x : List ℕ). x ++ credential_from_key c) (prefix-parts c))
     (λ c p. fits_of c p.0 p.1)
-    (λ c p. (leading_fit c p, back_fits c p))
+    (λ c p. (leading_fit c p, back_fits c p)))
 
 -- ---- a credential of version 3
 abbrev front3_fields : Fields
@@ -251,8 +252,9 @@ prefix3-parts c = regroup_prefix3 (principal c.credential.client) (principal c.c
 
 pub Reads-credential3 : Reads (credential_at both_enctypes 3) credential3 Credential3Fits
 Reads-credential3 =
-    Reads-as (credential_at both_enctypes 3) _ credential3 _ Credential3Fits
+    Reads-one_part (credential_fields_at both_enctypes 3) credential3 Credential3Fits
+    (Reads-as (credential_fields_at both_enctypes 3) _ credential3 _ Credential3Fits
     (Reads-then front3_fields Credential3 twice_from_key front3_parts (λ c. credential_from_key c.credential) (λ c. BackFits c.credential) Reads-both_enctypes)
     prefix3-parts
     (λ c p. record { credential = fits_of c.credential (p.0.0, (p.0.1.0, (p.0.1.1.0, tt))) p.1; again = p.0.1.1.1.0 })
-    (λ c p. ((p.credential.client, (p.credential.server, (p.credential.enctype, (p.again, tt)))), back_fits c.credential p.credential))
+    (λ c p. ((p.credential.client, (p.credential.server, (p.credential.enctype, (p.again, tt)))), back_fits c.credential p.credential)))

@@ -8,10 +8,10 @@ use Rattle.krb_file.specs.declared.field_name.FieldName.TheVariants as field
 use Rattle.krb_file.specs.declared.field_name.FilePart.{FilePart}
 use Rattle.krb_file.specs.declared.field_name.FilePart.TheVariants as parts
 use Rattle.krb_file.proofs.Steps.{Steps-succeed, Steps-component, Steps-times}
-use Rattle.krb_file.proofs.Reaching.{AtLeast, AtLeast-then, AtLeast-none, AtLeast-called, AtLeast-in_part, AtLeast-number, AtLeast-signed, AtLeast-counted, goes_on, item_stays}
+use Rattle.krb_file.proofs.Reaching.{AtLeast, AtLeast-then, AtLeast-none, AtLeast-called, AtLeast-in_part, AtLeast-one_part, AtLeast-number, AtLeast-signed, AtLeast-counted, goes_on, item_stays}
 use Rattle.krb_ccache.specs.declared.value.Credential.{Credential}
 use Rattle.krb_ccache.specs.declared.value.FilePrincipal.{FilePrincipal}
-use Rattle.krb_ccache.specs.Reading.{principal_at, principal_in, typed_at, typed_list_at, credential_from, again_at, credential_at}
+use Rattle.krb_ccache.specs.Reading.{principal_at, principal_in, typed_at, typed_list_at, credential_from, again_at, credential_fields_at, credential_at}
 use Rattle.krb_ccache.proofs.Faults.{Steps-typed_items, Steps-again}
 
 -- ---- a header, whose fields have their own end
@@ -61,11 +61,12 @@ AtLeast-from_key client server enctype =
 
 AtLeast-credential : {A : Type 0} (kept : Credential → ℕ → A) (version : ℕ) → AtLeast 67 (credential_at kept version)
 AtLeast-credential kept version =
-    AtLeast-then 12 55 (principal_in parts.Client) _ (AtLeast-principal_in parts.Client) (λ client.
+    AtLeast-one_part 67 (credential_fields_at kept version)
+    (AtLeast-then 12 55 (principal_in parts.Client) _ (AtLeast-principal_in parts.Client) (λ client.
     AtLeast-then 12 43 (principal_in parts.Server) _ (AtLeast-principal_in parts.Server) (λ server.
     AtLeast-then 2 41 (called field.Enctype (number_at w16)) _ (AtLeast-called 2 field.Enctype (number_at w16) (AtLeast-number w16)) (λ enctype.
     AtLeast-then 0 41 (again_at version enctype) _ (AtLeast-none (again_at version enctype) (Steps-again version enctype)) (λ again.
-    AtLeast-then 41 0 (credential_from client server enctype) _ (AtLeast-from_key client server enctype) (λ credential. nothing (kept credential again))))))
+    AtLeast-then 41 0 (credential_from client server enctype) _ (AtLeast-from_key client server enctype) (λ credential. nothing (kept credential again)))))))
 
 pub credential_stays : {A : Type 0} (kept : Credential → ℕ → A) (version : ℕ) (item : A) (old mid some new : Cursor) → LooksAheadTo 67 old mid → LooksAheadTo 1 mid some → HasRead (credential_at kept version) item some new → Stays some new → Stays old new
 credential_stays kept version item old mid some new looks more read stays =

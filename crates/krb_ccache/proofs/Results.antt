@@ -14,7 +14,7 @@ use Rattle.krb_ccache.proofs.Ccaches.{ccache_of, read-sound, spells-read, cache3
 use Rattle.krb_ccache.proofs.Faults.{file-fault, made-fault}
 
 -- a cache of a version: how it is read, and its spelling
-module _ {A : Type 0} (read_as : List ℕ → Result A Fault) (Spells : A → List ℕ → Type 0) (sound : (file : List ℕ) (v : A) → AreOctets file → read_as file ≡ Ok v → Spells v file) (again : (v : A) (b : List ℕ) → Spells v b → read_as b ≡ Ok v) (fault : (file : List ℕ) (f : Fault) → read_as file ≡ Err f → (f.place ≤ length file) × (f.why ≡ why.TooLong → ⊥)) where
+module _ {A : Type 0} (read_as : List ℕ → Result A Fault) (Spells : A → List ℕ → Type 0) (sound : (file : List ℕ) (v : A) → AreOctets file → read_as file ≡ Ok v → Spells v file) (again : (v : A) (b : List ℕ) → Spells v b → read_as b ≡ Ok v) (fault : (file : List ℕ) (f : Fault) → read_as file ≡ Err f → (f.place ≤ length file) × ((size : ℕ) → f.why ≡ why.TooLong size → ⊥)) where
   found_of : (file : List ℕ) (answer : Result A FileFault) → AreOctets file → Agrees (λ v. v) answer (read_as file) → IfOk answer (λ v. Spells v file)
   found_of file (Ok v) octets succeed = sound file v octets succeed
   found_of file (Err fault) octets succeed = tt
@@ -26,12 +26,12 @@ module _ {A : Type 0} (read_as : List ℕ → Result A Fault) (Spells : A → Li
   refused_of file (Ok v) succeed = tt
   refused_of file (Err faults.Memory) succeed = tt
   refused_of file (Err faults.Read) succeed = absurd succeed
-  refused_of file (Err (faults.Refused place why field)) succeed = fault file (record { place = place; why = why; field = field }) succeed
+  refused_of file (Err (faults.Refused refusal)) succeed = fault file refusal succeed
 
-read-fault : (file : List ℕ) (f : Fault) → read file ≡ Err f → (f.place ≤ length file) × (f.why ≡ why.TooLong → ⊥)
+read-fault : (file : List ℕ) (f : Fault) → read file ≡ Err f → (f.place ≤ length file) × ((size : ℕ) → f.why ≡ why.TooLong size → ⊥)
 read-fault file f e = file-fault one_enctype 4 file f (made-fault (read_in one_enctype 4 file) ccache_of f e)
 
-read3-fault : (file : List ℕ) (f : Fault) → read3 file ≡ Err f → (f.place ≤ length file) × (f.why ≡ why.TooLong → ⊥)
+read3-fault : (file : List ℕ) (f : Fault) → read3 file ≡ Err f → (f.place ≤ length file) × ((size : ℕ) → f.why ≡ why.TooLong size → ⊥)
 read3-fault file f e = file-fault both_enctypes 3 file f (made-fault (read_in both_enctypes 3 file) cache3_of f e)
 
 -- ---- version 4

@@ -1,14 +1,15 @@
 -- The credentials of a file, one at a time: those that follow depend only on what is left of the file.
 use Rattle.std.proofs.Common.{◌≡◌, ℕ, zero, suc, ◌<◌, ◌≤◌, true, false, Option, None, Result, Ok, Err, List, [], ◌∷◌, length, refl, sym, ◌∙◌, ap, subst, arith, length-drop}
 use Rattle.std.specs.Int.{Width, w16, w32, byte_len, from_be_bytes}
-use Rattle.krb_file.specs.Fields.{Source, Fault, Bounds, limited, Reader, ◌>>=◌, with_name, with_part, called, in_part, is_empty, signed_at, names_at, number_at, counted_at, next_octets_at}
+use Rattle.krb_file.specs.Fields.{Source, Fault, Bounds, limited, Reader, ◌>>=◌, with_name, with_part, called, one_part, in_part, is_empty, signed_at, names_at, number_at, counted_at, next_octets_at}
 use Rattle.krb_file.specs.declared.field_name.FieldName.TheVariants as field
+use Rattle.krb_file.specs.declared.field_name.FilePart.{FilePart}
 use Rattle.krb_file.specs.declared.field_name.FilePart.TheVariants as parts
 use Rattle.krb_file.specs.declared.field_name.FileField.{FileField}
-use Rattle.krb_file.proofs.Fields.{refused_at-ok, at_field, at, ok_is, and_then-ok, piece-ok}
+use Rattle.krb_file.proofs.Fields.{refused_at-ok, begun_at-ok, at_field, at, ok_is, and_then-ok, piece-ok}
 use Rattle.krb_file.proofs.Steps.{Steps, Steps-then, Steps-succeed, Steps-called, Steps-names, Steps-counted, Moved-shorter, signed-shorter}
 use Rattle.krb_ccache.specs.declared.value.Credential.{Credential}
-use Rattle.krb_ccache.specs.Reading.{principal_at, principal_in, credential_at, header_field_at, Items, no_items, with_first, item_and, items_within, items_after}
+use Rattle.krb_ccache.specs.Reading.{principal_at, principal_in, credential_fields_at, credential_at, header_field_at, Items, no_items, with_first, item_and, items_within, items_after}
 use Rattle.krb_ccache.proofs.Faults.{Steps-from_server}
 
 -- a reader that reads at least one octet
@@ -37,20 +38,26 @@ Shortens-number w some = record {
 pub Shortens-at : {A : Type 0} (other : Option FileField → Option FileField) (reader : Reader A) → Shortens reader → Shortens (at_field other reader)
 Shortens-at other reader one = record { shorter = λ bounds s v t e. one.shorter bounds s v t (refused_at-ok other (reader bounds s) (v, t) e) }
 
+Shortens-one_part : {A : Type 0} (reader : Reader A) → Shortens reader → Shortens (one_part reader)
+Shortens-one_part reader one = record { shorter = λ bounds s v t e. one.shorter bounds s v t (begun_at-ok s.place (reader bounds s) (v, t) e) }
+
+pub Shortens-in_part : {A : Type 0} (part : FilePart) (reader : Reader A) → Shortens reader → Shortens (in_part part reader)
+Shortens-in_part part reader one = Shortens-one_part (at_field (with_part part) reader) (Shortens-at (with_part part) reader one)
+
 Shortens-header_field : Shortens header_field_at
 Shortens-header_field =
     Shortens-then (called field.Tag (number_at w16)) _ (Shortens-at (with_name field.Tag) (number_at w16) (Shortens-number w16 (omega arith)))
     (λ tag. Steps-then (called field.Value (counted_at w16)) _ (Steps-called field.Value (counted_at w16) (Steps-counted w16)) (λ value. Steps-succeed (record { tag = tag; value = value })))
 
 pub Shortens-header_field_in : (index : ℕ) → Shortens (in_part (parts.Header index) header_field_at)
-Shortens-header_field_in index = Shortens-at (with_part (parts.Header index)) header_field_at Shortens-header_field
+Shortens-header_field_in index = Shortens-in_part (parts.Header index) header_field_at Shortens-header_field
 
 pub Shortens-principal : Shortens principal_at
 Shortens-principal =
     Shortens-then (called field.NameType (signed_at w32)) _ (Shortens-at (with_name field.NameType) (signed_at w32) (record { shorter = signed-shorter })) (λ name_type. Steps-then (names_at w32) _ (Steps-names w32) (λ names. Steps-succeed (record { name_type = name_type; realm = names.realm; components = names.components })))
 
 pub Shortens-credential : {A : Type 0} (kept : Credential → ℕ → A) (version : ℕ) → Shortens (credential_at kept version)
-Shortens-credential kept version = Shortens-then (principal_in parts.Client) _ (Shortens-at (with_part parts.Client) principal_at Shortens-principal) (Steps-from_server kept version)
+Shortens-credential kept version = Shortens-one_part (credential_fields_at kept version) (Shortens-then (principal_in parts.Client) _ (Shortens-in_part parts.Client principal_at Shortens-principal) (Steps-from_server kept version))
 
 module _ {A : Type 0} (item_at : Reader A) (shortens : Shortens item_at) where
   item_and-same : (r : Result (A × Source) Fault) (f g : Source → Items A) → ((x : A) (t : Source) → r ≡ Ok (x, t) → f t ≡ g t) → item_and r f ≡ item_and r g

@@ -108,8 +108,7 @@ module _ (limit : Option ℕ) (file : List ℕ) (count : ℕ) (start : Start) (s
   pub fault_given : (e : FileFault) (MayFail : Type 0) (after : State) → FailsReading e next MayFail old → ReturnsNext limit file count (Err e) new start after
   fault_given faults.Read MayFail after fails = tt
   fault_given faults.Memory MayFail after fails = tt
-  fault_given (faults.Refused place why field) MayFail after fails =
-      let fault : Fault = record { place = place; why = why; field = field } in
+  fault_given (faults.Refused fault) MayFail after fails =
       let s = source_at old.place fails.octets in
       let f = is_fault one_enctype start.version (limited limit) s fault (of_rest fails.octets (Err fault) fails.refused) in
       let whole = sym (reads.rest fails.octets fails.there) ∙ ap (before reads.given) (after-fault one shortens limit s fault f.0 f.1) in
@@ -125,7 +124,7 @@ start_inside limit file f e = let p = (Steps-start (3 ∷ 4 ∷ [])).faults (lim
 start_met : (limit : Option ℕ) (file : List ℕ) (e : FileFault) → FailsReading e (start_at (3 ∷ 4 ∷ [])) (Unit {0}) (unread limit (Some file)) → IsStreamFaultIn file e
 start_met limit file faults.Read fails = tt
 start_met limit file faults.Memory fails = tt
-start_met limit file (faults.Refused place why field) fails = start_inside limit file (record { place = place; why = why; field = field }) (ap (file_start limit) (sym fails.there) ∙ fails.refused)
+start_met limit file (faults.Refused fault) fails = start_inside limit file fault (ap (file_start limit) (sym fails.there) ∙ fails.refused)
 
 pub start_refusal_in_file : (limit : Option ℕ) (file : List ℕ) (known : Option (List ℕ)) (e : FileFault) → known ≡ Some file → FailsReading e (start_at (3 ∷ 4 ∷ [])) (Unit {0}) (unread limit known) → IsStreamFaultIn file e
 start_refusal_in_file limit file known e is fails = start_met limit file e (subst (λ (k : Option (List ℕ)). FailsReading e (start_at (3 ∷ 4 ∷ [])) (Unit {0}) (unread limit k)) is fails)
@@ -141,4 +140,4 @@ pub refusal_in_file : (limit : Option ℕ) (file : List ℕ) (count : ℕ) (give
 refusal_in_file limit file count (Ok answered) cursor start state answer = tt
 refusal_in_file limit file count (Err faults.Read) cursor start state answer = tt
 refusal_in_file limit file count (Err faults.Memory) cursor start state answer = tt
-refusal_in_file limit file count (Err (faults.Refused place why field)) cursor start state answer = credentials_inside limit file (record { place = place; why = why; field = field }) (file_start limit file) refl answer.is
+refusal_in_file limit file count (Err (faults.Refused fault)) cursor start state answer = credentials_inside limit file fault (file_start limit file) refl answer.is

@@ -3,10 +3,10 @@ use Rattle.std.proofs.Common.{◌≡◌, ℕ, zero, suc, ◌+◌, ◌<◌, false
 use Rattle.std.specs.List.{flat_map, AllByRecursion}
 use Rattle.std.specs.Int.{w16, to_be_bytes}
 use Rattle.krb_der.specs.Octets.{AreOctets}
-use Rattle.krb_file.specs.Fields.{Source, Fault, Bounds, limited, Reader, and_then, ◌>>=◌, succeed, called, number_at, bound_of}
+use Rattle.krb_file.specs.Fields.{Source, Fault, Bounds, limited, Reader, and_then, ◌>>=◌, succeed, begun_at, called, number_at, bound_of}
 use Rattle.krb_file.specs.declared.field_name.FieldName.TheVariants as field
 use Rattle.krb_file.specs.declared.field_name.FilePart.TheVariants as whose
-use Rattle.krb_file.proofs.Fields.{at, done, ok_is, and_then-ok, wide16, Reads, Reads-called, Reads-number, Values, version-again}
+use Rattle.krb_file.proofs.Fields.{at, done, ok_is, and_then-ok, begun_at-ok, wide16, Reads, Reads-called, Reads-number, Values, version-again}
 use Rattle.krb_ccache.specs.declared.value.Cache3.{Cache3}
 use Rattle.krb_ccache.specs.declared.value.Credential.{Credential}
 use Rattle.krb_ccache.specs.declared.value.Credential3.{Credential3}
@@ -14,7 +14,7 @@ use Rattle.krb_ccache.specs.declared.value.FilePrincipal.{FilePrincipal}
 use Rattle.krb_ccache.specs.declared.value.Header.{Header}
 use Rattle.krb_ccache.specs.declared.reading.Start.{Start}
 use Rattle.krb_ccache.specs.Spelling.{principal, PrincipalFits, credential_from_key, credential, ccache, credential3, Credential3Fits, Spells3, no_header, upgraded}
-use Rattle.krb_ccache.specs.Reading.{principal_in, again_at, credential_from, credential_at, one_enctype, both_enctypes, header_at, header_in, Items, item_and, items_within, items_after}
+use Rattle.krb_ccache.specs.Reading.{principal_in, again_at, credential_from, credential_fields_at, credential_at, one_enctype, both_enctypes, header_at, header_in, Items, item_and, items_within, items_after}
 use Rattle.krb_ccache.specs.Streaming.{file_start, credentials_of, credentials, Holds}
 use Rattle.krb_ccache.proofs.Parts.{Reads-principal_in, Reads-credential3, Reads-from_key, from_key, leading_fields, leading_parts, BackFits}
 use Rattle.krb_ccache.proofs.Headers.{inside_file}
@@ -64,7 +64,7 @@ module _ (limit : Option ℕ) where
 
   parts-again : (s t : Source) (c : Credential) → AreOctets s.octets → credential_at one_enctype 3 (limited limit) s ≡ Ok (c, t) → AllAgain (leading_parts c) c × AreOctets t.octets
   parts-again s t c fits e =
-      let p = then-ok (principal_in whose.Client) (from_client 3) (limited limit) s t c e in
+      let p = then-ok (principal_in whose.Client) (from_client 3) (limited limit) s t c (begun_at-ok s.place (credential_fields_at one_enctype 3 (limited limit) s) (c, t) e) in
       let p-took = ((Reads-principal_in whose.Client).sound (limited limit) s p.after p.value fits (inside_file limit s.place) p.read).0 in
       let q = then-ok (principal_in whose.Server) (from_server 3 p.value) (limited limit) p.after t c p.goes_on in
       let q-took = ((Reads-principal_in whose.Server).sound (limited limit) p.after q.after q.value p-took.fits (inside_file limit p.after.place) q.read).0 in
@@ -94,10 +94,10 @@ module _ (limit : Option ℕ) where
       let z = to_be_bytes w16 c.enctype in
       let w = credential_from_key c in
       ap (λ (o : List ℕ). credential_at one_enctype 4 (limited limit) (at place o)) (regroup x y z w rest)
-      ∙ ap (λ (r : Result (FilePrincipal × Source) Fault). and_then r (λ p. from_client 4 p.0 (limited limit) p.1)) (a.client place (y ++ (z ++ (w ++ rest))))
-      ∙ ap (λ (r : Result (FilePrincipal × Source) Fault). and_then r (λ p. from_server 4 c.client p.0 (limited limit) p.1)) (a.server (place + length x) (z ++ (w ++ rest)))
-      ∙ ap (λ (r : Result (ℕ × Source) Fault). and_then r (λ p. from_enctype 4 c.client c.server p.0 (limited limit) p.1)) (a.enctype ((place + length x) + length y) (w ++ rest))
-      ∙ ap (λ (r : Result (Credential × Source) Fault). and_then r (λ p. done (p.0, p.1))) (a.suffix (((place + length x) + length y) + length z) rest)
+      ∙ ap (λ (r : Result (FilePrincipal × Source) Fault). begun_at place (and_then r (λ p. from_client 4 p.0 (limited limit) p.1))) (a.client place (y ++ (z ++ (w ++ rest))))
+      ∙ ap (λ (r : Result (FilePrincipal × Source) Fault). begun_at place (and_then r (λ p. from_server 4 c.client p.0 (limited limit) p.1))) (a.server (place + length x) (z ++ (w ++ rest)))
+      ∙ ap (λ (r : Result (ℕ × Source) Fault). begun_at place (and_then r (λ p. from_enctype 4 c.client c.server p.0 (limited limit) p.1))) (a.enctype ((place + length x) + length y) (w ++ rest))
+      ∙ ap (λ (r : Result (Credential × Source) Fault). begun_at place (and_then r (λ p. done (p.0, p.1)))) (a.suffix (((place + length x) + length y) + length z) rest)
       ∙ ap (λ (k : ℕ). done (c, at k rest)) (omega (arith, length-append (x ++ y ++ z) w, length-append (x ++ y) z, length-append x y))
 
   -- each of the items

@@ -139,36 +139,37 @@ cache_lengths : lengths_read read cache_octets 239 ≡ 34 ∷ 156 ∷ 239 ∷ []
 cache_lengths = refl
 
 -- ---- faults
-abbrev fault : ℕ → FileWhy → Option FilePart → FieldName → Fault
-fault place reason part name = record { place = place; why = reason; field = Some (record { part = part; name = name }) }
+-- in a credential, in a part before the credentials, or in itself, which begins at the first number
+abbrev fault : ℕ → ℕ → FileWhy → Option FilePart → FieldName → Fault
+fault begin place reason part name = record { place = place; why = reason; field = Some (record { part = part; name = name }); begin = begin }
 
-no_octet : read ([]) ≡ Err (fault 0 why.Truncated None words.Magic)
+no_octet : read ([]) ≡ Err (fault 0 0 why.Truncated None words.Magic)
 no_octet = refl
 
-one_octet : read (hex (codes "05")) ≡ Err (fault 1 why.Truncated None words.Version)
+one_octet : read (hex (codes "05")) ≡ Err (fault 1 1 why.Truncated None words.Version)
 one_octet = refl
 
-not_five : read (hex (codes "0601")) ≡ Err (fault 0 why.Magic None words.Magic)
+not_five : read (hex (codes "0601")) ≡ Err (fault 0 0 why.Magic None words.Magic)
 not_five = refl
 
-other_version : read (hex (codes "0503")) ≡ Err (fault 1 why.Version None words.Version)
+other_version : read (hex (codes "0503")) ≡ Err (fault 1 1 why.Version None words.Version)
 other_version = refl
 
-field_overruns : read (hex (codes "0504 0003 000100")) ≡ Err (fault 6 why.Overrun (Some (parts.Header 0)) words.Value)
+field_overruns : read (hex (codes "0504 0003 000100")) ≡ Err (fault 4 6 why.Overrun (Some (parts.Header 0)) words.Value)
 field_overruns = refl
 
-value_overruns : read (hex (codes "0504 0005 0001 0002 00")) ≡ Err (fault 8 why.Overrun (Some (parts.Header 0)) words.Value)
+value_overruns : read (hex (codes "0504 0005 0001 0002 00")) ≡ Err (fault 4 8 why.Overrun (Some (parts.Header 0)) words.Value)
 value_overruns = refl
 
-header_cut : read (hex (codes "0504 000C 0001")) ≡ Err (fault 6 why.Truncated (Some (parts.Header 0)) words.Value)
+header_cut : read (hex (codes "0504 000C 0001")) ≡ Err (fault 4 6 why.Truncated (Some (parts.Header 0)) words.Value)
 header_cut = refl
 
 -- addresses are read one after another, so the first one that is missing is refused, however many are announced
-addresses_announced : read (take 221 cache_octets ++ hex (codes "FFFFFFFF")) ≡ Err (fault 225 why.Truncated (Some (parts.Address 0)) words.Type)
+addresses_announced : read (take 221 cache_octets ++ hex (codes "FFFFFFFF")) ≡ Err (fault 156 225 why.Truncated (Some (parts.Address 0)) words.Type)
 addresses_announced = refl
 
 -- ---- a limit on fields of octets
-header_too_long : file_start (Some 1) cache_octets ≡ Err (fault 8 why.TooLong (Some (parts.Header 0)) words.Value)
+header_too_long : file_start (Some 1) cache_octets ≡ Err (fault 4 8 (why.TooLong 8) (Some (parts.Header 0)) words.Value)
 header_too_long = refl
 
 -- ---- a cache of version 3 of u@A: the credential for h@A
@@ -195,19 +196,19 @@ cache3_lengths : lengths_read read3 cache3_octets 105 ≡ 20 ∷ 105 ∷ []
 cache3_lengths = refl
 
 -- the encryption type is there, and is not written again
-again_cut : read3 (take 58 cache3_octets) ≡ Err (fault 58 why.Truncated None words.Enctype)
+again_cut : read3 (take 58 cache3_octets) ≡ Err (fault 20 58 why.Truncated None words.Enctype)
 again_cut = refl
 
-nothing_after_3 : read3 (hex (codes "0503")) ≡ Err (fault 2 why.Truncated (Some parts.Principal) words.NameType)
+nothing_after_3 : read3 (hex (codes "0503")) ≡ Err (fault 2 2 why.Truncated (Some parts.Principal) words.NameType)
 nothing_after_3 = refl
 
-start_cut : file_start None (hex (codes "0503")) ≡ Err (fault 2 why.Truncated (Some parts.Principal) words.NameType)
+start_cut : file_start None (hex (codes "0503")) ≡ Err (fault 2 2 why.Truncated (Some parts.Principal) words.NameType)
 start_cut = refl
 
-not_three : read3 (hex (codes "0504")) ≡ Err (fault 1 why.Version None words.Version)
+not_three : read3 (hex (codes "0504")) ≡ Err (fault 1 1 why.Version None words.Version)
 not_three = refl
 
-not_three_or_four : file_start None (hex (codes "0502")) ≡ Err (fault 1 why.Version None words.Version)
+not_three_or_four : file_start None (hex (codes "0502")) ≡ Err (fault 1 1 why.Version None words.Version)
 not_three_or_four = refl
 
 -- ---- the octets before a key

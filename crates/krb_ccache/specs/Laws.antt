@@ -7,7 +7,6 @@ use Rattle.krb_file.specs.Limits.{number_before}
 use Rattle.krb_file.specs.declared.fault.FileWhy.TheVariants as why
 use Rattle.krb_file.specs.declared.field_name.FieldName.TheVariants as field
 use Rattle.krb_file.specs.declared.field_name.FilePart.TheVariants as parts
-use Rattle.krb_file.specs.declared.field_name.FileField.{FileField}
 use Rattle.krb_ccache.specs.declared.value.Cache3.{Cache3}
 use Rattle.krb_ccache.specs.declared.value.Ccache.{Ccache}
 use Rattle.krb_ccache.specs.declared.value.Credential.{Credential}
@@ -43,34 +42,36 @@ pub record AreFirst (file : List ℕ) (start : Start) (found : List Credential) 
   pub there : length (take size file) ≡ size
   pub spelled : SpellsContents start found (take size file)
 
--- where the credentials of a file end, or the field at fault begins
-abbrev pub end_place : Result ℕ Fault → ℕ
-end_place (Ok size) = size
-end_place (Err fault) = fault.place
+-- the first `size` octets are before the end of the file, or before the credential that a fault is in and up to where the fault says that this begins
+abbrev pub AreBefore : ℕ → Result ℕ Fault → Type 0
+AreBefore size (Ok end) = size ≤ end
+AreBefore size (Err fault) = (size ≡ fault.begin) × (size ≤ fault.place)
 
--- The start and the credentials that are read of a file are spelled by its octets before the fault or up to the end.
+-- The start and the credentials that are read of a file are spelled by its octets before the credential at fault or up to the end.
 abbrev pub CredentialsAreSpelled : Type 0
-CredentialsAreSpelled = (limit : Option ℕ) (file : List ℕ) (start : Start) (after : Source) → AreOctets file → file_start limit file ≡ Ok (start, after) → (size : ℕ) × AreFirst file start (credentials limit file).items size × (size ≤ end_place (credentials limit file).end)
+CredentialsAreSpelled = (limit : Option ℕ) (file : List ℕ) (start : Start) (after : Source) → AreOctets file → file_start limit file ≡ Ok (start, after) → (size : ℕ) × AreFirst file start (credentials limit file).items size × AreBefore size (credentials limit file).end
 
--- A field has more octets than a limit, as the two or the four octets before it say.
-abbrev pub IsLongStart : (most : ℕ) (file : List ℕ) (place : ℕ) → Type 0
-IsLongStart most file place = (most < number_before w16 file place) ⊎ (most < number_before w32 file place)
+-- The field at a place has so many octets, more than a limit, as the two or the four octets before it say.
+abbrev pub IsLongStart : (most : ℕ) (file : List ℕ) (place size : ℕ) → Type 0
+IsLongStart most file place size = (most < size) × ((size ≡ number_before w16 file place) ⊎ (size ≡ number_before w32 file place))
 
--- A longer field before the credentials is refused.
+-- A longer field before the credentials is refused, with the number of its octets.
 pub record StartIsTooLong (most : ℕ) (file : List ℕ) : Type 0 where
-  pub place : ℕ
-  pub field : Option FileField
-  pub is : file_start (Some most) file ≡ Err (record { place = place; why = why.TooLong; field = field })
-  pub long : IsLongStart most file place
+  pub fault : Fault
+  pub is : file_start (Some most) file ≡ Err fault
+  pub octets : ℕ
+  pub reason : fault.why ≡ why.TooLong octets
+  pub long : IsLongStart most file fault.place octets
 
--- What a limit leaves of the credentials of a file: those before a longer field, and its fault.
+-- What a limit leaves of the credentials of a file: those before a longer field, and its fault, with the number of its octets.
 pub record AreCut (most : ℕ) (file : List ℕ) (under whole : Items Credential) : Type 0 where
   pub others : List Credential
   pub items : whole.items ≡ under.items ++ others
-  pub place : ℕ
-  pub field : Option FileField
-  pub end : under.end ≡ Err (record { place = place; why = why.TooLong; field = field })
-  pub long : most < number_before w32 file place
+  pub fault : Fault
+  pub end : under.end ≡ Err fault
+  pub octets : ℕ
+  pub reason : fault.why ≡ why.TooLong octets
+  pub long : (most < octets) × (octets ≡ number_before w32 file fault.place)
 
 -- Under a limit a file is read as without one, or up to a field that is longer.
 abbrev pub LimitsAddTooLong : Type 0

@@ -2,7 +2,7 @@
 use Rattle.std.specs.Prelude.{ℕ, zero, suc, ◌==◌, List, [], ◌∷◌, length, Option, None, Some, Result, Ok, Err}
 use Rattle.std.specs.Int.{w8, w16, w32}
 use Rattle.krb_der.specs.Octets.{when}
-use Rattle.krb_file.specs.Fields.{Source, source_of, Fault, limited, Reader, and_then, ◌>>=◌, succeed, called, in_part, is_empty, number_at, signed_at, counted_at, times, names_at, within, is_at_end, version_at}
+use Rattle.krb_file.specs.Fields.{Source, source_of, Fault, limited, Reader, and_then, ◌>>=◌, succeed, called, one_part, in_part, is_empty, number_at, signed_at, counted_at, times, names_at, within, is_at_end, version_at}
 use Rattle.krb_file.specs.declared.field_name.FieldName.{FieldName}
 use Rattle.krb_file.specs.declared.field_name.FieldName.TheVariants as field
 use Rattle.krb_file.specs.declared.field_name.FilePart.{FilePart}
@@ -66,14 +66,18 @@ abbrev pub again_at : ℕ → ℕ → Reader ℕ
 again_at version enctype = when (version == 3) (λ _. called field.Enctype (number_at w16)) (λ _. succeed enctype)
 
 -- a credential in a version, as what `kept` makes of it and of its second encryption type
-abbrev pub credential_at : {A : Type 0} → (Credential → ℕ → A) → ℕ → Reader A
-credential_at kept version = do
+abbrev pub credential_fields_at : {A : Type 0} → (Credential → ℕ → A) → ℕ → Reader A
+credential_fields_at kept version = do
   client ← principal_in parts.Client
   server ← principal_in parts.Server
   enctype ← called field.Enctype (number_at w16)
   again ← again_at version enctype
   credential ← credential_from client server enctype
   succeed (kept credential again)
+
+-- the same; a fault is in the credential, which begins with its client
+abbrev pub credential_at : {A : Type 0} → (Credential → ℕ → A) → ℕ → Reader A
+credential_at kept version = one_part (credential_fields_at kept version)
 
 -- the credential alone, and the credential with its second encryption type
 abbrev pub one_enctype : Credential → ℕ → Credential

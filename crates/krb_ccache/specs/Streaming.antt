@@ -53,7 +53,7 @@ pub record Reads (limit : Option ℕ) (cursor : Cursor) (start : Start) (state :
 
 -- The fault of what is before the credentials. Else the device failed or memory ran out.
 abbrev pub FailsStart : Option ℕ → List ℕ → FileFault → Type 0
-FailsStart limit file (faults.Refused place why field) = file_start limit file ≡ Err (record { place = place; why = why; field = field })
+FailsStart limit file (faults.Refused fault) = file_start limit file ≡ Err fault
 FailsStart limit file faults.Read = Unit {0}
 FailsStart limit file faults.Memory = Unit {0}
 
@@ -78,6 +78,6 @@ pub record FailsBy (items : Items Credential) (count : ℕ) (fault : Fault) : Ty
 abbrev pub ReturnsNext : Option ℕ → List ℕ → ℕ → Result (Option Credential) FileFault → Cursor → Start → State → Type 0
 ReturnsNext limit file count (Ok (Some credential)) cursor start state = IsItem (credentials limit file) count credential × Reads limit cursor start state file (suc count)
 ReturnsNext limit file count (Ok None) cursor start state = EndsBy (credentials limit file) count cursor.place
-ReturnsNext limit file count (Err (faults.Refused place why field)) cursor start state = FailsBy (credentials limit file) count (record { place = place; why = why; field = field })
+ReturnsNext limit file count (Err (faults.Refused fault)) cursor start state = FailsBy (credentials limit file) count fault
 ReturnsNext limit file count (Err faults.Read) cursor start state = Unit {0}
 ReturnsNext limit file count (Err faults.Memory) cursor start state = Unit {0}

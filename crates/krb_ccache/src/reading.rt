@@ -9,7 +9,7 @@ ghost use Rattle.krb_ccache.specs.declared.value.Cache3.{Cache3 as Cache3Value};
 ghost use Rattle.krb_ccache.specs.declared.value.Ccache.{Ccache as CcacheValue};
 ghost use Rattle.krb_ccache.specs.declared.value.Credential.{Credential as CredentialValue};
 ghost use Rattle.krb_ccache.specs.Spelling.{CcacheSpells, Spells3};
-ghost use Rattle.krb_ccache.specs.Reading.{principal_at, principal_in, typed_at, typed_list_at, credential_from, again_at, credential_at, one_enctype, both_enctypes, header_field_at, header_fields_at, header_at, header_in, start_at, next_at, credentials_after, read_in, read, read3};
+ghost use Rattle.krb_ccache.specs.Reading.{principal_at, principal_in, typed_at, typed_list_at, credential_from, again_at, credential_fields_at, credential_at, one_enctype, both_enctypes, header_field_at, header_fields_at, header_at, header_in, start_at, next_at, credentials_after, read_in, read, read3};
 
 use crate::value::{
     Cache3, Ccache, Credential, Credential3, FilePrincipal, Header, HeaderField, Typed,
@@ -48,7 +48,8 @@ fn principal<F: FieldReader>(
     ensures read { Follows (λ principal. principal) result (principal_in part) F.MayFail (F.cursor reader.old) (F.cursor reader.new) }
     ensures keeps { Keeps (F.cursor reader.old) (F.cursor reader.new) }
 {
-    in_part(part, principal_fields(alloc, reader))
+    let begin = reader.place();
+    in_part(part, begin, principal_fields(alloc, reader))
 }
 
 /// Reads a type, and octets after their length.
@@ -70,7 +71,8 @@ fn typed<F: FieldReader>(alloc: Global, part: FilePart, reader: &mut F) -> Resul
     ensures read { Follows (λ typed. typed) result (in_part part typed_at) F.MayFail (F.cursor reader.old) (F.cursor reader.new) }
     ensures keeps { Keeps (F.cursor reader.old) (F.cursor reader.new) }
 {
-    in_part(part, typed_fields(alloc, reader))
+    let begin = reader.place();
+    in_part(part, begin, typed_fields(alloc, reader))
 }
 
 /// An address.
@@ -205,6 +207,24 @@ fn again<F: FieldReader>(version: u8, enctype: u16, reader: &mut F) -> Result<u1
     Ok(enctype)
 }
 
+/// Reads the fields of a credential of a version.
+#[inline(always)]
+fn credential_fields<K: Kept, F: FieldReader>(
+    alloc: Global,
+    version: u8,
+    reader: &mut F,
+) -> Result<K, FileFault>
+    ensures read { Follows (λ item. item) result (credential_fields_at K.kept version) F.MayFail (F.cursor reader.old) (F.cursor reader.new) }
+    ensures stays { OnOk result (Stays (F.cursor reader.old) (F.cursor reader.new)) }
+{
+    let client = principal(alloc, FilePart::Client, reader)?;
+    let server = principal(alloc, FilePart::Server, reader)?;
+    let enctype = reader.field16(FieldName::Enctype)?;
+    let again = again(version, enctype, reader)?;
+    let credential = credential_from(alloc, client, server, enctype, reader)?;
+    Ok(K::keep(credential, again))
+}
+
 /// Reads a credential of a version.
 #[inline(never)]
 fn credential<K: Kept, F: FieldReader>(
@@ -215,12 +235,11 @@ fn credential<K: Kept, F: FieldReader>(
     ensures read { Follows (λ item. item) result (credential_at K.kept version) F.MayFail (F.cursor reader.old) (F.cursor reader.new) }
     ensures stays { OnOk result (Stays (F.cursor reader.old) (F.cursor reader.new)) }
 {
-    let client = principal(alloc, FilePart::Client, reader)?;
-    let server = principal(alloc, FilePart::Server, reader)?;
-    let enctype = reader.field16(FieldName::Enctype)?;
-    let again = again(version, enctype, reader)?;
-    let credential = credential_from(alloc, client, server, enctype, reader)?;
-    Ok(K::keep(credential, again))
+    let begin = reader.place();
+    match credential_fields(alloc, version, reader) {
+        Ok(item) => Ok(item),
+        Err(fault) => Err(fault.begun_at(begin)),
+    }
 }
 
 /// The least number of octets of a credential, in either version.
@@ -270,7 +289,8 @@ fn header_field<F: FieldReader>(
     ensures keeps { Keeps (F.cursor reader.old) (F.cursor reader.new) }
 {
     let part = FilePart::Header(index as u64);
-    in_part(part, header_field_fields(alloc, reader))
+    let begin = reader.place();
+    in_part(part, begin, header_field_fields(alloc, reader))
 }
 
 /// Reads the fields of a header of `size` octets.

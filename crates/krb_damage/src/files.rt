@@ -3,7 +3,7 @@
 use crate::fakes::Slow;
 use krb_ccache::{Ccache, Credential, Credentials, FilePrincipal, Header, read3, upgrade};
 use krb_der::Many;
-use krb_file::{FieldLimit, FileFault, FileWhy};
+use krb_file::{FieldLimit, FileFault, FileRefusal, FileWhy};
 use krb_keytab::{Hole, Keytab, Next, Record, Records, Stop};
 use std::alloc::Global;
 use std::io::Read;
@@ -138,18 +138,11 @@ fn cache_of<R: Read + Drop>(alloc: Global, reader: R, octets: &[u8]) -> Option<W
 fn is_same(streamed: &Written, whole: &Written) -> bool {
     match (streamed, whole) {
         (Ok(octets), Ok(others)) => octets.as_slice() == others.as_slice(),
-        (
-            Err(FileFault::Refused { place, why, field }),
-            Err(
-                FileFault::Refused {
-                    place: wanted,
-                    why: as_whole,
-                    field: wanted_field,
-                },
-            ),
-        ) => {
-            let is_long = *why == FileWhy::TooLong && *as_whole == FileWhy::Truncated;
-            place == wanted && field == wanted_field && (why == as_whole || is_long)
+        (Err(FileFault::Refused(refusal)), Err(FileFault::Refused(wanted))) => {
+            let is_long = matches!(refusal.why, FileWhy::TooLong(_))
+                && wanted.why == FileWhy::Truncated;
+            let why = if is_long { refusal.why } else { wanted.why };
+            *refusal == FileRefusal { why, ..*wanted }
         }
         _ => false,
     }

@@ -20,22 +20,32 @@
 //! what it has to; `refused` if it was out of memory both times; and `wrong` otherwise. With enough
 //! memory all are done; `tests/run/refused-allocations` refuses allocations.
 //!
-//! With the word `memory` only these calls are made. With `answers` there is instead a line for
+//! With the word `encode` the standard input is a stream of messages: each is parsed and encoded
+//! again, and has to come again. `make bench` measures that, and what is less: with `parse` it is
+//! only parsed, with `judge` only judged, with `step` a machine takes it octet by octet except
+//! inside strings, with `take` all octets at once, and with `frames` it is only found. A number
+//! after the word is how many more times all this is done with the same octets, which then are in
+//! the processor's cache, as those of a pipe are.
+//!
+//! With the word `memory` only the calls that allocate are made. With `answers` there is instead a line for
 //! each change of a message, by each profile: the place, the new octet, and the answer. With
 //! `marks` nothing is changed, and the octets need not be a message: the line of each has the
 //! answer, how many lengths are open, and the marks, each as the place of the contents, their
 //! number of octets, and the number.
 #![tactic(auto)]
 
+mod again;
 mod ends;
 mod fakes;
 mod files;
 mod growth;
+mod judging;
 mod messages;
 mod scanning;
 
 ghost use Rattle.std.specs.Prelude.{◌^◌, ◌<◌, length};
 
+use again::{Work, report_frames};
 use ends::{Failed, NONE_FAILED, Run, failures};
 use files::Format;
 use growth::report_calls;
@@ -287,33 +297,44 @@ fn work_on<R: Print + AllocGlobal>(
     }
 }
 
-fn main(rt: HostRuntime) -> io::Result<ExitCode> {
-    let alloc = rt.alloc();
-    let mut words = env::args(&rt)?;
-    let _program = words.next();
-    let word = words.next();
-    let word = word.as_deref();
-    if word.is_none() || word == Some("memory") {
-        let is_right = report_calls(&rt)?;
+/// Makes the calls that allocate, and then, unless the word asks for these alone, works on each line
+/// of the standard input; returns whether nothing was wrong.
+fn report_lines(rt: &HostRuntime, word: Option<&str>) -> io::Result<bool> {
+    if matches!(word, None | Some("memory")) {
+        let is_right = report_calls(rt)?;
         if !is_right || word.is_some() {
-            return Ok(if is_right {
-                ExitCode::SUCCESS
-            } else {
-                ExitCode::FAILURE
-            });
+            return Ok(is_right);
         }
     }
+    let alloc = rt.alloc();
     let text = io::read_to_string(alloc, rt.stdin())?;
     for line in text.as_str().lines() {
         let Some((name, digits)) = line.split_once(' ') else {
-            return Ok(ExitCode::FAILURE);
+            return Ok(false);
         };
         let Ok(mut octets) = hex::decode(alloc, digits) else {
-            return Ok(ExitCode::FAILURE);
+            return Ok(false);
         };
-        if !work_on(&rt, word, name, octets.as_mut_slice(), digits)? {
-            return Ok(ExitCode::FAILURE);
+        if !work_on(rt, word, name, octets.as_mut_slice(), digits)? {
+            return Ok(false);
         }
     }
-    Ok(ExitCode::SUCCESS)
+    Ok(true)
+}
+
+fn main(rt: HostRuntime) -> io::Result<ExitCode> {
+    let mut words = env::args(&rt)?;
+    let _program = words.next();
+    let word = words.next();
+    let number = words.next();
+    let word = word.as_deref();
+    let is_right = match word.and_then(Work::of) {
+        Some(work) => report_frames(&rt, work, number.as_deref())?,
+        None => report_lines(&rt, word)?,
+    };
+    Ok(if is_right {
+        ExitCode::SUCCESS
+    } else {
+        ExitCode::FAILURE
+    })
 }

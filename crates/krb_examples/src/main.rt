@@ -313,7 +313,7 @@ fn encoded(alloc: Global, lines: &[u8]) -> (Vec<u8>, bool) {
 }
 
 /// Returns whether words are a command that lists a keytab.
-fn is_keytab_command(alloc: Global, words: &[String]) -> Result<bool, WordsFault> {
+fn is_keytab_command(alloc: Global, words: &[Vec<u8>]) -> Result<bool, WordsFault> {
     let command_line = read_words(alloc, words)?;
     Ok(matches!(command_line.job, Job::Keytab))
 }
@@ -410,7 +410,7 @@ fn show_files(rt: &HostRuntime) -> Result<()> {
 }
 
 fn main(rt: HostRuntime) -> Result<()> {
-    let words = vec![in rt.alloc(); String::from_str(rt.alloc(), "keytab")?]?;
+    let words = vec![in rt.alloc(); Vec::from_slice(rt.alloc(), b"keytab")?]?;
     let is_keytab = is_keytab_command(rt.alloc(), words.as_slice());
     println!(rt; "keytab: {}", matches!(is_keytab, Ok(true)))?;
     show_messages(&rt)?;

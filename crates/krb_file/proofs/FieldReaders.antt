@@ -1,10 +1,11 @@
 -- Readers of fields, one after another.
 use Rattle.std.proofs.Common.{◌≡◌, ℕ, zero, suc, ◌+◌, ◌<◌, ◌≤◌, Bool, Option, Some, None, Result, Ok, Err, List, [], ◌∷◌, ◌++◌, refl, sym, ◌∙◌, ap, subst, arith}
-use Rattle.krb_file.specs.Fields.{Source, Fault, Bounds, ended, Fails, Reader, and_then, ◌>>=◌, succeed, refused_at, fault_at, fails_at, next_octets_at, are_zero, times}
+use Rattle.krb_file.specs.Fields.{Source, Fault, Bounds, ended, Fails, Reader, and_then, ◌>>=◌, succeed, refused_at, begun_at, one_part, with_part, in_part, fault_at, fails_at, fault_begun, fails_begun, next_octets_at, are_zero, times}
 use Rattle.krb_file.specs.FieldReaders.{Cursor, BeginsWith, MayRemain, source_at, fetched, FetchesTo, Stays, Keeps, HasRead, FailsBy, Follows, skipped_at, Slice, of_slice}
 use Rattle.krb_file.specs.declared.fault.FileFault.{FileFault}
 use Rattle.krb_file.specs.declared.fault.FileFault.TheVariants as faults
 use Rattle.krb_file.specs.declared.field_name.FileField.{FileField}
+use Rattle.krb_file.specs.declared.field_name.FilePart.{FilePart}
 use Rattle.krb_file.proofs.Fields.{done, ok_is, and_then-ok, refused_at-ok, at_field}
 
 -- some octets may always remain
@@ -77,11 +78,30 @@ module _ {A : Type 0} (field : Option FileField → Option FileField) (reader : 
   pub fails_so : (e : FileFault) (MayFail : Type 0) (old : Cursor) → FailsBy e reader MayFail old → FailsBy (fault_at field e) (at_field field reader) MayFail old
   fails_so faults.Memory MayFail old fails = tt
   fails_so faults.Read MayFail old fails = fails
-  fails_so (faults.Refused place why before) MayFail old fails = record { octets = fails.octets; there = fails.there; refused = ap otherwise fails.refused }
+  fails_so (faults.Refused fault) MayFail old fails = record { octets = fails.octets; there = fails.there; refused = ap otherwise fails.refused }
 
   pub follows_so : {B : Type 0} (view : B → A) (result : Result B FileFault) (MayFail : Type 0) (old new : Cursor) → Follows view result reader MayFail old new → Follows view (fails_at field result) (at_field field reader) MayFail old new
   follows_so view (Ok value) MayFail old new read = read_so read
   follows_so view (Err fault) MayFail old new fails = fails_so fault MayFail old fails
+
+-- ---- the same reader, whose faults tell where it begins
+module _ {A : Type 0} (reader : Reader A) where
+  pub part_read : {v : A} {old new : Cursor} → HasRead reader v old new → HasRead (one_part reader) v old new
+  part_read {v} {old} {new} read = record { same_bounds = read.same_bounds; from = λ rest there. let a = read.from rest there in (a.0, a.1, ap (begun_at old.place) a.2) }
+
+  pub part_fails : (e : FileFault) (MayFail : Type 0) (old : Cursor) → FailsBy e reader MayFail old → FailsBy (fault_begun old.place e) (one_part reader) MayFail old
+  part_fails faults.Memory MayFail old fails = tt
+  part_fails faults.Read MayFail old fails = fails
+  part_fails (faults.Refused fault) MayFail old fails = record { octets = fails.octets; there = fails.there; refused = ap (begun_at old.place) fails.refused }
+
+  pub part_follows : {B : Type 0} (view : B → A) (result : Result B FileFault) (MayFail : Type 0) (old new : Cursor) → Follows view result reader MayFail old new → Follows view (fails_begun old.place result) (one_part reader) MayFail old new
+  part_follows view (Ok value) MayFail old new read = part_read read
+  part_follows view (Err fault) MayFail old new fails = part_fails fault MayFail old fails
+
+-- in a part
+pub follows_in_part : {A B : Type 0} (part : FilePart) (reader : Reader A) (view : B → A) (result : Result B FileFault) (MayFail : Type 0) (old new : Cursor) → Follows view result reader MayFail old new → Follows view (fails_begun old.place (fails_at (with_part part) result)) (in_part part reader) MayFail old new
+follows_in_part part reader view result MayFail old new follows =
+    part_follows (at_field (with_part part) reader) view (fails_at (with_part part) result) MayFail old new (follows_so (with_part part) reader view result MayFail old new follows)
 
 -- ---- a number of items, read by a loop
 module _ {A : Type 0} (b : Bounds) where
@@ -141,9 +161,8 @@ module _ {A : Type 0} (item_at : ℕ → Reader A) where
   pub one_fails : (n count : ℕ) (s t : Cursor) (xs : List A) (e : FileFault) (MayFail : Type 0) → n < count → HasRead (times n item_at) xs s t → FailsBy e (item_at n) MayFail t → FailsBy e (times count item_at) MayFail s
   one_fails n count s t xs faults.Memory MayFail lt before fails = tt
   one_fails n count s t xs faults.Read MayFail lt before fails = fails
-  one_fails n count s t xs (faults.Refused place why field) MayFail lt before fails =
+  one_fails n count s t xs (faults.Refused fault) MayFail lt before fails =
       let a = before.from fails.octets fails.there in
-      let fault : Fault = record { place = place; why = why; field = field } in
       record {
         octets = a.0;
         there = a.1;
@@ -162,6 +181,5 @@ known_end reader v s t read = ap (λ (b : Bounds). b.end) read.same_bounds
 pub known_fault : {A : Type 0} (reader : Reader A) (e : FileFault) (s : Slice) → FailsBy e reader ⊥ (of_slice s) → Fails e (reader (ended s.end) (source_at s.place s.octets))
 known_fault reader faults.Memory s fails = tt
 known_fault reader faults.Read s fails = fails
-known_fault reader (faults.Refused place why field) s fails =
-    let fault : Fault = record { place = place; why = why; field = field } in
+known_fault reader (faults.Refused fault) s fails =
     subst (λ (o : List ℕ). reader (ended s.end) (source_at s.place o) ≡ Err fault) fails.there fails.refused

@@ -11,7 +11,7 @@ use Rattle.std.specs.List.{flat_map, AllByRecursion}
 use Rattle.std.specs.Int.{Width, w8, w16, w32, byte_len, from_be_bytes, to_be_bytes, cast_signed, cast_unsigned}
 use Rattle.std.specs.Int.RustNames.{FitsSigned}
 use Rattle.krb_der.specs.Octets.{when, AreOctets}
-use Rattle.krb_file.specs.Fields.{signed, counted, Names, names, bound_of, IsCounted, AreNames, Source, Fault, Bounds, Reader, and_then, ◌>>=◌, succeed, refused, exceeds, with_name, with_part, refused_at, called, in_part, next_octets_at, octets_at, number_at, signed_at, counted_at, times, component_at, names_at, is_one_of, expect, version_at}
+use Rattle.krb_file.specs.Fields.{signed, counted, Names, names, bound_of, IsCounted, AreNames, Source, Fault, Bounds, Reader, and_then, ◌>>=◌, succeed, refused, exceeds, with_name, with_part, refused_at, called, begun_at, one_part, in_part, next_octets_at, octets_at, number_at, signed_at, counted_at, times, component_at, names_at, is_one_of, expect, version_at}
 use Rattle.krb_file.specs.declared.fault.FileWhy.{FileWhy}
 use Rattle.krb_file.specs.declared.fault.FileWhy.TheVariants as why
 use Rattle.krb_file.specs.declared.field_name.FieldName.{FieldName}
@@ -106,7 +106,7 @@ pub record IsPiece (limit : Option ℕ) (size : ℕ) (bounds : Bounds) (s t : So
 
 pub piece-ok : (limit : Option ℕ) (size : ℕ) (bounds : Bounds) (s t : Source) (octets : List ℕ) → next_octets_at limit size bounds s ≡ Ok (octets, t) → IsPiece limit size bounds s t octets
 piece-ok limit size bounds s t octets e =
-    let a = when-err_ok (exceeds (s.place + size) bounds.end) _ (λ _. when (exceeds size limit) (λ _. refused s why.TooLong) (λ _. when (ltb (length s.octets) size) (λ _. refused s why.Truncated) (λ _. Ok (take size s.octets, at (s.place + size) (drop size s.octets))))) (octets, t) e in
+    let a = when-err_ok (exceeds (s.place + size) bounds.end) _ (λ _. when (exceeds size limit) (λ _. refused s (why.TooLong size)) (λ _. when (ltb (length s.octets) size) (λ _. refused s why.Truncated) (λ _. Ok (take size s.octets, at (s.place + size) (drop size s.octets))))) (octets, t) e in
     let b = when-err_ok (exceeds size limit) _ (λ _. when (ltb (length s.octets) size) (λ _. refused s why.Truncated) (λ _. Ok (take size s.octets, at (s.place + size) (drop size s.octets)))) (octets, t) a.1 in
     let c = when-err_ok (ltb (length s.octets) size) _ (λ _. Ok (take size s.octets, at (s.place + size) (drop size s.octets))) (octets, t) b.1 in
     let same = ok_is (take size s.octets, at (s.place + size) (drop size s.octets)) (octets, t) c.1 in
@@ -249,9 +249,9 @@ pub refused_at-ok : {A : Type 0} (field : Option FileField → Option FileField)
 refused_at-ok field (Ok y) x e = e
 refused_at-ok field (Err d) x e = absurd cc
 
-pub refused_at-err : {A : Type 0} (field : Option FileField → Option FileField) (r : Result A Fault) (f : Fault) → refused_at field r ≡ Err f → (d : Fault) × (r ≡ Err d) × (record { place = d.place; why = d.why; field = field d.field } ≡ f)
+pub refused_at-err : {A : Type 0} (field : Option FileField → Option FileField) (r : Result A Fault) (f : Fault) → refused_at field r ≡ Err f → (d : Fault) × (r ≡ Err d) × (record d { field = field d.field } ≡ f)
 refused_at-err field (Ok y) f e = absurd cc
-refused_at-err {A} field (Err d) f e = (d, refl, err_is A (record { place = d.place; why = d.why; field = field d.field }) f e)
+refused_at-err {A} field (Err d) f e = (d, refl, err_is A (record d { field = field d.field }) f e)
 
 abbrev pub at_field : {A : Type 0} → (Option FileField → Option FileField) → Reader A → Reader A
 at_field field reader = λ bounds source. refused_at field (reader bounds source)
@@ -265,8 +265,23 @@ Reads-at {A} field reader spell Fits laws = record {
 pub Reads-called : {A : Type 0} (name : FieldName) (reader : Reader A) (spell : A → List ℕ) (Fits : A → Type 0) → Reads reader spell Fits → Reads (called name reader) spell Fits
 Reads-called name reader spell Fits laws = Reads-at (with_name name) reader spell Fits laws
 
+-- ---- the same reader, whose faults tell where it begins
+pub begun_at-ok : {A : Type 0} (place : ℕ) (r : Result A Fault) (x : A) → begun_at place r ≡ Ok x → r ≡ Ok x
+begun_at-ok place (Ok y) x e = e
+begun_at-ok place (Err d) x e = absurd cc
+
+pub begun_at-err : {A : Type 0} (place : ℕ) (r : Result A Fault) (f : Fault) → begun_at place r ≡ Err f → (d : Fault) × (r ≡ Err d) × (record d { begin = place } ≡ f)
+begun_at-err place (Ok y) f e = absurd cc
+begun_at-err {A} place (Err d) f e = (d, refl, err_is A (record d { begin = place }) f e)
+
+pub Reads-one_part : {A : Type 0} (reader : Reader A) (spell : A → List ℕ) (Fits : A → Type 0) → Reads reader spell Fits → Reads (one_part reader) spell Fits
+Reads-one_part {A} reader spell Fits laws = record {
+  sound = λ bounds s t v fits inside e. laws.sound bounds s t v fits inside (begun_at-ok s.place (reader bounds s) (v, t) e);
+  again = λ bounds place rest v fits free inside. ap (λ (r : Result (A × Source) Fault). begun_at place r) (laws.again bounds place rest v fits free inside);
+}
+
 pub Reads-in_part : {A : Type 0} (part : FilePart) (reader : Reader A) (spell : A → List ℕ) (Fits : A → Type 0) → Reads reader spell Fits → Reads (in_part part reader) spell Fits
-Reads-in_part part reader spell Fits laws = Reads-at (with_part part) reader spell Fits laws
+Reads-in_part part reader spell Fits laws = Reads-one_part (at_field (with_part part) reader) spell Fits (Reads-at (with_part part) reader spell Fits laws)
 
 -- ---- n items
 module _ {A : Type 0} (spell : A → List ℕ) (Fits : A → Type 0) where

@@ -1,7 +1,7 @@
 -- How far readers read: a number of octets at least, or up to the end of the entry or header.
 use Rattle.std.proofs.Common.{◌≡◌, ℕ, ◌+◌, ◌-◌, ◌<◌, ◌≤◌, Bool, true, false, Option, Some, None, Ok, List, [], ◌∷◌, length, refl, ap, subst, arith}
 use Rattle.std.specs.Int.{Width, w8, byte_len, from_be_bytes, cast_signed}
-use Rattle.krb_file.specs.Fields.{Source, Bounds, Reader, ◌>>=◌, succeed, is_empty, next_octets_at, octets_at, octets_to_end, rest_at, number_at, signed_at, counted_at, with_name, with_part, called, in_part, within, is_one_of, expect, version_at, refused}
+use Rattle.krb_file.specs.Fields.{Source, Bounds, Reader, ◌>>=◌, succeed, is_empty, next_octets_at, octets_at, octets_to_end, rest_at, number_at, signed_at, counted_at, with_name, with_part, called, one_part, in_part, within, is_one_of, expect, version_at, refused}
 use Rattle.krb_der.specs.Octets.{when}
 use Rattle.krb_file.specs.declared.fault.FileWhy.{FileWhy}
 use Rattle.krb_file.specs.declared.fault.FileWhy.TheVariants as why
@@ -10,7 +10,7 @@ use Rattle.krb_file.specs.declared.field_name.FieldName.{FieldName}
 use Rattle.krb_file.specs.declared.field_name.FieldName.TheVariants as words
 use Rattle.krb_file.specs.declared.field_name.FilePart.{FilePart}
 use Rattle.krb_file.specs.declared.field_name.FileField.{FileField}
-use Rattle.krb_file.proofs.Fields.{refused_at-ok, at_field, done, ok_is, and_then-ok, piece-ok, when-ok_else}
+use Rattle.krb_file.proofs.Fields.{refused_at-ok, begun_at-ok, at_field, done, ok_is, and_then-ok, piece-ok, when-ok_else}
 use Rattle.krb_file.proofs.FieldReaders.{some_rest, Stays-same, Stays-then}
 use Rattle.krb_file.proofs.Steps.{Steps, Steps-succeed, Steps-octets}
 
@@ -50,8 +50,11 @@ AtLeast-at n field reader long = record { goes = λ bounds s v t e. long.goes bo
 pub AtLeast-called : {A : Type 0} (n : ℕ) (name : FieldName) (reader : Reader A) → AtLeast n reader → AtLeast n (called name reader)
 AtLeast-called n name reader long = AtLeast-at n (with_name name) reader long
 
+pub AtLeast-one_part : {A : Type 0} (n : ℕ) (reader : Reader A) → AtLeast n reader → AtLeast n (one_part reader)
+AtLeast-one_part n reader long = record { goes = λ bounds s v t e. long.goes bounds s v t (begun_at-ok s.place (reader bounds s) (v, t) e) }
+
 pub AtLeast-in_part : {A : Type 0} (n : ℕ) (part : FilePart) (reader : Reader A) → AtLeast n reader → AtLeast n (in_part part reader)
-AtLeast-in_part n part reader long = AtLeast-at n (with_part part) reader long
+AtLeast-in_part n part reader long = AtLeast-one_part n (at_field (with_part part) reader) (AtLeast-at n (with_part part) reader long)
 
 pub AtLeast-fewer : {A : Type 0} (m n : ℕ) (reader : Reader A) → m ≤ n → AtLeast n reader → AtLeast m reader
 AtLeast-fewer m n reader few long = record { goes = λ bounds s v t e. let m = long.goes bounds s v t e in omega (arith, m, few) }

@@ -4,14 +4,14 @@ use Rattle.std.proofs.lemmas.List.{take-append-le, drop-append-le}
 use Rattle.std.proofs.Math.Seq.{drop-append-add}
 use Rattle.std.specs.Int.{Width, w8, byte_len, from_be_bytes, cast_signed}
 use Rattle.krb_der.specs.Octets.{when}
-use Rattle.krb_file.specs.Fields.{Source, Fault, Bounds, Reader, and_then, ◌>>=◌, succeed, refused, refused_at, exceeds, next_octets_at, octets_at, octets_to_end, rest_at, number_at, signed_at, counted_at, times, component_at, names_at, with_name, with_part, called, in_part, within, is_one_of, expect, version_at}
+use Rattle.krb_file.specs.Fields.{Source, Fault, Bounds, Reader, and_then, ◌>>=◌, succeed, fault_of, refused, refused_at, exceeds, next_octets_at, octets_at, octets_to_end, rest_at, number_at, signed_at, counted_at, times, component_at, names_at, with_name, with_part, called, begun_at, one_part, in_part, within, is_one_of, expect, version_at}
 use Rattle.krb_file.specs.declared.fault.FileWhy.{FileWhy}
 use Rattle.krb_file.specs.declared.fault.FileWhy.TheVariants as why
 use Rattle.krb_file.specs.declared.field_name.FieldName.{FieldName}
 use Rattle.krb_file.specs.declared.field_name.FieldName.TheVariants as words
 use Rattle.krb_file.specs.declared.field_name.FilePart.{FilePart}
 use Rattle.krb_file.specs.declared.field_name.FileField.{FileField}
-use Rattle.krb_file.proofs.Fields.{at, at_field, done, ok_is, and_then-ok, refused_at-ok, IsPiece, piece-ok, when-ok_else}
+use Rattle.krb_file.proofs.Fields.{at, at_field, done, ok_is, and_then-ok, refused_at-ok, begun_at-ok, IsPiece, piece-ok, when-ok_else}
 use Rattle.krb_file.proofs.Limits.{bounded}
 
 -- before any others, the octets are read as a value, or refused
@@ -54,8 +54,17 @@ Stable-at {A} field reader one = record {
 pub Stable-called : {A : Type 0} (name : FieldName) (reader : Reader A) → Stable reader → Stable (called name reader)
 Stable-called name reader one = Stable-at (with_name name) reader one
 
+pub Stable-one_part : {A : Type 0} (reader : Reader A) → Stable reader → Stable (one_part reader)
+Stable-one_part {A} reader one = record {
+  stable = λ end limit place octets v t e. same end limit place octets v t (one.stable end limit place octets v t (begun_at-ok place (reader (bounded end None) (at place octets)) (v, t) e));
+}
+  where
+    same : (end limit : Option ℕ) (place : ℕ) (octets : List ℕ) (v : A) (t : Source) → IsReadBefore reader (bounded end limit) place octets v t → IsReadBefore (one_part reader) (bounded end limit) place octets v t
+    same end limit place octets v t (Read e) = Read (λ others. ap (begun_at place) (e others))
+    same end limit place octets v t (Fails f e) = Fails (record f { begin = place }) (λ others. ap (begun_at place) (e others))
+
 pub Stable-in_part : {A : Type 0} (part : FilePart) (reader : Reader A) → Stable reader → Stable (in_part part reader)
-Stable-in_part part reader one = Stable-at (with_part part) reader one
+Stable-in_part part reader one = Stable-one_part (at_field (with_part part) reader) (Stable-at (with_part part) reader one)
 
 -- ---- n octets
 piece-before : (most end limit : Option ℕ) (size place : ℕ) (octets v : List ℕ) (t : Source) → IsPiece None size (bounded end None) (at place octets) t v → exceeds size most ≡ false → (others : List ℕ) → next_octets_at most size (bounded end limit) (at place (octets ++ others)) ≡ Ok (v, at t.place (t.octets ++ others))
@@ -80,7 +89,7 @@ Stable-octets size = record {
     by_limit end limit place octets v t p false under = Read (piece-before limit end limit size place octets v t p under)
     by_limit end limit place octets v t p true over =
         let inside : exceeds (place + size) end ≡ false = p.inside.inside in
-        Fails (record { place = place; why = why.TooLong; field = None }) (λ others. rw (inside, over) refl)
+        Fails (fault_of place (why.TooLong size)) (λ others. rw (inside, over) refl)
 
 pub Stable-rest : Stable rest_at
 Stable-rest = record {
@@ -164,11 +173,23 @@ alike-then {A} {B} {C} {mask} {end} {place} {octets} {after} {other} reader next
   same = λ limit. alike (λ r. masked_read mask (and_then r (λ p. next p.0 (bounded end limit) p.1))) reader one end limit place octets x u after other e (later.same limit);
 }
 
+masked_read-begun : {A B : Type 0} (mask : A → B) (place : ℕ) (r : Result (A × Source) Fault) → masked_read mask (begun_at place r) ≡ begun_at place (masked_read mask r)
+masked_read-begun mask place (Ok p) = refl
+masked_read-begun mask place (Err f) = refl
+
+pub alike-one_part : {A B : Type 0} {mask : A → B} {end : Option ℕ} {place : ℕ} {octets after other : List ℕ} (reader : Reader A) → IsAlike mask reader end place octets after other → IsAlike mask (one_part reader) end place octets after other
+alike-one_part {A} {B} {mask} {end} {place} {octets} {after} {other} reader same = record {
+  same = λ limit.
+      masked_read-begun mask place (reader (bounded end limit) (at place (octets ++ after)))
+      ∙ ap (begun_at place) (same.same limit)
+      ∙ sym (masked_read-begun mask place (reader (bounded end limit) (at place (octets ++ other))));
+}
+
 -- a field of octets of which there are n, what is left after it, and what it has
 abbrev field_of : ℕ → Bounds → ℕ → ℕ → List ℕ → List ℕ → Result (List ℕ × Source) Fault
 field_of size bounds place n left v =
     when (exceeds (place + size) bounds.end) (λ _. refused (at place []) why.Overrun) (λ _.
-    when (exceeds size bounds.limit) (λ _. refused (at place []) why.TooLong) (λ _.
+    when (exceeds size bounds.limit) (λ _. refused (at place []) (why.TooLong size)) (λ _.
     when (ltb n size) (λ _. refused (at place []) why.Truncated) (λ _. Ok (v, at (place + size) left))))
 
 -- two such fields that begin differently
@@ -191,8 +212,8 @@ octets-alike {R} F size bounds place octets other after le same_length same =
     left first e = ap (λ (k : ℕ). drop k (first ++ after)) (omega (arith, le, e)) ∙ drop-append-add first after (size - length octets)
 
     by_tests : (a b c : Bool)
-        → F (when a (λ _. refused (at place []) why.Overrun) (λ _. when b (λ _. refused (at place []) why.TooLong) (λ _. when c (λ _. refused (at place []) why.Truncated) (λ _. Ok (v, at (place + size) (drop size (other ++ after)))))))
-        ≡ F (when a (λ _. refused (at place []) why.Overrun) (λ _. when b (λ _. refused (at place []) why.TooLong) (λ _. when c (λ _. refused (at place []) why.Truncated) (λ _. Ok (w, at (place + size) (drop size (other ++ after)))))))
+        → F (when a (λ _. refused (at place []) why.Overrun) (λ _. when b (λ _. refused (at place []) (why.TooLong size)) (λ _. when c (λ _. refused (at place []) why.Truncated) (λ _. Ok (v, at (place + size) (drop size (other ++ after)))))))
+        ≡ F (when a (λ _. refused (at place []) why.Overrun) (λ _. when b (λ _. refused (at place []) (why.TooLong size)) (λ _. when c (λ _. refused (at place []) why.Truncated) (λ _. Ok (w, at (place + size) (drop size (other ++ after)))))))
     by_tests true b c = refl
     by_tests false true c = refl
     by_tests false false true = refl

@@ -2,19 +2,19 @@
 use Rattle.std.proofs.Common.{◌≡◌, ℕ, zero, suc, ◌+◌, ◌≤◌, ◌⊎◌, inl, inr, Bool, true, false, ltb, Option, Some, None, Result, Ok, Err, List, [], ◌∷◌, length, take, drop, refl, subst, arith, length-drop, ℤ, ap, ◌∙◌, sym, ◌<◌}
 use Rattle.std.specs.Int.{Width, w8, byte_len, from_be_bytes, cast_signed, w32}
 use Rattle.krb_der.specs.Octets.{when}
-use Rattle.krb_file.specs.Fields.{Source, Fault, Bounds, Reader, ◌>>=◌, succeed, refused, exceeds, next_octets_at, octets_at, octets_to_end, rest_at, number_at, signed_at, counted_at, times, component_at, names_at, with_name, with_part, called, in_part, within, is_one_of, expect, version_at}
+use Rattle.krb_file.specs.Fields.{Source, Fault, Bounds, Reader, ◌>>=◌, succeed, fault_of, refused, exceeds, next_octets_at, octets_at, octets_to_end, rest_at, number_at, signed_at, counted_at, times, component_at, names_at, with_name, with_part, called, one_part, in_part, within, is_one_of, expect, version_at}
 use Rattle.krb_file.specs.declared.fault.FileWhy.{FileWhy}
 use Rattle.krb_file.specs.declared.fault.FileWhy.TheVariants as why
 use Rattle.krb_file.specs.declared.field_name.FieldName.{FieldName}
 use Rattle.krb_file.specs.declared.field_name.FieldName.TheVariants as words
 use Rattle.krb_file.specs.declared.field_name.FilePart.{FilePart}
 use Rattle.krb_file.specs.declared.field_name.FileField.{FileField}
-use Rattle.krb_file.proofs.Fields.{refused_at-ok, refused_at-err, at_field, at, done, failed, ok_is, err_is, and_then-ok, and_then-err, piece-ok, when-err_err, when-ok_else}
+use Rattle.krb_file.proofs.Fields.{refused_at-ok, refused_at-err, begun_at-ok, begun_at-err, at_field, at, done, failed, ok_is, err_is, and_then-ok, and_then-err, piece-ok, when-err_err, when-ok_else}
 
 pub record IsFault (bounds : Bounds) (s : Source) (f : Fault) : Type 0 where
   pub from : s.place ≤ f.place
   pub upto : f.place ≤ s.place + length s.octets
-  pub limited : bounds.limit ≡ None → f.why ≡ why.TooLong → ⊥
+  pub limited : bounds.limit ≡ None → (size : ℕ) → f.why ≡ why.TooLong size → ⊥
 
 pub record Moved (s t : Source) : Type 0 where
   pub on : s.place ≤ t.place
@@ -61,15 +61,25 @@ Steps-at field reader steps = record {
 pub Steps-called : {A : Type 0} (name : FieldName) (reader : Reader A) → Steps reader → Steps (called name reader)
 Steps-called name reader steps = Steps-at (with_name name) reader steps
 
+-- the same reader, whose faults tell where it begins
+pub Steps-one_part : {A : Type 0} (reader : Reader A) → Steps reader → Steps (one_part reader)
+Steps-one_part reader steps = record {
+  moves = λ bounds s v t e. steps.moves bounds s v t (begun_at-ok s.place (reader bounds s) (v, t) e);
+  faults = λ bounds s f e.
+      let a = begun_at-err s.place (reader bounds s) f e in
+      let p = steps.faults bounds s a.0 a.1 in
+      subst (IsFault bounds s) a.2 (record { from = p.from; upto = p.upto; limited = p.limited });
+}
+
 pub Steps-in_part : {A : Type 0} (part : FilePart) (reader : Reader A) → Steps reader → Steps (in_part part reader)
-Steps-in_part part reader steps = Steps-at (with_part part) reader steps
+Steps-in_part part reader steps = Steps-one_part (at_field (with_part part) reader) (Steps-at (with_part part) reader steps)
 
 -- ---- n octets
-fault_here : (limit : Option ℕ) (bounds : Bounds) (s : Source) (reason : FileWhy) (f : Fault) → (bounds.limit ≡ None → reason ≡ why.TooLong → ⊥) → record { place = s.place; why = reason; field = None } ≡ f → IsFault bounds s f
-fault_here limit bounds s reason f free e = subst (IsFault bounds s) e (record { from = omega arith; upto = omega arith; limited = free })
+fault_here : (bounds : Bounds) (s : Source) (reason : FileWhy) (here f : Fault) → here.place ≡ s.place → here.why ≡ reason → (bounds.limit ≡ None → (size : ℕ) → reason ≡ why.TooLong size → ⊥) → here ≡ f → IsFault bounds s f
+fault_here bounds s reason here f at is free e = subst (IsFault bounds s) e (record { from = omega (arith, at); upto = omega (arith, at); limited = λ none size long. free none size (sym is ∙ long) })
 
 piece-faults : (limit : Option ℕ) (size : ℕ) (bounds : Bounds) (s : Source) (f : Fault) → (bounds.limit ≡ None → limit ≡ None) → next_octets_at limit size bounds s ≡ Err f → IsFault bounds s f
-piece-faults limit size bounds s f free e = overrun (when-err_err (exceeds (s.place + size) bounds.end) _ f (λ _. when (exceeds size limit) (λ _. refused s why.TooLong) last) e)
+piece-faults limit size bounds s f free e = overrun (when-err_err (exceeds (s.place + size) bounds.end) _ f (λ _. when (exceeds size limit) (λ _. refused s (why.TooLong size)) last) e)
   where
     taken : Unit {0} → Result (List ℕ × Source) Fault
     taken u = Ok (take size s.octets, at (s.place + size) (drop size s.octets))
@@ -80,17 +90,17 @@ piece-faults limit size bounds s f free e = overrun (when-err_err (exceeds (s.pl
     no_limit : limit ≡ None → exceeds size limit ≡ true → ⊥
     no_limit e t = let h : exceeds size limit ≡ false = rw e in absurd cc
 
-    truncated : ((ltb (length s.octets) size ≡ true) × (record { place = s.place; why = why.Truncated; field = None } ≡ f)) ⊎ (taken tt ≡ Err f) → IsFault bounds s f
-    truncated (inl p) = fault_here limit bounds s why.Truncated f (λ _ e. absurd cc) p.1
+    truncated : ((ltb (length s.octets) size ≡ true) × (fault_of s.place why.Truncated ≡ f)) ⊎ (taken tt ≡ Err f) → IsFault bounds s f
+    truncated (inl p) = fault_here bounds s why.Truncated (fault_of s.place why.Truncated) f refl refl (λ _ _ e. absurd cc) p.1
     truncated (inr p) = absurd cc
 
-    too_long : ((exceeds size limit ≡ true) × (record { place = s.place; why = why.TooLong; field = None } ≡ f)) ⊎ (last tt ≡ Err f) → IsFault bounds s f
-    too_long (inl p) = fault_here limit bounds s why.TooLong f (λ none _. no_limit (free none) p.0) p.1
-    too_long (inr p) = truncated (when-err_err (ltb (length s.octets) size) _ f taken p)
+    long : ((exceeds size limit ≡ true) × (fault_of s.place (why.TooLong size) ≡ f)) ⊎ (last tt ≡ Err f) → IsFault bounds s f
+    long (inl p) = fault_here bounds s (why.TooLong size) (fault_of s.place (why.TooLong size)) f refl refl (λ none _ _. no_limit (free none) p.0) p.1
+    long (inr p) = truncated (when-err_err (ltb (length s.octets) size) _ f taken p)
 
-    overrun : ((exceeds (s.place + size) bounds.end ≡ true) × (record { place = s.place; why = why.Overrun; field = None } ≡ f)) ⊎ (when (exceeds size limit) (λ _. refused s why.TooLong) last ≡ Err f) → IsFault bounds s f
-    overrun (inl p) = fault_here limit bounds s why.Overrun f (λ _ e. absurd cc) p.1
-    overrun (inr p) = too_long (when-err_err (exceeds size limit) _ f last p)
+    overrun : ((exceeds (s.place + size) bounds.end ≡ true) × (fault_of s.place why.Overrun ≡ f)) ⊎ (when (exceeds size limit) (λ _. refused s (why.TooLong size)) last ≡ Err f) → IsFault bounds s f
+    overrun (inl p) = fault_here bounds s why.Overrun (fault_of s.place why.Overrun) f refl refl (λ _ _ e. absurd cc) p.1
+    overrun (inr p) = long (when-err_err (exceeds size limit) _ f last p)
 
 piece-moves : (limit : Option ℕ) (size : ℕ) (bounds : Bounds) (s : Source) (v : List ℕ) (t : Source) → next_octets_at limit size bounds s ≡ Ok (v, t) → Moved s t
 piece-moves limit size bounds s v t e =
@@ -144,7 +154,7 @@ expect_otherwise : (test : Bool) (x : ℕ × Source) (y d f : Fault) → when te
 expect_otherwise true x y d f e = absurd cc
 expect_otherwise false x y d f e = err_is (ℕ × Source) d f e
 
-pub Steps-expect : (wanted : List ℕ) (reason : FileWhy) → (reason ≡ why.TooLong → ⊥) → Steps (expect wanted reason)
+pub Steps-expect : (wanted : List ℕ) (reason : FileWhy) → ((size : ℕ) → reason ≡ why.TooLong size → ⊥) → Steps (expect wanted reason)
 Steps-expect wanted reason other = record {
   moves = λ bounds s v t e.
       let a = and_then-ok (number_at w8 bounds s) (λ p. when (is_one_of p.0 wanted) (λ _. done p) (λ _. refused s reason)) (v, t) e in
@@ -153,14 +163,14 @@ Steps-expect wanted reason other = record {
   faults = λ bounds s f e.
       elim (and_then-err (number_at w8 bounds s) (λ p. when (is_one_of p.0 wanted) (λ _. done p) (λ _. refused s reason)) f e) [
         | inl a ↦ (Steps-number w8).faults bounds s f a
-        | inr a ↦ fault_here None bounds s reason f (λ _ h. other h) (expect_otherwise (is_one_of a.0.0 wanted) a.0 f _ f a.2)
+        | inr a ↦ fault_here bounds s reason (fault_of s.place reason) f refl refl (λ _ size h. other size h) (expect_otherwise (is_one_of a.0.0 wanted) a.0 f _ f a.2)
       ];
 }
 
 pub Steps-version : (versions : List ℕ) → Steps (version_at versions)
 Steps-version versions =
-    Steps-then (called words.Magic (expect (5 ∷ []) why.Magic)) _ (Steps-called words.Magic (expect (5 ∷ []) why.Magic) (Steps-expect (5 ∷ []) why.Magic (λ e. cc)))
-    (λ _. Steps-called words.Version (expect versions why.Version) (Steps-expect versions why.Version (λ e. cc)))
+    Steps-then (called words.Magic (expect (5 ∷ []) why.Magic)) _ (Steps-called words.Magic (expect (5 ∷ []) why.Magic) (Steps-expect (5 ∷ []) why.Magic (λ size e. cc)))
+    (λ _. Steps-called words.Version (expect versions why.Version) (Steps-expect versions why.Version (λ size e. cc)))
 
 -- a number of 32 bits has octets, whatever follows
 pub signed-shorter : (bounds : Bounds) (s : Source) (z : ℤ) (t : Source) → signed_at w32 bounds s ≡ Ok (z, t) → length t.octets < length s.octets

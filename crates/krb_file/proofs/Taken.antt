@@ -6,7 +6,7 @@ use Rattle.std.proofs.lemmas.Slice.{take-put_mid}
 use lib.Dec.{T}
 use borrow.Rule.Slice.PartMut.{put_mid}
 use Rattle.std.specs.Io.KnownBytes.{Consumes, IsAtEnd}
-use Rattle.krb_file.specs.Fields.{Source, Fault, Bounds, exceeds, and_then, succeed, is_empty, next_octets_at, octets_at, are_zero}
+use Rattle.krb_file.specs.Fields.{Source, Fault, Bounds, fault_of, exceeds, and_then, succeed, is_empty, next_octets_at, octets_at, are_zero}
 use Rattle.krb_file.specs.FieldReaders.{Cursor, BeginsWith, MayRemain, left_of, HasRead, HasMet, FailsBy, ended_at, skipped_at}
 use Rattle.krb_file.specs.inner.Takes.{Takes, FallsShort, FailsTaking, AreNear}
 use Rattle.krb_file.specs.declared.fault.FileFault.{FileFault}
@@ -119,13 +119,13 @@ piece-read limit size octets old new inside under taken long = record {
       (octets ++ rest, taken.from rest there, rw (inside, under, enough, take_at octets rest size long, drop_at octets rest size long, place) refl);
 }
 
-pub piece-overruns : (limit : Option ℕ) (size : ℕ) (old : Cursor) → exceeds (old.place + size) old.bounds.end ≡ true → HasMet (next_octets_at limit size) (record { place = old.place; why = why.Overrun; field = None }) old
+pub piece-overruns : (limit : Option ℕ) (size : ℕ) (old : Cursor) → exceeds (old.place + size) old.bounds.end ≡ true → HasMet (next_octets_at limit size) (fault_of old.place why.Overrun) old
 piece-overruns limit size old past = let a = some_rest old in record { octets = a.rest; there = a.there; refused = rw past refl }
 
-pub piece-too_long : (limit : Option ℕ) (size : ℕ) (old : Cursor) → exceeds (old.place + size) old.bounds.end ≡ false → exceeds size limit ≡ true → HasMet (next_octets_at limit size) (record { place = old.place; why = why.TooLong; field = None }) old
+pub piece-too_long : (limit : Option ℕ) (size : ℕ) (old : Cursor) → exceeds (old.place + size) old.bounds.end ≡ false → exceeds size limit ≡ true → HasMet (next_octets_at limit size) (fault_of old.place (why.TooLong size)) old
 piece-too_long limit size old inside over = let a = some_rest old in record { octets = a.rest; there = a.there; refused = rw (inside, over) refl }
 
-pub piece-short : (limit : Option ℕ) (size : ℕ) (taken : List ℕ) (old now : Cursor) → exceeds (old.place + size) old.bounds.end ≡ false → exceeds size limit ≡ false → Takes old now taken → MayRemain now [] → length taken < size → HasMet (next_octets_at limit size) (record { place = old.place; why = why.Truncated; field = None }) old
+pub piece-short : (limit : Option ℕ) (size : ℕ) (taken : List ℕ) (old now : Cursor) → exceeds (old.place + size) old.bounds.end ≡ false → exceeds size limit ≡ false → Takes old now taken → MayRemain now [] → length taken < size → HasMet (next_octets_at limit size) (fault_of old.place why.Truncated) old
 piece-short limit size taken old now inside under took end short =
     let few : ltb (length taken) size ≡ true = lt-ltb _ _ short in
     record { octets = taken; there = subst (MayRemain old) (append-nil taken) (took.from [] end); refused = rw (inside, under, few) refl }
@@ -152,18 +152,32 @@ Fills-more had now left octets piece filled count before long few gave =
       taken = subst (Takes had left) (sym same) (Takes-then had now left (take filled octets) (take count piece) before.taken gave);
     }
 
-truncated : (limit : Option ℕ) (size start k place : ℕ) (reason : FileWhy) (field : Option FileField) (taken : List ℕ) (old now left : Cursor) → start ≡ old.place → exceeds (old.place + size) old.bounds.end ≡ false → exceeds size limit ≡ false → Takes old now taken → length taken + k ≤ size
-    → place ≡ start → reason ≡ why.Truncated → field ≡ None → FallsShort now left k → HasMet (next_octets_at limit size) (record { place = place; why = reason; field = field }) old
-truncated limit size start k place reason field taken old now left begins inside under took fits at is unnamed short =
+-- no octet came before a buffer was full
+pub falls_short : (start filled count size : ℕ) (octets piece : List ℕ) (had now left : Cursor) → Fills had now octets filled → filled < size → Takes now left (take count piece) → count ≡ 0 → (count ≡ 0 → MayRemain left []) → FailsTaking (faults.Refused (fault_of start why.Truncated)) start had left size
+falls_short start filled count size octets piece had now left before few gave none end =
+    let nothing : take count piece ≡ [] = ap (λ (k : ℕ). take k piece) none in
+    let all : take filled octets ++ [] ≡ take filled octets = append-nil (take filled octets) in (
+      refl,
+      record {
+        taken = take filled octets;
+        took = subst (Takes had left) all (Takes-then had now left (take filled octets) [] before.taken (subst (Takes now left) nothing gave));
+        end = end none;
+        short = omega (arith, length-take filled octets, before.within, few);
+      },
+    )
+
+truncated : (limit : Option ℕ) (size start k : ℕ) (fault : Fault) (taken : List ℕ) (old now left : Cursor) → start ≡ old.place → exceeds (old.place + size) old.bounds.end ≡ false → exceeds size limit ≡ false → Takes old now taken → length taken + k ≤ size
+    → fault ≡ fault_of start why.Truncated → FallsShort now left k → HasMet (next_octets_at limit size) fault old
+truncated limit size start k fault taken old now left begins inside under took fits is short =
     let whole = Takes-then old now left taken short.taken took short.took in
-    rw (at, begins, is, unnamed) (piece-short limit size (taken ++ short.taken) old left inside under whole short.end (omega (arith, length-append taken short.taken, short.short, fits)))
+    rw (is, begins) (piece-short limit size (taken ++ short.taken) old left inside under whole short.end (omega (arith, length-append taken short.taken, short.short, fits)))
 
 pub taking-fails : (e : FileFault) (limit : Option ℕ) (size start k : ℕ) (taken : List ℕ) (old now left : Cursor) → start ≡ old.place → exceeds (old.place + size) old.bounds.end ≡ false → exceeds size limit ≡ false → Takes old now taken → length taken + k ≤ size
     → FailsTaking e start now left k → FailsBy e (next_octets_at limit size) (Unit {0}) old
 taking-fails faults.Read limit size start k taken old now left begins inside under took fits fails = tt
 taking-fails faults.Memory limit size start k taken old now left begins inside under took fits fails = tt
-taking-fails (faults.Refused place reason field) limit size start k taken old now left begins inside under took fits fails =
-    truncated limit size start k place reason field taken old now left begins inside under took fits fails.0 fails.1 fails.2 fails.3
+taking-fails (faults.Refused fault) limit size start k taken old now left begins inside under took fits fails =
+    truncated limit size start k fault taken old now left begins inside under took fits fails.0 fails.1
 
 -- ---- the same of a field of octets, under its limit
 met : (size : ℕ) (fault : Fault) (old : Cursor) → HasMet (next_octets_at old.bounds.limit size) fault old → HasMet (octets_at size) fault old
@@ -172,7 +186,7 @@ met size fault old m = record { octets = m.octets; there = m.there; refused = m.
 fails_so : (e : FileFault) (size : ℕ) (old : Cursor) → FailsBy e (next_octets_at old.bounds.limit size) (Unit {0}) old → FailsBy e (octets_at size) (Unit {0}) old
 fails_so faults.Read size old f = tt
 fails_so faults.Memory size old f = tt
-fails_so (faults.Refused place reason field) size old f = met size (record { place = place; why = reason; field = field }) old f
+fails_so (faults.Refused fault) size old f = met size fault old f
 
 pub octets-fails : (e : FileFault) (size start k : ℕ) (taken : List ℕ) (old now left : Cursor) → start ≡ old.place → exceeds (old.place + size) old.bounds.end ≡ false → exceeds size old.bounds.limit ≡ false → Takes old now taken → length taken + k ≤ size
     → FailsTaking e start now left k → FailsBy e (octets_at size) (Unit {0}) old
@@ -224,7 +238,7 @@ skip-met size fault old m = record { octets = m.octets; there = m.there; refused
 pub skip-refused : (e : FileFault) (size : ℕ) (old : Cursor) → FailsBy e (next_octets_at None size) (Unit {0}) old → FailsBy e (skipped_at size) (Unit {0}) old
 skip-refused faults.Read size old f = tt
 skip-refused faults.Memory size old f = tt
-skip-refused (faults.Refused place reason field) size old f = skip-met size (record { place = place; why = reason; field = field }) old f
+skip-refused (faults.Refused fault) size old f = skip-met size fault old f
 
 pub skip-fails : (e : FileFault) (size start k rest : ℕ) (zeros : Bool) (old now left : Cursor) → start ≡ old.place → exceeds (old.place + size) old.bounds.end ≡ false → Passes old now zeros rest size → k ≤ rest → FailsTaking e start now left k → FailsBy e (skipped_at size) (Unit {0}) old
 skip-fails e size start k rest zeros old now left begins inside p few fails = skip-refused e size old (taking-fails e None size start k p.taken old now left begins inside refl p.took (omega (arith, p.counted, few)) fails)

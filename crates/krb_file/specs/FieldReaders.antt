@@ -36,7 +36,7 @@ pub record HasMet {A : Type 0} (reader : Reader A) (fault : Fault) (old : Cursor
 
 -- A fault of a call: one of the octets; one of the device, if it may fail; or out of memory.
 abbrev pub FailsBy : {A : Type 0} → FileFault → Reader A → Type 0 → Cursor → Type 0
-FailsBy (faults.Refused place why field) reader MayFail old = HasMet reader (record { place = place; why = why; field = field }) old
+FailsBy (faults.Refused fault) reader MayFail old = HasMet reader fault old
 FailsBy faults.Read reader MayFail old = MayFail
 FailsBy faults.Memory reader MayFail old = Unit {0}
 

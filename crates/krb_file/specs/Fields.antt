@@ -5,6 +5,7 @@ use Rattle.std.specs.Int.{Width, w8, byte_len, from_be_bytes, to_be_bytes, cast_
 use Rattle.krb_der.specs.Octets.{when, AreOctets}
 use Rattle.krb_file.specs.declared.fault.FileWhy.{FileWhy}
 use Rattle.krb_file.specs.declared.fault.FileWhy.TheVariants as why
+use Rattle.krb_file.specs.declared.fault.FileRefusal.{FileRefusal}
 use Rattle.krb_file.specs.declared.fault.FileFault.{FileFault}
 use Rattle.krb_file.specs.declared.fault.FileFault.TheVariants as faults
 use Rattle.krb_file.specs.declared.field_name.FieldName.{FieldName}
@@ -64,11 +65,9 @@ is_empty (octet ∷ octets) = false
 abbrev pub source_of : List ℕ → Source
 source_of file = record { place = 0; octets = file }
 
--- A fault: the place of the first octet of the field at fault, the reason, and which field it is, if its reader names it.
-pub record Fault : Type 0 where
-  pub place : ℕ
-  pub why : FileWhy
-  pub field : Option FileField
+-- A fault of the octets. The part of the file that it is in is a record, a credential, a principal or a field of the header; else it is the field itself.
+abbrev pub Fault : Type 0
+Fault = FileRefusal
 
 -- What bounds a field: the place at which its entry or header ends, and the greatest length of a field of octets.
 pub record Bounds : Type 0 where
@@ -95,8 +94,12 @@ first >>= next = λ bounds source. and_then (first bounds source) (λ read. next
 abbrev pub succeed : {A : Type 0} → A → Reader A
 succeed value = λ bounds source. Ok (value, source)
 
+-- a fault of the field at a place, as long as no reader names the field or tells what it is in
+abbrev pub fault_of : ℕ → FileWhy → Fault
+fault_of place reason = record { place = place; why = reason; field = None; begin = place }
+
 abbrev pub refused : {A : Type 0} → Source → FileWhy → Result A Fault
-refused source reason = Err (record { place = source.place; why = reason; field = None })
+refused source reason = Err (fault_of source.place reason)
 
 -- ---- Which field is at fault.
 
@@ -117,9 +120,19 @@ refused_at field (Err fault) = Err (record fault { field = field fault.field })
 abbrev pub called : {A : Type 0} → FieldName → Reader A → Reader A
 called name reader = λ bounds source. refused_at (with_name name) (reader bounds source)
 
+-- ---- Where the part of the file begins that a fault is in.
+
+abbrev pub begun_at : {A : Type 0} → ℕ → Result A Fault → Result A Fault
+begun_at place (Ok value) = Ok value
+begun_at place (Err fault) = Err (record fault { begin = place })
+
+-- the same reader, which reads one part of the file: its faults are in a part that begins where it begins
+abbrev pub one_part : {A : Type 0} → Reader A → Reader A
+one_part reader = λ bounds source. begun_at source.place (reader bounds source)
+
 -- the same reader, whose fields are in this part
 abbrev pub in_part : {A : Type 0} → FilePart → Reader A → Reader A
-in_part part reader = λ bounds source. refused_at (with_part part) (reader bounds source)
+in_part part reader = one_part (λ bounds source. refused_at (with_part part) (reader bounds source))
 
 -- ---- Readers of fields.
 
@@ -131,7 +144,7 @@ exceeds n (Some most) = nat_lt most n
 abbrev pub next_octets_at : Option ℕ → ℕ → Reader (List ℕ)
 next_octets_at limit size = λ bounds source.
     when (exceeds (source.place + size) bounds.end) (λ _. refused source why.Overrun) (λ _.
-    when (exceeds size limit) (λ _. refused source why.TooLong) (λ _.
+    when (exceeds size limit) (λ _. refused source (why.TooLong size)) (λ _.
     when (nat_lt (length source.octets) size) (λ _. refused source why.Truncated) (λ _.
     Ok (take size source.octets, record { place = source.place + size; octets = drop size source.octets }))))
 
@@ -209,7 +222,7 @@ version_at versions = do
 -- ---- Results of functions. The result of a function, seen by `view`, agrees with that of a definition unless the function ran out of memory.
 
 abbrev pub Fails : {B : Type 0} → FileFault → Result B Fault → Type 0
-Fails (faults.Refused place why field) read = read ≡ Err (record { place = place; why = why; field = field })
+Fails (faults.Refused fault) read = read ≡ Err fault
 Fails faults.Read read = ⊥
 Fails faults.Memory read = Unit {0}
 
@@ -219,7 +232,7 @@ Agrees view (Err e) read = Fails e read
 
 -- the same result, whose fault is of another field
 abbrev pub fault_at : (Option FileField → Option FileField) → FileFault → FileFault
-fault_at field (faults.Refused place why before) = faults.Refused place why (field before)
+fault_at field (faults.Refused fault) = faults.Refused (record fault { field = field fault.field })
 fault_at field faults.Read = faults.Read
 fault_at field faults.Memory = faults.Memory
 
@@ -227,14 +240,24 @@ abbrev pub fails_at : {A : Type 0} → (Option FileField → Option FileField) �
 fails_at field (Ok value) = Ok value
 fails_at field (Err fault) = Err (fault_at field fault)
 
+-- the same result, whose fault is in a part that begins at this place
+abbrev pub fault_begun : ℕ → FileFault → FileFault
+fault_begun place (faults.Refused fault) = faults.Refused (record fault { begin = place })
+fault_begun place faults.Read = faults.Read
+fault_begun place faults.Memory = faults.Memory
+
+abbrev pub fails_begun : {A : Type 0} → ℕ → Result A FileFault → Result A FileFault
+fails_begun place (Ok value) = Ok value
+fails_begun place (Err fault) = Err (fault_begun place fault)
+
 -- A fault of reading a whole file, to which no limit applies: a refusal at a place of the file or at its end, not as TooLong, or out of memory.
 abbrev pub IsFaultIn : List ℕ → FileFault → Type 0
-IsFaultIn file (faults.Refused place reason field) = (place ≤ length file) × (reason ≡ why.TooLong → ⊥)
+IsFaultIn file (faults.Refused fault) = (fault.place ≤ length file) × ((size : ℕ) → fault.why ≡ why.TooLong size → ⊥)
 IsFaultIn file faults.Read = ⊥
 IsFaultIn file faults.Memory = Unit {0}
 
 -- A fault of reading a file as it comes: a refusal at a place of the file or at its end, a read that failed, or out of memory.
 abbrev pub IsStreamFaultIn : List ℕ → FileFault → Type 0
-IsStreamFaultIn file (faults.Refused place reason field) = place ≤ length file
+IsStreamFaultIn file (faults.Refused fault) = fault.place ≤ length file
 IsStreamFaultIn file faults.Read = Unit {0}
 IsStreamFaultIn file faults.Memory = Unit {0}

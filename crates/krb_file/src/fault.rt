@@ -1,17 +1,17 @@
 //! Why files are refused or cannot be read.
 
-ghost use Rattle.std.specs.Prelude.{◌≡◌, Some};
-ghost use Rattle.krb_file.specs.Faults.{file_reason_number, file_reason_name, file_fault_text, fault_field};
-ghost use Rattle.krb_file.specs.Fields.{with_name, with_part, fault_at, fails_at};
-ghost use Rattle.krb_file.specs.declared.fault.FileFault.TheVariants.{Memory, Read};
+ghost use Rattle.std.specs.Prelude.{◌≡◌, Some, None};
+ghost use Rattle.krb_file.specs.Faults.{file_reason_number, file_reason_name, file_reason_length, file_fault_text, fault_field};
+ghost use Rattle.krb_file.specs.Fields.{fault_of, with_name, with_part, fault_at, fails_at, fault_begun, fails_begun};
+ghost use Rattle.krb_file.specs.declared.fault.FileFault.TheVariants.{Refused, Memory, Read};
 
 use crate::field_name::{FieldName, FileField, FilePart};
 use std::alloc::{AllocError, AllocFailed};
 use std::error::Error;
 use std::fmt;
 
-/// A reason for which a keytab or a credential cache is refused. Each has a number
-/// ([`file_why_number`]) and a name ([`file_why_text`]).
+/// A reason for which a keytab, a credential cache or a capture is refused. Each has a number
+/// ([`file_why_number`]) and a name ([`file_why_text`]), and some a length ([`file_why_length`]).
 #[derive(Clone, Copy, PartialEq, Eq, Debug)]
 pub enum FileWhy {
     /// The first octet is not 05.
@@ -22,23 +22,32 @@ pub enum FileWhy {
     Truncated,
     /// A field passes the end of the entry or of the header that it is in.
     Overrun,
-    /// A field of octets is longer than the limit.
-    TooLong,
+    /// A block cannot have this length. It is called Overrun, too, and has the same number.
+    WrongLength(u64),
+    /// A field of octets has this length, which is greater than the limit.
+    TooLong(u64),
+}
+
+/// A refusal of a file.
+#[derive(Clone, Copy, PartialEq, Eq, Debug)]
+pub struct FileRefusal {
+    /// The first octet of the first field at fault, counted from 0. It is in the file or, if octets
+    /// are missing, at its end.
+    pub place: u64,
+    /// What is wrong with the field.
+    pub why: FileWhy,
+    /// The field, if its reader names it.
+    pub field: Option<FileField>,
+    /// The first octet of the part of the file that the field is in: of a record, a credential, a
+    /// field of a header, a packet or a block; or of the field itself, if it is in none.
+    pub begin: u64,
 }
 
 /// A fault of reading a file.
 #[derive(Clone, Copy, PartialEq, Eq, Debug)]
 pub enum FileFault {
-    /// The file is refused: the first octet of the first field at fault, and what is wrong with
-    /// that field. The place is in the file or, if octets are missing, at its end.
-    Refused {
-        /// The first octet of the field, counted from 0.
-        place: u64,
-        /// What is wrong with the field.
-        why: FileWhy,
-        /// The field, if its reader names it.
-        field: Option<FileField>,
-    },
+    /// The file is refused.
+    Refused(FileRefusal),
     /// The device that the file is read from failed.
     Read,
     /// Out of memory.
@@ -74,13 +83,36 @@ impl From<ReadFailed> for FileFault {
 }
 
 impl FileFault {
+    /// Returns the refusal of the field at a place, which is in no part yet.
+    pub fn refused(place: u64, why: FileWhy) -> FileFault
+        ensures { result ≡ Refused (fault_of place why) }
+    {
+        FileFault::Refused(FileRefusal {
+            place,
+            why,
+            field: None,
+            begin: place,
+        })
+    }
+
     /// Returns the field that is refused, if its reader names it.
     pub fn field(self) -> Option<FileField>
         ensures { result ≡ fault_field self }
     {
         match self {
-            FileFault::Refused { field, .. } => field,
+            FileFault::Refused(refusal) => refusal.field,
             FileFault::Read | FileFault::Memory => None,
+        }
+    }
+
+    /// Returns the same fault, in a part of the file that begins at a place.
+    pub fn begun_at(self, begin: u64) -> FileFault
+        ensures { result ≡ fault_begun begin self }
+    {
+        match self {
+            FileFault::Refused(refusal) => FileFault::Refused(FileRefusal { begin, ..refusal }),
+            FileFault::Read => FileFault::Read,
+            FileFault::Memory => FileFault::Memory,
         }
     }
 
@@ -89,11 +121,10 @@ impl FileFault {
         ensures { result ≡ fault_at (with_name name) self }
     {
         match self {
-            FileFault::Refused { place, why, .. } => FileFault::Refused {
-                place,
-                why,
+            FileFault::Refused(refusal) => FileFault::Refused(FileRefusal {
                 field: Some(FileField { part: None, name }),
-            },
+                ..refusal
+            }),
             FileFault::Read => FileFault::Read,
             FileFault::Memory => FileFault::Memory,
         }
@@ -104,20 +135,26 @@ impl FileFault {
         ensures { result ≡ fault_at (with_part part) self }
     {
         match self {
-            FileFault::Refused {
-                place,
-                why,
-                field: Some(FileField { name, .. }),
-            } => FileFault::Refused {
-                place,
-                why,
-                field: Some(FileField {
-                    part: Some(part),
-                    name,
-                }),
-            },
-            fault => fault,
+            FileFault::Refused(refusal) => FileFault::Refused(FileRefusal {
+                field: field_in(part, refusal.field),
+                ..refusal
+            }),
+            FileFault::Read => FileFault::Read,
+            FileFault::Memory => FileFault::Memory,
         }
+    }
+}
+
+/// Returns the same field, in this part.
+fn field_in(part: FilePart, field: Option<FileField>) -> Option<FileField>
+    ensures { result ≡ with_part part field }
+{
+    match field {
+        Some(FileField { name, .. }) => Some(FileField {
+            part: Some(part),
+            name,
+        }),
+        None => None,
     }
 }
 
@@ -132,18 +169,20 @@ pub(crate) fn called<T>(name: FieldName, read: Result<T, FileFault>) -> Result<T
     }
 }
 
-/// Returns what was read, or the fault, with its field in this part.
+/// Returns what was read of this part, which begins at a place, or the fault, with its field in the
+/// part.
 #[inline(always)]
-pub fn in_part<T>(part: FilePart, read: Result<T, FileFault>) -> Result<T, FileFault>
-    ensures { result ≡ fails_at (with_part part) read }
+pub fn in_part<T>(part: FilePart, begin: u64, read: Result<T, FileFault>) -> Result<T, FileFault>
+    ensures { result ≡ fails_begun begin (fails_at (with_part part) read) }
 {
     match read {
         Ok(value) => Ok(value),
-        Err(fault) => Err(fault.of_part(part)),
+        Err(fault) => Err(fault.of_part(part).begun_at(begin)),
     }
 }
 
-/// Returns the number of a reason, from 1 (`Magic`) to 5 (`TooLong`), in the order of the enum.
+/// Returns the number of a reason: 1 (`Magic`), 2 (`Version`), 3 (`Truncated`), 4 (`Overrun` and
+/// `WrongLength`) or 5 (`TooLong`).
 pub fn file_why_number(why: FileWhy) -> u8
     ensures { result ≡ file_reason_number why }
 {
@@ -151,12 +190,22 @@ pub fn file_why_number(why: FileWhy) -> u8
         FileWhy::Magic => 1,
         FileWhy::Version => 2,
         FileWhy::Truncated => 3,
-        FileWhy::Overrun => 4,
-        FileWhy::TooLong => 5,
+        FileWhy::Overrun | FileWhy::WrongLength(_) => 4,
+        FileWhy::TooLong(_) => 5,
     }
 }
 
-/// Returns the name of a reason, as the enum spells it.
+/// Returns the length that was read, if it is what is wrong.
+pub fn file_why_length(why: FileWhy) -> Option<u64>
+    ensures { result ≡ file_reason_length why }
+{
+    match why {
+        FileWhy::WrongLength(length) | FileWhy::TooLong(length) => Some(length),
+        FileWhy::Magic | FileWhy::Version | FileWhy::Truncated | FileWhy::Overrun => None,
+    }
+}
+
+/// Returns the name of a reason, as the enum spells it, but Overrun of a WrongLength.
 pub fn file_why_text(why: FileWhy) -> &'static str
     ensures { result.now ≡ file_reason_name why }
 {
@@ -164,8 +213,8 @@ pub fn file_why_text(why: FileWhy) -> &'static str
         FileWhy::Magic => "Magic",
         FileWhy::Version => "Version",
         FileWhy::Truncated => "Truncated",
-        FileWhy::Overrun => "Overrun",
-        FileWhy::TooLong => "TooLong",
+        FileWhy::Overrun | FileWhy::WrongLength(_) => "Overrun",
+        FileWhy::TooLong(_) => "TooLong",
     }
 }
 
@@ -184,7 +233,9 @@ impl fmt::Display for FileFault {
 
     fn fmt<W: fmt::Write>(&self, f: &mut fmt::Formatter<W>) -> fmt::Result {
         match self {
-            FileFault::Refused { place, why, .. } => write!(f, "refused at {place}: {why}"),
+            FileFault::Refused(FileRefusal { place, why, .. }) => {
+                write!(f, "refused at {place}: {why}")
+            }
             FileFault::Read => f.write_str("a read failed"),
             FileFault::Memory => f.write_str("out of memory"),
         }

@@ -299,11 +299,7 @@ pub trait FieldReader {
         if is_one_of(octet, wanted) {
             Ok(octet)
         } else {
-            Err(FileFault::Refused {
-                place,
-                why,
-                field: None,
-            })
+            Err(FileFault::refused(place, why))
         }
     }
 

@@ -28,7 +28,9 @@ mod part;
 mod slice_reader;
 mod stream_reader;
 
-pub use fault::{FileFault, FileWhy, file_why_number, file_why_text, in_part};
+pub use fault::{
+    FileFault, FileRefusal, FileWhy, file_why_length, file_why_number, file_why_text, in_part,
+};
 pub use field_limit::FieldLimit;
 pub use field_name::{FieldName, FileField, FilePart};
 pub use field_reader::{Field, FieldReader, String16, String32, read_many};

@@ -55,18 +55,10 @@ impl<'a> SliceReader<'a> {
             .end
             .is_some_and(|end| end < place || end - place < size)
         {
-            return Err(FileFault::Refused {
-                place,
-                why: FileWhy::Overrun,
-                field: None,
-            });
+            return Err(FileFault::refused(place, FileWhy::Overrun));
         }
         if (self.octets.len() as u64) < size {
-            return Err(FileFault::Refused {
-                place,
-                why: FileWhy::Truncated,
-                field: None,
-            });
+            return Err(FileFault::refused(place, FileWhy::Truncated));
         }
         let (taken, left) = self.octets.split_at(size as usize);
         self.octets = left;

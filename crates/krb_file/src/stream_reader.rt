@@ -179,11 +179,7 @@ impl<R: Read> StreamReader<R> {
         'pieces: while filled < octets.len() {
             let count = self.take(&mut octets[filled..])?;
             if count == 0 {
-                return Err(FileFault::Refused {
-                    place: start,
-                    why: FileWhy::Truncated,
-                    field: None,
-                });
+                return Err(FileFault::refused(start, FileWhy::Truncated));
             }
             filled += count;
         }
@@ -259,18 +255,10 @@ impl<R: Read> StreamReader<R> {
     {
         let place = self.at();
         if self.exceeds_end(size) {
-            return Err(FileFault::Refused {
-                place,
-                why: FileWhy::Overrun,
-                field: None,
-            });
+            return Err(FileFault::refused(place, FileWhy::Overrun));
         }
         if is_longer(size, most) {
-            return Err(FileFault::Refused {
-                place,
-                why: FileWhy::TooLong,
-                field: None,
-            });
+            return Err(FileFault::refused(place, FileWhy::TooLong(size)));
         }
         Ok(())
     }

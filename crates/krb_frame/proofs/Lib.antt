@@ -8,3 +8,5 @@ pub mod Skips
 pub mod Passing
 pub mod Calls
 pub mod Partials
+pub mod Announced
+mod Offsets

@@ -1,5 +1,5 @@
 -- A decoder as contracts see it, and the results of its calls, by any messages.
-use Rattle.std.specs.Prelude.{ℕ, ◌+◌, ◌++◌, ◌≡◌, ◌<◌, ◌≤◌, ◌^◌, if◌then◌else◌, List, [], ◌∷◌, length, take, drop, Option, Some, None, is_some, Result, Ok, Err}
+use Rattle.std.specs.Prelude.{ℕ, ◌+◌, ◌++◌, ◌≡◌, ◌<◌, ◌≤◌, ◌^◌, nat_lt, if◌then◌else◌, List, [], ◌∷◌, length, take, drop, Option, Some, None, is_some, Result, Ok, Err}
 use Rattle.krb_der.specs.Octets.{number}
 use Rattle.krb_der.specs.declared.profile.Profile.{Profile}
 use Rattle.krb_der.specs.declared.verdict.Refusal.{Refusal}
@@ -78,6 +78,10 @@ finish_of messages d = finish_at (found messages d).end
 -- the contents of the current frame that are kept
 abbrev pub kept_contents : Decoding → List ℕ
 kept_contents d = drop 4 d.octets
+
+-- the length that a frame announces, if all of its four octets are among those that came
+abbrev pub announced : List ℕ → Option ℕ
+announced octets = if nat_lt (length octets) 4 then None else Some (number (take 4 octets))
 
 -- The message of the current frame, as far as it came: its length, and the contents that are kept, which are no more than that.
 pub record IsPartial (d : Decoding) (size : ℕ) (octets : List ℕ) : Type 0 where

@@ -1,5 +1,5 @@
 -- The laws of all decoders by any messages, and of all streams. Each is the contract of a function of the module `law`.
-use Rattle.std.specs.Prelude.{ℕ, ◌+◌, ◌≡◌, ◌<◌, ◌↔◌, if◌then◌else◌, List, [], ◌++◌, length, map, Some, None, is_some, Err}
+use Rattle.std.specs.Prelude.{ℕ, ◌+◌, ◌≡◌, ◌<◌, ◌↔◌, if◌then◌else◌, List, [], ◌++◌, length, map, take, Some, None, is_some, Err}
 use Rattle.krb_der.specs.Octets.{AreOctets}
 use Rattle.krb_der.specs.declared.profile.Profile.TheVariants.{Lenient}
 use Rattle.krb_der.specs.declared.why.Why.{Why}
@@ -10,7 +10,7 @@ use Rattle.krb_msg.specs.Stream.{Boundary, Within, Refused, ends, with_first, fr
 use Rattle.krb_frame.specs.Decoding.{Decoding, found, status_of, borrowed, kept_contents, finish_of}
 use Rattle.krb_frame.specs.Feeds.{Feeds}
 use Rattle.krb_frame.specs.GoingOn.{Entry, Contents, last_entry, after_contents, entries}
-use Rattle.krb_frame.specs.Decoded.{EndsWith, after_frames, HasDecoded}
+use Rattle.krb_frame.specs.Decoded.{EndsWith, after_frames, frames_size, HasDecoded}
 use Rattle.krb_frame.specs.declared.decoder.Fed.{Fed}
 use Rattle.krb_frame.specs.declared.decoder.Status.TheVariants as status
 
@@ -49,6 +49,16 @@ pub record IsRefusedInside (messages : List Term) (limit : ℕ) (stream : List �
 pub record RefusalsAreInside : Type 0 where
   pub of_feed : (messages : List Term) (old new : Decoding) (piece : List ℕ) (fed : Fed) (place : ℕ) (reason : Why) → Feeds messages old piece new fed → RefusesFor reason place fed → place < length new.octets
   pub of_stream : (messages : List Term) (limit : ℕ) (stream : List ℕ) (place : ℕ) (reason : Why) → (frames messages limit stream).end ≡ Refused place reason → IsRefusedInside messages limit stream place reason
+
+-- A stream is refused with the octet at an offset: up to it the stream is not refused, and what follows it changes nothing.
+pub record IsRefusedWith (messages : List Term) (limit : ℕ) (stream : List ℕ) (offset : ℕ) : Type 0 where
+  pub inside : offset < length stream
+  pub before : (place : ℕ) (reason : Why) → (frames messages limit (take offset stream)).end ≡ Refused place reason → ⊥
+  pub with_it : frames messages limit (take (offset + 1) stream) ≡ frames messages limit stream
+
+-- The offset of the octet at fault is its place in the last frame, after the octets of the whole frames.
+abbrev pub RefusalsAreAtOffsets : Type 0
+RefusalsAreAtOffsets = (messages : List Term) (limit : ℕ) (stream : List ℕ) (place : ℕ) (reason : Why) → (frames messages limit stream).end ≡ Refused place reason → IsRefusedWith messages limit stream (frames_size (frames messages limit stream).contents + place)
 
 -- No feed returns Truncated, for which a stream is refused that ends inside a frame.
 abbrev pub FeedIsNotTruncated : Type 0

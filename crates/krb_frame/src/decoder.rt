@@ -91,7 +91,7 @@ ghost use Rattle.std.specs.Prelude.{◌≡◌, ◌≤◌, ◌<◌, ◌⊎◌, �
 ghost use Rattle.std.specs.Option.{option_map};
 ghost use Rattle.krb_msg.specs.Grammar.{messages};
 ghost use Rattle.krb_scan.specs.Machine.{ledger_of, profile_of};
-ghost use Rattle.krb_frame.specs.Decoding.{IsAmple, borrowed, finish_at, finish_of, kept_contents, IsPartial, open_lengths_of, decoding_of};
+ghost use Rattle.krb_frame.specs.Decoding.{IsAmple, announced, borrowed, finish_at, finish_of, kept_contents, IsPartial, open_lengths_of, decoding_of};
 ghost use Rattle.krb_frame.specs.Decoded.{HasDecoded};
 ghost use Rattle.krb_frame.specs.Feeds.{Feeds, Clears};
 ghost use Rattle.krb_frame.specs.GoingOn.{GivesUp};
@@ -327,6 +327,17 @@ impl Decoder {
         match self.phase {
             Phase::Length(present) => present as u32,
             _ => (LENGTH_OCTETS + self.contents.len()) as u32,
+        }
+    }
+
+    /// Returns the length that the current frame announces, once its four octets were used, also if
+    /// it is refused for it.
+    pub fn announced(&self) -> Option<u32>
+        ensures { result ≡ announced self.now.octets }
+    {
+        match self.phase {
+            Phase::Length(_) => None,
+            _ => Some(u32::from_be_bytes(self.length)),
         }
     }
 

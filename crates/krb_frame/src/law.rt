@@ -2,7 +2,7 @@
 //! that does nothing.
 
 ghost use Rattle.krb_frame.specs.Calls.{CallsDeliverFrames};
-ghost use Rattle.krb_frame.specs.Laws.{DecoderMatchesStream, RefusalEnds, RefusalsAreInside, FeedIsNotTruncated, LenientHasNoCharset, GoingOnChangesNothingBefore};
+ghost use Rattle.krb_frame.specs.Laws.{DecoderMatchesStream, RefusalEnds, RefusalsAreAtOffsets, RefusalsAreInside, FeedIsNotTruncated, LenientHasNoCharset, GoingOnChangesNothingBefore};
 
 /// A decoder and its results match the stream that it has decoded.
 pub fn decoder_matches_stream()
@@ -17,6 +17,12 @@ pub fn refusal_ends()
 /// A frame is refused at one of its octets, one that was used.
 pub fn refusals_are_inside()
     ensures { RefusalsAreInside }
+{}
+
+/// The first octet with which a stream is refused is the one at the place of its refusal, counted
+/// from the end of the whole frames before.
+pub fn refusals_are_at_offsets()
+    ensures { RefusalsAreAtOffsets }
 {}
 
 /// No feed returns `Truncated`: [`finish`](crate::Decoder::finish) alone does.

@@ -6,11 +6,14 @@ use Rattle.std.specs.Fmt.{decimal}
 use Rattle.std.specs.Option.{option_map}
 use Rattle.krb_der.specs.Octets.{when}
 use Rattle.krb_der.specs.declared.profile.Profile.{Profile}
+use Rattle.krb_msg.specs.Grammar.{ticket}
 use Rattle.krb_msg.specs.Judgement.{Outcome, Open, Bad, Done, Head, Partial, Refused, Got, head, item_outcome}
+use Rattle.krb_msg.specs.Profiles.{profile_term}
 use Rattle.krb_msg.specs.Term.{Term, Fields, Sequence, SequenceOf, Tagged, Application, End, Required, Optional, tag_of}
 use Rattle.krb_msg.specs.Views.{kind_with_tag, kind_name, kind_term_in}
 use Rattle.krb_judge.specs.FieldNames.{field_at, names_of_kind}
 use Rattle.krb_judge.specs.declared.locating.names.Names.{Names}
+use Rattle.krb_judge.specs.declared.locating.names.Names.TheVariants as names
 
 -- a field, after the path of its SEQUENCE
 abbrev pub field_path : List ℕ → List ℕ → List ℕ
@@ -86,3 +89,7 @@ abbrev pub message_path : Profile → ℕ → List ℕ → Option (List ℕ)
 message_path profile n [] = None
 message_path profile n (tag ∷ octets) =
     option_map (λ kind. item_path (kind_term_in profile kind) (names_of_kind kind) (kind_name kind) n true (tag ∷ octets)) (kind_with_tag tag)
+
+-- The path in a Ticket of n octets, alone, by a profile.
+abbrev pub ticket_path : Profile → ℕ → List ℕ → List ℕ
+ticket_path profile n octets = item_path (profile_term profile false ticket) names.Ticket (codes "Ticket") n true octets

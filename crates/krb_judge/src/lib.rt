@@ -6,11 +6,11 @@
 //! - [`parse`] returns the message that octets are, or a refusal at an exact octet; [`parse_in`]
 //!   does so by a profile. [`parse_ticket`] and [`parse_method_data`] return a Ticket (5.3) or
 //!   METHOD-DATA (5.9.1) alone. [`read_message`] and [`read_ticket`] return a message and a Ticket
-//!   whose octets are borrowed.
+//!   whose octets are borrowed, and so do [`read_message_in`] and [`read_ticket_in`] by a profile.
 //! - [`judge`] returns what the first octets of a message decide: nothing yet, that it is whole, or
 //!   a refusal.
 //! - [`path`] returns the name of the field in which octets were refused, such as
-//!   `AS-REQ.req-body.nonce`. [`Names`] has the names of the fields of each type, and
+//!   `AS-REQ.req-body.nonce`, and [`ticket_path`] that in a Ticket alone. [`Names`] has the names of the fields of each type, and
 //!   [`message_node`] the row of the grammar's table that is a message's.
 //!
 //! Each call looks at its octets from the first one on, by the machine of `krb_scan`, which judges
@@ -30,8 +30,8 @@ pub use judging::{judge, judge_in};
 pub use krb_der::{Profile, Refusal, Verdict, Why};
 pub use locating::field::Field;
 pub use locating::names::Names;
-pub use locating::{message_node, path};
+pub use locating::{message_node, path, ticket_path};
 pub use parsing::{
     ParseFault, parse, parse_in, parse_method_data, parse_ticket, parse_ticket_in, read_message,
-    read_ticket,
+    read_message_in, read_ticket, read_ticket_in,
 };

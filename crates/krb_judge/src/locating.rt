@@ -17,12 +17,13 @@ ghost use Rattle.krb_msg.specs.Shape.{depth, depth_of_fields};
 ghost use Rattle.krb_msg.specs.Table.{IsNode, IsSlot, fields_from, with_slot};
 ghost use Rattle.krb_msg.specs.Term.{Fields};
 ghost use Rattle.krb_msg.specs.Views.{kind_term_in};
-ghost use Rattle.krb_judge.specs.Paths.{begin_with, contents_path, element_path, elements_path, field_path, fields_path, first_item, message_path, within};
+ghost use Rattle.krb_judge.specs.Paths.{begin_with, contents_path, element_path, elements_path, field_path, fields_path, first_item, message_path, ticket_path, within};
 ghost use Rattle.krb_judge.specs.inner.Descent.{IsItem, IsInside, IsPresent, IsPresenceFor, IsFaultOf, path_in, path_on, in_contents, in_first, presence_path, fault_path, in_element};
 
 use crate::locating::head::{Head, part, read_head};
 use crate::locating::kind_index::index_of;
 use crate::locating::names::Names;
+use crate::parsing::ticket_node;
 use itoa::Buffer;
 use krb_der::{Memory, Profile, Verdict};
 use krb_msg::Kind;
@@ -115,6 +116,26 @@ pub fn path(alloc: Global, profile: Profile, n: u32, front: &[u8]) -> Result<Opt
     };
     put_path(&mut text, message)?;
     Ok(Some(text))
+}
+
+/// Returns the path of the field at fault in a Ticket of `n` octets, alone (RFC 4120, 5.3), by a
+/// profile, such as `Ticket.sname`, as [`path`] has it of a message.
+pub fn ticket_path(alloc: Global, profile: Profile, n: u32, front: &[u8]) -> Result<String, Memory>
+    requires short { n < 2 ^ 31 }
+    requires present { length front.now ≤ n }
+    ensures { IfOk result (λ path. string_bytes path ≡ ticket_path profile n front.now) }
+{
+    let mut text = String::new(alloc);
+    text.push_str("Ticket")?;
+    let ticket = Item {
+        node: ticket_node(profile),
+        names: Names::Ticket,
+        room: n,
+        sole: true,
+        octets: front,
+    };
+    put_path(&mut text, ticket)?;
+    Ok(text)
 }
 
 /// Returns the node of the messages of a kind in a profile.

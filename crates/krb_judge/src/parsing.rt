@@ -104,7 +104,7 @@ pub fn parse_in(alloc: Global, profile: Profile, octets: &[u8]) -> Result<Messag
     ensures refused { (r : Refusal) → IsErrOf result (fault.Refused r) ↔ (refusal_in profile octets.now ≡ Some r) }
     ensures none { HasNoMessage profile octets.now ↔ (refusal_in profile octets.now ≢ None) }
 {
-    match read_in(profile, octets) {
+    match read_message_in(profile, octets) {
         Ok(message) => Ok(message.to_message(alloc)?),
         Err(refusal) => Err(ParseFault::Refused(refusal)),
     }
@@ -136,7 +136,7 @@ pub fn parse_ticket_in(alloc: Global, profile: Profile, octets: &[u8]) -> Result
 }
 
 /// Returns the node of a Ticket of a profile.
-fn ticket_node(profile: Profile) -> u16
+pub(crate) fn ticket_node(profile: Profile) -> u16
     ensures known { IsNode result }
     ensures term { term_at result ≡ profile_term profile false ticket }
 {
@@ -153,7 +153,17 @@ pub fn read_ticket(octets: &[u8]) -> Result<TicketView<'_>, Refusal>
     ensures lists { IfOk result TicketLists }
     ensures refused { (r : Refusal) → IsErrOf result r ↔ (ticket_refusal Profile.Lenient octets.now ≡ Some r) }
 {
-    read_item::<Ticket>(Profile::Lenient, TICKET, octets)
+    read_ticket_in(Profile::Lenient, octets)
+}
+
+/// Returns a view of the Ticket of a profile that octets are, or why they are none. It allocates
+/// nothing.
+pub fn read_ticket_in(profile: Profile, octets: &[u8]) -> Result<TicketView<'_>, Refusal>
+    ensures ticket { IfOk result (λ view. AreOfTicket profile octets.now (ticket_of_view view)) }
+    ensures lists { IfOk result TicketLists }
+    ensures refused { (r : Refusal) → IsErrOf result r ↔ (ticket_refusal profile octets.now ≡ Some r) }
+{
+    read_item::<Ticket>(profile, ticket_node(profile), octets)
 }
 
 /// Returns the METHOD-DATA (RFC 4120, 5.9.1) that octets are, or why they are none, as [`parse`]
@@ -177,11 +187,12 @@ pub fn read_message(octets: &[u8]) -> Result<MessageView<'_>, Refusal>
     ensures whole { IfOk result (λ _. refusal_in Profile.Lenient octets.now ≡ None) }
     ensures refused { (r : Refusal) → IsErrOf result r ↔ (refusal_in Profile.Lenient octets.now ≡ Some r) }
 {
-    read_in(Profile::Lenient, octets)
+    read_message_in(Profile::Lenient, octets)
 }
 
-/// Returns a view of the message of a profile that octets are, or why they are none.
-fn read_in(profile: Profile, octets: &[u8]) -> Result<MessageView<'_>, Refusal>
+/// Returns a view of the message of a profile that octets are, or why they are none. It allocates
+/// nothing.
+pub fn read_message_in(profile: Profile, octets: &[u8]) -> Result<MessageView<'_>, Refusal>
     ensures message { IfOk result (IsMessageView octets.now) }
     ensures whole { IfOk result (λ _. refusal_in profile octets.now ≡ None) }
     ensures refused { (r : Refusal) → IsErrOf result r ↔ (refusal_in profile octets.now ≡ Some r) }

@@ -2,12 +2,12 @@
 use Rattle.std.proofs.Common.{◌≡◌, ℕ, zero, suc, ◌+◌, ◌<◌, ◌≤◌, ℤ, pos, negsuc, Option, Some, None, Result, Ok, Err, List, [], ◌∷◌, ◌++◌, length, drop, refl, sym, ◌∙◌, ap, subst, arith, append_assoc, length-append, take-append-drop}
 use Rattle.std.proofs.lemmas.List.{append-nil}
 use Rattle.std.specs.Int.{w8, w16, w32}
-use Rattle.krb_file.specs.Fields.{Source, Fault, Bounds, limited, Reader, and_then, ◌>>=◌, succeed, with_name, refused_at, called, next_octets_at, number_at, signed_at, counted_at, names_at, rest_at, within, zeros, are_zero}
+use Rattle.krb_file.specs.Fields.{Source, Fault, Bounds, limited, Reader, and_then, ◌>>=◌, succeed, with_name, refused_at, called, one_part, next_octets_at, number_at, signed_at, counted_at, names_at, rest_at, within, zeros, are_zero}
 use Rattle.krb_file.specs.declared.field_name.FieldName.TheVariants as fields
 use Rattle.krb_file.proofs.Fields.{at, done, and_then-ok, version-again}
 use Rattle.krb_file.proofs.Limits.{bounded}
 use Rattle.krb_file.proofs.Steps.{signed-shorter}
-use Rattle.krb_file.proofs.Stable.{Stable, Stable-then, Stable-succeed, Stable-called, Stable-piece, Stable-number, Stable-signed, Stable-counted, Stable-names, Stable-rest, Stable-within, IsAlike, masked_read, alike, alike-then, IsSame, same-then, same-last, field-alike}
+use Rattle.krb_file.proofs.Stable.{Stable, Stable-then, Stable-succeed, Stable-called, Stable-one_part, Stable-piece, Stable-number, Stable-signed, Stable-counted, Stable-names, Stable-rest, Stable-within, IsAlike, masked_read, alike, alike-then, alike-one_part, IsSame, same-then, same-last, field-alike}
 use Rattle.krb_keytab.specs.declared.value.Record.{Record}
 use Rattle.krb_keytab.specs.declared.value.Record.TheVariants as records
 use Rattle.krb_keytab.specs.declared.reading.Next.{Next}
@@ -82,10 +82,10 @@ items_from-masked (Ok (nexts.Done stop, t)) others = refl
 items_from-masked (Ok (nexts.Item r, t)) others = refl
 
 -- a record, if there is an octet of it
-abbrev some_record : Reader Next
-some_record = called fields.Length (signed_at w32) >>= record_of
+abbrev whole_record_at : Reader Next
+whole_record_at = one_part (called fields.Length (signed_at w32) >>= record_of)
 
-record_at-some : (bounds : Bounds) (place : ℕ) (octets others : List ℕ) → 0 < length octets → record_at bounds (at place (octets ++ others)) ≡ some_record bounds (at place (octets ++ others))
+record_at-some : (bounds : Bounds) (place : ℕ) (octets others : List ℕ) → 0 < length octets → record_at bounds (at place (octets ++ others)) ≡ whole_record_at bounds (at place (octets ++ others))
 record_at-some bounds place [] others some = absurd (omega arith)
 record_at-some bounds place (octet ∷ octets) others some = refl
 
@@ -104,11 +104,11 @@ Stable-record_of (pos zero) = Stable-succeed (nexts.Done stops.Zero)
 Stable-record_of (pos (suc n)) = Stable-then (within (suc n) entry_at) _ (Stable-within (suc n) entry_at Stable-entry) (λ entry. Stable-succeed (nexts.Item (records.Entry entry)))
 Stable-record_of (negsuc n) = Stable-then (called fields.Hole (next_octets_at None (suc n))) _ (Stable-called fields.Hole (next_octets_at None (suc n)) (Stable-piece (suc n))) (λ octets. Stable-succeed (nexts.Item (records.Hole (record { size = suc n; clean = are_zero octets }))))
 
-Stable-some : Stable some_record
-Stable-some = Stable-then (called fields.Length (signed_at w32)) record_of (Stable-called fields.Length (signed_at w32) (Stable-signed w32)) Stable-record_of
+Stable-some : Stable whole_record_at
+Stable-some = Stable-one_part (called fields.Length (signed_at w32) >>= record_of) (Stable-then (called fields.Length (signed_at w32)) record_of (Stable-called fields.Length (signed_at w32) (Stable-signed w32)) Stable-record_of)
 
 -- records, and then one of which octets of the key differ
-some-alike : (bound : ℕ) (limit : Option ℕ) (place : ℕ) (octets after other : List ℕ) → 0 < length octets → IsAlike masked_next some_record None place octets after other
+some-alike : (bound : ℕ) (limit : Option ℕ) (place : ℕ) (octets after other : List ℕ) → 0 < length octets → IsAlike masked_next whole_record_at None place octets after other
     → masked_items (items_within (suc bound) limit (at place (octets ++ after))) ≡ masked_items (items_within (suc bound) limit (at place (octets ++ other)))
 some-alike bound limit place octets after other some same =
     let others = items_within bound limit in
@@ -119,11 +119,11 @@ some-alike bound limit place octets after other some same =
     ∙ ap (λ (r : Result (Next × Source) Fault). masked_from (masked_read masked_next r) others) (sym (is other))
     ∙ sym (items_from-masked (record_at (limited limit) (at place (octets ++ other))) others)
 
-items-alike : (found : List Record) (bound : ℕ) (limit : Option ℕ) (place : ℕ) (body octets after other : List ℕ) → RecordsSpell found body → 0 < length octets → IsAlike masked_next some_record None (place + length body) octets after other
+items-alike : (found : List Record) (bound : ℕ) (limit : Option ℕ) (place : ℕ) (body octets after other : List ℕ) → RecordsSpell found body → 0 < length octets → IsAlike masked_next whole_record_at None (place + length body) octets after other
     → masked_items (items_within bound limit (at place (body ++ (octets ++ after)))) ≡ masked_items (items_within bound limit (at place (body ++ (octets ++ other))))
 items-alike found zero limit place body octets after other spelled some same = refl
 items-alike [] (suc bound) limit place body octets after other spelled some same =
-    let here = subst (λ (k : ℕ). IsAlike masked_next some_record None k octets after other) (omega (arith, ap length spelled)) same in
+    let here = subst (λ (k : ℕ). IsAlike masked_next whole_record_at None k octets after other) (omega (arith, ap length spelled)) same in
     subst (λ (b : List ℕ). masked_items (items_within (suc bound) limit (at place (b ++ (octets ++ after)))) ≡ masked_items (items_within (suc bound) limit (at place (b ++ (octets ++ other))))) (sym spelled) (some-alike bound limit place octets after other some here)
 items-alike (r ∷ found) (suc bound) limit place body octets after other spelled some same =
     let prefix = spelled.0 in
@@ -133,12 +133,12 @@ items-alike (r ∷ found) (suc bound) limit place body octets after other spelle
     let next : ℕ = place + length prefix in
     let parts = λ (rest : List ℕ). ap (λ (x : List ℕ). x ++ (octets ++ rest)) spelled.2 ∙ append_assoc prefix suffix (octets ++ rest) in
     let is = λ (rest : List ℕ). ap (λ (x : List ℕ). record_at (limited limit) (at place x)) (parts rest) ∙ record_at-some (limited limit) place prefix (suffix ++ (octets ++ rest)) there in
-    let read : some_record (limited None) (at place prefix) ≡ Ok (nexts.Item r, at next []) =
-    ap (λ (x : List ℕ). some_record (limited None) (at place x)) (sym (append-nil prefix)) ∙ sym (record_at-some (limited None) place prefix [] there) ∙ record-again r prefix place [] spelled.3 in
+    let read : whole_record_at (limited None) (at place prefix) ≡ Ok (nexts.Item r, at next []) =
+    ap (λ (x : List ℕ). whole_record_at (limited None) (at place x)) (sym (append-nil prefix)) ∙ sym (record_at-some (limited None) place prefix [] there) ∙ record-again r prefix place [] spelled.3 in
     let length_is : place + length body ≡ next + length suffix = omega (arith, ap length spelled.2, length-append prefix suffix) in
-    let later = items-alike found bound limit next suffix octets after other spelled.4 some (subst (λ (k : ℕ). IsAlike masked_next some_record None k octets after other) length_is same) in
+    let later = items-alike found bound limit next suffix octets after other spelled.4 some (subst (λ (k : ℕ). IsAlike masked_next whole_record_at None k octets after other) length_is same) in
     ap (λ (x : Result (Next × Source) Fault). masked_items (items_from x others)) (is after)
-    ∙ alike (λ (x : Result (Next × Source) Fault). masked_items (items_from x others)) some_record Stable-some None limit place prefix (nexts.Item r) (at next []) (suffix ++ (octets ++ after)) (suffix ++ (octets ++ other)) read
+    ∙ alike (λ (x : Result (Next × Source) Fault). masked_items (items_from x others)) whole_record_at Stable-some None limit place prefix (nexts.Item r) (at next []) (suffix ++ (octets ++ after)) (suffix ++ (octets ++ other)) read
     (ap (with_first (masked_record r)) later)
     ∙ ap (λ (x : Result (Next × Source) Fault). masked_items (items_from x others)) (sym (is other))
 
@@ -155,8 +155,8 @@ keys-alone limit before key other after size up le len =
     let file = λ (rest : List ℕ). ap (λ (x : List ℕ). items limit (x ++ rest)) before_is ∙ ap (λ (x : List ℕ). items limit (5 ∷ 2 ∷ x)) (append_assoc body octets rest) ∙ items-opened limit (body ++ (octets ++ rest)) in
     let some : 0 < length octets = omega (arith, signed-shorter (limited None) (at up.start octets) (pos (suc up.content)) up.after up.announced) in
     let size_is : called fields.Length (signed_at w32) (limited None) (at up.start octets) ≡ Ok (pos (suc up.content), up.after) = ap (refused_at (with_name fields.Length)) up.announced in
-    let here = alike-then (called fields.Length (signed_at w32)) record_of (Stable-called fields.Length (signed_at w32) (Stable-signed w32)) (pos (suc up.content)) up.after size_is (within-alike up.content up.after size up.end key other after up.fields up.all le len) in
-    let there = subst (λ (k : ℕ). IsAlike masked_next some_record None k octets (key ++ after) (other ++ after)) start here in
+    let here = alike-one_part (called fields.Length (signed_at w32) >>= record_of) (alike-then (called fields.Length (signed_at w32)) record_of (Stable-called fields.Length (signed_at w32) (Stable-signed w32)) (pos (suc up.content)) up.after size_is (within-alike up.content up.after size up.end key other after up.fields up.all le len)) in
+    let there = subst (λ (k : ℕ). IsAlike masked_next whole_record_at None k octets (key ++ after) (other ++ after)) start here in
     let lengths : length (body ++ (octets ++ (key ++ after))) ≡ length (body ++ (octets ++ (other ++ after))) = omega (arith, length-append body (octets ++ (key ++ after)), length-append octets (key ++ after), length-append key after, length-append body (octets ++ (other ++ after)), length-append octets (other ++ after), length-append other after) in
     ap masked_items (file (key ++ after))
     ∙ items-alike up.records (length (body ++ (octets ++ (key ++ after)))) limit 2 body octets (key ++ after) (other ++ after) up.first.spelled.1 some there

@@ -1,61 +1,72 @@
 -- Records that are read before a fault or under a limit are spelled by the octets before it, and a limit adds the fault TooLong and nothing else.
-use Rattle.std.proofs.Common.{◌≡◌, ℕ, zero, suc, ◌+◌, ◌<◌, ◌≤◌, ◌⊎◌, inl, inr, ℤ, pos, negsuc, Option, Some, None, Result, Ok, Err, List, [], ◌∷◌, ◌++◌, length, take, refl, sym, ◌∙◌, ap, subst, arith, append_assoc, length-append}
+use Rattle.std.proofs.Common.{◌≡◌, ℕ, zero, suc, ◌+◌, ◌-◌, ◌<◌, ◌≤◌, ◌⊎◌, inl, inr, ℤ, pos, negsuc, Option, Some, None, Result, Ok, Err, List, [], ◌∷◌, ◌++◌, length, take, refl, sym, ◌∙◌, ap, subst, arith, append_assoc, length-append}
 use Rattle.std.proofs.lemmas.List.{take_at, append-nil}
 use Rattle.std.specs.Int.{w8, w16, w32, cast_signed}
 use Rattle.krb_der.specs.Octets.{AreOctets}
-use Rattle.krb_file.specs.Fields.{Source, source_of, Fault, limited, called, next_octets_at, number_at, signed_at, counted_at, names_at, rest_at, within, version_at, are_zero, with_name}
+use Rattle.krb_file.specs.Fields.{Source, source_of, Fault, Bounds, limited, ◌>>=◌, called, next_octets_at, number_at, signed_at, counted_at, names_at, rest_at, within, version_at, are_zero, with_name}
 use Rattle.krb_file.specs.Limits.{number_from, number_before}
 use Rattle.krb_file.specs.declared.fault.FileWhy.TheVariants as why
-use Rattle.krb_file.specs.declared.field_name.FileField.{FileField}
 use Rattle.krb_file.specs.declared.field_name.FieldName.TheVariants as fields
-use Rattle.krb_file.proofs.Fields.{at, done, failed, ok_is, and_then-ok, refused_at-ok, version-one}
-use Rattle.krb_file.proofs.Limits.{IsOf, IsTooLong, IsSameOrTooLong, Limited, either-then, Limited-then, Limited-succeed, Limited-called, Limited-piece, Limited-number, Limited-signed, Limited-counted, Limited-rest, Limited-names, Limited-version, signed-is}
+use Rattle.krb_file.proofs.Fields.{at, done, failed, ok_is, and_then-ok, refused_at-ok, begun_at-ok, begun_at-err, version-one}
+use Rattle.krb_file.proofs.Limits.{IsOf, IsTooLong, IsSameOrTooLong, Limited, either-then, begun-same, Limited-then, Limited-succeed, Limited-called, Limited-piece, Limited-number, Limited-signed, Limited-counted, Limited-rest, Limited-names, Limited-version, signed-is}
 use Rattle.krb_keytab.specs.declared.value.Record.{Record}
 use Rattle.krb_keytab.specs.declared.value.Record.TheVariants as records
 use Rattle.krb_keytab.specs.declared.reading.Next.{Next}
 use Rattle.krb_keytab.specs.declared.reading.Next.TheVariants as nexts
+use Rattle.krb_keytab.specs.declared.value.Stop.{Stop}
 use Rattle.krb_keytab.specs.declared.value.Stop.TheVariants as stops
 use Rattle.krb_keytab.specs.Spelling.{RecordsSpell}
 use Rattle.krb_keytab.specs.Reading.{entry_at, record_of, record_at, content_size, Items, with_first, items_from, items_within, items_after, after_version, items}
-use Rattle.krb_keytab.specs.Laws.{AreFirst, end_place, IsLong, AreCut}
+use Rattle.krb_keytab.specs.Laws.{AreFirst, AreBefore, IsLong, AreCut}
 use Rattle.krb_keytab.proofs.Faults.{Steps-record}
 use Rattle.krb_keytab.proofs.RecordSpellings.{RecordRead, record-sound, inside_file}
 
 -- ---- what is read is spelled
 
--- records that the octets of a source begin with, which end before a place or at it
-record Begins (s : Source) (found : List Record) (place : ℕ) : Type 0 where
+-- records that the octets of a source begin with, up to the record at fault or before the end
+record Begins (s : Source) (found : List Record) (end : Result (Stop × ℕ) Fault) : Type 0 where
   body : List ℕ
   rest : List ℕ
   spelled : RecordsSpell found body
   parts : s.octets ≡ body ++ rest
-  before : s.place + length body ≤ place
+  before : AreBefore (s.place + length body) end
 
-Begins-none : (s : Source) (place : ℕ) → s.place ≤ place → Begins s [] place
-Begins-none s place le = record { body = []; rest = s.octets; spelled = refl; parts = refl; before = omega arith }
+Begins-none : (s : Source) (end : Result (Stop × ℕ) Fault) → AreBefore s.place end → Begins s [] end
+Begins-none s end before =
+    let nothing : s.place ≡ s.place + 0 = omega arith in
+    record { body = []; rest = s.octets; spelled = refl; parts = refl; before = subst (λ (k : ℕ). AreBefore k end) nothing before }
 
-Begins-item : (limit : Option ℕ) (s t : Source) (r : Record) (found : List Record) (place : ℕ) → RecordRead limit s t (nexts.Item r) → Begins t found place → Begins s (r ∷ found) place
-Begins-item limit s t r found place first others = record {
-  body = first.0 ++ others.body;
-  rest = others.rest;
-  spelled = (first.0, others.body, refl, first.1, others.spelled);
-  parts = first.2.parts ∙ ap (λ (x : List ℕ). first.0 ++ x) others.parts ∙ simp append_assoc;
-  before = omega (arith, first.2.place, others.before, length-append first.0 others.body);
-}
+Begins-item : (limit : Option ℕ) (s t : Source) (r : Record) (found : List Record) (end : Result (Stop × ℕ) Fault) → RecordRead limit s t (nexts.Item r) → Begins t found end → Begins s (r ∷ found) end
+Begins-item limit s t r found end first others =
+    let place : t.place + length others.body ≡ s.place + length (first.0 ++ others.body) = omega (arith, first.2.place, length-append first.0 others.body) in
+    record {
+      body = first.0 ++ others.body;
+      rest = others.rest;
+      spelled = (first.0, others.body, refl, first.1, others.spelled);
+      parts = first.2.parts ∙ ap (λ (x : List ℕ). first.0 ++ x) others.parts ∙ simp append_assoc;
+      before = subst (λ (k : ℕ). AreBefore k end) place others.before;
+    }
 
-begins-step : (others : Source → Items) (limit : Option ℕ) (s : Source) → ((t : Source) → AreOctets t.octets → Begins t (others t).records (end_place (others t).end))
-    → (r : Result (Next × Source) Fault) → ((x : Next) (t : Source) → r ≡ Ok (x, t) → RecordRead limit s t x) → ((f : Fault) → r ≡ Err f → s.place ≤ f.place) → Begins s (items_from r others).records (end_place (items_from r others).end)
-begins-step others limit s rest (Err f) sound faults = Begins-none s f.place (faults f refl)
-begins-step others limit s rest (Ok (nexts.Done stop, t)) sound faults = let first = sound (nexts.Done stop) t refl in Begins-none s t.place (omega (arith, first.0.place))
+-- a fault tells where the record begins that it is in
+record-begin : (bounds : Bounds) (place : ℕ) (octets : List ℕ) (f : Fault) → record_at bounds (at place octets) ≡ Err f → f.begin ≡ place
+record-begin bounds place [] f e = absurd cc
+record-begin bounds place (octet ∷ octets) f e =
+    let a = begun_at-err place ((called fields.Length (signed_at w32) >>= record_of) bounds (at place (octet ∷ octets))) f e in
+    sym (ap (λ (x : Fault). x.begin) a.2)
+
+begins-step : (others : Source → Items) (limit : Option ℕ) (s : Source) → ((t : Source) → AreOctets t.octets → Begins t (others t).records (others t).end)
+    → (r : Result (Next × Source) Fault) → ((x : Next) (t : Source) → r ≡ Ok (x, t) → RecordRead limit s t x) → ((f : Fault) → r ≡ Err f → (s.place ≡ f.begin) × (s.place ≤ f.place)) → Begins s (items_from r others).records (items_from r others).end
+begins-step others limit s rest (Err f) sound faults = Begins-none s (Err f) (faults f refl)
+begins-step others limit s rest (Ok (nexts.Done stop, t)) sound faults = let first = sound (nexts.Done stop) t refl in Begins-none s (Ok (stop, t.place)) (omega (arith, first.0.place))
 begins-step others limit s rest (Ok (nexts.Item r, t)) sound faults =
     let first = sound (nexts.Item r) t refl in
-    Begins-item limit s t r (others t).records (end_place (others t).end) first (rest t first.2.fits)
+    Begins-item limit s t r (others t).records (others t).end first (rest t first.2.fits)
 
-items-begin : (bound : ℕ) (limit : Option ℕ) (s : Source) → AreOctets s.octets → Begins s (items_within bound limit s).records (end_place (items_within bound limit s).end)
-items-begin zero limit s fits = Begins-none s s.place (omega arith)
+items-begin : (bound : ℕ) (limit : Option ℕ) (s : Source) → AreOctets s.octets → Begins s (items_within bound limit s).records (items_within bound limit s).end
+items-begin zero limit s fits = Begins-none s (Ok (stops.File, s.place)) (omega arith)
 items-begin (suc bound) limit s fits =
     begins-step (items_within bound limit) limit s (items-begin bound limit) (record_at (limited limit) s)
-    (λ x t h. record-sound limit s.place s.octets t x fits h) (λ f h. (Steps-record.faults (limited limit) s f h).from)
+    (λ x t h. record-sound limit s.place s.octets t x fits h) (λ f h. (sym (record-begin (limited limit) s.place s.octets f h), (Steps-record.faults (limited limit) s f h).from))
 
 -- the version, and then records
 first-of : (file : List ℕ) (t : Source) (found : List Record) (body rest : List ℕ) → file ≡ 5 ∷ 2 ∷ t.octets → RecordsSpell found body → t.octets ≡ body ++ rest → AreFirst file found (2 + length body)
@@ -67,20 +78,20 @@ first-of file t found body rest opening spelled parts =
       spelled = (body, spelled, taken ∙ ap (λ (x : List ℕ). 5 ∷ 2 ∷ x) (sym (append-nil body)));
     }
 
-pub records-spelled : (limit : Option ℕ) (file : List ℕ) → AreOctets file → ((items limit file).records ≡ []) ⊎ ((size : ℕ) × AreFirst file (items limit file).records size × (size ≤ end_place (items limit file).end))
+pub records-spelled : (limit : Option ℕ) (file : List ℕ) → AreOctets file → ((items limit file).records ≡ []) ⊎ ((size : ℕ) × AreFirst file (items limit file).records size × AreBefore size (items limit file).end)
 records-spelled limit file fits = go (version_at (2 ∷ []) (limited limit) (source_of file)) refl
   where
     go : (r : Result (ℕ × Source) Fault) → version_at (2 ∷ []) (limited limit) (source_of file) ≡ r
-        → ((after_version r (items_after limit)).records ≡ []) ⊎ ((size : ℕ) × AreFirst file (after_version r (items_after limit)).records size × (size ≤ end_place (after_version r (items_after limit)).end))
+        → ((after_version r (items_after limit)).records ≡ []) ⊎ ((size : ℕ) × AreFirst file (after_version r (items_after limit)).records size × AreBefore size (after_version r (items_after limit)).end)
     go (Err f) e = inl refl
     go (Ok (v, t)) e =
         let opening = version-one 2 (limited limit) (source_of file) t v fits (inside_file limit 0) e in
         let b = items-begin (length t.octets) limit t opening.0.fits in
-        inr (2 + length b.body, first-of file t (items_after limit t).records b.body b.rest opening.0.parts b.spelled b.parts, omega (arith, b.before, opening.0.place))
+        inr (2 + length b.body, first-of file t (items_after limit t).records b.body b.rest opening.0.parts b.spelled b.parts, subst (λ (k : ℕ). AreBefore (k + length b.body) (items_after limit t).end) opening.0.place b.before)
 
 -- ---- what a limit changes
 
-Limited-entry : (file : List ℕ) (most : ℕ) (Long : ℕ → Type 0) (end : ℕ) → ((place : ℕ) → most < number_before w16 file place → Long place) → ((place : ℕ) → place + most < end → Long place) → Limited file most Long (Some end) entry_at
+Limited-entry : (file : List ℕ) (most : ℕ) (Long : ℕ → ℕ → Type 0) (end : ℕ) → ((place : ℕ) → most < number_before w16 file place → Long place (number_before w16 file place)) → ((place : ℕ) → place + most < end → Long place (end - place)) → Limited file most Long (Some end) entry_at
 Limited-entry file most Long end counted rest =
     Limited-then file most Long (Some end) (names_at w16) _ (Limited-names file most Long (Some end) w16 counted) (λ names.
     Limited-then file most Long (Some end) (called fields.NameType (signed_at w32)) _ (Limited-called file most Long (Some end) fields.NameType (signed_at w32) (Limited-signed file most Long (Some end) w32)) (λ name_type.
@@ -98,7 +109,7 @@ record-same (pos zero) most file start u is place size = inl refl
 record-same (pos (suc n)) most file start u is place size =
     let Long = IsLong most file start in
     let announced : suc n ≡ content_size (cast_signed w32 (number_from w32 file start)) = ap content_size size in
-    let entry = Limited-entry file most Long (u.place + suc n) (λ at lt. inl lt) (λ at lt. inr (omega (arith, lt, place, announced))) in
+    let entry = Limited-entry file most Long (u.place + suc n) (λ at lt. (lt, inl refl)) (λ at lt. (omega (arith, lt), inr (omega (arith, lt, place, announced)))) in
     either-then Long (within (suc n) entry_at (limited (Some most)) u) (within (suc n) entry_at (limited None) u) _ _ (entry.same u is) (λ x e. inl refl)
 record-same (negsuc n) most file start u is place size =
     let Long = IsLong most file start in
@@ -109,11 +120,11 @@ record-stays : (z : ℤ) (file : List ℕ) (u t : Source) (x : Next) → IsOf fi
 record-stays (pos zero) file u t x is e = subst (λ (p : Next × Source). IsOf file p.1) (ok_is (nexts.Done stops.Zero, u) (x, t) e) is
 record-stays (pos (suc n)) file u t x is e =
     let a = and_then-ok (within (suc n) entry_at (limited None) u) (λ p. done (nexts.Item (records.Entry p.0), p.1)) (x, t) e in
-    let entry = Limited-entry file 0 (λ at. Unit {0}) (u.place + suc n) (λ at lt. tt) (λ at lt. tt) in
+    let entry = Limited-entry file 0 (λ at size. Unit {0}) (u.place + suc n) (λ at lt. tt) (λ at lt. tt) in
     subst (λ (p : Next × Source). IsOf file p.1) (ok_is (nexts.Item (records.Entry a.0.0), a.0.1) (x, t) a.2) (entry.stays u a.0.0 a.0.1 is a.1)
 record-stays (negsuc n) file u t x is e =
     let a = and_then-ok (called fields.Hole (next_octets_at None (suc n)) (limited None) u) (λ p. done (nexts.Item (records.Hole (record { size = suc n; clean = are_zero p.0 })), p.1)) (x, t) e in
-    let hole = Limited-called file 0 (λ at. Unit {0}) None fields.Hole (next_octets_at None (suc n)) (Limited-piece file 0 (λ at. Unit {0}) None (suc n)) in
+    let hole = Limited-called file 0 (λ at size. Unit {0}) None fields.Hole (next_octets_at None (suc n)) (Limited-piece file 0 (λ at size. Unit {0}) None (suc n)) in
     subst (λ (p : Next × Source). IsOf file p.1) (ok_is _ (x, t) a.2) (hole.stays u a.0.0 a.0.1 is a.1)
 
 next-same : (most : ℕ) (file : List ℕ) (place : ℕ) (octets : List ℕ) → IsOf file (at place octets) → IsSameOrTooLong (IsLong most file place) (record_at (limited (Some most)) (at place octets)) (record_at (limited None) (at place octets))
@@ -122,17 +133,17 @@ next-same most file place (octet ∷ octets) is =
     let s = at place (octet ∷ octets) in
     let Long = IsLong most file place in
     let size = Limited-called file most Long None fields.Length (signed_at w32) (Limited-signed file most Long None w32) in
-    either-then Long (called fields.Length (signed_at w32) (limited (Some most)) s) (called fields.Length (signed_at w32) (limited None) s) (λ p. record_of p.0 (limited (Some most)) p.1) (λ p. record_of p.0 (limited None) p.1) (size.same s is)
+    begun-same Long place (either-then Long (called fields.Length (signed_at w32) (limited (Some most)) s) (called fields.Length (signed_at w32) (limited None) s) (λ p. record_of p.0 (limited (Some most)) p.1) (λ p. record_of p.0 (limited None) p.1) (size.same s is)
     (λ x e.
     let n = signed-is file w32 (limited None) s x.1 x.0 is (refused_at-ok (with_name fields.Length) (signed_at w32 (limited None) s) x e) in
-    record-same x.0 most file place x.1 (size.stays s x.0 x.1 is e) n.1 n.0)
+    record-same x.0 most file place x.1 (size.stays s x.0 x.1 is e) n.1 n.0))
 
 next-stays : (file : List ℕ) (place : ℕ) (octets : List ℕ) (t : Source) (x : Next) → IsOf file (at place octets) → record_at (limited None) (at place octets) ≡ Ok (x, t) → IsOf file t
 next-stays file place [] t x is e = subst (λ (p : Next × Source). IsOf file p.1) (ok_is (nexts.Done stops.File, at place []) (x, t) e) is
 next-stays file place (octet ∷ octets) t x is e =
     let s = at place (octet ∷ octets) in
-    let a = and_then-ok (called fields.Length (signed_at w32) (limited None) s) (λ p. record_of p.0 (limited None) p.1) (x, t) e in
-    let size = Limited-called file 0 (λ at. Unit {0}) None fields.Length (signed_at w32) (Limited-signed file 0 (λ at. Unit {0}) None w32) in
+    let a = and_then-ok (called fields.Length (signed_at w32) (limited None) s) (λ p. record_of p.0 (limited None) p.1) (x, t) (begun_at-ok place _ (x, t) e) in
+    let size = Limited-called file 0 (λ at size. Unit {0}) None fields.Length (signed_at w32) (Limited-signed file 0 (λ at size. Unit {0}) None w32) in
     record-stays a.0.0 file a.0.1 t x (size.stays s a.0.0 a.0.1 is a.1) a.2
 
 -- what a limit leaves of the records of a source
@@ -143,28 +154,30 @@ record Cuts (most : ℕ) (file : List ℕ) (s : Source) (under whole : Items) : 
   parts : s.octets ≡ body ++ rest
   others : List Record
   records : whole.records ≡ under.records ++ others
-  place : ℕ
-  field : Option FileField
-  end : under.end ≡ Err (record { place = place; why = why.TooLong; field = field })
-  long : IsLong most file (s.place + length body) place
+  fault : Fault
+  end : under.end ≡ Err fault
+  long_by : ℕ
+  reason : fault.why ≡ why.TooLong long_by
+  begin : fault.begin ≡ s.place + length body
+  long : IsLong most file (s.place + length body) fault.place long_by
 
-Cuts-here : (most : ℕ) (file : List ℕ) (s : Source) (others : Source → Items) (whole : Items) (r : Result (Next × Source) Fault) → IsTooLong (IsLong most file s.place) r → Cuts most file s (items_from r others) whole
-Cuts-here most file s others whole r l =
-    let fault : Fault = record { place = l.fault.place; why = why.TooLong; field = l.fault.field } in
-    let is : r ≡ Err fault = l.is ∙ ap (λ reason. failed (Next × Source) (record l.fault { why = reason })) l.reason in
+Cuts-here : (most : ℕ) (file : List ℕ) (s : Source) (others : Source → Items) (whole : Items) (r : Result (Next × Source) Fault) → IsTooLong (IsLong most file s.place) r → ((f : Fault) → r ≡ Err f → f.begin ≡ s.place) → Cuts most file s (items_from r others) whole
+Cuts-here most file s others whole r l begins =
     let none : List ℕ = [] in
     let start : s.place ≡ s.place + length none = omega arith in
-    subst (λ (x : Result (Next × Source) Fault). Cuts most file s (items_from x others) whole) (sym is) (record {
+    subst (λ (x : Result (Next × Source) Fault). Cuts most file s (items_from x others) whole) (sym l.is) (record {
       body = [];
       rest = s.octets;
       spelled = refl;
       parts = refl;
       others = whole.records;
       records = refl;
-      place = l.fault.place;
-      field = l.fault.field;
+      fault = l.fault;
       end = refl;
-      long = subst (λ (k : ℕ). IsLong most file k l.fault.place) start l.long;
+      long_by = l.size;
+      reason = l.reason;
+      begin = begins l.fault l.is ∙ start;
+      long = subst (λ (k : ℕ). IsLong most file k l.fault.place l.size) start l.long;
     })
 
 Cuts-item : (most : ℕ) (file : List ℕ) (limit : Option ℕ) (s t : Source) (r : Record) (under whole : Items) → RecordRead limit s t (nexts.Item r) → Cuts most file t under whole → Cuts most file s (with_first r under) (with_first r whole)
@@ -177,10 +190,12 @@ Cuts-item most file limit s t r under whole first cut =
       parts = first.2.parts ∙ ap (λ (x : List ℕ). first.0 ++ x) cut.parts ∙ simp append_assoc;
       others = cut.others;
       records = ap (λ (x : List Record). r ∷ x) cut.records;
-      place = cut.place;
-      field = cut.field;
+      fault = cut.fault;
       end = cut.end;
-      long = subst (λ (k : ℕ). IsLong most file k cut.place) place cut.long;
+      long_by = cut.long_by;
+      reason = cut.reason;
+      begin = cut.begin ∙ place;
+      long = subst (λ (k : ℕ). IsLong most file k cut.fault.place cut.long_by) place cut.long;
     }
 
 cuts-step : (most : ℕ) (file : List ℕ) (s : Source) (under whole : Source → Items) → ((t : Source) → AreOctets t.octets → IsOf file t → (under t ≡ whole t) ⊎ Cuts most file t (under t) (whole t))
@@ -196,15 +211,16 @@ cuts-step most file s under whole rest (Ok (nexts.Item r, t)) sound = either (re
     either (inl e) = inl (ap (with_first r) e)
     either (inr cut) = inr (Cuts-item most file None s t r (under t) (whole t) first.0 cut)
 
-cuts-either : (most : ℕ) (file : List ℕ) (s : Source) (under whole : Source → Items) (r w : Result (Next × Source) Fault) → IsSameOrTooLong (IsLong most file s.place) r w → (items_from w under ≡ items_from w whole) ⊎ Cuts most file s (items_from w under) (items_from w whole)
+cuts-either : (most : ℕ) (file : List ℕ) (s : Source) (under whole : Source → Items) (r w : Result (Next × Source) Fault) → IsSameOrTooLong (IsLong most file s.place) r w → ((f : Fault) → r ≡ Err f → f.begin ≡ s.place) → (items_from w under ≡ items_from w whole) ⊎ Cuts most file s (items_from w under) (items_from w whole)
     → (items_from r under ≡ items_from w whole) ⊎ Cuts most file s (items_from r under) (items_from w whole)
-cuts-either most file s under whole r w (inl e) step = subst (λ (x : Result (Next × Source) Fault). (items_from x under ≡ items_from w whole) ⊎ Cuts most file s (items_from x under) (items_from w whole)) (sym e) step
-cuts-either most file s under whole r w (inr l) step = inr (Cuts-here most file s under (items_from w whole) r l)
+cuts-either most file s under whole r w (inl e) begins step = subst (λ (x : Result (Next × Source) Fault). (items_from x under ≡ items_from w whole) ⊎ Cuts most file s (items_from x under) (items_from w whole)) (sym e) step
+cuts-either most file s under whole r w (inr l) begins step = inr (Cuts-here most file s under (items_from w whole) r l begins)
 
 items-cut : (bound most : ℕ) (file : List ℕ) (s : Source) → AreOctets s.octets → IsOf file s → (items_within bound (Some most) s ≡ items_within bound None s) ⊎ Cuts most file s (items_within bound (Some most) s) (items_within bound None s)
 items-cut zero most file s fits is = inl refl
 items-cut (suc bound) most file s fits is =
     cuts-either most file s (items_within bound (Some most)) (items_within bound None) (record_at (limited (Some most)) s) (record_at (limited None) s) (next-same most file s.place s.octets is)
+    (λ f h. record-begin (limited (Some most)) s.place s.octets f h)
     (cuts-step most file s (items_within bound (Some most)) (items_within bound None) (items-cut bound most file) (record_at (limited None) s) (λ x t h. (record-sound None s.place s.octets t x fits h, next-stays file s.place s.octets t x is h)))
 
 after-version : (most : ℕ) (file : List ℕ) (t : Source) (under whole : Items) → file ≡ 5 ∷ 2 ∷ t.octets → t.place ≡ 2 → (under ≡ whole) ⊎ Cuts most file t under whole → (under ≡ whole) ⊎ AreCut most file under whole
@@ -215,10 +231,12 @@ after-version most file t under whole parts place (inr cut) =
       first = first-of file t under.records cut.body cut.rest parts cut.spelled cut.parts;
       others = cut.others;
       records = cut.records;
-      place = cut.place;
-      field = cut.field;
+      fault = cut.fault;
       end = cut.end;
-      long = subst (λ (k : ℕ). IsLong most file (k + length cut.body) cut.place) place cut.long;
+      octets = cut.long_by;
+      reason = cut.reason;
+      begin = cut.begin ∙ ap (λ (k : ℕ). k + length cut.body) place;
+      long = subst (λ (k : ℕ). IsLong most file (k + length cut.body) cut.fault.place cut.long_by) place cut.long;
     })
 
 pub limits-add : (most : ℕ) (file : List ℕ) → AreOctets file → (items (Some most) file ≡ items None file) ⊎ AreCut most file (items (Some most) file) (items None file)
@@ -229,6 +247,6 @@ limits-add most file fits = go (version_at (2 ∷ []) (limited None) (source_of 
     go (Err f) e = inl refl
     go (Ok (v, t)) e =
         let opening = version-one 2 (limited None) (source_of file) t v fits (inside_file None 0) e in
-        let version = Limited-version file most (λ at. Unit {0}) None (2 ∷ []) in
+        let version = Limited-version file most (λ at size. Unit {0}) None (2 ∷ []) in
         after-version most file t (items_after (Some most) t) (items_after None t) opening.0.parts opening.0.place
         (items-cut (length t.octets) most file t opening.0.fits (version.stays (source_of file) v t (record { octets = refl }) e))

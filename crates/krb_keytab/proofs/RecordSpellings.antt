@@ -4,9 +4,9 @@ use Rattle.std.proofs.lemmas.List.{nil_from_length}
 use Rattle.std.specs.Int.{w32}
 use Rattle.std.specs.Int.RustNames.{FitsSigned}
 use Rattle.krb_der.specs.Octets.{AreOctets}
-use Rattle.krb_file.specs.Fields.{signed, Source, Fault, limited, and_then, with_name, refused_at, called, next_octets_at, signed_at, within, are_zero}
+use Rattle.krb_file.specs.Fields.{signed, Source, Fault, limited, and_then, with_name, refused_at, begun_at, called, next_octets_at, signed_at, within, are_zero}
 use Rattle.krb_file.specs.declared.field_name.FieldName.TheVariants as fields
-use Rattle.krb_file.proofs.Fields.{refused_at-ok, at, done, ok_is, and_then-ok, Inside, Took, Took-then, Took-none, piece-ok, piece-took, piece-again, Reads-signed}
+use Rattle.krb_file.proofs.Fields.{refused_at-ok, begun_at-ok, at, done, ok_is, and_then-ok, Inside, Took, Took-then, Took-none, piece-ok, piece-took, piece-again, Reads-signed}
 use Rattle.krb_keytab.specs.declared.value.Record.{Record}
 use Rattle.krb_keytab.specs.declared.value.Record.TheVariants as records
 use Rattle.krb_keytab.specs.declared.reading.Next.{Next}
@@ -54,14 +54,14 @@ record-sound limit place [] t x fits e =
     subst (λ (p : Next × Source). RecordRead limit (at place []) p.1 p.0) (ok_is (nexts.Done stops.File, at place []) (x, t) e) (Took-none (limited limit) (at place []) fits (inside_file limit place), λ h. refl)
 record-sound limit place (octet ∷ octets) t x fits e =
     let s = at place (octet ∷ octets) in
-    let a = and_then-ok (called fields.Length (signed_at w32) (limited limit) s) (λ p. record_of p.0 (limited limit) p.1) (x, t) e in
+    let a = and_then-ok (called fields.Length (signed_at w32) (limited limit) s) (λ p. record_of p.0 (limited limit) p.1) (x, t) (begun_at-ok place _ (x, t) e) in
     let z = Reads-signed.sound (limited limit) s a.0.1 a.0.0 fits (inside_file limit place) (refused_at-ok (with_name fields.Length) (signed_at w32 (limited limit) s) a.0 a.1) in
     record_of-sound a.0.0 limit s a.0.1 t x z.0 z.1 a.2
 
 -- a record's length, and then the rest of the record
-length-again : (z : ℤ) (place : ℕ) (octets : List ℕ) → FitsSigned w32 z → record_at (limited None) (at place (signed w32 z ++ octets)) ≡ record_of z (limited None) (at (place + 4) octets)
+length-again : (z : ℤ) (place : ℕ) (octets : List ℕ) → FitsSigned w32 z → record_at (limited None) (at place (signed w32 z ++ octets)) ≡ begun_at place (record_of z (limited None) (at (place + 4) octets))
 length-again z place octets fits =
-    ap (λ (r : Result (ℤ × Source) Fault). and_then (refused_at (with_name fields.Length) r) (λ p. record_of p.0 (limited None) p.1)) (Reads-signed.again (limited None) place octets z fits refl (inside_file None (place + 4)))
+    ap (λ (r : Result (ℤ × Source) Fault). begun_at place (and_then (refused_at (with_name fields.Length) r) (λ p. record_of p.0 (limited None) p.1))) (Reads-signed.again (limited None) place octets z fits refl (inside_file None (place + 4)))
 
 pub record-again : (r : Record) (b : List ℕ) (place : ℕ) (rest : List ℕ) → RecordSpells r b → record_at (limited None) (at place (b ++ rest)) ≡ Ok (nexts.Item r, at (place + length b) rest)
 record-again (records.Entry e) b place rest spelled =
@@ -70,7 +70,7 @@ record-again (records.Entry e) b place rest spelled =
     ap (λ (x : List ℕ). record_at (limited None) (at place (x ++ rest))) spelled.1
     ∙ ap (λ (x : List ℕ). record_at (limited None) (at place x)) (append_assoc (signed w32 z) (entry e) rest)
     ∙ length-again z place (entry e ++ rest) fits
-    ∙ ap (λ (r : Result (Entry × Source) Fault). and_then r (λ p. done (nexts.Item (records.Entry p.0), p.1))) (entry-again e (place + 4) rest spelled.0)
+    ∙ ap (λ (r : Result (Entry × Source) Fault). begun_at place (and_then r (λ p. done (nexts.Item (records.Entry p.0), p.1)))) (entry-again e (place + 4) rest spelled.0)
     ∙ ap (λ (k : ℕ). done (nexts.Item (records.Entry e), at k rest)) (omega (arith, ap length spelled.1, length-append (signed w32 z) (entry e)))
 record-again (records.Hole h) b place rest spelled = go h.size spelled.0 spelled.1 refl spelled.2
   where
@@ -87,7 +87,7 @@ record-again (records.Hole h) b place rest spelled = go h.size spelled.0 spelled
         ap (λ (x : List ℕ). record_at (limited None) (at place (x ++ rest))) spelled
         ∙ ap (λ (x : List ℕ). record_at (limited None) (at place x)) (append_assoc (signed w32 z) octets rest)
         ∙ length-again z place (octets ++ rest) fits
-        ∙ ap (λ (r : Result (List ℕ × Source) Fault). and_then (refused_at (with_name fields.Hole) r) (λ p. done (nexts.Item (records.Hole (made (suc n) (are_zero p.0))), p.1))) piece
+        ∙ ap (λ (r : Result (List ℕ × Source) Fault). begun_at place (and_then (refused_at (with_name fields.Hole) r) (λ p. done (nexts.Item (records.Hole (made (suc n) (are_zero p.0))), p.1)))) piece
         ∙ ap (λ (h : HoleModel). done (nexts.Item (records.Hole h), at ((place + 4) + length octets) rest)) same
         ∙ ap (λ (k : ℕ). done (nexts.Item (records.Hole h), at k rest)) (omega (arith, ap length spelled, length-append (signed w32 z) octets))
 

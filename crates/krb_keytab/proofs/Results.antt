@@ -25,4 +25,4 @@ pub refused : (file : List ℕ) (answer : Answer) → Agrees (λ taken. taken) a
 refused file (Ok taken) succeed = tt
 refused file (Err faults.Memory) succeed = tt
 refused file (Err faults.Read) succeed = absurd succeed
-refused file (Err (faults.Refused place why field)) succeed = read-fault file (record { place = place; why = why; field = field }) succeed
+refused file (Err (faults.Refused fault)) succeed = read-fault file fault succeed

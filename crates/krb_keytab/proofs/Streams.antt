@@ -1,18 +1,18 @@
 -- A keytab that is read one record at a time: how each call changes the records that are left.
 use Rattle.std.proofs.Common.{◌≡◌, ℕ, suc, Option, Some, Result, Ok, Err, List, [], ◌∷◌, ◌++◌, length, refl, sym, ◌∙◌, ap, subst, arith, append_assoc, append-nil, length-append}
 use Rattle.std.specs.Prelude.{IfErr}
-use Rattle.krb_file.specs.Fields.{Source, Fault, Bounds, limited, version_at, IsStreamFaultIn}
+use Rattle.krb_file.specs.Fields.{Source, Fault, Bounds, limited, version_at, fault_begun, IsStreamFaultIn}
 use Rattle.krb_file.specs.FieldReaders.{Cursor, source_at, HasRead, FailsBy}
 use Rattle.krb_file.specs.declared.fault.FileFault.{FileFault}
 use Rattle.krb_file.specs.declared.fault.FileFault.TheVariants as faults
-use Rattle.krb_file.proofs.FieldReaders.{some_rest}
+use Rattle.krb_file.proofs.FieldReaders.{some_rest, part_fails}
 use Rattle.krb_keytab.specs.declared.value.Record.{Record}
 use Rattle.krb_keytab.specs.declared.value.Stop.{Stop}
 use Rattle.krb_keytab.specs.declared.reading.Next.{Next}
 use Rattle.krb_keytab.specs.declared.reading.Next.TheVariants as nexts
 use Rattle.krb_keytab.specs.declared.records.State.{State}
 use Rattle.krb_keytab.specs.declared.records.State.TheVariants as states
-use Rattle.krb_keytab.specs.Reading.{record_at, Items, with_first, no_items, after_version, items_after, items}
+use Rattle.krb_keytab.specs.Reading.{next_record_at, record_at, Items, with_first, no_items, after_version, items_after, items}
 use Rattle.krb_keytab.specs.Streaming.{before, Reads, IsItem, EndsBy, ReturnsNext}
 use Rattle.krb_keytab.proofs.Faults.{items-fault}
 use Rattle.krb_keytab.proofs.Stepwise.{after-item, after-done, after-fault}
@@ -95,17 +95,21 @@ ends_so limit file count fault given left counted is whole =
 pub fault_given : (limit : Option ℕ) (file : List ℕ) (count : ℕ) (e : FileFault) (MayFail : Type 0) (state : State) (old new : Cursor) → Reads limit old states.Open file count → FailsBy e record_at MayFail old → ReturnsNext limit file count (Err e) new state
 fault_given limit file count faults.Read MayFail state old new reads fails = tt
 fault_given limit file count faults.Memory MayFail state old new reads fails = tt
-fault_given limit file count (faults.Refused place why field) MayFail state old new reads fails =
-    let fault : Fault = record { place = place; why = why; field = field } in
+fault_given limit file count (faults.Refused fault) MayFail state old new reads fails =
     let b = reads.rest fails.octets fails.there in
     let e : record_at (limited limit) (source_at old.place fails.octets) ≡ Err fault = subst (λ (k : Bounds). record_at k (source_at old.place fails.octets) ≡ Err fault) reads.bounds fails.refused in
     ends_so limit file count fault reads.given b.0 reads.counted (b.1 ∙ after-fault limit (source_at old.place fails.octets) fault e) b.2
 
+-- a fault in the next record, and where that begins
+pub fault_begun_given : (limit : Option ℕ) (file : List ℕ) (count : ℕ) (e told : FileFault) (begin : ℕ) (MayFail : Type 0) (state : State) (old new : Cursor) → begin ≡ old.place → told ≡ fault_begun begin e → Reads limit old states.Open file count → FailsBy e next_record_at MayFail old → ReturnsNext limit file count (Err told) new state
+fault_begun_given limit file count e told begin MayFail state old new here tells reads fails =
+    let same : fault_begun old.place e ≡ told = ap (λ (place : ℕ). fault_begun place e) (sym here) ∙ sym tells in
+    subst (λ (fault : FileFault). ReturnsNext limit file count (Err fault) new state) same (fault_given limit file count (fault_begun old.place e) MayFail state old new reads (part_fails next_record_at e MayFail old fails))
+
 pub version_refused : (limit : Option ℕ) (file : List ℕ) (count : ℕ) (e : FileFault) (MayFail : Type 0) (state : State) (old new : Cursor) → Reads limit old states.Start file count → FailsBy e (version_at (2 ∷ [])) MayFail old → ReturnsNext limit file count (Err e) new state
 version_refused limit file count faults.Read MayFail state old new reads fails = tt
 version_refused limit file count faults.Memory MayFail state old new reads fails = tt
-version_refused limit file count (faults.Refused place why field) MayFail state old new reads fails =
-    let fault : Fault = record { place = place; why = why; field = field } in
+version_refused limit file count (faults.Refused fault) MayFail state old new reads fails =
     let b = reads.rest fails.octets fails.there in
     let e : version_at (2 ∷ []) (limited limit) (source_at old.place fails.octets) ≡ Err fault = subst (λ (k : Bounds). version_at (2 ∷ []) k (source_at old.place fails.octets) ≡ Err fault) reads.bounds fails.refused in
     ends_so limit file count fault reads.given b.0 reads.counted (b.1 ∙ ap (λ (r : Result (ℕ × Source) Fault). after_version r (items_after limit)) e) b.2
@@ -121,4 +125,4 @@ pub refusal_in_file : (limit : Option ℕ) (file : List ℕ) (count : ℕ) (give
 refusal_in_file limit file count (Ok answered) cursor state answer = tt
 refusal_in_file limit file count (Err faults.Read) cursor state answer = tt
 refusal_in_file limit file count (Err faults.Memory) cursor state answer = tt
-refusal_in_file limit file count (Err (faults.Refused place why field)) cursor state answer = let p = items-fault limit file (record { place = place; why = why; field = field }) answer.is in omega (arith, p.upto)
+refusal_in_file limit file count (Err (faults.Refused fault)) cursor state answer = let p = items-fault limit file fault answer.is in omega (arith, p.upto)

@@ -77,59 +77,64 @@ hole_dirty : write_fault (record { records = records.Entry entry ∷ records.Hol
 hole_dirty = refl
 
 -- ---- faults
-abbrev fault : ℕ → FileWhy → FieldName → Fault
-fault place reason name = record { place = place; why = reason; field = Some (record { part = None; name = name }) }
+-- in a part that begins at the first number
+abbrev fault : ℕ → ℕ → FileWhy → FieldName → Fault
+fault begin place reason name = record { place = place; why = reason; field = Some (record { part = None; name = name }); begin = begin }
 
-no_octet : read ([]) ≡ Err (fault 0 why.Truncated fields.Magic)
+-- of a field of so many octets
+abbrev long : ℕ → ℕ → ℕ → FieldName → Fault
+long begin place size name = fault begin place (why.TooLong size) name
+
+no_octet : read ([]) ≡ Err (fault 0 0 why.Truncated fields.Magic)
 no_octet = refl
 
-one_octet : read (hex (codes "05")) ≡ Err (fault 1 why.Truncated fields.Version)
+one_octet : read (hex (codes "05")) ≡ Err (fault 1 1 why.Truncated fields.Version)
 one_octet = refl
 
-not_five : read (hex (codes "0601")) ≡ Err (fault 0 why.Magic fields.Magic)
+not_five : read (hex (codes "0601")) ≡ Err (fault 0 0 why.Magic fields.Magic)
 not_five = refl
 
-not_five_alone : read (hex (codes "06")) ≡ Err (fault 0 why.Magic fields.Magic)
+not_five_alone : read (hex (codes "06")) ≡ Err (fault 0 0 why.Magic fields.Magic)
 not_five_alone = refl
 
-other_version : read (hex (codes "0501")) ≡ Err (fault 1 why.Version fields.Version)
+other_version : read (hex (codes "0501")) ≡ Err (fault 1 1 why.Version fields.Version)
 other_version = refl
 
-length_cut : read (hex (codes "0502 0000")) ≡ Err (fault 2 why.Truncated fields.Length)
+length_cut : read (hex (codes "0502 0000")) ≡ Err (fault 2 2 why.Truncated fields.Length)
 length_cut = refl
 
-count_overruns : read (hex (codes "0502 00000001 00")) ≡ Err (fault 6 why.Overrun fields.ComponentCount)
+count_overruns : read (hex (codes "0502 00000001 00")) ≡ Err (fault 2 6 why.Overrun fields.ComponentCount)
 count_overruns = refl
 
-realm_overruns : read (hex (codes "0502 00000003 0001 00")) ≡ Err (fault 8 why.Overrun fields.Realm)
+realm_overruns : read (hex (codes "0502 00000003 0001 00")) ≡ Err (fault 2 8 why.Overrun fields.Realm)
 realm_overruns = refl
 
-component_overruns_at_the_end : read (hex (codes "0502 00000004 0001 0000")) ≡ Err (fault 10 why.Overrun (fields.Component 0))
+component_overruns_at_the_end : read (hex (codes "0502 00000004 0001 0000")) ≡ Err (fault 2 10 why.Overrun (fields.Component 0))
 component_overruns_at_the_end = refl
 
-realm_cut : read (hex (codes "0502 0000001B 0001 0003 41")) ≡ Err (fault 10 why.Truncated fields.Realm)
+realm_cut : read (hex (codes "0502 0000001B 0001 0003 41")) ≡ Err (fault 2 10 why.Truncated fields.Realm)
 realm_cut = refl
 
-hole_cut : read (hex (codes "0502 80000000")) ≡ Err (fault 6 why.Truncated fields.Hole)
+hole_cut : read (hex (codes "0502 80000000")) ≡ Err (fault 2 6 why.Truncated fields.Hole)
 hole_cut = refl
 
 -- ---- a limit on fields of octets
-limit_1 : items (Some 1) keytab_octets ≡ record { records = []; end = Err (fault 27 why.TooLong fields.Key) }
+limit_1 : items (Some 1) keytab_octets ≡ record { records = []; end = Err (long 2 27 2 fields.Key) }
 limit_1 = refl
 
-limit_2 : items (Some 2) keytab_octets ≡ record { records = []; end = Err (fault 29 why.TooLong fields.Rest) }
+limit_2 : items (Some 2) keytab_octets ≡ record { records = []; end = Err (long 2 29 4 fields.Rest) }
 limit_2 = refl
 
 limit_4 : items (Some 4) keytab_octets ≡ record { records = keytab.records; end = Ok (stops.Zero, 49) }
 limit_4 = refl
 
-too_long_before_truncated : items (Some 1) (hex (codes "0502 0000001B 0001 0003 41")) ≡ record { records = []; end = Err (fault 10 why.TooLong fields.Realm) }
+too_long_before_truncated : items (Some 1) (hex (codes "0502 0000001B 0001 0003 41")) ≡ record { records = []; end = Err (long 2 10 3 fields.Realm) }
 too_long_before_truncated = refl
 
-overrun_before_too_long : items (Some 1) (hex (codes "0502 00000005 0001 0003 41")) ≡ record { records = []; end = Err (fault 10 why.Overrun fields.Realm) }
+overrun_before_too_long : items (Some 1) (hex (codes "0502 00000005 0001 0003 41")) ≡ record { records = []; end = Err (fault 2 10 why.Overrun fields.Realm) }
 overrun_before_too_long = refl
 
-cut_in_a_hole : items (Some 16777216) (take 40 keytab_octets) ≡ record { records = records.Entry entry ∷ []; end = Err (fault 37 why.Truncated fields.Hole) }
+cut_in_a_hole : items (Some 16777216) (take 40 keytab_octets) ≡ record { records = records.Entry entry ∷ []; end = Err (fault 33 37 why.Truncated fields.Hole) }
 cut_in_a_hole = refl
 
 -- ---- the octets before a key

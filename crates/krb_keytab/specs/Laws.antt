@@ -6,7 +6,6 @@ use Rattle.krb_file.specs.Fields.{Source, Fault, limited, Reader, ◌>>=◌, cal
 use Rattle.krb_file.specs.Limits.{number_from, number_before}
 use Rattle.krb_file.specs.declared.fault.FileWhy.TheVariants as why
 use Rattle.krb_file.specs.declared.field_name.FieldName.TheVariants as fields
-use Rattle.krb_file.specs.declared.field_name.FileField.{FileField}
 use Rattle.krb_keytab.specs.declared.value.Keytab.{Keytab}
 use Rattle.krb_keytab.specs.declared.value.Record.{Record}
 use Rattle.krb_keytab.specs.declared.value.Stop.{Stop}
@@ -29,29 +28,31 @@ pub record AreFirst (file : List ℕ) (records : List Record) (size : ℕ) : Typ
   pub there : length (take size file) ≡ size
   pub spelled : KeytabSpells (record { records = records; stop = stops.File }) (take size file)
 
--- where the records of a file end, or the field at fault begins
-abbrev pub end_place : Result (Stop × ℕ) Fault → ℕ
-end_place (Ok end) = end.1
-end_place (Err fault) = fault.place
+-- the first `size` octets are before the end of the records, or before the record that a fault is in and up to where the fault says that this begins
+abbrev pub AreBefore : ℕ → Result (Stop × ℕ) Fault → Type 0
+AreBefore size (Ok end) = size ≤ end.1
+AreBefore size (Err fault) = (size ≡ fault.begin) × (size ≤ fault.place)
 
--- The records that are read of a file, if there are any, are spelled by its octets before the fault or up to the end.
+-- The records that are read of a file, if there are any, are spelled by its octets before the record at fault or up to the end.
 abbrev pub RecordsAreSpelled : Type 0
-RecordsAreSpelled = (limit : Option ℕ) (file : List ℕ) → AreOctets file → ((items limit file).records ≡ []) ⊎ ((size : ℕ) × AreFirst file (items limit file).records size × (size ≤ end_place (items limit file).end))
+RecordsAreSpelled = (limit : Option ℕ) (file : List ℕ) → AreOctets file → ((items limit file).records ≡ []) ⊎ ((size : ℕ) × AreFirst file (items limit file).records size × AreBefore size (items limit file).end)
 
--- The field at a place has more octets than a limit, as the two octets before it say; or, after the key of an entry, as the length of the record says, which begins at `start`.
-abbrev pub IsLong : (most : ℕ) (file : List ℕ) (start place : ℕ) → Type 0
-IsLong most file start place = (most < number_before w16 file place) ⊎ (place + most < start + 4 + content_size (cast_signed w32 (number_from w32 file start)))
+-- The field at a place has so many octets, more than a limit, as the two octets before it say; or, after the key of an entry, as the length of the record says, which begins at `start`.
+abbrev pub IsLong : (most : ℕ) (file : List ℕ) (start place size : ℕ) → Type 0
+IsLong most file start place size = (most < size) × ((size ≡ number_before w16 file place) ⊎ (place + size ≡ start + 4 + content_size (cast_signed w32 (number_from w32 file start))))
 
--- What a limit leaves of the records of a file: those before a longer field, and its fault.
+-- What a limit leaves of the records of a file: those before a longer field, and its fault, which tells how many octets the field has and where its record begins.
 pub record AreCut (most : ℕ) (file : List ℕ) (under whole : Items) : Type 0 where
   pub size : ℕ
   pub first : AreFirst file under.records size
   pub others : List Record
   pub records : whole.records ≡ under.records ++ others
-  pub place : ℕ
-  pub field : Option FileField
-  pub end : under.end ≡ Err (record { place = place; why = why.TooLong; field = field })
-  pub long : IsLong most file size place
+  pub fault : Fault
+  pub end : under.end ≡ Err fault
+  pub octets : ℕ
+  pub reason : fault.why ≡ why.TooLong octets
+  pub begin : fault.begin ≡ size
+  pub long : IsLong most file size fault.place octets
 
 -- Under a limit a file is read as without one, or up to a field that is longer.
 abbrev pub LimitsAddTooLong : Type 0

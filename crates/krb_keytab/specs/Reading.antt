@@ -2,7 +2,7 @@
 use Rattle.std.specs.Prelude.{ℕ, zero, suc, ◌+◌, ℤ, pos, negsuc, List, [], ◌∷◌, length, Option, None, Result, Ok, Err}
 use Rattle.std.specs.Int.{w8, w16, w32}
 use Rattle.krb_der.specs.Octets.{when}
-use Rattle.krb_file.specs.Fields.{Source, source_of, Fault, Bounds, limited, Reader, ◌>>=◌, succeed, called, next_octets_at, rest_at, is_empty, number_at, signed_at, counted_at, names_at, within, version_at, are_zero}
+use Rattle.krb_file.specs.Fields.{Source, source_of, Fault, Bounds, limited, Reader, ◌>>=◌, succeed, called, one_part, next_octets_at, rest_at, is_empty, number_at, signed_at, counted_at, names_at, within, version_at, are_zero}
 use Rattle.krb_file.specs.declared.field_name.FieldName.TheVariants as fields
 use Rattle.krb_keytab.specs.declared.value.Keytab.{Keytab}
 use Rattle.krb_keytab.specs.declared.value.Record.{Record}
@@ -37,9 +37,13 @@ record_of (negsuc n) = do
   succeed (nexts.Item (records.Hole (record { size = suc n; clean = are_zero octets })))
 
 -- the next record, or the end of the records
-abbrev pub record_at : Reader Next
-record_at bounds source =
+abbrev pub next_record_at : Reader Next
+next_record_at bounds source =
     when (is_empty source.octets) (λ _. Ok (nexts.Done stops.File, source)) (λ _. (called fields.Length (signed_at w32) >>= record_of) bounds source)
+
+-- the same; a fault is in the record, which begins with its length
+abbrev pub record_at : Reader Next
+record_at = one_part next_record_at
 
 -- ---- the number of octets that a record announces
 

@@ -57,6 +57,6 @@ pub record EndsBy (items : Items) (count : ℕ) (end : Result (Stop × ℕ) Faul
 abbrev pub ReturnsNext : Option ℕ → List ℕ → ℕ → Result Next FileFault → Cursor → State → Type 0
 ReturnsNext limit file count (Ok (nexts.Item item)) cursor state = IsItem (items limit file) count item × Reads limit cursor state file (suc count)
 ReturnsNext limit file count (Ok (nexts.Done stop)) cursor state = EndsBy (items limit file) count (Ok (stop, cursor.place))
-ReturnsNext limit file count (Err (faults.Refused place why field)) cursor state = EndsBy (items limit file) count (Err (record { place = place; why = why; field = field }))
+ReturnsNext limit file count (Err (faults.Refused fault)) cursor state = EndsBy (items limit file) count (Err fault)
 ReturnsNext limit file count (Err faults.Read) cursor state = Unit {0}
 ReturnsNext limit file count (Err faults.Memory) cursor state = Unit {0}

@@ -6,7 +6,7 @@ ghost use Rattle.krb_file.specs.Fields.{Agrees, IsFaultIn, ended, limited, withi
 ghost use Rattle.krb_file.specs.FieldReaders.{Follows, FetchesTo, Stays, Keeps, FetchesToAnnounced, source_at};
 ghost use Rattle.krb_keytab.specs.Spelling.{ReadAs};
 ghost use Rattle.krb_keytab.specs.declared.value.Keytab.{Keytab as KeytabValue};
-ghost use Rattle.krb_keytab.specs.Reading.{entry_at, content_size, announced, record_of, record_at, items_after, keytab_of_items, read};
+ghost use Rattle.krb_keytab.specs.Reading.{entry_at, content_size, announced, record_of, next_record_at, items_after, keytab_of_items, read};
 
 use crate::value::{Entry, Hole, Keytab, Record, Stop};
 use krb_der::{KString, Many, Octets};
@@ -95,9 +95,9 @@ fn record_after<F: FieldReader>(
 /// The number of octets of a record's length.
 const LENGTH_OCTETS: u64 = 4;
 
-/// Reads the next record, or how the records end.
+/// Reads the next record, or how the records end. A fault does not tell where the record begins.
 pub(crate) fn record<F: FieldReader>(alloc: Global, reader: &mut F) -> Result<Next, FileFault>
-    ensures read { Follows (λ next. next) result record_at F.MayFail (F.cursor reader.old) (F.cursor reader.new) }
+    ensures read { Follows (λ next. next) result next_record_at F.MayFail (F.cursor reader.old) (F.cursor reader.new) }
     ensures stays { OnOk result (Stays (F.cursor reader.old) (F.cursor reader.new)) }
     ensures keeps { OnErr result (FetchesToAnnounced announced (F.cursor reader.old) (F.cursor reader.new)) }
 {
@@ -116,12 +116,14 @@ fn keytab(alloc: Global, reader: &mut SliceReader<'_>) -> Result<(Keytab, usize)
 {
     let mut records = Vec::new(alloc);
     loop {
-        match record(alloc, reader)? {
-            Next::Item(record) => records.push(record)?,
-            Next::Done(stop) => {
+        let begin = reader.place();
+        match record(alloc, reader) {
+            Ok(Next::Item(record)) => records.push(record)?,
+            Ok(Next::Done(stop)) => {
                 let records = Many::new(records);
                 return Ok((Keytab { records, stop }, reader.place() as usize));
             }
+            Err(fault) => return Err(fault.begun_at(begin)),
         }
     }
 }

@@ -116,6 +116,7 @@ impl<R: Read> Records<R> {
         ensures ends { (stop : StopValue) → result ≡ Ok (nexts.Done stop) → self.new.state ≡ states.Done stop }
         ensures fails { IfErr result (λ fault. self.new.state ≡ states.Failed fault) }
     {
+        let begin = self.reader.place();
         match record(alloc, &mut self.reader) {
             Ok(Next::Item(item)) => {
                 self.state = State::Open;
@@ -126,6 +127,7 @@ impl<R: Read> Records<R> {
                 Ok(Next::Done(stop))
             }
             Err(fault) => {
+                let fault = fault.begun_at(begin);
                 self.state = State::Failed(fault);
                 Err(fault)
             }

@@ -19,13 +19,15 @@ use Rattle.krb_ccache.specs.declared.ticket.TicketState.TheVariants as states
 use Rattle.krb_ccache.specs.Spelling.{offset, is_config}
 use Rattle.krb_ccache.specs.Tickets.{ticket_read, judged_state, field_state, state_of}
 use Rattle.krb_text.specs.declared.form.Form.{Form}
+use Rattle.krb_text.specs.declared.form.Form.TheVariants as forms
 use Rattle.krb_text.specs.Forms.{record_line}
 use Rattle.krb_text.specs.Laws.{IsOneLine}
 use Rattle.krb_list.specs.Laws.{RecordIsOfOctets, PrincipalIsOfOctets, CredentialIsOfOctets}
 use Rattle.krb_text.specs.Text.{AllAreOctets}
 use Rattle.krb_text.specs.Time.{file_time, moment_text}
-use Rattle.krb_text.specs.Values.{Value, Absent, NoTicket, Word, RefusedTicket, sealed}
+use Rattle.krb_text.specs.Values.{Value, Absent, NoTicket, Quoted, Word, RefusedTicket, sealed}
 use Rattle.krb_list.specs.Keytabs.{printed_record, keytab_end}
+use Rattle.krb_list.specs.Configs.{config_value, is_shown}
 use Rattle.krb_list.specs.Ccaches.{offset_value, cache_record, state, ticket_server, ticketed_record, config_record, state_record, credential_record, cache_end}
 use Rattle.krb_text.proofs.EachForm.{IsShown}
 use Rattle.krb_text.proofs.EndOneLine.{one_line}
@@ -156,24 +158,30 @@ ticketed form now c ticket server h its_ticket its_server =
       ),
     )
 
-config : (form : Form) (c : Credential) → CredentialIsOfOctets c → IsOneLine (record_line form (config_record c))
-unfolding config_record
-config form c h = one_line form (config_record c) refl refl (h.client, (h.server, (tt, tt)))
+value : (shown : Bool) (c : Credential) → CredentialIsOfOctets c → IsShown (if shown then Quoted c.ticket else Absent)
+value true c h = h.ticket
+value false c h = tt
+
+config : (form : Form) (c : Credential) → CredentialIsOfOctets c → IsOneLine (record_line form (config_record form c))
+unfolding config_record config_value
+config forms.Lines c h = one_line forms.Lines (config_record forms.Lines c) refl refl (h.client, (h.server, (tt, tt)))
+config forms.NamedLines c h = one_line forms.NamedLines (config_record forms.NamedLines c) refl refl (h.client, (h.server, (tt, (value (is_shown c.server.components) c h, tt))))
+config forms.Json c h = one_line forms.Json (config_record forms.Json c) refl refl (h.client, (h.server, (tt, (value (is_shown c.server.components) c h, tt))))
 
 -- by what the ticket field holds
-judged : (form : Form) (now : Option ℕ) (c : Credential) (found : Option Refusal) (octets : List ℕ) → CredentialIsOfOctets c → AreOctets octets → IsOneLine (record_line form (state_record now c (judged_state found octets)))
+judged : (form : Form) (now : Option ℕ) (c : Credential) (found : Option Refusal) (octets : List ℕ) → CredentialIsOfOctets c → AreOctets octets → IsOneLine (record_line form (state_record form now c (judged_state found octets)))
 judged form now c None octets h a =
     ticketed form now c (sealed (ticket_read octets).enc_part) (ticket_server (ticket_read octets)) h tt (server octets a, realm octets a)
 judged form now c (Some r) octets h a = ticketed form now c (RefusedTicket r) Absent h tt tt
 
-ticket_field : (form : Form) (now : Option ℕ) (c : Credential) (octets : List ℕ) → CredentialIsOfOctets c → AreOctets octets → IsOneLine (record_line form (state_record now c (field_state octets)))
+ticket_field : (form : Form) (now : Option ℕ) (c : Credential) (octets : List ℕ) → CredentialIsOfOctets c → AreOctets octets → IsOneLine (record_line form (state_record form now c (field_state octets)))
 ticket_field form now c [] h a = ticketed form now c NoTicket Absent h tt tt
 ticket_field form now c (o ∷ octets) h a = judged form now c (ticket_refusal profiles.Lenient (o ∷ octets)) (o ∷ octets) h a
 
-by_kind : (form : Form) (now : Option ℕ) (c : Credential) (is : Bool) → CredentialIsOfOctets c → IsOneLine (record_line form (state_record now c (when is (λ _. states.Config) (λ _. field_state c.ticket))))
+by_kind : (form : Form) (now : Option ℕ) (c : Credential) (is : Bool) → CredentialIsOfOctets c → IsOneLine (record_line form (state_record form now c (when is (λ _. states.Config) (λ _. field_state c.ticket))))
 by_kind form now c true h = config form c h
 by_kind form now c false h = ticket_field form now c c.ticket h h.ticket
 
-pub credential_shown : (form : Form) (now : Option ℕ) (c : Credential) → CredentialIsOfOctets c → IsOneLine (record_line form (credential_record now c))
+pub credential_shown : (form : Form) (now : Option ℕ) (c : Credential) → CredentialIsOfOctets c → IsOneLine (record_line form (credential_record form now c))
 unfolding credential_record state_of
 credential_shown form now c h = by_kind form now c (is_config c) h

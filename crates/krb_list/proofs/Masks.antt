@@ -28,8 +28,9 @@ use Rattle.krb_text.specs.Masks.{masked_ticket}
 use Rattle.krb_text.specs.Values.{Printed, Value, sealed}
 use Rattle.krb_text.proofs.Masks.{sealed-same}
 use Rattle.krb_list.specs.Keytabs.{printed_record, keytab_lines}
+use Rattle.krb_list.specs.Configs.{config_value, is_shown}
 use Rattle.krb_list.specs.Ccaches.{ticketed_record, config_record, ticket_server, state_record, credential_record, ccache_lines}
-use Rattle.krb_list.specs.Laws.{TicketCipherIsNotShown}
+use Rattle.krb_list.specs.Laws.{ConfigValueIsNotShown, TicketCipherIsNotShown}
 
 -- values of the same records have the same lines
 same_lines : {A : Type 0} (mask : A → A) (record_of : A → Printed) → ((a : A) → record_of (mask a) ≡ record_of a) → (form : Form) (values : List A) → flat_map (λ a. record_line form (record_of a)) (map mask values) ≡ flat_map (λ a. record_line form (record_of a)) values
@@ -50,20 +51,20 @@ same_ticketed : (now : Option ℕ) (c : Credential) (ticket server : Value) → 
 unfolding ticketed_record
 same_ticketed now c its_ticket its_server = rw (length-zeros (length c.key)) refl
 
-same_in_state : (now : Option ℕ) (c : Credential) (state : TicketState) → state_record now (masked_credential c) state ≡ state_record now c state
-unfolding config_record
-same_in_state now c states.Config = refl
-same_in_state now c states.Absent = same_ticketed now c _ _
-same_in_state now c (states.Ticket t) = same_ticketed now c _ _
-same_in_state now c (states.Refused r) = same_ticketed now c _ _
+same_in_state : (form : Form) (now : Option ℕ) (c : Credential) (state : TicketState) → state_record form now (masked_credential c) state ≡ state_record form now c state
+unfolding config_record config_value
+same_in_state form now c states.Config = refl
+same_in_state form now c states.Absent = same_ticketed now c _ _
+same_in_state form now c (states.Ticket t) = same_ticketed now c _ _
+same_in_state form now c (states.Refused r) = same_ticketed now c _ _
 
-pub same_credential : (now : Option ℕ) (c : Credential) → credential_record now (masked_credential c) ≡ credential_record now c
+pub same_credential : (form : Form) (now : Option ℕ) (c : Credential) → credential_record form now (masked_credential c) ≡ credential_record form now c
 unfolding credential_record state_of
-same_credential now c = same_in_state now c (state_of c)
+same_credential form now c = same_in_state form now c (state_of c)
 
 pub same_cache : (form : Form) (now : Option ℕ) (v : Ccache) → ccache_lines form now (masked_cache v) ≡ ccache_lines form now v
 unfolding ccache_lines
-same_cache form now v = rw (same_lines masked_credential (credential_record now) (same_credential now) form v.credentials, length-map v.credentials masked_credential) refl
+same_cache form now v = rw (same_lines masked_credential (credential_record form now) (same_credential form now) form v.credentials, length-map v.credentials masked_credential) refl
 
 -- masked and then upgraded, or upgraded and then masked
 masked_upgraded : (cs : List Credential3) → map (λ c. c.credential) (map masked_credential3 cs) ≡ map masked_credential (map (λ c. c.credential) cs)
@@ -90,9 +91,9 @@ other_ticketed : (now : Option ℕ) (c : Credential) (other : List ℕ) (its_tic
 unfolding ticketed_record
 other_ticketed now c other its_ticket its_server = refl
 
-other_config : (c : Credential) (other : List ℕ) → length other ≡ length c.ticket → config_record (record c { ticket = other }) ≡ config_record c
-unfolding config_record
-other_config c other len = rw len refl
+other_config : (form : Form) (c : Credential) (other : List ℕ) → is_shown c.server.components ≡ false → length other ≡ length c.ticket → config_record form (record c { ticket = other }) ≡ config_record form c
+unfolding config_record config_value
+other_config form c other hidden len = rw (hidden, len) refl
 
 config_state : (c : Credential) → is_config c ≡ true → state_of c ≡ states.Config
 unfolding state_of
@@ -100,15 +101,16 @@ config_state c e = rw e refl
 
 pub same_ticket : TicketCipherIsNotShown
 unfolding credential_record
-same_ticket now c other t u are are_other same len = by_config (is_config c) refl
-  where
-    by_config : (config : Bool) → is_config c ≡ config → state_record now (record c { ticket = other }) (state_of (record c { ticket = other })) ≡ state_record now c (state_of c)
-    by_config true e =
-        ap (state_record now (record c { ticket = other })) (config_state (record c { ticket = other }) e)
-        ∙ other_config c other len
-        ∙ sym (ap (state_record now c) (config_state c e))
-    by_config false e =
-        ap (state_record now (record c { ticket = other })) (sym (state-ticket (record c { ticket = other }) u e (some_ticket other u are_other) are_other))
-        ∙ other_ticketed now c other (sealed u.enc_part) (ticket_server u)
-        ∙ ap₂ (ticketed_record now c) (sealed_of_masked t u same) (server_of_masked t u same)
-        ∙ ap (state_record now c) (state-ticket c t e (some_ticket c.ticket t are) are)
+same_ticket form now c other t u e are are_other same =
+    ap (state_record form now (record c { ticket = other })) (sym (state-ticket (record c { ticket = other }) u e (some_ticket other u are_other) are_other))
+    ∙ other_ticketed now c other (sealed u.enc_part) (ticket_server u)
+    ∙ ap₂ (ticketed_record now c) (sealed_of_masked t u same) (server_of_masked t u same)
+    ∙ ap (state_record form now c) (state-ticket c t e (some_ticket c.ticket t are) are)
+
+-- ---- the value of a configuration entry
+pub other_value : ConfigValueIsNotShown
+unfolding credential_record
+other_value form now c other e hidden len =
+    ap (state_record form now (record c { ticket = other })) (config_state (record c { ticket = other }) e)
+    ∙ other_config form c other hidden len
+    ∙ sym (ap (state_record form now c) (config_state c e))

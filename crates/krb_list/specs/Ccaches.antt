@@ -10,9 +10,11 @@ use Rattle.krb_ccache.specs.declared.ticket.TicketState.{TicketState}
 use Rattle.krb_ccache.specs.declared.ticket.TicketState.TheVariants as states
 use Rattle.krb_ccache.specs.Spelling.{offset}
 use Rattle.krb_ccache.specs.Tickets.{state_of}
+use Rattle.krb_list.specs.Configs.{config_value}
 use Rattle.krb_registry.specs.declared.registry.Registry.TheVariants as registries
 use Rattle.krb_text.specs.declared.form.Form.{Form}
 use Rattle.krb_text.specs.Forms.{record_line}
+use Rattle.krb_text.specs.Refusals.{told}
 use Rattle.krb_text.specs.Time.{file_time}
 use Rattle.krb_text.specs.Values.{Value, Absent, NoTicket, Number, Named, Word, TicketFlags, Principal, Offset, RefusedTicket, Field, Printed, the, printed, if_there, count, sealed}
 
@@ -75,28 +77,29 @@ unfoldable pub ticketed_record : Option ℕ → Credential → Value → Value �
 ticketed_record now c ticket server =
     printed (codes "cred") (who_fields c ++ key_fields c ++ times_fields c ++ flags_fields now c ++ counts_fields c ++ tickets_fields c ticket server)
 
-unfoldable pub config_record : Credential → Printed
-config_record c = printed (codes "config") (who_fields c ++ the (codes "size") (count c.ticket) ∷ [])
+-- of a configuration entry's value the number of octets, and, told, the value if it is one that is shown
+unfoldable pub config_record : Form → Credential → Printed
+config_record form c = printed (codes "config") (who_fields c ++ the (codes "size") (count c.ticket) ∷ told form (the (codes "value") (config_value c) ∷ []))
 
 abbrev pub ticket_server : Ticket → Value
 ticket_server t = Principal t.sname.name_type t.sname.name t.realm
 
 -- by what the ticket field holds
-abbrev pub state_record : Option ℕ → Credential → TicketState → Printed
-state_record now c states.Config = config_record c
-state_record now c states.Absent = ticketed_record now c NoTicket Absent
-state_record now c (states.Ticket t) = ticketed_record now c (sealed t.enc_part) (ticket_server t)
-state_record now c (states.Refused r) = ticketed_record now c (RefusedTicket r) Absent
+abbrev pub state_record : Form → Option ℕ → Credential → TicketState → Printed
+state_record form now c states.Config = config_record form c
+state_record form now c states.Absent = ticketed_record now c NoTicket Absent
+state_record form now c (states.Ticket t) = ticketed_record now c (sealed t.enc_part) (ticket_server t)
+state_record form now c (states.Refused r) = ticketed_record now c (RefusedTicket r) Absent
 
-unfoldable pub credential_record : Option ℕ → Credential → Printed
-credential_record now c = state_record now c (state_of c)
+unfoldable pub credential_record : Form → Option ℕ → Credential → Printed
+credential_record form now c = state_record form now c (state_of c)
 
 -- ---- all in order
 unfoldable pub cache_end : ℕ → Printed
 cache_end count = printed (codes "end") (the (codes "credentials") (Number (pos count)) ∷ [])
 
 abbrev pub credential_lines : Form → Option ℕ → List Credential → List ℕ
-credential_lines form now cs = flat_map (λ c. record_line form (credential_record now c)) cs
+credential_lines form now cs = flat_map (λ c. record_line form (credential_record form now c)) cs
 
 unfoldable pub ccache_lines : Form → Option ℕ → Ccache → List ℕ
 ccache_lines form now v =

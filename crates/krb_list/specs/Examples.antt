@@ -10,6 +10,7 @@ use Rattle.krb_ccache.specs.declared.value.FilePrincipal.{FilePrincipal}
 use Rattle.krb_ccache.specs.Tickets.{state_of}
 use Rattle.krb_registry.specs.Rows.{rows, name_in, name_of}
 use Rattle.krb_text.specs.declared.form.Form.TheVariants.{Lines, NamedLines, Json}
+use Rattle.krb_list.specs.Configs.{config_value}
 use Rattle.krb_list.specs.Ccaches.{cache_end, cache_record, config_record, credential_record, state, ticketed_record}
 use Rattle.krb_text.specs.Forms.{closing, json_value, labelled, members, named_flags_text, names_member, opening, record_text, set_names, unnamed, value_text}
 use Rattle.krb_list.specs.Keytabs.{keytab_end, keytab_lines, printed_record}
@@ -63,19 +64,23 @@ no_offset : record_text Lines (cache_record (record { fields = [] }) user) ≡ c
 unfolding digits principal_text civil_date date_from date_in_year two_digits date_text clock_text cache_record cache_end credential_record config_record ticketed_record state_of ticket_flags_text names_text flag_name eight_hex named_flags_text set_names unnamed opening closing labelled record_text value_text
 no_offset = refl
 
-config_line : record_text Lines (config_record config) ≡ codes "config client=u@A server=krb5_ccache_conf_data/pa_type@X-CACHECONF: size=1"
+config_line : record_text Lines (config_record Lines config) ≡ codes "config client=u@A server=krb5_ccache_conf_data/pa_type@X-CACHECONF: size=1"
 unfolding digits principal_text civil_date date_from date_in_year two_digits date_text clock_text cache_record cache_end credential_record config_record ticketed_record state_of ticket_flags_text names_text flag_name eight_hex named_flags_text set_names unnamed opening closing labelled record_text value_text
 config_line = refl
 
-refused_line : record_text Lines (credential_record (Some 946688399) no_ticket) ≡ codes "cred client=u@A server=h@A enctype=18 key=2 auth=2000-01-01T00:00:00Z start=2000-01-01T00:00:00Z end=2000-01-01T01:00:00Z renew=- skey=0 flags=forwardable,renewable,initial,pre-authent+00010000 state=live addresses=0 authdata=0 ticket=refused:1:6 tserver=- second=0"
+named_config_line : record_text NamedLines (config_record NamedLines config) ≡ codes "config client=u@A server=krb5_ccache_conf_data/pa_type@X-CACHECONF: size=1 value=\"2\""
+unfolding digits principal_text config_record config_value opening closing labelled record_text value_text
+named_config_line = refl
+
+refused_line : record_text Lines (credential_record Lines (Some 946688399) no_ticket) ≡ codes "cred client=u@A server=h@A enctype=18 key=2 auth=2000-01-01T00:00:00Z start=2000-01-01T00:00:00Z end=2000-01-01T01:00:00Z renew=- skey=0 flags=forwardable,renewable,initial,pre-authent+00010000 state=live addresses=0 authdata=0 ticket=refused:1:6 tserver=- second=0"
 unfolding digits principal_text civil_date date_from date_in_year two_digits date_text clock_text cache_record cache_end credential_record config_record ticketed_record state_of ticket_flags_text names_text flag_name eight_hex named_flags_text set_names unnamed opening closing labelled record_text value_text
 refused_line = refl
 
-named_refused_line : record_text NamedLines (credential_record (Some 946688399) no_ticket) ≡ codes "cred client=u@A server=h@A enctype=18:aes256-cts-hmac-sha1-96 key=2 auth=2000-01-01T00:00:00Z start=2000-01-01T00:00:00Z end=2000-01-01T01:00:00Z renew=- skey=0 flags=forwardable,renewable,initial,pre-authent,enc-pa-rep state=live addresses=0 authdata=0 ticket=refused:1:6:Indefinite tserver=- second=0"
+named_refused_line : record_text NamedLines (credential_record NamedLines (Some 946688399) no_ticket) ≡ codes "cred client=u@A server=h@A enctype=18:aes256-cts-hmac-sha1-96 key=2 auth=2000-01-01T00:00:00Z start=2000-01-01T00:00:00Z end=2000-01-01T01:00:00Z renew=- skey=0 flags=forwardable,renewable,initial,pre-authent,enc-pa-rep state=live addresses=0 authdata=0 ticket=refused:1:6:Indefinite tserver=- second=0"
 unfolding digits principal_text civil_date date_from date_in_year two_digits date_text clock_text cache_record cache_end credential_record config_record ticketed_record state_of ticket_flags_text names_text flag_name eight_hex named_flags_text set_names unnamed opening closing labelled record_text value_text rows name_in name_of
 named_refused_line = refl
 
-refused_credential : record_text Json (credential_record (Some 946688399) no_ticket) ≡ codes "{\"kind\":\"cred\",\"client\":{\"text\":\"u@A\",\"type\":1,\"type_name\":\"NT-PRINCIPAL\",\"components\":[\"u\"],\"realm\":\"A\"},\"server\":{\"text\":\"h@A\",\"type\":2,\"type_name\":\"NT-SRV-INST\",\"components\":[\"h\"],\"realm\":\"A\"},\"enctype\":18,\"enctype_name\":\"aes256-cts-hmac-sha1-96\",\"key\":2,\"auth\":\"2000-01-01T00:00:00Z\",\"start\":\"2000-01-01T00:00:00Z\",\"end\":\"2000-01-01T01:00:00Z\",\"renew\":null,\"skey\":0,\"flags\":{\"bits\":32,\"hex\":\"40e10000\",\"names\":[\"forwardable\",\"renewable\",\"initial\",\"pre-authent\",\"enc-pa-rep\"]},\"state\":\"live\",\"addresses\":0,\"authdata\":0,\"ticket\":{\"refused\":{\"place\":1,\"why\":6,\"why_name\":\"Indefinite\"}},\"tserver\":null,\"second\":0}"
+refused_credential : record_text Json (credential_record Json (Some 946688399) no_ticket) ≡ codes "{\"kind\":\"cred\",\"client\":{\"text\":\"u@A\",\"type\":1,\"type_name\":\"NT-PRINCIPAL\",\"components\":[\"u\"],\"realm\":\"A\"},\"server\":{\"text\":\"h@A\",\"type\":2,\"type_name\":\"NT-SRV-INST\",\"components\":[\"h\"],\"realm\":\"A\"},\"enctype\":18,\"enctype_name\":\"aes256-cts-hmac-sha1-96\",\"key\":2,\"auth\":\"2000-01-01T00:00:00Z\",\"start\":\"2000-01-01T00:00:00Z\",\"end\":\"2000-01-01T01:00:00Z\",\"renew\":null,\"skey\":0,\"flags\":{\"bits\":32,\"hex\":\"40e10000\",\"names\":[\"forwardable\",\"renewable\",\"initial\",\"pre-authent\",\"enc-pa-rep\"]},\"state\":\"live\",\"addresses\":0,\"authdata\":0,\"ticket\":{\"refused\":{\"place\":1,\"why\":6,\"why_name\":\"Indefinite\"}},\"tserver\":null,\"second\":0}"
 unfolding digits principal_text civil_date date_from date_in_year two_digits date_text clock_text cache_record cache_end credential_record config_record ticketed_record state_of ticket_flags_text names_text flag_name eight_hex named_flags_text set_names unnamed opening closing labelled record_text members json_value names_member rows name_in name_of
 refused_credential = refl
 

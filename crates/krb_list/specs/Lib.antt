@@ -1,4 +1,5 @@
 pub mod Keytabs
+pub mod Configs
 pub mod Ccaches
 pub mod Laws
 pub mod Examples

@@ -10,6 +10,7 @@ ghost use Rattle.krb_text.specs.Forms.{fields_text, json_string, record_line, re
 ghost use Rattle.krb_text.specs.Values.{Absent, Named, NoTicket, Principal as IsPrincipal, RefusedTicket, Word, if_there};
 
 use crate::ccache::principal_of;
+use crate::config::put_value;
 use krb_ccache::{Credential, TicketStateView, ticket_view_of};
 use krb_der::{Memory, Refusal, Why, why_number, why_text};
 use krb_msg::TicketView;
@@ -220,12 +221,13 @@ fn put_ticketed<T: Shown, S: Shown>(
 
 #[tactic(auto, unfolding(krb_text::specs::Forms::record_text, crate::specs::Ccaches::config_record))]
 fn put_config(text: &mut TextBuffer, form: Form, credential: &Credential) -> Result<(), AllocError>
-    ensures { OnOk result (text.new ≡ text.old ++ record_text form (config_record credential.now)) }
+    ensures { OnOk result (text.new ≡ text.old ++ record_text form (config_record form credential.now)) }
 {
     let size = credential.ticket.as_slice().len() as u64;
     put_opening(text, form, "config")?;
     put_who(text, form, credential)?;
     put_field(text, form, " size=", ",\"size", &size)?;
+    put_value(text, form, credential)?;
     put_closing(text, form)
 }
 
@@ -343,7 +345,7 @@ fn put_with_state(
     state: &TicketStateView<'_>,
 ) -> Result<(), AllocError>
     requires { StateLists state.now }
-    ensures { OnOk result (text.new ≡ text.old ++ record_text form (state_record now credential.now (state_viewed state.now))) }
+    ensures { OnOk result (text.new ≡ text.old ++ record_text form (state_record form now credential.now (state_viewed state.now))) }
 {
     match state {
         TicketStateView::Config => put_config(text, form, credential),
@@ -368,7 +370,7 @@ fn put_credential_text(
     credential: &Credential,
     now: Option<u32>,
 ) -> Result<(), AllocError>
-    ensures { OnOk result (text.new ≡ text.old ++ record_text form (credential_record now credential.now)) }
+    ensures { OnOk result (text.new ≡ text.old ++ record_text form (credential_record form now credential.now)) }
 {
     put_with_state(text, form, now, credential, &ticket_view_of(credential))
 }
@@ -380,7 +382,7 @@ pub fn put_credential(
     credential: &Credential,
     now: Option<u32>,
 ) -> Result<(), AllocError>
-    ensures { OnOk result (text.new ≡ text.old ++ record_line form (credential_record now credential.now)) }
+    ensures { OnOk result (text.new ≡ text.old ++ record_line form (credential_record form now credential.now)) }
 {
     put_credential_text(text, form, credential, now)?;
     text.push_str("\n")
@@ -395,7 +397,7 @@ pub fn credential_line(
     credential: &Credential,
     now: Option<u32>,
 ) -> Result<String, Memory>
-    ensures { IfOk result (λ line. string_bytes line ≡ record_text form (credential_record now credential.now)) }
+    ensures { IfOk result (λ line. string_bytes line ≡ record_text form (credential_record form now credential.now)) }
 {
     let mut line = TextBuffer::new(alloc);
     put_credential_text(&mut line, form, credential, now)?;

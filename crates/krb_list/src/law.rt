@@ -1,6 +1,6 @@
 //! Laws of what is printed of keytabs and caches. Each is the contract of a function that does
 //! nothing.
-ghost use Rattle.krb_list.specs.Laws.{CacheEndIsOneLine, CacheIsOneLine, CredentialIsOneLine, CredentialKeyIsNotShown, KeysAreNotShown, KeytabEndIsOneLine, RecordIsOneLine, RecordKeyIsNotShown, SessionKeys3AreNotShown, SessionKeysAreNotShown, TicketCipherIsNotShown};
+ghost use Rattle.krb_list.specs.Laws.{CacheEndIsOneLine, CacheIsOneLine, ConfigValueIsNotShown, CredentialIsOneLine, CredentialKeyIsNotShown, KeysAreNotShown, KeytabEndIsOneLine, RecordIsOneLine, RecordKeyIsNotShown, SessionKeys3AreNotShown, SessionKeysAreNotShown, TicketCipherIsNotShown};
 
 /// What is printed of a record of a keytab, and of its end, is one line in each form: blanks and
 /// graphic characters of ASCII, and a line feed after them.
@@ -24,11 +24,13 @@ pub fn keys_are_not_shown()
 {}
 
 /// What is printed of a cache, in version 4 or 3 and in each form, and of each credential, is as of
-/// the same with every octet of each key 00; and of a credential also as with other octets in the
-/// cipher of its ticket.
+/// the same with every octet of each key 00; of a credential also as with other octets in the cipher
+/// of its ticket; and of a configuration entry whose value is not shown as with another value of as
+/// many octets.
 pub fn session_keys_are_not_shown()
     ensures cache { SessionKeysAreNotShown }
     ensures cache3 { SessionKeys3AreNotShown }
     ensures credential { CredentialKeyIsNotShown }
     ensures ticket { TicketCipherIsNotShown }
+    ensures config { ConfigValueIsNotShown }
 {}

@@ -11,6 +11,7 @@
 #![tactic(auto)]
 
 mod ccache;
+mod config;
 mod credential;
 mod keytab;
 mod law;
@@ -21,13 +22,15 @@ pub use keytab::{
     keytab_end_line, keytab_lines, put_keytab, put_keytab_end, put_record, record_line,
 };
 pub use krb_text::{
-    CaptureCounts, FileName, Form, InputFault, Notes, Origin, Shown, TextBuffer, TicketFlags,
-    Transport, capture_is_one_line_each, dates_are_the_calendars, end_is_one_line,
-    escape_is_graphic, message_is_one_line, message_line, notes_of, principal_text,
-    principal_text_is_injective, put_capture_end, put_capture_refusal, put_captured_message,
-    put_captured_refusal, put_counted_stream_end, put_escaped, put_file, put_file_refusal,
-    put_input_refusal, put_joined, put_lost, put_message, put_message_refusal, put_message_view,
-    put_password, put_principal, put_stream_end, put_stream_refusal, put_time, time_text,
+    CaptureCounts, Extent, FileName, Form, InputFault, MessageOrigin, Notes, Origin, Shown,
+    TextBuffer, TicketFlags, Transport, capture_is_one_line_each, dates_are_the_calendars,
+    end_is_one_line, escape_is_graphic, message_is_one_line, message_line, notes_of,
+    principal_text, principal_text_is_injective, put_capture_end, put_capture_refusal,
+    put_captured_message, put_captured_refusal, put_counted_stream_end, put_escaped, put_file,
+    put_file_refusal, put_input_refusal, put_joined, put_lost, put_message, put_message_from,
+    put_message_refusal, put_message_view, put_password, put_principal, put_stream_end,
+    put_stream_refusal, put_ticket, put_time, put_untold_message_refusal,
+    put_untold_stream_refusal, time_text,
 };
 pub use law::{
     ccache_is_one_line_each, keys_are_not_shown, keytab_is_one_line_each,

@@ -6,6 +6,9 @@ use Rattle.krb_msg.specs.Profiles.{is_unsigned}
 use Rattle.krb_msg.specs.Views.{kind_of, kind_term, message_value}
 use Rattle.krb_msg.specs.declared.message.Message.{Message}
 use Rattle.krb_msg.specs.declared.notes.Notes.{Notes}
+use Rattle.krb_msg.specs.declared.ticket.Ticket.{Ticket}
+use Rattle.krb_msg.specs.Grammar.{ticket}
+use Rattle.krb_msg.specs.Types.{ticket_value}
 
 pub data Note : Type 0 where
   HighOctet : Note
@@ -75,6 +78,10 @@ message_has note m = has note (kind_term (kind_of m)) (message_value m)
 
 abbrev pub notes_of : Message → Notes
 notes_of m = notes_by (λ note. message_has note m)
+
+-- the notes on a Ticket alone
+abbrev pub notes_of_ticket : Ticket → Notes
+notes_of_ticket t = notes_by (λ note. has note ticket (ticket_value t))
 
 -- whether the note of this number holds
 abbrev pub notes_have : Notes → ℕ → Bool

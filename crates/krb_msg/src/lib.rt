@@ -13,8 +13,8 @@
 //! [`View`]), such as a [`Ticket`], and [`FromView`] copies it. [`first_item`] finds an item in
 //! octets that were judged.
 //!
-//! [`notes_of`], and [`notes_of_view`] of a view, return what is unusual in a message, and
-//! [`is_strict`] whether it is in the strict profile, too. [`grammar`] is the table by which octets
+//! [`notes_of`], and [`notes_of_view`] of a view, return what is unusual in a message
+//! ([`notes_of_ticket`] in a Ticket alone), and [`is_strict`] whether it is in the strict profile, too. [`grammar`] is the table by which octets
 //! are judged, and [`law`] has the laws about all this.
 //!
 //! Nothing here says why octets are no message, nor where that shows: `krb_judge` does, and
@@ -83,7 +83,7 @@ pub use krb_safe::{KrbSafe, KrbSafeView};
 pub use krb_safe_body::{KrbSafeBody, KrbSafeBodyView};
 pub use message::{Kind, Message, notes_of};
 pub use message_view::{MessageView, notes_of_view};
-pub use notes::{Notes, is_strict, is_strict_view};
+pub use notes::{Notes, is_strict, is_strict_view, notes_of_ticket};
 pub use pa_data::{PaData, PaDataView};
 pub use principal_name::{PrincipalName, PrincipalNameView};
 pub use ticket::{Ticket, TicketView};

@@ -2,15 +2,18 @@
 
 ghost use Rattle.std.specs.Prelude.{◌≡◌, ◌||◌, false, not};
 ghost use Rattle.krb_msg.specs.Views.{is_strict};
-ghost use Rattle.krb_msg.specs.Notes.{notes_by, notes_have, either};
+ghost use Rattle.krb_msg.specs.Notes.{notes_by, notes_have, notes_of_ticket, either};
+ghost use Rattle.krb_msg.specs.Types.{TicketLists, ticket_of_view};
 ghost use Rattle.krb_msg.specs.ViewValues.{MessageLists, message_of_view};
 
 pub mod items;
 mod lists;
 mod scalars;
 
+use crate::fields::NotedView;
 use crate::message::{Message, notes_of};
 use crate::message_view::{MessageView, notes_of_view};
+use crate::ticket::{Ticket, TicketView};
 
 /// The notes that hold in a message or in a part of it, Tickets inside included: not faults, but
 /// what a reader of messages may stumble over. They have numbers:
@@ -90,4 +93,13 @@ pub fn is_strict_view(view: &MessageView<'_>) -> bool
     ensures { result ≡ is_strict (message_of_view view.now) }
 {
     notes_of_view(view).are_none()
+}
+
+/// Returns the notes that hold in a Ticket that is viewed in place, alone (RFC 4120, 5.3). It
+/// allocates nothing.
+pub fn notes_of_ticket(view: &TicketView<'_>) -> Notes
+    requires { TicketLists view.now }
+    ensures { result ≡ notes_of_ticket (ticket_of_view view.now) }
+{
+    Ticket::notes(view)
 }

@@ -112,7 +112,7 @@ value-err {A} (Err fault) f e = let same : fault ≡ f = cc in ap (λ (x : Fault
 fault_of : {A : Type 0} (e : FileFault) (r : Result (A × Source) Fault) → Fails e r → Fails e (value_of r)
 fault_of faults.Memory r fails = tt
 fault_of faults.Read r fails = fails
-fault_of (faults.Refused place why unnamed) r fails = ap value_of fails
+fault_of (faults.Refused fault) r fails = ap value_of fails
 
 pub body_agrees : {A : Type 0} (reader : Reader A) (body : List ℕ) (r : Result A FileFault) (old : Cursor) (t : Slice) → old ≡ of_slice (whole body) → Follows (λ (value : A). value) r reader ⊥ old (of_slice t) → Agrees (λ (value : A). value) r (in_body reader body)
 body_agrees {A} reader body r old t is follows = by_cases r (subst (λ (cursor : Cursor). Follows (λ (value : A). value) r reader ⊥ cursor (of_slice t)) is follows)
@@ -125,7 +125,7 @@ pub body_inside : {A : Type 0} (reader : Reader A) (body : List ℕ) (r : Result
 body_inside reader body (Ok value) stops succeed = search rules
 body_inside reader body (Err faults.Memory) stops succeed = search rules
 body_inside reader body (Err faults.Read) stops succeed = search rules
-body_inside reader body (Err (faults.Refused place why unnamed)) stops succeed =
-    let upto = stops.upto (ended (Some (length body))) (source_of body) (record { place = place; why = why; field = unnamed }) (value-err (reader (ended (Some (length body))) (source_of body)) (record { place = place; why = why; field = unnamed }) succeed) in
-    let near : place ≤ length body = omega (arith, upto) in
+body_inside reader body (Err (faults.Refused fault)) stops succeed =
+    let upto = stops.upto (ended (Some (length body))) (source_of body) fault (value-err (reader (ended (Some (length body))) (source_of body)) fault succeed) in
+    let near : fault.place ≤ length body = omega (arith, upto) in
     search (rules, near)

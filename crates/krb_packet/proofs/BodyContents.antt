@@ -2,8 +2,6 @@
 use Rattle.std.proofs.Common.{◌≡◌, ℕ, ◌+◌, Option, Result, Ok, Err, List, refl, ap, ◌∙◌, subst, arith}
 use Rattle.krb_file.specs.Fields.{Fault, octets_at, Fails}
 use Rattle.krb_file.specs.FieldReaders.{Cursor}
-use Rattle.krb_file.specs.declared.fault.FileWhy.{FileWhy}
-use Rattle.krb_file.specs.declared.field_name.FileField.{FileField}
 use Rattle.krb_file.specs.declared.fault.FileFault.{FileFault}
 use Rattle.krb_file.specs.declared.fault.FileFault.TheVariants as faults
 use Rattle.krb_file.proofs.FieldReaders.{some_rest}
@@ -40,7 +38,7 @@ module _ (kind : BlockKind) (section : Section) (count place : ℕ) (head : Head
   fails_place : (e : FileFault) (field : CaptureField) (old : Cursor) → FailsIn e field (octets_in >>= next old.place) MayFail old → FailsIn e field (read_body kind section count place head) MayFail old
   fails_place faults.Memory field old fails = tt
   fails_place faults.Read field old fails = fails
-  fails_place (faults.Refused at why unnamed) field old fails = record { octets = fails.octets; there = fails.there; refused = fails.refused }
+  fails_place (faults.Refused fault) field old fails = record { octets = fails.octets; there = fails.there; refused = fails.refused }
 
   pub body_read : (octets : List ℕ) (content : Content) (old new : Cursor) → HasParsed octets_in octets old new → content_in octets ≡ Ok content → HasParsed (read_body kind section count place head) content old new
   body_read octets content old new p is =
@@ -50,9 +48,13 @@ module _ (kind : BlockKind) (section : Section) (count place : ℕ) (head : Head
   pub octets_fail : (e : FileFault) (field : CaptureField) (old : Cursor) → FailsIn e field octets_in MayFail old → FailsIn e field (read_body kind section count place head) MayFail old
   octets_fail e field old fails = fails_place e field old (first_fails octets_in (next old.place) MayFail e field old fails)
 
-  checked_refused : (begin at : ℕ) (why : FileWhy) (unnamed : Option FileField) (r : Result Content Fault) (field : CaptureField) (cursor : Cursor) → r ≡ Err (record { place = at; why = why; field = unnamed }) → field ≡ capture.Block section.blocks (body_field kind section.interfaces at)
-      → HasRefused (content_in_file section kind begin r) (record { fault = record { place = begin + at; why = why; field = unnamed }; field = field }) cursor
-  checked_refused begin at why unnamed r field cursor is named =
+  -- the same fault, at a place in the file
+  abbrev moved_from : ℕ → Fault → Fault
+  moved_from begin fault = record fault { place = begin + fault.place }
+
+  checked_refused : (begin : ℕ) (fault : Fault) (r : Result Content Fault) (field : CaptureField) (cursor : Cursor) → r ≡ Err fault → field ≡ capture.Block section.blocks (body_field kind section.interfaces fault.place)
+      → HasRefused (content_in_file section kind begin r) (record { fault = moved_from begin fault; field = field }) cursor
+  checked_refused begin fault r field cursor is named =
       let now = some_rest cursor in
       rw (is, named) (record { octets = now.rest; there = now.there; refused = refl })
 
@@ -60,19 +62,19 @@ module _ (kind : BlockKind) (section : Section) (count place : ℕ) (head : Head
       → field ≡ capture.Block section.blocks (body_field kind section.interfaces offset) → moved ≡ fault_from begin e → FailsIn moved field (read_body kind section count place head) MayFail old
   body_fails octets faults.Memory moved begin offset field old new p fails here is named to = rw to tt
   body_fails octets faults.Read moved begin offset field old new p fails here is named to = absurd fails
-  body_fails octets (faults.Refused at why unnamed) moved begin offset field old new p fails here is named to =
-      let same : offset ≡ at = omega (arith, is) in
-      let whose : field ≡ capture.Block section.blocks (body_field kind section.interfaces at) = named ∙ ap (λ (o : ℕ). capture.Block section.blocks (body_field kind section.interfaces o)) same in
+  body_fails octets (faults.Refused fault) moved begin offset field old new p fails here is named to =
+      let same : offset ≡ fault.place = omega (arith, is) in
+      let whose : field ≡ capture.Block section.blocks (body_field kind section.interfaces fault.place) = named ∙ ap (λ (o : ℕ). capture.Block section.blocks (body_field kind section.interfaces o)) same in
       rw (to, here)
-      (fails_place (faults.Refused (old.place + at) why unnamed) field old
-      (next_fails octets_in (next old.place) MayFail octets (faults.Refused (old.place + at) why unnamed) field old new p
-      (checked_refused old.place at why unnamed (content_in octets) field new fails whose)))
+      (fails_place (faults.Refused (moved_from old.place fault)) field old
+      (next_fails octets_in (next old.place) MayFail octets (faults.Refused (moved_from old.place fault)) field old new p
+      (checked_refused old.place fault (content_in octets) field new fails whose)))
 
 -- ---- the end of a block, which is refused after its body was read
 here_fails : {A : Type 0} (parser : ℕ → Parser A) (MayFail : Type 0) (e : FileFault) (field : CaptureField) (old : Cursor) → FailsIn e field (parser old.place) MayFail old → FailsIn e field (from_here parser) MayFail old
 here_fails parser MayFail faults.Memory field old fails = tt
 here_fails parser MayFail faults.Read field old fails = fails
-here_fails parser MayFail (faults.Refused at why unnamed) field old fails = record { octets = fails.octets; there = fails.there; refused = fails.refused }
+here_fails parser MayFail (faults.Refused fault) field old fails = record { octets = fails.octets; there = fails.there; refused = fails.refused }
 
 module _ (kind : BlockKind) (section : Section) (count : ℕ) (MayFail : Type 0) where
   abbrev after_body : Head → Content → Parser Content

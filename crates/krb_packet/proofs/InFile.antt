@@ -3,7 +3,7 @@ use Rattle.std.proofs.Common.{◌≡◌, ℕ, zero, suc, ◌+◌, ◌-◌, ◌�
 use Rattle.std.specs.Prelude.{◌*◌, ◌%◌, ◌^◌, max, IfErr}
 use Rattle.std.specs.Int.{w32, from_be_bytes}
 use Rattle.std.proofs.lemmas.List.{length-take-le}
-use Rattle.krb_file.specs.Fields.{Source, Fault, Bounds, Reader, source_of, ended, limited, octets_at, next_octets_at, number_at, are_zero, IsStreamFaultIn}
+use Rattle.krb_file.specs.Fields.{Source, Fault, Bounds, Reader, source_of, ended, limited, one_part, octets_at, next_octets_at, number_at, are_zero, IsStreamFaultIn}
 use Rattle.krb_file.specs.Fields.{and_then as read_onward, succeed as made}
 use Rattle.krb_file.specs.declared.fault.FileWhy.{FileWhy}
 use Rattle.krb_file.specs.declared.fault.FileFault.{FileFault}
@@ -12,7 +12,7 @@ use Rattle.krb_packet.specs.declared.fault.CaptureFault.{CaptureFault}
 use Rattle.krb_packet.specs.Streaming.{PacketsModel, FailsAfter, ReturnsNext}
 use Rattle.krb_packet.specs.Values.{link_type, time_of}
 use Rattle.krb_file.specs.FieldReaders.{skipped_at}
-use Rattle.krb_file.proofs.Fields.{and_then-err, piece-ok, at}
+use Rattle.krb_file.proofs.Fields.{and_then-err, begun_at-err, piece-ok, at}
 use Rattle.krb_packet.specs.declared.order.ByteOrder.{ByteOrder}
 use Rattle.krb_packet.specs.declared.order.ByteOrder.TheVariants as orders
 use Rattle.krb_packet.specs.declared.block.BlockKind.{BlockKind}
@@ -34,10 +34,10 @@ use Rattle.krb_packet.specs.declared.field.CaptureField.{CaptureField}
 use Rattle.krb_packet.specs.declared.field.CaptureField.TheVariants as capture
 use Rattle.krb_packet.specs.declared.field.BlockField.TheVariants as block
 use Rattle.krb_packet.specs.Numbers.{in_order, number_in, checked_at, checked_number, refused_at}
-use Rattle.krb_packet.specs.Parsers.{Refusal, Parser, and_then, ◌>>=◌, succeed, naming, fields, named}
+use Rattle.krb_packet.specs.Parsers.{Refusal, Parser, and_then, ◌>>=◌, succeed, naming, fields, named, part_at}
 use Rattle.krb_packet.specs.Pcaps.{magic_of, magic_at, version, header_at, captured, packet_head_at, packet_at, next_at, unit, most_captured}
 use Rattle.krb_packet.specs.Bodies.{byte_order, body_size, after_byte_order, section_head_at, head_of, head_at, same_length, next_kind_at, content_at, in_body, block_kind}
-use Rattle.krb_packet.specs.Blocks.{body_field, head_field, skipped_body, content_in_file, read_body, body_in, end_in, block_in, after_content, block_after, after_kind, next_block}
+use Rattle.krb_packet.specs.Blocks.{body_field, head_field, skipped_body, content_in_file, read_body, body_in, end_in, block_in, whole_block_in, after_content, block_after, after_kind, next_block}
 use Rattle.krb_packet.specs.Captures.{header_field, packet_field, packet_in, after_magic, after_packet, next_in, Packets, packets_from, packets_within, packets}
 use Rattle.krb_packet.proofs.Reaching.{Passes, Passes-then, Passes-fewer, Passes-made, Passes-piece, Passes-checked_at, Passes-check, Passes-from_here, Stops, Stops-succeed, Stops-then, Stops-piece, Stops-octets, Stops-number, Stops-checked_at, moved-ok, moved-err, checked_at-err}
 use Rattle.krb_packet.proofs.Parsing.{Onward, Onward-fields, Onward-succeed, Onward-then, naming-ok}
@@ -253,10 +253,19 @@ block_within kind section count bounds s r e =
           later s a.0.1 r same ((after_head_halts kind section count (s.place + 4) a.0.0).upto bounds a.0.1 r (omega (arith, on)) a.2)
     ]
 
+part_at-err : {A : Type 0} (place : ℕ) (r : Result A Refusal) (x : Refusal) → part_at place r ≡ Err x → (d : Refusal) × (r ≡ Err d) × (d.fault.place ≡ x.fault.place)
+part_at-err place (Ok value) x e = absurd cc
+part_at-err place (Err d) x e =
+    let same : record d { fault = record d.fault { begin = place } } ≡ x = cc in
+    (d, refl, ap (λ (y : Refusal). y.fault.place) same)
+
 after_within : (kind : BlockKind) (section : Section) (count : ℕ) (bounds : Bounds) (s : Source) (r : Refusal) → block_after kind section count bounds s ≡ Err r → Within s r
 after_within kind section count bounds s r e =
-    elim (parsed-err (block_in kind section count bounds s) (λ p. succeed (after_content section p.0) bounds p.1) r e) [
-      | inl a ↦ block_within kind section count bounds s r a
+    elim (parsed-err (whole_block_in kind section count bounds s) (λ p. succeed (after_content section p.0) bounds p.1) r e) [
+      | inl a ↦
+          let d = part_at-err (s.place - 4) (block_in kind section count bounds s) r a in
+          let within = block_within kind section count bounds s d.0 d.1 in
+          omega (arith, within, d.2)
       | inr a ↦ absurd cc
     ]
 
@@ -314,11 +323,13 @@ next_upto header count bounds place (octet ∷ octets) f e = (Stops-then (packet
 packet_within : (header : Header) (count : ℕ) (bounds : Bounds) (s : Source) (r : Refusal) → (packet_in header count >>= λ packet. succeed (after_packet header packet)) bounds s ≡ Err r → Within s r
 packet_within header count bounds s r e =
     let field : ℕ → CaptureField = λ place. capture.Packet count (packet_field (place - s.place)) in
-    elim (parsed-err (fields field (next_at header count) bounds s) (λ p. succeed (after_packet header p.0) bounds p.1) r e) [
+    elim (parsed-err (fields field (one_part (next_at header count)) bounds s) (λ p. succeed (after_packet header p.0) bounds p.1) r e) [
       | inl a ↦
-          let f = naming-err field (next_at header count bounds s) r a in
-          let upto = next_upto header count bounds s.place s.octets f.0 f.1 in
-          omega (arith, upto, f.2)
+          let f = naming-err field (one_part (next_at header count) bounds s) r a in
+          let d = begun_at-err s.place (next_at header count bounds s) f.0 f.1 in
+          let upto = next_upto header count bounds s.place s.octets d.0 d.1 in
+          let same : d.0.place ≡ f.0.place = ap (λ (x : Fault). x.place) d.2 in
+          omega (arith, upto, same, f.2)
       | inr a ↦ absurd cc
     ]
 
@@ -374,6 +385,6 @@ given_in_file file count (Ok packet) model returns = tt
 given_in_file file count (Err error) model returns = by error.fault error.field returns
   where
     by : (fault : FileFault) (field : CaptureField) → FailsAfter file count fault field → IsStreamFaultIn file fault
-    by (faults.Refused place why unnamed) field ends = refusal_in_file file (record { fault = record { place = place; why = why; field = unnamed }; field = field }) ends.is
+    by (faults.Refused fault) field ends = refusal_in_file file (record { fault = fault; field = field }) ends.is
     by faults.Read field ends = tt
     by faults.Memory field ends = tt

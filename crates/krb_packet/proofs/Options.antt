@@ -36,8 +36,7 @@ continues_read first second v old mid new on read = record {
 pub continues_fails : {A : Type 0} (first second : Reader A) (e : FileFault) (MayFail : Type 0) (old mid : Cursor) → Continues first second old mid → FailsBy e second MayFail mid → FailsBy e first MayFail old
 continues_fails first second faults.Memory MayFail old mid on fails = tt
 continues_fails first second faults.Read MayFail old mid on fails = fails
-continues_fails first second (faults.Refused place why unnamed) MayFail old mid on fails =
-    let fault : Fault = record { place = place; why = why; field = unnamed } in
+continues_fails first second (faults.Refused fault) MayFail old mid on fails =
     let a = on.from fails.octets fails.there in
     let s = source_at mid.place fails.octets in
     let whose : second old.bounds s ≡ Err fault = subst (λ (k : Bounds). second k s ≡ Err fault) on.same_bounds fails.refused in
@@ -58,7 +57,7 @@ continues_then {A} {B} first one next v old mid new on read = record {
 then_fails : {A B : Type 0} (one : Reader A) (next : A → Reader B) (e : FileFault) (MayFail : Type 0) (old : Cursor) → FailsBy e one MayFail old → FailsBy e (one >>= next) MayFail old
 then_fails one next faults.Memory MayFail old fails = tt
 then_fails one next faults.Read MayFail old fails = fails
-then_fails {A} one next (faults.Refused place why unnamed) MayFail old fails = record {
+then_fails {A} one next (faults.Refused fault) MayFail old fails = record {
   octets = fails.octets;
   there = fails.there;
   refused = ap (λ (r : Result (A × Source) Fault). and_then r (λ x. next x.0 old.bounds x.1)) fails.refused;

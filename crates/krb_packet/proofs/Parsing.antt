@@ -1,20 +1,20 @@
 -- Parsers: made of readers of fields, one after another, and how many octets they read.
 use Rattle.std.proofs.Common.{◌≡◌, ℕ, ◌+◌, ◌-◌, ◌≤◌, None, Result, Ok, Err, length, refl, ap, sym, ◌∙◌, subst, arith}
 use Rattle.std.specs.Int.{Width}
-use Rattle.krb_file.specs.Fields.{Source, Fault, Bounds, Reader}
+use Rattle.krb_file.specs.Fields.{Source, Fault, fault_of, fault_begun, Bounds, Reader, one_part}
 use Rattle.krb_file.specs.Fields.{and_then as read_onward, ◌>>=◌ as ◌then◌}
 use Rattle.krb_file.specs.FieldReaders.{Cursor, HasRead, FailsBy, Follows, source_at}
 use Rattle.krb_file.specs.declared.fault.FileWhy.{FileWhy}
 use Rattle.krb_file.specs.declared.fault.FileFault.{FileFault}
 use Rattle.krb_file.specs.declared.fault.FileFault.TheVariants as faults
-use Rattle.krb_file.proofs.FieldReaders.{some_rest}
+use Rattle.krb_file.proofs.FieldReaders.{some_rest, part_read, part_fails}
 use Rattle.krb_packet.specs.declared.order.ByteOrder.{ByteOrder}
 use Rattle.krb_packet.specs.declared.field.CaptureField.{CaptureField}
 use Rattle.krb_packet.specs.declared.fault.CaptureFault.{CaptureFault}
 use Rattle.krb_packet.specs.Numbers.{number_in, checked_at, checked_number, checked}
 use Rattle.krb_packet.specs.Numbers.{from_here as here}
 use Rattle.krb_packet.proofs.Options.{Continues}
-use Rattle.krb_packet.specs.Parsers.{Refusal, Parser, and_then, ◌>>=◌, succeed, from_here, naming, fields, named, HasParsed, FailsIn, Parses, in_field, offset_of}
+use Rattle.krb_packet.specs.Parsers.{Refusal, Parser, and_then, ◌>>=◌, succeed, from_here, naming, fields, named, part_at, part_from, HasParsed, FailsIn, Parses, in_field, offset_of}
 use Rattle.krb_packet.proofs.Reaching.{Passes}
 
 -- ---- a number that has a meaning, or is refused
@@ -61,7 +61,7 @@ module _ {A : Type 0} (check : Result A FileWhy) (MayFail : Type 0) (cursor : Cu
 pub checked_fails : {A B : Type 0} (reader : Reader B) (place : ℕ) (check : Result A FileWhy) (next : A → Reader B) (e : FileFault) (MayFail : Type 0) (old mid : Cursor) → checked place check ≡ Err e → Continues reader (checked_at place check then next) old mid → FailsBy e reader MayFail old
 checked_fails reader place (Ok value) next e MayFail old mid is on = absurd cc
 checked_fails reader place (Err why) next e MayFail old mid is on =
-    let same : faults.Refused place why None ≡ e = cc in
+    let same : faults.Refused (fault_of place why) ≡ e = cc in
     let now = some_rest mid in
     let a = on.from now.rest now.there in
     rw (sym same) (record { octets = a.0; there = a.1; refused = a.2 })
@@ -73,7 +73,7 @@ module _ {A B : Type 0} (view : A → B) (reader : Reader B) (MayFail : Type 0) 
     same_bounds = follows.same_bounds;
     from = λ rest there. let a = follows.from rest there in (a.0, a.1, ap (naming (λ place. field)) a.2);
   })
-  named_follows field (Err (faults.Refused place why unnamed)) result is follows = rw is (record { octets = follows.octets; there = follows.there; refused = ap (naming (λ place. field)) follows.refused })
+  named_follows field (Err (faults.Refused fault)) result is follows = rw is (record { octets = follows.octets; there = follows.there; refused = ap (naming (λ place. field)) follows.refused })
   named_follows field (Err faults.Read) result is follows = rw is follows
   named_follows field (Err faults.Memory) result is follows = rw is tt
 
@@ -90,9 +90,8 @@ module _ {A : Type 0} (reader : Reader A) (MayFail : Type 0) (field_of : ℕ →
   pub fields_fail : (e : FileFault) (start offset : ℕ) (field : CaptureField) (old : Cursor) → start ≡ old.place → offset ≡ offset_of e start → field ≡ field_of offset → FailsBy e reader MayFail old → FailsIn e field placed_fields MayFail old
   fields_fail faults.Memory start offset field old here is named fails = tt
   fields_fail faults.Read start offset field old here is named fails = fails
-  fields_fail (faults.Refused place why unnamed) start offset field old here is named fails =
-      let fault : Fault = record { place = place; why = why; field = unnamed } in
-      let same : field_of (place - old.place) ≡ field = ap (λ (s : ℕ). field_of (place - s)) (sym here) ∙ ap field_of (sym is) ∙ sym named in
+  fields_fail (faults.Refused fault) start offset field old here is named fails =
+      let same : field_of (fault.place - old.place) ≡ field = ap (λ (s : ℕ). field_of (fault.place - s)) (sym here) ∙ ap field_of (sym is) ∙ sym named in
       record {
         octets = fails.octets;
         there = fails.there;
@@ -100,6 +99,38 @@ module _ {A : Type 0} (reader : Reader A) (MayFail : Type 0) (field_of : ℕ →
             ap (naming (λ p. field_of (p - old.place))) fails.refused
             ∙ ap (λ (f : CaptureField). let it : Result (A × Source) Refusal = Err (record { fault = fault; field = f }) in it) same;
       }
+
+-- the same of a part of the file, which begins where the reader begins
+offset_begun : (e : FileFault) (place start : ℕ) → offset_of (fault_begun place e) start ≡ offset_of e start
+offset_begun faults.Memory place start = refl
+offset_begun faults.Read place start = refl
+offset_begun (faults.Refused fault) place start = refl
+
+pub part_fields_fail : {A : Type 0} (reader : Reader A) (MayFail : Type 0) (field_of : ℕ → CaptureField) (e : FileFault) (start offset : ℕ) (field : CaptureField) (old : Cursor) → start ≡ old.place → offset ≡ offset_of e start → field ≡ field_of offset → FailsBy e reader MayFail old
+    → FailsIn (fault_begun start e) field (placed_fields (one_part reader) MayFail field_of) MayFail old
+part_fields_fail reader MayFail field_of e start offset field old here is named fails =
+    fields_fail (one_part reader) MayFail field_of (fault_begun start e) start offset field old here (is ∙ sym (offset_begun e start start)) named
+    (subst (λ (p : ℕ). FailsBy (fault_begun p e) (one_part reader) MayFail old) (sym here) (part_fails reader e MayFail old fails))
+
+pub part_fields_read : {A : Type 0} (reader : Reader A) (MayFail : Type 0) (field_of : ℕ → CaptureField) (value : A) (old new : Cursor) → HasRead reader value old new → HasParsed (placed_fields (one_part reader) MayFail field_of) value old new
+part_fields_read reader MayFail field_of value old new read = fields_read (one_part reader) MayFail field_of value old new (part_read reader read)
+
+-- ---- a parser of a part of the file that begins before it
+module _ {A : Type 0} (parser : Parser A) (start : ℕ → ℕ) where
+  abbrev placed_part : Parser A
+  placed_part = from_here (λ place. part_from (start place) parser)
+
+  pub part_parsed : (value : A) (old new : Cursor) → HasParsed parser value old new → HasParsed placed_part value old new
+  part_parsed value old new read = record {
+    same_bounds = read.same_bounds;
+    from = λ rest there. let a = read.from rest there in (a.0, a.1, ap (part_at (start old.place)) a.2);
+  }
+
+  pub part_refused : (MayFail : Type 0) (e : FileFault) (field : CaptureField) (begin : ℕ) (old : Cursor) → begin ≡ start old.place → FailsIn e field parser MayFail old → FailsIn (fault_begun begin e) field placed_part MayFail old
+  part_refused MayFail faults.Memory field begin old here fails = tt
+  part_refused MayFail faults.Read field begin old here fails = fails
+  part_refused MayFail (faults.Refused fault) field begin old here fails =
+      rw here (record { octets = fails.octets; there = fails.there; refused = ap (part_at (start old.place)) fails.refused })
 
 -- ---- one parser after another
 module _ {A B : Type 0} (first : Parser A) (next : A → Parser B) (MayFail : Type 0) where
@@ -117,7 +148,7 @@ module _ {A B : Type 0} (first : Parser A) (next : A → Parser B) (MayFail : Ty
   pub first_fails : (e : FileFault) (field : CaptureField) (old : Cursor) → FailsIn e field first MayFail old → FailsIn e field (first >>= next) MayFail old
   first_fails faults.Memory field old fails = tt
   first_fails faults.Read field old fails = fails
-  first_fails (faults.Refused place why unnamed) field old fails = record {
+  first_fails (faults.Refused fault) field old fails = record {
     octets = fails.octets;
     there = fails.there;
     refused = ap (λ (r : Result (A × Source) Refusal). and_then r (λ x. next x.0 old.bounds x.1)) fails.refused;
@@ -126,8 +157,7 @@ module _ {A B : Type 0} (first : Parser A) (next : A → Parser B) (MayFail : Ty
   pub next_fails : (v : A) (e : FileFault) (field : CaptureField) (old mid : Cursor) → HasParsed first v old mid → FailsIn e field (next v) MayFail mid → FailsIn e field (first >>= next) MayFail old
   next_fails v faults.Memory field old mid p fails = tt
   next_fails v faults.Read field old mid p fails = fails
-  next_fails v (faults.Refused place why unnamed) field old mid p fails =
-      let fault : Fault = record { place = place; why = why; field = unnamed } in
+  next_fails v (faults.Refused fault) field old mid p fails =
       let refusal : Refusal = record { fault = fault; field = field } in
       let a = p.from fails.octets fails.there in
       let s = source_at mid.place fails.octets in
@@ -166,6 +196,16 @@ pub Onward-fields : {A : Type 0} (n : ℕ) (field_of : ℕ → CaptureField) (re
 Onward-fields n field_of reader p = record {
   on = λ bounds s v t e. p.on bounds s v t (naming-ok field_of (reader bounds s) (v, t) e);
   same = λ bounds s v t e. p.same bounds s v t (naming-ok field_of (reader bounds s) (v, t) e);
+}
+
+pub part_at-ok : {A : Type 0} (place : ℕ) (r : Result A Refusal) (y : A) → part_at place r ≡ Ok y → r ≡ Ok y
+part_at-ok place (Ok x) y e = e
+part_at-ok place (Err refusal) y e = absurd cc
+
+pub Onward-part : {A : Type 0} (n place : ℕ) (parser : Parser A) → Onward n parser → Onward n (part_from place parser)
+Onward-part n place parser p = record {
+  on = λ bounds s v t e. p.on bounds s v t (part_at-ok place (parser bounds s) (v, t) e);
+  same = λ bounds s v t e. p.same bounds s v t (part_at-ok place (parser bounds s) (v, t) e);
 }
 
 pub Onward-succeed : {A : Type 0} (value : A) → Onward 0 (succeed value)

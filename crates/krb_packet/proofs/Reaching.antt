@@ -2,7 +2,7 @@
 use Rattle.std.proofs.Common.{◌≡◌, ℕ, ◌+◌, ◌≤◌, inl, inr, Bool, true, false, Option, None, Result, Ok, Err, length, refl, ap, ◌∙◌, subst, arith, length-drop}
 use Rattle.std.specs.Int.{Width, byte_len, from_be_bytes}
 use Rattle.krb_der.specs.Octets.{when}
-use Rattle.krb_file.specs.Fields.{Source, Fault, Bounds, Reader, ◌>>=◌, succeed, are_zero, next_octets_at, octets_at, number_at}
+use Rattle.krb_file.specs.Fields.{Source, Fault, fault_of, Bounds, Reader, ◌>>=◌, succeed, are_zero, next_octets_at, octets_at, number_at}
 use Rattle.krb_file.specs.FieldReaders.{Cursor, HasRead, source_at, skipped_at}
 use Rattle.krb_file.specs.declared.fault.FileWhy.{FileWhy}
 use Rattle.krb_file.proofs.Fields.{ok_is, err_is, and_then-ok, and_then-err, piece-ok}
@@ -129,7 +129,7 @@ Stops-number w order = Stops-then (next_octets_at None (byte_len w)) _ (Stops-pi
 
 pub checked_at-err : {A : Type 0} (place : ℕ) (check : Result A FileWhy) (bounds : Bounds) (s : Source) (f : Fault) → checked_at place check bounds s ≡ Err f → f.place ≡ place
 checked_at-err place (Ok value) bounds s f e = absurd cc
-checked_at-err {A} place (Err why) bounds s f e = ap (λ (x : Fault). x.place) (err_is (A × Source) f (record { place = place; why = why; field = None }) cc)
+checked_at-err {A} place (Err why) bounds s f e = ap (λ (x : Fault). x.place) (err_is (A × Source) f (fault_of place why) cc)
 
 pub Stops-check : {A : Type 0} (check : Result A FileWhy) → Stops (from_here (λ place. checked_at place check))
 Stops-check check = record {

@@ -1,9 +1,9 @@
 -- How many octets and blocks each step of a file reads.
-use Rattle.std.proofs.Common.{◌≡◌, ℕ, ◌+◌, ◌≤◌, Option, Some, None, Result, Ok, Err, List, [], ◌∷◌, length, refl, ap, ◌∙◌, subst, arith}
+use Rattle.std.proofs.Common.{◌≡◌, ℕ, ◌+◌, ◌-◌, ◌≤◌, Option, Some, None, Result, Ok, Err, List, [], ◌∷◌, length, refl, ap, ◌∙◌, subst, arith}
 use Rattle.std.specs.Int.{w32}
-use Rattle.krb_file.specs.Fields.{Source, Fault, Bounds, octets_at, next_octets_at}
+use Rattle.krb_file.specs.Fields.{Source, Fault, Bounds, one_part, octets_at, next_octets_at}
 use Rattle.krb_file.specs.FieldReaders.{Cursor, source_at}
-use Rattle.krb_file.proofs.Fields.{at, ok_is, and_then-ok}
+use Rattle.krb_file.proofs.Fields.{at, ok_is, and_then-ok, begun_at-ok}
 use Rattle.krb_file.proofs.FieldReaders.{some_rest}
 use Rattle.krb_packet.specs.declared.order.ByteOrder.{ByteOrder}
 use Rattle.krb_packet.specs.declared.order.ByteOrder.TheVariants as orders
@@ -28,10 +28,10 @@ use Rattle.krb_packet.specs.Numbers.{in_order, number_in, checked_at, checked_nu
 use Rattle.krb_packet.specs.Parsers.{succeed, named, HasParsed}
 use Rattle.krb_packet.specs.Pcaps.{magic_of, magic_at, version, header_at, captured, packet_head_at, packet_at, next_at}
 use Rattle.krb_packet.specs.Bodies.{byte_order, body_size, after_byte_order, section_head_at, head_of, head_at, same_length, next_kind_at, content_at, in_body, block_kind}
-use Rattle.krb_packet.specs.Blocks.{head_in, content_in_file, read_body, body_in, block_in, after_content, block_after, after_kind}
+use Rattle.krb_packet.specs.Blocks.{head_in, content_in_file, read_body, body_in, block_in, whole_block_in, after_content, block_after, after_kind}
 use Rattle.krb_packet.specs.Captures.{header_in, packet_in, after_magic, after_packet, next_in, blocks_of}
 use Rattle.krb_packet.proofs.Reaching.{Passes, Passes-then, Passes-fewer, Passes-made, Passes-piece, Passes-octets, Passes-skipped, Passes-number_at, Passes-number, Passes-check, Passes-checked_at, Passes-from_here, Passes-refused}
-use Rattle.krb_packet.proofs.Parsing.{Onward, Onward-fields, Onward-succeed, Onward-then, Onward-from_here, parsed_is, parsed-ok, naming-ok}
+use Rattle.krb_packet.proofs.Parsing.{Onward, Onward-fields, Onward-part, Onward-succeed, Onward-then, Onward-from_here, parsed_is, parsed-ok, naming-ok}
 
 -- ---- a pcap
 pub Passes-header : (form : Form) → Passes 0 (header_at form)
@@ -125,6 +125,9 @@ Onward-block kind section count =
     Onward-then 0 0 (body_in kind section count (start + 4) head) _ (Onward-body kind section count (start + 4) head) (λ content.
     Onward-then 0 0 _ _ (Onward-fields 0 _ _ (Passes-fewer 4 _ (Passes-checked_at w32 head.order (same_length head.length)))) (λ same. Onward-succeed content))))
 
+Onward-whole_block : (kind : BlockKind) (section : Section) (count : ℕ) → Onward 0 (whole_block_in kind section count)
+Onward-whole_block kind section count = Onward-from_here 0 _ (λ start. Onward-part 0 (start - 4) (block_in kind section count) (Onward-block kind section count))
+
 -- ---- a step: it reads an octet at least, and a block at most
 pub record Goes (before : Format) (after : Format) (s t : Source) : Type 0 where
   pub on : s.place + 4 ≤ t.place
@@ -146,9 +149,9 @@ content_advances before section contents.Other s t is on same = record { on = on
 block_advances : (before : Format) (kind : BlockKind) (section : Section) (count : ℕ) (bounds : Bounds) (s u : Source) (v : Next) (t : Source) → section.blocks ≡ blocks_of before → s.place + 4 ≤ u.place → u.place + length u.octets ≡ s.place + length s.octets
     → block_after kind section count bounds u ≡ Ok (v, t) → Advances before v s t
 block_advances before kind section count bounds s u v t is on same e =
-    let a = parsed-ok (block_in kind section count bounds u) (λ x. succeed (after_content section x.0) bounds x.1) (v, t) e in
-    let goes = (Onward-block kind section count).on bounds u a.0.0 a.0.1 a.1 in
-    let all = (Onward-block kind section count).same bounds u a.0.0 a.0.1 a.1 in
+    let a = parsed-ok (whole_block_in kind section count bounds u) (λ x. succeed (after_content section x.0) bounds x.1) (v, t) e in
+    let goes = (Onward-whole_block kind section count).on bounds u a.0.0 a.0.1 a.1 in
+    let all = (Onward-whole_block kind section count).same bounds u a.0.0 a.0.1 a.1 in
     subst (λ (p : Next × Source). Advances before p.0 s p.1) (parsed_is (after_content section a.0.0, a.0.1) (v, t) a.2)
     (content_advances before section a.0.0 s a.0.1 is (omega (arith, on, goes)) (all ∙ same))
 
@@ -183,7 +186,7 @@ step_advances formats.Unknown count bounds s v t e =
     magic_advances count a.0.0 bounds s a.0.1 v t (first.on bounds s a.0.0 a.0.1 a.1) (first.same bounds s a.0.0 a.0.1 a.1) a.2
 step_advances (formats.Pcap header) count bounds s v t e =
     let a = parsed-ok (packet_in header count bounds s) (λ x. succeed (after_packet header x.0) bounds x.1) (v, t) e in
-    let read = naming-ok _ (next_at header count bounds s) a.0 a.1 in
+    let read = begun_at-ok s.place (next_at header count bounds s) a.0 (naming-ok _ (one_part (next_at header count) bounds s) a.0 a.1) in
     subst (λ (p : Next × Source). Advances (formats.Pcap header) p.0 s p.1) (parsed_is (after_packet header a.0.0, a.0.1) (v, t) a.2)
     (pcap_advances header a.0.0 s a.0.1 (λ p is.
     next_passes header count bounds s.place s.octets p a.0.1 (subst (λ (o : Option Packet). next_at header count bounds s ≡ Ok (o, a.0.1)) is read)))

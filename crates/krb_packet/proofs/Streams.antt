@@ -122,8 +122,8 @@ end_given file count number format old new reads read =
 pub fault_given : (file : List ℕ) (count number : ℕ) (format : Format) (e : FileFault) (field : CaptureField) (MayFail : Type 0) (old : Cursor) → Reads (opening old format number) file count → FailsIn e field (next_in format number) MayFail old → FailsAfter file count e field
 fault_given file count number format faults.Read field MayFail old reads fails = tt
 fault_given file count number format faults.Memory field MayFail old reads fails = tt
-fault_given file count number format (faults.Refused place why unnamed) field MayFail old reads fails =
-    let refusal : Refusal = record { fault = record { place = place; why = why; field = unnamed }; field = field } in
+fault_given file count number format (faults.Refused fault) field MayFail old reads fails =
+    let refusal : Refusal = record { fault = fault; field = field } in
     let b = reads.rest fails.octets fails.there in
     let s = source_at old.place fails.octets in
     let whose : next_in format number limits s ≡ Err refusal = subst (λ (k : Bounds). next_in format number k s ≡ Err refusal) reads.bounds fails.refused in

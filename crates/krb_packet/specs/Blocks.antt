@@ -20,7 +20,7 @@ use Rattle.krb_packet.specs.declared.field.CaptureField.TheVariants as capture
 use Rattle.krb_packet.specs.declared.field.BlockField.{BlockField}
 use Rattle.krb_packet.specs.declared.field.BlockField.TheVariants as block
 use Rattle.krb_packet.specs.Numbers.{checked_number, refused_at}
-use Rattle.krb_packet.specs.Parsers.{Parser, ◌>>=◌, succeed, from_here, fields, named}
+use Rattle.krb_packet.specs.Parsers.{Parser, ◌>>=◌, succeed, from_here, fields, named, part_from}
 use Rattle.krb_packet.specs.Bodies.{next_kind_at, head_at, content_at, in_body, same_length}
 
 -- ---- the field at an offset: of what is between the type and the body, and of a body
@@ -90,6 +90,10 @@ block_in kind section count = from_here (λ start. do
   same ← end_in section.blocks head
   succeed content)
 
+-- the same; a fault is in the block, which begins with the four octets of its type
+abbrev pub whole_block_in : BlockKind → Section → ℕ → Parser Content
+whole_block_in kind section count = from_here (λ start. part_from (start - 4) (block_in kind section count))
+
 -- ---- the progress after a block: a section header begins with no interfaces
 
 abbrev pub after_content : Section → Content → Next
@@ -99,7 +103,7 @@ after_content section (contents.Packet packet) = nexts.Packet packet (formats.Pc
 after_content section contents.Other = nexts.NoPacket (formats.Pcapng (record section { blocks = section.blocks + 1 }))
 
 abbrev pub block_after : BlockKind → Section → ℕ → Parser Next
-block_after kind section count = block_in kind section count >>= λ content. succeed (after_content section content)
+block_after kind section count = whole_block_in kind section count >>= λ content. succeed (after_content section content)
 
 abbrev pub after_kind : Section → ℕ → Option BlockKind → Parser Next
 after_kind section count None = succeed nexts.End
@@ -112,6 +116,6 @@ next_block section count = named (capture.Block section.blocks block.Type) (next
 -- ---- for results of functions
 
 abbrev pub fault_from : ℕ → FileFault → FileFault
-fault_from begin (faults.Refused place why unnamed) = faults.Refused (begin + place) why unnamed
+fault_from begin (faults.Refused fault) = faults.Refused (record fault { place = begin + fault.place })
 fault_from begin faults.Read = faults.Read
 fault_from begin faults.Memory = faults.Memory

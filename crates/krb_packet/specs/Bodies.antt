@@ -36,8 +36,8 @@ next_kind_at order = λ bounds source.
 -- the size of a body: that of the block without the type and the two lengths; a block has at most 2^24 octets
 abbrev pub body_size : ℕ → Result ℕ FileWhy
 body_size length =
-    when (nat_lt length 12 || not (length % 4 == 0)) (λ _. Err why.Overrun) (λ _.
-    when (nat_lt 16777216 length) (λ _. Err why.TooLong) (λ _.
+    when (nat_lt length 12 || not (length % 4 == 0)) (λ _. Err (why.WrongLength length)) (λ _.
+    when (nat_lt 16777216 length) (λ _. Err (why.TooLong length)) (λ _.
     Ok (length - 12)))
 
 abbrev pub whole_head : ByteOrder → ℕ → Result ℕ FileWhy → Result Head FileWhy

@@ -1,7 +1,7 @@
 -- Capture files, pcap and pcapng, read from left to right, up to the first fault.
 use Rattle.std.specs.Prelude.{ℕ, zero, suc, ◌+◌, ◌-◌, ◌==◌, Option, Some, None, Result, Ok, Err, List, [], ◌∷◌, length}
 use Rattle.krb_der.specs.Octets.{when}
-use Rattle.krb_file.specs.Fields.{Source, source_of, limited}
+use Rattle.krb_file.specs.Fields.{Source, source_of, limited, one_part}
 use Rattle.krb_packet.specs.declared.order.ByteOrder.TheVariants as orders
 use Rattle.krb_packet.specs.declared.packet.Packet.{Packet}
 use Rattle.krb_packet.specs.declared.pcap.Form.{Form}
@@ -44,7 +44,7 @@ abbrev pub header_in : Form → Parser Header
 header_in form = from_here (λ start. fields (λ place. header_field (place - start)) (header_at form))
 
 abbrev pub packet_in : Header → ℕ → Parser (Option Packet)
-packet_in header count = from_here (λ start. fields (λ place. capture.Packet count (packet_field (place - start))) (next_at header count))
+packet_in header count = from_here (λ start. fields (λ place. capture.Packet count (packet_field (place - start))) (one_part (next_at header count)))
 
 -- ---- A file is read in steps: the header of a pcap or the first block, and then packets or blocks.
 

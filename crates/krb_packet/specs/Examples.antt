@@ -4,6 +4,8 @@ use Rattle.std.specs.Net.Addr.{segments_of}
 use Rattle.std.specs.declared.net.ip_addr.IpAddr.{IpAddr}
 use Rattle.std.specs.declared.net.ip_addr.IpAddr.TheVariants as ip
 use Rattle.krb_der.specs.Hex.{hex}
+use Rattle.krb_file.specs.Fields.{Fault}
+use Rattle.krb_file.specs.declared.fault.FileWhy.{FileWhy}
 use Rattle.krb_file.specs.declared.fault.FileWhy.TheVariants as why
 use Rattle.krb_packet.specs.declared.packet.Packet.{Packet}
 use Rattle.krb_packet.specs.declared.packet.LinkType.TheVariants as links
@@ -73,23 +75,30 @@ clock_is_read = refl
 abbrev refused : List Packet → Refusal → Packets
 refused found refusal = record { packets = found; refusal = Some refusal }
 
-magic_is_refused : packets captured ≡ refused [] (record { fault = record { place = 0; why = why.Magic; field = None }; field = fields.Magic })
+-- in a packet, in a block, or in a field, which begins at the first number
+abbrev fault : ℕ → ℕ → FileWhy → Fault
+fault begin place reason = record { place = place; why = reason; field = None; begin = begin }
+
+magic_is_refused : packets captured ≡ refused [] (record { fault = fault 0 0 why.Magic; field = fields.Magic })
 magic_is_refused = refl
 
-version_is_refused : packets (hex (codes "A1B23C4D 0002 0003")) ≡ refused [] (record { fault = record { place = 4; why = why.Version; field = None }; field = fields.Version })
+version_is_refused : packets (hex (codes "A1B23C4D 0002 0003")) ≡ refused [] (record { fault = fault 4 4 why.Version; field = fields.Version })
 version_is_refused = refl
 
-cut_packet_is_refused : packets (header ++ captured ++ take 50 captured) ≡ refused (packet ∷ []) (record { fault = record { place = 130; why = why.Truncated; field = None }; field = fields.Packet 1 packet_fields.Data })
+cut_packet_is_refused : packets (header ++ captured ++ take 50 captured) ≡ refused (packet ∷ []) (record { fault = fault 114 130 why.Truncated; field = fields.Packet 1 packet_fields.Data })
 cut_packet_is_refused = refl
 
-long_packet_is_refused : packets (hex (codes "A1B2C3D4 0002 0004 00000000 00000000 00000400 00000065 00000001 00000000 01000001")) ≡ refused [] (record { fault = record { place = 32; why = why.TooLong; field = None }; field = fields.Packet 0 packet_fields.CapturedLength })
+long_packet_is_refused : packets (hex (codes "A1B2C3D4 0002 0004 00000000 00000000 00000400 00000065 00000001 00000000 01000001")) ≡ refused [] (record { fault = fault 24 32 (why.TooLong 0x01000001); field = fields.Packet 0 packet_fields.CapturedLength })
 long_packet_is_refused = refl
 
-interface_is_refused : packets (section ++ block) ≡ refused [] (record { fault = record { place = 36; why = why.Overrun; field = None }; field = fields.Block 1 block_fields.Interface })
+interface_is_refused : packets (section ++ block) ≡ refused [] (record { fault = fault 28 36 why.Overrun; field = fields.Block 1 block_fields.Interface })
 interface_is_refused = refl
 
-cut_block_is_refused : packets (section ++ interface ++ block ++ take 20 block) ≡ refused (in_block ∷ []) (record { fault = record { place = 92; why = why.Truncated; field = None }; field = fields.Block 3 block_fields.Body })
+cut_block_is_refused : packets (section ++ interface ++ block ++ take 20 block) ≡ refused (in_block ∷ []) (record { fault = fault 84 92 why.Truncated; field = fields.Block 3 block_fields.Body })
 cut_block_is_refused = refl
+
+length_is_refused : packets (section ++ hex (codes "06000000 0A000000")) ≡ refused [] (record { fault = fault 28 32 (why.WrongLength 10); field = fields.Block 1 block_fields.Length })
+length_is_refused = refl
 
 -- ---- what a packet carries
 abbrev whole : List ℕ → Captured

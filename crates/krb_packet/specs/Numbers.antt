@@ -1,7 +1,7 @@
 -- Numbers in either byte order, and fields that are refused if their number has no meaning.
 use Rattle.std.specs.Prelude.{ℕ, None, Result, Ok, Err, List, reverse}
 use Rattle.std.specs.Int.{Width, byte_len, from_be_bytes}
-use Rattle.krb_file.specs.Fields.{Fault, Reader, ◌>>=◌, succeed, next_octets_at}
+use Rattle.krb_file.specs.Fields.{Fault, fault_of, Reader, ◌>>=◌, succeed, next_octets_at}
 use Rattle.krb_file.specs.declared.fault.FileWhy.{FileWhy}
 use Rattle.krb_file.specs.declared.fault.FileFault.{FileFault}
 use Rattle.krb_file.specs.declared.fault.FileFault.TheVariants as faults
@@ -24,7 +24,7 @@ number_in width order = do
 -- the meaning of the field at a place, or its refusal there
 abbrev pub checked_at : {A : Type 0} → ℕ → Result A FileWhy → Reader A
 checked_at place (Ok value) = succeed value
-checked_at place (Err reason) = λ bounds source. Err (record { place = place; why = reason; field = None })
+checked_at place (Err reason) = λ bounds source. Err (fault_of place reason)
 
 -- a reader that depends on the place at which it begins
 abbrev pub from_here : {A : Type 0} → (ℕ → Reader A) → Reader A
@@ -44,4 +44,4 @@ refused_at place reader = λ bounds source. moved_to place (reader bounds source
 -- `checked_at`, as a result of a function
 abbrev pub checked : {A : Type 0} → ℕ → Result A FileWhy → Result A FileFault
 checked place (Ok value) = Ok value
-checked place (Err reason) = Err (faults.Refused place reason None)
+checked place (Err reason) = Err (faults.Refused (fault_of place reason))

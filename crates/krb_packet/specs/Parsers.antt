@@ -42,6 +42,16 @@ fields field_of reader = λ bounds source. naming field_of (reader bounds source
 abbrev pub named : {A : Type 0} → CaptureField → Reader A → Parser A
 named field = fields (λ place. field)
 
+-- ---- Where the part of the file begins that a fault is in.
+
+abbrev pub part_at : {A : Type 0} → ℕ → Result A Refusal → Result A Refusal
+part_at place (Ok value) = Ok value
+part_at place (Err refusal) = Err (record refusal { fault = record refusal.fault { begin = place } })
+
+-- the same parser, of a part of the file that begins at this place
+abbrev pub part_from : {A : Type 0} → ℕ → Parser A → Parser A
+part_from place parser = λ bounds source. part_at place (parser bounds source)
+
 -- ---- Results of functions, as `krb_file/specs/FieldReaders` has them of readers.
 
 -- A value was read: whatever octets remain now, the parser reads the value of these after the octets that were read, and leaves these.
@@ -57,7 +67,7 @@ pub record HasRefused {A : Type 0} (parser : Parser A) (refusal : Refusal) (old 
 
 -- A fault of a call: one of the octets with its field; one of the device, if it may fail; or out of memory.
 abbrev pub FailsIn : {A : Type 0} → FileFault → CaptureField → Parser A → Type 0 → Cursor → Type 0
-FailsIn (faults.Refused place why unnamed) field parser MayFail old = HasRefused parser (record { fault = record { place = place; why = why; field = unnamed }; field = field }) old
+FailsIn (faults.Refused fault) field parser MayFail old = HasRefused parser (record { fault = fault; field = field }) old
 FailsIn faults.Read field parser MayFail old = MayFail
 FailsIn faults.Memory field parser MayFail old = Unit {0}
 
@@ -73,6 +83,6 @@ in_field field (Err fault) = Err (record { fault = fault; field = field })
 
 -- the number of octets between a place and that of a refusal
 abbrev pub offset_of : FileFault → ℕ → ℕ
-offset_of (faults.Refused place why unnamed) start = place - start
+offset_of (faults.Refused fault) start = fault.place - start
 offset_of faults.Read start = 0
 offset_of faults.Memory start = 0

@@ -66,7 +66,7 @@ abbrev pub most_captured : ℕ
 most_captured = 16777216
 
 abbrev pub captured : ℕ → Result ℕ FileWhy
-captured size = when (nat_lt most_captured size) (λ _. Err why.TooLong) (λ _. Ok size)
+captured size = when (nat_lt most_captured size) (λ _. Err (why.TooLong size)) (λ _. Ok size)
 
 -- the numbers before its octets
 abbrev pub packet_head_at : ByteOrder → Reader PacketHead

@@ -57,7 +57,7 @@ pub record EndsBy (packets : Packets) (count : ℕ) (refusal : Option Refusal) :
 
 -- a fault after `count` packets were returned: the refusal that follows these; else the device failed, or memory ran out
 abbrev pub FailsAfter : List ℕ → ℕ → FileFault → CaptureField → Type 0
-FailsAfter file count (faults.Refused place why unnamed) field = EndsBy (packets file) count (Some (record { fault = record { place = place; why = why; field = unnamed }; field = field }))
+FailsAfter file count (faults.Refused fault) field = EndsBy (packets file) count (Some (record { fault = fault; field = field }))
 FailsAfter file count faults.Read field = Unit {0}
 FailsAfter file count faults.Memory field = Unit {0}
 

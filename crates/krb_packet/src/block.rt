@@ -12,7 +12,7 @@ use crate::interface::Interface;
 use crate::order::{ByteOrder, checked, number32};
 use crate::pcap::MOST_CAPTURED;
 use krb_der::Many;
-use krb_file::{FieldReader, FileFault, FileWhy};
+use krb_file::{FieldReader, FileFault, FileRefusal, FileWhy};
 use std::alloc::Global;
 
 /// The type of a section header, which is the same in either order of octets.
@@ -92,9 +92,9 @@ fn body_size(length: u32) -> Result<u32, FileWhy>
     ensures { result ≡ body_size length }
 {
     if length < LEAST_BLOCK || length % 4 != 0 {
-        Err(FileWhy::Overrun)
+        Err(FileWhy::WrongLength(u64::from(length)))
     } else if length > MOST_CAPTURED {
-        Err(FileWhy::TooLong)
+        Err(FileWhy::TooLong(u64::from(length)))
     } else {
         Ok(length - LEAST_BLOCK)
     }
@@ -194,7 +194,9 @@ pub(crate) fn body_octets<F: FieldReader>(
     let mut octets = reader.spare_octets(alloc);
     match reader.octets(alloc, u64::from(left), &mut octets) {
         Ok(()) => Ok(octets),
-        Err(FileFault::Refused { why, field, .. }) => Err(FileFault::Refused { place, why, field }),
+        Err(FileFault::Refused(refusal)) => {
+            Err(FileFault::Refused(FileRefusal { place, ..refusal }))
+        }
         Err(fault) => Err(fault),
     }
 }

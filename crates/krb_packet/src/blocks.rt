@@ -12,7 +12,7 @@ use crate::field::{BlockField, CaptureField, head_field};
 use crate::format::{Format, Next};
 use crate::interface::Interface;
 use krb_der::Many;
-use krb_file::{FieldReader, FileFault};
+use krb_file::{FieldReader, FileFault, FileRefusal};
 use std::alloc::{AllocError, Global};
 
 /// Reads the head of a block of a kind, after its type.
@@ -56,11 +56,10 @@ fn fault_from(begin: u64, fault: FileFault) -> FileFault
     ensures { result ≡ fault_from begin fault }
 {
     match fault {
-        FileFault::Refused { place, why, field } => FileFault::Refused {
-            place: begin + place,
-            why,
-            field,
-        },
+        FileFault::Refused(refusal) => FileFault::Refused(FileRefusal {
+            place: begin + refusal.place,
+            ..refusal
+        }),
         fault => fault,
     }
 }
@@ -208,6 +207,9 @@ fn after_content(section: Section, content: Content) -> Result<Next, AllocError>
     }
 }
 
+/// The number of octets of the type of a block.
+const TYPE_OCTETS: u64 = 4;
+
 /// Reads a block of a kind, after its type, and returns the progress in the file after it.
 pub(crate) fn block_after<F: FieldReader>(
     alloc: Global,
@@ -222,6 +224,7 @@ pub(crate) fn block_after<F: FieldReader>(
     ensures keeps { Keeps (F.cursor reader.old) (F.cursor reader.new) }
 {
     let field = CaptureField::Block(section.blocks, BlockField::Body);
+    let begin = reader.place().saturating_sub(TYPE_OCTETS);
     match block(alloc, kind, &section, count, reader) {
         Ok(content) => match after_content(section, content) {
             Ok(next) => Ok(next),
@@ -230,7 +233,7 @@ pub(crate) fn block_after<F: FieldReader>(
                 field,
             }),
         },
-        Err(fault) => Err(fault),
+        Err(fault) => Err(fault.begun_at(begin)),
     }
 }
 

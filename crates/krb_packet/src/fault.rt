@@ -1,6 +1,7 @@
 //! Why a capture file cannot be read, with the field at fault.
 
 ghost use Rattle.std.specs.Prelude.{◌≡◌};
+ghost use Rattle.krb_file.specs.Fields.{fault_begun};
 ghost use Rattle.krb_packet.specs.Parsers.{in_field, offset_of};
 
 use crate::field::CaptureField;
@@ -13,6 +14,18 @@ pub struct CaptureFault {
     pub fault: FileFault,
     /// The field.
     pub field: CaptureField,
+}
+
+impl CaptureFault {
+    /// Returns the same fault, in a part of the file that begins at a place.
+    pub(crate) fn begun_at(self, begin: u64) -> CaptureFault
+        ensures { result ≡ record self { fault = fault_begun begin self.fault } }
+    {
+        CaptureFault {
+            fault: self.fault.begun_at(begin),
+            field: self.field,
+        }
+    }
 }
 
 /// Returns what was read of a field, or the fault and the field.
@@ -33,7 +46,7 @@ pub(crate) fn offset(fault: FileFault, start: u64) -> u64
     ensures { result ≡ offset_of fault start }
 {
     match fault {
-        FileFault::Refused { place, .. } => place.saturating_sub(start),
+        FileFault::Refused(refusal) => refusal.place.saturating_sub(start),
         FileFault::Read | FileFault::Memory => 0,
     }
 }

@@ -2,6 +2,7 @@
 
 ghost use Rattle.std.specs.Prelude.{◌≡◌, ◌^◌, ◌<◌, ◌≤◌, OnOk, [], Ok, Err};
 ghost use Rattle.krb_file.specs.FieldReaders.{Stays, Keeps};
+ghost use Rattle.krb_file.specs.Fields.{fault_begun};
 ghost use Rattle.krb_packet.specs.Parsers.{Parses, offset_of};
 ghost use Rattle.krb_packet.specs.declared.field.CaptureField.TheVariants as capture;
 ghost use Rattle.krb_packet.specs.Captures.{blocks_of, header_in, packet_field, packet_in, begin_in, next_in};
@@ -59,10 +60,11 @@ fn header<F: FieldReader>(form: Form, reader: &mut F) -> Result<Header, CaptureF
 #[cold]
 #[inline(never)]
 fn refused_packet(count: u64, start: u64, fault: FileFault) -> Result<Option<Packet>, CaptureFault>
-    ensures { result ≡ Err (record { fault = fault; field = capture.Packet count (packet_field (offset_of fault start)) }) }
+    ensures { result ≡ Err (record { fault = fault_begun start fault; field = capture.Packet count (packet_field (offset_of fault start)) }) }
 {
     let field = packet_field(offset(fault, start));
     let field = CaptureField::Packet(count, field);
+    let fault = fault.begun_at(start);
     Err(CaptureFault { fault, field })
 }
 

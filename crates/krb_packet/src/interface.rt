@@ -8,7 +8,7 @@ ghost use Rattle.krb_packet.specs.Interfaces.{padded, with_setting, setting_at, 
 
 use crate::order::{ByteOrder, number16, number32};
 use crate::packet::{LinkType, NANOSECONDS, Time};
-use krb_file::{FieldReader, FileFault};
+use krb_file::{FieldReader, FileFault, FileRefusal};
 
 /// What packets of a pcapng were captured from.
 #[derive(Clone, Copy, PartialEq, Eq, Debug)]
@@ -150,7 +150,9 @@ fn next_option<F: FieldReader>(
 {
     let place = reader.place();
     match next_setting(order, reader) {
-        Err(FileFault::Refused { why, field, .. }) => Err(FileFault::Refused { place, why, field }),
+        Err(FileFault::Refused(refusal)) => {
+            Err(FileFault::Refused(FileRefusal { place, ..refusal }))
+        }
         read => read,
     }
 }

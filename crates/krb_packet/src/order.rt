@@ -78,10 +78,6 @@ pub(crate) fn checked<T>(place: u64, check: Result<T, FileWhy>) -> Result<T, Fil
 {
     match check {
         Ok(value) => Ok(value),
-        Err(why) => Err(FileFault::Refused {
-            place,
-            why,
-            field: None,
-        }),
+        Err(why) => Err(FileFault::refused(place, why)),
     }
 }

@@ -95,7 +95,7 @@ fn captured(size: u32) -> Result<u32, FileWhy>
     ensures { result ≡ captured size }
 {
     if size > MOST_CAPTURED {
-        Err(FileWhy::TooLong)
+        Err(FileWhy::TooLong(u64::from(size)))
     } else {
         Ok(size)
     }

@@ -8,6 +8,7 @@ use krb_file::FileFault;
 use krb_frame::Limit;
 use krb_list::{Form, TextBuffer};
 use krb_packet::{Packet, Packets};
+use krb_text::Extent;
 use std::alloc::Global;
 use std::test::Fail;
 
@@ -64,10 +65,14 @@ fn put_records(
             }
             Ok(None) => return Ok(capture.finish(text)?),
             Err(fault) => {
-                let FileFault::Refused { place, why, .. } = fault.fault else {
+                let FileFault::Refused(refusal) = fault.fault else {
                     return Err(Fail::from("a fault of the file"));
                 };
-                capture.refuse(place, why, None, text)?;
+                let extent = Extent {
+                    at: refusal.begin,
+                    length: None,
+                };
+                capture.refuse(refusal.place, refusal.why, None, extent, text)?;
                 return Ok(false);
             }
         }

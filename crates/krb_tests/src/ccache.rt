@@ -7,7 +7,7 @@ use krb_ccache::{
     upgrade, write,
 };
 use krb_der::{Many, Octets, Refusal, Why};
-use krb_file::{FieldName, FileFault, FileField, FileWhy};
+use krb_file::{FieldName, FileFault, FileField, FileRefusal, FileWhy};
 use std::alloc::Global;
 use std::test::Fail;
 
@@ -205,12 +205,15 @@ fn fault_of<T: Drop>(answer: Result<T, FileFault>) -> Option<FileFault> {
 
 #[test]
 fn reads_one_version_each(rt: HostRuntime) {
-    let (place, why) = (1, FileWhy::Version);
-    let field = Some(FileField {
-        part: None,
-        name: FieldName::Version,
-    });
-    let refused = Some(FileFault::Refused { place, why, field });
+    let refused = Some(FileFault::Refused(FileRefusal {
+        place: 1,
+        why: FileWhy::Version,
+        field: Some(FileField {
+            part: None,
+            name: FieldName::Version,
+        }),
+        begin: 1,
+    }));
     assert_eq!(rt; fault_of(read(rt.alloc(), b"\x05\x03")), refused);
     assert_eq!(rt; fault_of(read3(rt.alloc(), b"\x05\x04")), refused);
 }

@@ -177,11 +177,7 @@ fn shows_faults(rt: HostRuntime) {
         is_shown(alloc, &ParseFault::Memory, "out of memory"),
         is_shown(
             alloc,
-            &FileFault::Refused {
-                place,
-                why,
-                field: None,
-            },
+            &FileFault::refused(place, why),
             "refused at 4294967296: Truncated",
         ),
         is_shown(alloc, &FileFault::Read, "a read failed"),

@@ -24,6 +24,10 @@ mod flow;
 #[cfg(test)]
 mod frame;
 #[cfg(test)]
+mod hint;
+#[cfg(test)]
+mod input;
+#[cfg(test)]
 mod json_lines;
 #[cfg(test)]
 mod judge;
@@ -34,11 +38,17 @@ mod list;
 #[cfg(test)]
 mod locating;
 #[cfg(test)]
+mod offsets;
+#[cfg(test)]
+mod outputs;
+#[cfg(test)]
 mod packet;
 #[cfg(test)]
 mod packet_blocks;
 #[cfg(test)]
 mod packet_fragments;
+#[cfg(test)]
+mod places;
 #[cfg(test)]
 mod registry;
 #[cfg(test)]
@@ -47,5 +57,9 @@ mod runs;
 mod scan;
 #[cfg(test)]
 mod streaming;
+#[cfg(test)]
+mod text;
+#[cfg(test)]
+mod token;
 #[cfg(test)]
 mod words;

@@ -1,7 +1,7 @@
 //! The first two packets of a real capture, `no-kdc`, in which a client of MIT krb5 asks for a
 //! connection to port 88 and is refused; and what Wireshark shows of them.
 
-use krb_file::{FileFault, FileWhy};
+use krb_file::{FileFault, FileRefusal, FileWhy};
 use krb_packet::{
     CaptureFault, CaptureField, Contents, Endpoint, LinkType, Packet, PacketField, Packets,
     Segment, contents_of,
@@ -82,11 +82,12 @@ fn times_are_read(rt: HostRuntime) {
 fn cut_packets_are_refused(rt: HostRuntime) {
     let mut packets = Packets::new(&CAPTURE[..100]);
     let wanted = CaptureFault {
-        fault: FileFault::Refused {
+        fault: FileFault::Refused(FileRefusal {
             place: 40,
             why: FileWhy::Truncated,
             field: None,
-        },
+            begin: 24,
+        }),
         field: CaptureField::Packet(0, PacketField::Data),
     };
     for _ in 0..2 {

@@ -4,9 +4,9 @@
 
 use crate::fakes::{Asked, Full, Watched};
 use krb_tool::{
-    DecodeEnd, EncodeEnd, Limit, Profile, RunEnd, RunFault, run_ccache, run_decode,
-    run_decode_unframed, run_encode, run_encode_unframed, run_keytab, run_message, run_stream,
-    status,
+    DecodeEnd, EncodeEnd, Form, Limit, Profile, RunEnd, RunFault, run_ccache, run_decode,
+    run_decode_unframed, run_encode, run_encode_unframed, run_keytab, run_lines_in, run_message,
+    run_stream, status,
 };
 use std::alloc::{AllocError, Global};
 use std::io::{Read, Write};
@@ -16,6 +16,7 @@ use std::test::Fail;
 enum Run {
     Stream,
     Message,
+    Lines,
     Keytab,
     Ccache,
     Decode,
@@ -50,6 +51,7 @@ fn list<R: Read, W: Write>(
     match run {
         Run::Stream => run_stream(alloc, reader, writer, Limit::DEFAULT),
         Run::Message => run_message(alloc, reader, writer),
+        Run::Lines => run_lines_in(alloc, Form::Lines, Profile::Lenient, reader, writer),
         Run::Keytab => run_keytab(alloc, reader, writer),
         Run::Ccache => run_ccache(alloc, reader, writer, None),
         Run::Decode => decoded(run_decode(alloc, Profile::Lenient, reader, writer, Limit::DEFAULT)),
@@ -83,9 +85,9 @@ struct Example(
 const FRAME: &[u8] =
     b"\x00\x00\x00\x1F\x6F\x1D\x30\x1B\xA0\x03\x02\x01\x05\xA1\x03\x02\x01\x0F\xA2\x0F\x30\x0D\xA0\x03\x02\x01\x12\xA2\x06\x04\x04\xDE\xAD\xBE\xEF";
 
-/// Two of these frames, a message in hexadecimal, a keytab with an entry and a hole, a cache of
+/// Two of these frames, a message in hexadecimal, two of them in lines, a keytab with an entry and a hole, a cache of
 /// u@A with no credential, and then the frames and the message decoded, and their lines encoded.
-const EXAMPLES: [Example; 8] = [
+const EXAMPLES: [Example; 9] = [
     Example(
         Run::Stream,
         b"\x00\x00\x00\x1F\x6F\x1D\x30\x1B\xA0\x03\x02\x01\x05\xA1\x03\x02\x01\x0F\xA2\x0F\x30\x0D\xA0\x03\x02\x01\x12\xA2\x06\x04\x04\xDE\xAD\xBE\xEF\x00\x00\x00\x1F\x6F\x1D\x30\x1B\xA0\x03\x02\x01\x05\xA1\x03\x02\x01\x0F\xA2\x0F\x30\x0D\xA0\x03\x02\x01\x12\xA2\x06\x04\x04\xDE\xAD\xBE\xEF",
@@ -103,6 +105,18 @@ const EXAMPLES: [Example; 8] = [
         b"6F1D301BA003020105A10302010FA20F300DA003020112A2060404DEADBEEF",
         b"AP-REP enc=18:-:4 notes=[]\n",
         [(0, b""), (0, b"")],
+    ),
+    Example(
+        Run::Lines,
+        b"6F1D301BA003020105A10302010FA20F300DA003020112A2060404DEADBEEF\n6F1D301BA003020105A10302010FA20F300DA003020112A2060404DEADBEEF\n",
+        b"line=1 AP-REP enc=18:-:4 notes=[]\nline=2 AP-REP enc=18:-:4 notes=[]\nend messages=2 refused=0\n",
+        [
+            (63, b"line=1 AP-REP enc=18:-:4 notes=[]\n"),
+            (
+                126,
+                b"line=1 AP-REP enc=18:-:4 notes=[]\nline=2 AP-REP enc=18:-:4 notes=[]\n",
+            ),
+        ],
     ),
     Example(
         Run::Keytab,

@@ -1,16 +1,20 @@
 //! Command lines.
 
 use krb_der::Profile;
-use krb_words::{AfterRefusal, Form, Framing, Job, Order, Source, WordsFault, read_words};
+use krb_text::FileName;
+use krb_words::{
+    AfterRefusal, Form, Framing, Inputs, Job, NamedPath, Naming, Order, Source, When, WordsFault,
+    read_words,
+};
 use std::alloc::Global;
 use std::test::Fail;
 
 /// Returns the words of a command line, which are given with one blank between them.
-fn words(alloc: Global, line: &str) -> Result<Vec<String>, Fail> {
+fn words(alloc: Global, line: &str) -> Result<Vec<Vec<u8>>, Fail> {
     let mut words = Vec::new(alloc);
     for word in line.split(' ') {
         if !word.is_empty() {
-            words.push(String::from_str(alloc, word)?)?;
+            words.push(Vec::from_slice(alloc, word.as_bytes())?)?;
         }
     }
     Ok(words)
@@ -45,14 +49,33 @@ fn first_line(text: &str) -> &str {
     text.lines().next().unwrap_or("")
 }
 
+/// Returns a short name of the listing of messages.
+fn message_name(profile: Profile, inputs: Inputs) -> &'static str {
+    match (profile, inputs) {
+        (Profile::Lenient, Inputs::Whole) => "message",
+        (Profile::Strict, Inputs::Whole) => "strict message",
+        (Profile::Lenient, Inputs::EachLine) => "messages",
+        (Profile::Strict, Inputs::EachLine) => "strict messages",
+    }
+}
+
+/// Returns the names of a job with a time, without one and with that of the clock, and the time.
+fn timed<'a>(name: &'a str, by_clock: &'a str, when: Option<When>) -> (&'a str, Option<u32>) {
+    match when {
+        None => (name, None),
+        Some(When::Clock) => (by_clock, None),
+        Some(When::Seconds(seconds)) => (name, Some(seconds)),
+    }
+}
+
 /// Returns a short name of a job, and its limit or time, if it has one.
 fn named(job: &Job) -> (&str, Option<u32>) {
     match job {
+        Job::List(when) => timed("list", "list now", *when),
         Job::Stream(limit, profile, after) => (stream_name(*profile, *after), Some(limit.get())),
-        Job::Message(Profile::Lenient) => ("message", None),
-        Job::Message(Profile::Strict) => ("strict message", None),
+        Job::Message(profile, inputs) => (message_name(*profile, *inputs), None),
         Job::Keytab => ("keytab", None),
-        Job::Ccache(now) => ("ccache", *now),
+        Job::Ccache(when) => timed("ccache", "ccache now", *when),
         Job::Capture(limit, _) => ("capture", Some(limit.get())),
         Job::Decode(limit, profile, framing) => (
             conversion_name(true, *profile, *framing),
@@ -75,11 +98,22 @@ fn port_of(job: &Job) -> Option<u16> {
     }
 }
 
+/// Returns the name of a path, and the path if it is another.
+fn path_name(alloc: Global, kind: &str, path: &NamedPath) -> Result<String, Fail> {
+    let name = FileName(path.name.as_slice());
+    if path.name.as_slice() == path.path.as_slice() {
+        return Ok(format!(in alloc; "{kind}{name}")?);
+    }
+    let path = FileName(path.path.as_slice());
+    Ok(format!(in alloc; "{kind}{name} at {path}")?)
+}
+
 /// Returns the name of a source.
-fn source_name(source: &Source) -> &str {
+fn source_name(alloc: Global, source: &Source) -> Result<String, Fail> {
     match source {
-        Source::Input => "-",
-        Source::File(file) => file.as_str(),
+        Source::Input => Ok(String::from_str(alloc, "-")?),
+        Source::File(path) => path_name(alloc, "", path),
+        Source::Directory(path) => path_name(alloc, "each of ", path),
     }
 }
 
@@ -104,9 +138,12 @@ fn shown_order(alloc: Global, order: &Order) -> Result<String, Fail> {
         shown.push_str(text.as_str())?;
     }
     shown.push_str(form_name(order.form))?;
+    if order.naming == Naming::Each {
+        shown.push_str(" labelled")?;
+    }
     for source in &order.sources {
         shown.push_str(", ")?;
-        shown.push_str(source_name(source))?;
+        shown.push_str(source_name(alloc, source)?.as_str())?;
     }
     Ok(shown)
 }
@@ -126,7 +163,47 @@ fn shown(alloc: Global, line: &str) -> Result<String, Fail> {
 }
 
 /// Words, and what they ask for: the job with its numbers, the form, and the sources.
-const ORDERS: [(&str, &str); 42] = [
+const ORDERS: [(&str, &str); 67] = [
+    ("list a", "list, a"),
+    ("--json -", "list json, -"),
+    ("a.keytab", "list, a.keytab"),
+    ("strem/ list", "list, strem/, list"),
+    ("-- -x list", "list, -x, list"),
+    ("--file stream", "list, stream"),
+    ("-- keytab", "list, keytab"),
+    ("--json keytab", "list json, keytab"),
+    ("-H --now now a", "list now labelled, a"),
+    ("list --with-filename a", "list labelled, a"),
+    (
+        "FILE:a WRFILE:b DIR::c DIR:d",
+        "list, FILE:a at a, WRFILE:b at b, DIR::c at c, each of DIR:d at d",
+    ),
+    (
+        "keytab FILE:a WRFILE:b DIR:c",
+        "keytab, FILE:a at a, WRFILE:b at b, DIR:c",
+    ),
+    (
+        "ccache --file DIR:a DIR::FILE:b",
+        "ccache, each of DIR:a at a, DIR::FILE:b at FILE:b",
+    ),
+    ("stream FILE:a DIR:b", "stream 16777216, FILE:a, DIR:b"),
+    ("message --lines -H a", "messages labelled, a"),
+    ("message --strict --lines", "strict messages, -"),
+    ("ccache --now now", "ccache now, -"),
+    ("ccache --now 1970-01-01T00:00:00Z", "ccache 0, -"),
+    ("ccache --now 2026-11-22T12:00:00Z", "ccache 1795348800, -"),
+    ("ccache --now 2024-02-29T23:59:59Z", "ccache 1709251199, -"),
+    ("ccache --now 2106-02-07T06:28:16Z", "ccache 4294967295, -"),
+    ("ccache --now 9999-12-31T23:59:59Z", "ccache 4294967295, -"),
+    (
+        "list \u{e9}\u{1b}[m\\x41",
+        "list, \\xc3\\xa9\\x1b[m\\x5cx41",
+    ),
+    (
+        "help",
+        "Lists Kerberos V5 messages, keytabs, credential caches and captures",
+    ),
+    ("help stream", "Lists framed messages"),
     ("stream", "stream 16777216, -"),
     ("stream --limit 30 --file a", "stream 30, a"),
     ("stream --limit=5", "stream 5, -"),
@@ -186,7 +263,7 @@ const ORDERS: [(&str, &str); 42] = [
     ("stream -- -x --file", "stream 16777216, -x, --file"),
 ];
 
-const WRONG: [&str; 37] = [
+const WRONG: [&str; 46] = [
     "",
     "stream --limit 0",
     "stream --limit 2147483648",
@@ -214,17 +291,34 @@ const WRONG: [&str; 37] = [
     "capture --keep-going",
     "capture --now 5",
     "stream --port 88",
-    "-- keytab",
     "keytab a --now 1",
     "list",
-    "help",
-    "help stream",
     "--limit 5 stream",
-    "--file a keytab",
     "keytab --json --json",
     "stream --names=1",
-    "--json keytab",
+    "strem",
+    "help strem",
+    "--json",
+    "-H",
+    "decode -H",
+    "stream --lines",
+    "ccache --now 1969-12-31T23:59:59Z",
+    "ccache --now 2026-02-29T00:00:00Z",
+    "ccache --now 2026-11-22T24:00:00Z",
+    "ccache --now 2026-11-22T12:00:00",
+    "ccache --now 2026-11-22t12:00:00Z",
+    "ccache --now 10000-01-01T00:00:00Z",
+    "ccache --now NOW",
+    "ccache --now -1",
 ];
+
+#[test]
+fn quotes_words_escaped(rt: HostRuntime) -> Result<(), Fail> {
+    let text = shown(rt.alloc(), "stream --\u{1b}[31m\n")?;
+    assert!(rt; text.as_str().contains("--\\x1b[31m\\x0a"), "{text}");
+    assert!(rt; !text.as_str().contains("\u{1b}"), "{text}");
+    Ok(())
+}
 
 #[test]
 fn reads_words(rt: HostRuntime) -> Result<(), Fail> {

@@ -10,9 +10,21 @@ use Rattle.krb_text.proofs.Records.{fields_text_append}
 pub member_alone : (old : List ℕ) {mid new : List ℕ} (begin value : List ℕ) → mid ≡ old ++ begin ++ codes "\":" → new ≡ mid ++ value → new ≡ old ++ (begin ++ codes "\":" ++ value ++ [])
 member_alone old begin value first second = rw (second, first) (simp (append_assoc, append-nil))
 
+-- two lists of fields
+pub two_lists : (old : List ℕ) {l₁ l₂ : List ℕ} (form : Form) (a b : List Field) → l₁ ≡ old ++ fields_text form a → l₂ ≡ l₁ ++ fields_text form b → l₂ ≡ old ++ fields_text form (a ++ b)
+two_lists old form a b h₁ h₂ = rw (h₂, h₁, fields_text_append form a b) (simp append_assoc)
+
+-- a member that is null, as its name is
+pub null_with_name : (old begin : List ℕ) {l₁ l₂ l₃ l₄ : List ℕ} → l₁ ≡ old ++ begin ++ codes "\":" → l₂ ≡ l₁ ++ codes "null" → l₃ ≡ l₂ ++ begin → l₄ ≡ l₃ ++ codes "_name\":null" → l₄ ≡ old ++ (begin ++ codes "\":" ++ codes "null" ++ (begin ++ codes "_name\":null"))
+null_with_name old begin h₁ h₂ h₃ h₄ = rw (h₄, h₃, h₂, h₁) (simp append_assoc)
+
 -- a record of one field
 pub one_field : (old : List ℕ) {opened put new : List ℕ} (opening field closing : List ℕ) → opened ≡ old ++ opening → put ≡ opened ++ field → new ≡ put ++ closing → new ≡ old ++ (opening ++ (field ++ []) ++ closing)
 one_field old opening field closing first second third = rw (third, second, first) (simp (append_assoc, append-nil))
+
+-- the line of a record of three fields
+pub three_fields : (old : List ℕ) {l₁ l₂ l₃ l₄ l₅ : List ℕ} (opening a b c closing feed : List ℕ) → l₁ ≡ old ++ opening → l₂ ≡ l₁ ++ a → l₃ ≡ l₂ ++ b → l₄ ≡ l₃ ++ c → l₅ ≡ l₄ ++ closing ++ feed → l₅ ≡ old ++ (opening ++ (a ++ (b ++ (c ++ []))) ++ closing ++ feed)
+three_fields old opening a b c closing feed h₁ h₂ h₃ h₄ h₅ = rw (h₅, h₄, h₃, h₂, h₁) (simp (append_assoc, append-nil))
 
 -- the opening of a record, its fields and its end
 pub two_fields : (old : List ℕ) {first second : List ℕ} (one two : List ℕ) → first ≡ old ++ one → second ≡ first ++ two → second ≡ old ++ (one ++ (two ++ []))

@@ -18,11 +18,15 @@ use Rattle.krb_text.specs.declared.form.Form.{Form}
 use Rattle.krb_text.specs.declared.form.Form.TheVariants as form
 use Rattle.krb_text.specs.Errors.{code_name, code_suffix, code_text}
 use Rattle.krb_text.specs.FileNames.{is_plain_in_name, name_octet, name_text}
-use Rattle.krb_text.specs.Forms.{four_octets, plus_text, unnamed, unnamed_from, named_in, is_set, set_names, named_flags_text, number_text, flags_text, refused_ticket_text, value_text, json_character, json_string, shown_octet, octets_string, or_null, name_string, flags_object, sealed_object, principal_object, address_object, digest_object, offset_object, refused_object, true_or_false, json_value, names_member, members, labelled, field, opening, closing, fields_text, record_text}
+use Rattle.krb_text.specs.Forms.{four_octets, plus_text, unnamed, unnamed_from, named_in, is_set, set_names, named_flags_text, number_text, flags_text, refused_ticket_text, value_text, json_character, json_string, shown_octet, octets_string, or_null, name_string, flags_object, sealed_object, principal_object, address_object, digest_object, offset_object, refused_object, true_or_false, json_value, names_member, members, labelled, field, opening, closing, fields_text, origin_text, opening_from, heading, record_text}
 use Rattle.krb_text.specs.Text.{AllAreOctets, IsPrintable, principal_text, two_hex, yes_or_no}
 use Rattle.krb_text.specs.TicketFlags.{flag_name, set_flags, names_text, other_flags, eight_hex, others_text, ticket_flags_text}
-use Rattle.krb_text.specs.Values.{Value, Absent, NoTicket, Number, Named, Numbers, ErrorCode, Reason, String, Quoted, FileName, Word, Flags, TicketFlags, Sealed, Principal, Address, Digest, YesNo, Offset, RefusedTicket, Field, Printed}
+use Rattle.krb_text.specs.Values.{Value, Absent, NoTicket, Number, Named, Numbers, ErrorCode, Reason, NoReason, String, Quoted, FileName, Word, Flags, TicketFlags, Sealed, Principal, Address, Digest, YesNo, Offset, RefusedTicket, Flow, Layers, Field, Printed}
 use Rattle.krb_text.specs.inner.Flags.{names_set}
+use Rattle.krb_token.specs.Layers.{layer_name}
+use Rattle.krb_token.specs.declared.layer.Layer.{Layer}
+use Rattle.krb_token.specs.declared.layer.Layer.TheVariants as layers
+use Rattle.krb_text.proofs.Flows as flow
 use Rattle.krb_text.proofs.Printable.{Prints, is_printable, word, join, either, flat, number, signed, escaped, in_hex, optional, always, all_joined, every, listed, list, principal}
 use Rattle.krb_text.proofs.Reasons as reasons
 
@@ -226,6 +230,14 @@ true_or false = word (codes "false") refl
 
 -- ---- values
 -- octets are octets, words are printable, and flags are a number of 32 bits
+layer : (l : Layer) → Prints (layer_name l)
+layer layers.Frame = word _ refl
+layer layers.Gss = word _ refl
+layer layers.Spnego = word _ refl
+
+layer_in_string : (l : Layer) → Prints (json_string (layer_name l))
+layer_in_string l = string (layer_name l) (layer l).all
+
 abbrev pub IsShown : Value → Type 0
 IsShown (Reason number name) = IsPrintable name
 IsShown (String octets) = AreOctets octets
@@ -236,6 +248,7 @@ IsShown (Flags registry bits) = AreOctets bits.1
 IsShown (TicketFlags flags) = flags < 2 ^ 32
 IsShown (Principal name_type components realm) = AllAreOctets components × AreOctets realm
 IsShown (Address addr_type octets) = AreOctets octets
+IsShown (Flow transport source target) = flow.IsFlowInRange source target
 IsShown value = Unit {0}
 
 in_line : (names : Bool) (value : Value) → IsShown value → Prints (value_text names value)
@@ -248,6 +261,7 @@ in_line names (Numbers registry ns) h = list (number_text names registry) (numbe
 in_line false (ErrorCode code) h = error_code code
 in_line true (ErrorCode code) h = numbered true registries.ErrorCodes code
 in_line names (Reason n name) h = join (join (number n) (word (codes " ") refl)) (record { all = h })
+in_line names NoReason h = word (codes "-") refl
 in_line names (String octets) h = escaped octets h
 in_line names (Quoted octets) h = join (join (word (codes "\"") refl) (escaped octets h)) (word (codes "\"") refl)
 in_line names (FileName octets) h = file_name octets h
@@ -263,6 +277,8 @@ in_line names (Digest cksumtype size) h = join (join (numbered names registries.
 in_line names (YesNo holds) h = yes_or holds
 in_line names (Offset seconds microseconds) h = join (join (signed seconds) (word (codes ":") refl)) (signed microseconds)
 in_line names (RefusedTicket r) h = refused_ticket names r
+in_line names (Flow transport source target) h = flow.in_line transport source target h
+in_line names (Layers ls) h = all_joined [] (codes ",") layer_name (λ l. Unit {0}) (word [] refl) (word (codes ",") refl) (λ l h. layer l) ls (every ls)
 
 in_object : (value : Value) → IsShown value → Prints (json_value value)
 unfolding json_value
@@ -273,6 +289,7 @@ in_object (Named registry n) h = signed n
 in_object (Numbers registry ns) h = list signed_decimal signed ns
 in_object (ErrorCode code) h = signed code
 in_object (Reason n name) h = number n
+in_object NoReason h = word (codes "null") refl
 in_object (String octets) h = octets_in_string octets h
 in_object (Quoted octets) h = octets_in_string octets h
 in_object (FileName octets) h = octets_in_string octets h
@@ -286,12 +303,15 @@ in_object (Digest cksumtype size) h = digest_in_object cksumtype size
 in_object (YesNo holds) h = true_or holds
 in_object (Offset seconds microseconds) h = offset_in_object seconds microseconds
 in_object (RefusedTicket r) h = refused_in_object r
+in_object (Flow transport source target) h = flow.in_object transport source target h
+in_object (Layers ls) h = list (λ l. json_string (layer_name l)) layer_in_string ls
 
 after_value : (begin : List ℕ) (value : Value) → Prints begin → IsShown value → Prints (names_member begin value)
 unfolding names_member
 after_value begin (Named registry n) before h = join (join before (word (codes "_name\":") refl)) (name_in_string registry n)
 after_value begin (ErrorCode code) before h = join (join before (word (codes "_name\":") refl)) (name_in_string registries.ErrorCodes code)
 after_value begin (Reason n name) before h = join (join before (word (codes "_name\":") refl)) (string name h)
+after_value begin NoReason before h = join before (word (codes "_name\":null") refl)
 after_value begin (Numbers registry ns) before h = join (join before (word (codes "_names\":") refl)) (list (name_string registry) (name_in_string registry) ns)
 after_value begin value before h = word [] refl
 
@@ -330,6 +350,25 @@ ends form.Lines = word [] refl
 ends form.NamedLines = word [] refl
 ends form.Json = word (codes "}") refl
 
-pub record_prints : (f : Form) (r : Printed) → list_all is_printable r.kind ≡ true → names_are_plain r.fields ≡ true → AreShown r.fields → Prints (record_text f r)
+-- the fields of an origin, and what precedes the fields of a record
+comes_from : (f : Form) (origin : List Field) → names_are_plain origin ≡ true → AreShown origin → Prints (origin_text f origin)
+comes_from f [] e h = word [] refl
+comes_from f (first ∷ others) e h =
+    let names = and_parts (list_all is_printable first.name) (names_are_plain others) e in
+    join
+    (labelled_field f (first.name ++ codes "=") (codes ",\"" ++ first.name) first.value (join (word first.name names.0) (word (codes "=") refl)) (join (word (codes ",\"") refl) (word first.name names.0)) h.0)
+    (all_fields f others names.1 h.1)
+
+begins_from : (f : Form) (origin : List Field) (kind : List ℕ) → names_are_plain origin ≡ true → AreShown origin → list_all is_printable kind ≡ true → Prints (opening_from f origin kind)
+unfolding opening_from
+begins_from form.Lines origin kind e h k = join (join (comes_from form.Lines origin e h) (word (codes " ") refl)) (word kind k)
+begins_from form.NamedLines origin kind e h k = join (join (comes_from form.NamedLines origin e h) (word (codes " ") refl)) (word kind k)
+begins_from form.Json origin kind e h k = join (begins form.Json kind k) (comes_from form.Json origin e h)
+
+heads : (f : Form) (origin : List Field) (kind : List ℕ) → names_are_plain origin ≡ true → AreShown origin → list_all is_printable kind ≡ true → Prints (heading f origin kind)
+heads f [] kind e h k = begins f kind k
+heads f (first ∷ others) kind e h k = begins_from f (first ∷ others) kind e h k
+
+pub record_prints : (f : Form) (r : Printed) → names_are_plain r.origin ≡ true → AreShown r.origin → list_all is_printable r.kind ≡ true → names_are_plain r.fields ≡ true → AreShown r.fields → Prints (record_text f r)
 unfolding record_text
-record_prints f r kind names h = join (join (begins f r.kind kind) (all_fields f r.fields names h)) (ends f)
+record_prints f r plain shown kind names h = join (join (heads f r.origin r.kind plain shown kind) (all_fields f r.fields names h)) (ends f)

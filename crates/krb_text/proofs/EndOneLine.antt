@@ -1,35 +1,44 @@
 -- What is printed of refusals, ends and the names of files is one line.
-use Rattle.std.proofs.Common.{◌≡◌, ℕ, true, List, ◌++◌, Option, Some, None, IfSome, refl, codes}
+use Rattle.std.proofs.Common.{◌≡◌, ℕ, true, List, [], ◌++◌, Option, Some, None, IfSome, pos, ◌∷◌, refl}
 use Rattle.std.specs.List.{list_all}
 use Rattle.krb_der.specs.Octets.{AreOctets}
-use Rattle.krb_der.specs.Reasons.{reason_number, reason_name}
 use Rattle.krb_der.specs.declared.verdict.Refusal.{Refusal}
 use Rattle.krb_der.specs.declared.why.Why.{Why}
 use Rattle.krb_der.specs.declared.why.Why.TheVariants as whys
-use Rattle.krb_file.specs.Faults.{file_reason_number, file_reason_name}
 use Rattle.krb_file.specs.declared.fault.FileWhy.{FileWhy}
+use Rattle.krb_input.specs.Spellings.{spelling_name}
+use Rattle.krb_input.specs.declared.spelling.Spelling.{Spelling}
+use Rattle.krb_input.specs.declared.spelling.Spelling.TheVariants as spellings
 use Rattle.krb_msg.specs.Stream.{End, Boundary, Within, Refused}
+use Rattle.krb_text.specs.declared.extent.Extent.{Extent}
 use Rattle.krb_text.specs.declared.form.Form.{Form}
 use Rattle.krb_text.specs.declared.form.Form.TheVariants as forms
+use Rattle.krb_text.specs.declared.input.InputFault.{InputFault}
+use Rattle.krb_text.specs.declared.input.InputFault.TheVariants as faults
 use Rattle.krb_text.specs.Files.{file_line, file_record}
 use Rattle.krb_text.specs.Forms.{record_line}
+use Rattle.krb_text.specs.Inputs.{input_kind, input_refused_line, input_refused_record, input_word}
 use Rattle.krb_text.specs.Laws.{IsOneLine}
-use Rattle.krb_text.specs.declared.refusal.InputFault.{InputFault}
-use Rattle.krb_text.specs.declared.refusal.InputFault.TheVariants as faults
-use Rattle.krb_text.specs.Refusals.{path_in, fault_record, file_refused_line, message_refused_line, input_refused_line}
-use Rattle.krb_text.specs.Streams.{counted_end_line, counted_end_record, end_line, end_record, refused_line, refused_record}
+use Rattle.krb_text.specs.Messages.{message_origin}
+use Rattle.krb_text.specs.Refusals.{path_in, extent_in, spelling_in, refusal_record, file_refused_record, file_refused_line, message_refused_record, message_refused_line, untold_message_refused_line}
+use Rattle.krb_text.specs.Streams.{counted_end_line, counted_end_record, end_line, end_record, refused_frame, refused_line, refused_record, untold_refused_line}
 use Rattle.krb_text.specs.Text.{line_feed}
-use Rattle.krb_text.specs.Values.{String, Printed, if_there}
+use Rattle.krb_text.specs.Values.{Field, Number, String, Word, Printed, if_there, with_origin}
+use Rattle.krb_token.specs.declared.layer.Layer.{Layer}
 use Rattle.krb_text.proofs.Printable.{Prints, is_printable, word}
 use Rattle.krb_text.proofs.Reasons as reasons
 use Rattle.krb_text.proofs.EachForm.{IsShown, AreShown, names_are_plain, record_prints}
 
-pub ended : {text : List ℕ} → Prints text → IsOneLine (text ++ line_feed)
+ended : {text : List ℕ} → Prints text → IsOneLine (text ++ line_feed)
 ended {text} h = (text, h.all, refl)
 
--- a record of plain names whose values are shown
-pub one_line : (form : Form) (r : Printed) → list_all is_printable r.kind ≡ true → names_are_plain r.fields ≡ true → AreShown r.fields → IsOneLine (record_line form r)
-one_line form r kind names h = ended (record_prints form r kind names h)
+-- a record of plain names whose values are shown, from an origin
+pub line_from : (form : Form) (origin : List Field) (r : Printed) → names_are_plain origin ≡ true → AreShown origin → list_all is_printable r.kind ≡ true → names_are_plain r.fields ≡ true → AreShown r.fields → IsOneLine (record_line form (with_origin origin r))
+line_from form origin r plain shown kind names h = ended (record_prints form (with_origin origin r) plain shown kind names h)
+
+-- and from none
+pub one_line : (form : Form) (r : Printed) → list_all is_printable r.kind ≡ true → names_are_plain r.fields ≡ true → AreShown r.fields → IsOneLine (record_line form (with_origin [] r))
+one_line form r kind names h = line_from form [] r refl tt kind names h
 
 -- the path of the field at fault
 pub path_is_plain : (form : Form) (path : Option (List ℕ)) → names_are_plain (path_in form path) ≡ true
@@ -46,30 +55,120 @@ path_shown forms.Lines path h = tt
 path_shown forms.NamedLines path h = (octets_shown path h, tt)
 path_shown forms.Json path h = (octets_shown path h, tt)
 
-pub file_refused : (form : Form) (place : ℕ) (reason : FileWhy) (path : Option (List ℕ)) → IfSome path AreOctets → IsOneLine (file_refused_line form place reason path)
-file_refused form place reason path h =
-    one_line form (fault_record form place (file_reason_number reason) (file_reason_name reason) path) refl (path_is_plain form path) (tt, ((reasons.file_name reason).all, path_shown form path h))
+-- the path, and where the octets lie
+number_shown : (n : Option ℕ) → IsShown (if_there (λ n. Number (pos n)) n)
+number_shown None = tt
+number_shown (Some n) = tt
 
-pub message_refused : (form : Form) (refusal : Refusal) (path : Option (List ℕ)) → IfSome path AreOctets → IsOneLine (message_refused_line form refusal path)
-message_refused form refusal path h =
-    one_line form (fault_record form refusal.place (reason_number refusal.why) (reason_name refusal.why) path) refl (path_is_plain form path) (tt, ((reasons.name refusal.why).all, path_shown form path h))
+pub located_is_plain : (form : Form) (path : Option (List ℕ)) (extent : Extent) → names_are_plain (path_in form path ++ extent_in form extent) ≡ true
+located_is_plain forms.Lines path extent = refl
+located_is_plain forms.NamedLines path extent = refl
+located_is_plain forms.Json path extent = refl
 
-pub input_refused : (form : Form) (fault : InputFault) → IsOneLine (input_refused_line form fault)
-input_refused forms.Lines faults.Hex = ended (word (codes "refused hex") refl)
-input_refused forms.Lines faults.Length = ended (word (codes "refused length") refl)
-input_refused forms.NamedLines faults.Hex = ended (word (codes "refused hex") refl)
-input_refused forms.NamedLines faults.Length = ended (word (codes "refused length") refl)
-input_refused forms.Json faults.Hex = ended (word (codes "{\"kind\":\"refused\",\"input\":\"hex\"}") refl)
-input_refused forms.Json faults.Length = ended (word (codes "{\"kind\":\"refused\",\"input\":\"length\"}") refl)
+pub located_shown : (form : Form) (path : Option (List ℕ)) (extent : Extent) → IfSome path AreOctets → AreShown (path_in form path ++ extent_in form extent)
+located_shown forms.Lines path extent h = tt
+located_shown forms.NamedLines path extent h = (octets_shown path h, (tt, (number_shown extent.length, tt)))
+located_shown forms.Json path extent h = (octets_shown path h, (tt, (number_shown extent.length, tt)))
 
-refused : (form : Form) (messages place : ℕ) (reason : Why) (path : Option (List ℕ)) → IfSome path AreOctets → IsOneLine (refused_line form messages place reason path)
-refused form messages place reason path h =
-    one_line form (refused_record form messages place reason path) refl (path_is_plain form path) (tt, (tt, ((reasons.name reason).all, path_shown form path h)))
+-- and how they are spelled
+spelled : (s : Spelling) → Prints (spelling_name s)
+spelled spellings.Octets = word _ refl
+spelled spellings.Hex = word _ refl
+spelled spellings.Dump = word _ refl
+spelled spellings.Base64 = word _ refl
 
-pub end_of_stream : (form : Form) (messages : ℕ) (end : End) (path : Option (List ℕ)) → IfSome path AreOctets → IsOneLine (end_line form messages end path)
-end_of_stream form messages Boundary path h = one_line form (end_record form messages Boundary path) refl refl (tt, tt)
-end_of_stream form messages (Within present) path h = refused form messages present whys.Truncated path h
-end_of_stream form messages (Refused place reason) path h = refused form messages place reason path h
+spelling_shown : (s : Option Spelling) → IsShown (if_there (λ s. Word (spelling_name s)) s)
+spelling_shown None = tt
+spelling_shown (Some s) = (spelled s).all
+
+spelled_is_plain : (form : Form) (path : Option (List ℕ)) (extent : Extent) (s : Spelling) → names_are_plain (path_in form path ++ extent_in form extent ++ spelling_in form s) ≡ true
+spelled_is_plain forms.Lines path extent s = refl
+spelled_is_plain forms.NamedLines path extent s = refl
+spelled_is_plain forms.Json path extent s = refl
+
+spelled_shown : (form : Form) (path : Option (List ℕ)) (extent : Extent) (s : Spelling) → IfSome path AreOctets → AreShown (path_in form path ++ extent_in form extent ++ spelling_in form s)
+spelled_shown forms.Lines path extent s h = tt
+spelled_shown forms.NamedLines path extent s h = (octets_shown path h, (tt, (number_shown extent.length, ((spelled s).all, tt))))
+spelled_shown forms.Json path extent s h = (octets_shown path h, (tt, (number_shown extent.length, ((spelled s).all, tt))))
+
+-- where a message comes from
+pub origin_is_plain : (line : Option ℕ) (layers : List Layer) → names_are_plain (message_origin line layers) ≡ true
+origin_is_plain None [] = refl
+origin_is_plain None (first ∷ others) = refl
+origin_is_plain (Some line) [] = refl
+origin_is_plain (Some line) (first ∷ others) = refl
+
+pub origin_shown : (line : Option ℕ) (layers : List Layer) → AreShown (message_origin line layers)
+origin_shown None [] = tt
+origin_shown None (first ∷ others) = (tt, tt)
+origin_shown (Some line) [] = (tt, tt)
+origin_shown (Some line) (first ∷ others) = (tt, (tt, tt))
+
+-- a record that comes from a message
+pub message_line_from : (form : Form) (line : Option ℕ) (layers : List Layer) (r : Printed) → list_all is_printable r.kind ≡ true → names_are_plain r.fields ≡ true → AreShown r.fields → IsOneLine (record_line form (with_origin (message_origin line layers) r))
+message_line_from form line layers r kind names h = line_from form (message_origin line layers) r (origin_is_plain line layers) (origin_shown line layers) kind names h
+
+-- ---- refused files and messages
+pub file_refused : (form : Form) (place : ℕ) (reason : FileWhy) (path : Option (List ℕ)) (extent : Extent) → IfSome path AreOctets → IsOneLine (file_refused_line form place reason path extent)
+file_refused form place reason path extent h =
+    one_line form (file_refused_record form place reason path extent) refl (located_is_plain form path extent) (tt, ((reasons.file_name reason).all, located_shown form path extent h))
+
+pub message_refused : (form : Form) (line : Option ℕ) (layers : List Layer) (refusal : Refusal) (path : Option (List ℕ)) (extent : Extent) (spelling : Spelling) → IfSome path AreOctets → IsOneLine (message_refused_line form (message_origin line layers) refusal path extent spelling)
+message_refused form line layers refusal path extent spelling h =
+    message_line_from form line layers (message_refused_record form refusal path extent spelling) refl (spelled_is_plain form path extent spelling) (tt, ((reasons.name refusal.why).all, spelled_shown form path extent spelling h))
+
+pub untold_message_refused : (form : Form) (refusal : Refusal) (path : Option (List ℕ)) → IfSome path AreOctets → IsOneLine (untold_message_refused_line form refusal path)
+untold_message_refused form refusal path h =
+    one_line form (refusal_record refusal (path_in form path)) refl (path_is_plain form path) (tt, ((reasons.name refusal.why).all, path_shown form path h))
+
+-- ---- refused input
+worded : (fault : InputFault) → Prints (input_word fault)
+worded faults.Length = word _ refl
+worded (faults.Misspelled spelling) = spelled spelling
+worded faults.Ntlm = word _ refl
+
+kind_is_plain : (form : Form) (fault : InputFault) → list_all is_printable (input_kind form fault) ≡ true
+kind_is_plain forms.Json fault = refl
+kind_is_plain forms.Lines faults.Length = refl
+kind_is_plain forms.Lines faults.Ntlm = refl
+kind_is_plain forms.Lines (faults.Misspelled spellings.Octets) = refl
+kind_is_plain forms.Lines (faults.Misspelled spellings.Hex) = refl
+kind_is_plain forms.Lines (faults.Misspelled spellings.Dump) = refl
+kind_is_plain forms.Lines (faults.Misspelled spellings.Base64) = refl
+kind_is_plain forms.NamedLines faults.Length = refl
+kind_is_plain forms.NamedLines faults.Ntlm = refl
+kind_is_plain forms.NamedLines (faults.Misspelled spellings.Octets) = refl
+kind_is_plain forms.NamedLines (faults.Misspelled spellings.Hex) = refl
+kind_is_plain forms.NamedLines (faults.Misspelled spellings.Dump) = refl
+kind_is_plain forms.NamedLines (faults.Misspelled spellings.Base64) = refl
+
+input_is_plain : (form : Form) (fault : InputFault) (place : Option ℕ) (extent : Extent) (spelling : Option Spelling) → names_are_plain (input_refused_record form fault place extent spelling).fields ≡ true
+input_is_plain forms.Lines fault place extent spelling = refl
+input_is_plain forms.NamedLines fault place extent spelling = refl
+input_is_plain forms.Json fault place extent spelling = refl
+
+input_shown : (form : Form) (fault : InputFault) (place : Option ℕ) (extent : Extent) (spelling : Option Spelling) → AreShown (input_refused_record form fault place extent spelling).fields
+input_shown forms.Lines fault place extent spelling = tt
+input_shown forms.NamedLines fault place extent spelling = (number_shown place, (tt, (tt, (tt, (number_shown extent.length, (spelling_shown spelling, tt))))))
+input_shown forms.Json fault place extent spelling = ((worded fault).all, (number_shown place, (tt, (tt, (tt, (number_shown extent.length, (spelling_shown spelling, tt)))))))
+
+pub input_refused : (form : Form) (line : Option ℕ) (layers : List Layer) (fault : InputFault) (place : Option ℕ) (extent : Extent) (spelling : Option Spelling) → IsOneLine (input_refused_line form (message_origin line layers) fault place extent spelling)
+input_refused form line layers fault place extent spelling =
+    message_line_from form line layers (input_refused_record form fault place extent spelling) (kind_is_plain form fault) (input_is_plain form fault place extent spelling) (input_shown form fault place extent spelling)
+
+-- ---- streams
+refused : (form : Form) (messages place : ℕ) (reason : Why) (path : Option (List ℕ)) (extent : Extent) → IfSome path AreOctets → IsOneLine (refused_line form messages place reason path extent)
+refused form messages place reason path extent h =
+    one_line form (refused_record form messages place reason path extent) refl (located_is_plain form path extent) (tt, (tt, ((reasons.name reason).all, located_shown form path extent h)))
+
+pub untold_refused : (form : Form) (messages place : ℕ) (reason : Why) (path : Option (List ℕ)) → IfSome path AreOctets → IsOneLine (untold_refused_line form messages place reason path)
+untold_refused form messages place reason path h =
+    one_line form (refused_frame messages place reason (path_in form path)) refl (path_is_plain form path) (tt, (tt, ((reasons.name reason).all, path_shown form path h)))
+
+pub end_of_stream : (form : Form) (messages : ℕ) (end : End) (path : Option (List ℕ)) (extent : Extent) → IfSome path AreOctets → IsOneLine (end_line form messages end path extent)
+end_of_stream form messages Boundary path extent h = one_line form (end_record form messages Boundary path extent) refl refl (tt, tt)
+end_of_stream form messages (Within present) path extent h = refused form messages present whys.Truncated path extent h
+end_of_stream form messages (Refused place reason) path extent h = refused form messages place reason path extent h
 
 pub counted_end : (form : Form) (messages refused : ℕ) → IsOneLine (counted_end_line form messages refused)
 counted_end form messages refused = one_line form (counted_end_record messages refused) refl refl (tt, (tt, tt))

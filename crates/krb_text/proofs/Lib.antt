@@ -13,6 +13,7 @@ pub mod Dates
 pub mod Times
 pub mod Moments
 pub mod Reasons
+pub mod Flows
 pub mod EachForm
 pub mod Appended
 pub mod Methods

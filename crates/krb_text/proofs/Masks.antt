@@ -27,8 +27,8 @@ use Rattle.krb_text.specs.declared.form.Form.{Form}
 use Rattle.krb_text.specs.declared.origin.Origin.{Origin}
 use Rattle.krb_text.specs.Captures.{captured_line, captured_message_line}
 use Rattle.krb_text.specs.Forms.{record_line}
-use Rattle.krb_text.specs.Messages.{padata, notes, asks_for_preauth, methods, kdc_req_fields, kdc_rep_fields, ap_req_fields, ap_rep_fields, krb_safe_fields, krb_priv_fields, krb_cred_fields, krb_error_fields, message_record, message_line}
-use Rattle.krb_text.specs.Values.{Field, the, printed, if_there, count, sealed}
+use Rattle.krb_text.specs.Messages.{padata, notes, asks_for_preauth, methods, kdc_req_fields, kdc_rep_fields, ap_req_fields, ap_rep_fields, krb_safe_fields, krb_priv_fields, krb_cred_fields, krb_error_fields, message_record, message_line, message_line_from, ticket_line, ticket_record}
+use Rattle.krb_text.specs.Values.{Field, Printed, the, printed, with_origin, if_there, count, sealed}
 use Rattle.krb_text.specs.Masks.{masked_sealed, masked_item, masked_ticket, masked_req_body, masked_data, masked_kdc_req, masked_kdc_rep, masked_ap_req, masked_ap_rep, masked_krb_safe, masked_krb_priv, masked_krb_cred, masked_krb_error, masked}
 
 -- ---- the values of fields
@@ -198,6 +198,13 @@ record-same (message.KrbError m) = made _ _ _ (message.KrbError m) (krb_error-sa
 pub line-same : (form : Form) (m : Message) → message_line form (masked m) ≡ message_line form m
 unfolding message_line
 line-same form m = ap (record_line form) (record-same m)
+
+pub line_from-same : (form : Form) (origin : List Field) (m : Message) → message_line_from form origin (masked m) ≡ message_line_from form origin m
+line_from-same form origin m = ap (λ (r : Printed). record_line form (with_origin origin r)) (record-same m)
+
+pub ticket_line-same : (form : Form) (origin : List Field) (t : Ticket) → ticket_line form origin (masked_ticket t) ≡ ticket_line form origin t
+unfolding ticket_record
+ticket_line-same form origin t = rw (length-zeros (length t.enc_part.cipher)) refl
 
 pub captured-same : (form : Form) (origin : Origin) (m : Message) → captured_message_line form origin (masked m) ≡ captured_message_line form origin m
 captured-same form origin m = ap (captured_line form origin) (record-same m)

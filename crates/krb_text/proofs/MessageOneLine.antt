@@ -23,12 +23,13 @@ use Rattle.krb_msg.specs.declared.message.Message.{Message}
 use Rattle.krb_msg.specs.declared.message.Message.TheVariants as message
 use Rattle.krb_text.specs.declared.form.Form.{Form}
 use Rattle.krb_text.specs.Laws.{IsOneLine}
-use Rattle.krb_text.specs.Messages.{padata, notes, methods, methods_in, kdc_req_fields, kdc_rep_fields, ap_req_fields, krb_safe_fields, krb_error_fields, fields_of, message_record, message_line}
+use Rattle.krb_text.specs.Messages.{padata, notes, methods, methods_in, kdc_req_fields, kdc_rep_fields, ap_req_fields, krb_safe_fields, krb_error_fields, fields_of, message_record, message_line, message_line_from, message_origin, ticket_line, ticket_record}
 use Rattle.krb_text.specs.Text.{AllAreOctets}
+use Rattle.krb_token.specs.declared.layer.Layer.{Layer}
 use Rattle.krb_text.specs.Values.{Value, Number, Quoted, Word, Field, Printed, the, if_there, count, sealed, principal, client, address}
 use Rattle.krb_text.proofs.Printable.{is_printable, time}
 use Rattle.krb_text.proofs.EachForm.{IsShown, AreShown, names_are_plain}
-use Rattle.krb_text.proofs.EndOneLine.{one_line}
+use Rattle.krb_text.proofs.EndOneLine.{one_line, message_line_from as from_origin}
 
 -- ---- what may be left out
 optional : {A : Type 0} (value : A → Value) (P : A → Type 0) → ((a : A) → P a → IsShown (value a)) → (o : Option A) → IfPresent P o → IsShown (if_there value o)
@@ -206,7 +207,17 @@ record_is_plain (message.KrbCred m) good = plain (message.KrbCred m) refl refl (
 record_is_plain (message.KrbError m) good = plain (message.KrbError m) refl refl (error m good.fits)
 
 pub message_shown : (form : Form) (m : Message) → IsInProfile profiles.Lenient m → IsOneLine (message_line form m)
-unfolding message_line
+unfolding message_line message_record
 message_shown form m good =
     let h = record_is_plain m good in
     one_line form (message_record m) h.kind h.names h.fields
+
+pub message_from_shown : (form : Form) (line : Option ℕ) (layers : List Layer) (m : Message) → IsInProfile profiles.Lenient m → IsOneLine (message_line_from form (message_origin line layers) m)
+message_from_shown form line layers m good =
+    let h = record_is_plain m good in
+    from_origin form line layers (message_record m) h.kind h.names h.fields
+
+-- ---- a Ticket
+pub ticket_shown : (form : Form) (line : Option ℕ) (layers : List Layer) (t : Ticket) → Fits ticket (ticket_value t) → IsOneLine (ticket_line form (message_origin line layers) t)
+unfolding ticket_record
+ticket_shown form line layers t fit = from_origin form line layers (ticket_record t) refl refl (of_ticket t fit, (tt, (tt, tt)))

@@ -14,7 +14,8 @@ file_name files.Magic = word _ refl
 file_name files.Version = word _ refl
 file_name files.Truncated = word _ refl
 file_name files.Overrun = word _ refl
-file_name files.TooLong = word _ refl
+file_name (files.WrongLength length) = word _ refl
+file_name (files.TooLong length) = word _ refl
 
 pub name : (reason : Why) → Prints (reason_name reason)
 name whys.HighBit = word _ refl

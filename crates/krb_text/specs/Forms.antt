@@ -12,9 +12,11 @@ use Rattle.krb_text.specs.declared.form.Form.{Form}
 use Rattle.krb_text.specs.declared.form.Form.TheVariants as form
 use Rattle.krb_text.specs.Text.{escape, hex, joined, line_feed, list_text, or_dash, principal_text, two_hex, yes_or_no}
 use Rattle.krb_text.specs.FileNames.{name_text}
+use Rattle.krb_text.specs.Flows.{flow_text, flow_object}
 use Rattle.krb_text.specs.TicketFlags.{ticket_flags_text}
 use Rattle.krb_text.specs.Errors.{code_text}
-use Rattle.krb_text.specs.Values.{Value, Absent, NoTicket, Number, Named, Numbers, ErrorCode, Reason, String, Quoted, FileName, Word, Flags, TicketFlags, Sealed, Principal, Address, Digest, YesNo, Offset, RefusedTicket, Field, Printed}
+use Rattle.krb_token.specs.Layers.{layer_name}
+use Rattle.krb_text.specs.Values.{Value, Absent, NoTicket, Number, Named, Numbers, ErrorCode, Reason, NoReason, String, Quoted, FileName, Word, Flags, TicketFlags, Sealed, Principal, Address, Digest, YesNo, Offset, RefusedTicket, Flow, Layers, Field, Printed}
 
 -- ---- flags by name; bit 0 is the highest of the first octet
 -- whether a bit is set; those after the last octet are not
@@ -80,6 +82,7 @@ value_text names (Numbers registry numbers) = list_text (number_text names regis
 value_text false (ErrorCode code) = code_text code
 value_text true (ErrorCode code) = number_text true registries.ErrorCodes code
 value_text names (Reason number name) = decimal number ++ codes " " ++ name
+value_text names NoReason = codes "-"
 value_text names (String octets) = escape octets
 value_text names (Quoted octets) = codes "\"" ++ escape octets ++ codes "\""
 value_text names (FileName octets) = name_text octets
@@ -94,6 +97,8 @@ value_text names (Digest cksumtype size) = number_text names registries.Checksum
 value_text names (YesNo holds) = yes_or_no holds
 value_text names (Offset seconds microseconds) = signed_decimal seconds ++ codes ":" ++ signed_decimal microseconds
 value_text names (RefusedTicket refusal) = refused_ticket_text names refusal
+value_text names (Flow transport source target) = flow_text transport source target
+value_text names (Layers layers) = joined [] (codes ",") layer_name layers
 
 -- ---- JSON
 -- a string of a text of 20 to 7E: `"` and `\` after a `\` (RFC 8259, section 7)
@@ -173,6 +178,7 @@ json_value (Named registry number) = signed_decimal number
 json_value (Numbers registry numbers) = list_text signed_decimal numbers
 json_value (ErrorCode code) = signed_decimal code
 json_value (Reason number name) = decimal number
+json_value NoReason = codes "null"
 json_value (String octets) = octets_string octets
 json_value (Quoted octets) = octets_string octets
 json_value (FileName octets) = octets_string octets
@@ -186,12 +192,15 @@ json_value (Digest cksumtype size) = digest_object cksumtype size
 json_value (YesNo holds) = true_or_false holds
 json_value (Offset seconds microseconds) = offset_object seconds microseconds
 json_value (RefusedTicket refusal) = refused_object refusal
+json_value (Flow transport source target) = flow_object transport source target
+json_value (Layers layers) = list_text (λ layer. json_string (layer_name layer)) layers
 
 -- the member after a value that has names: `,"NAME_name":` and the name or null, or `,"NAME_names":` and those of a list; `begin` is `,"NAME`
 unfoldable pub names_member : List ℕ → Value → List ℕ
 names_member begin (Named registry number) = begin ++ codes "_name\":" ++ name_string registry number
 names_member begin (ErrorCode code) = begin ++ codes "_name\":" ++ name_string registries.ErrorCodes code
 names_member begin (Reason number name) = begin ++ codes "_name\":" ++ json_string name
+names_member begin NoReason = begin ++ codes "_name\":null"
 names_member begin (Numbers registry numbers) = begin ++ codes "_names\":" ++ list_text (name_string registry) numbers
 names_member begin value = []
 
@@ -223,9 +232,25 @@ abbrev pub fields_text : Form → List Field → List ℕ
 fields_text f [] = []
 fields_text f (first ∷ others) = field f first.name first.value ++ fields_text f others
 
+-- the fields of an origin: a line has no blank before the first
+abbrev pub origin_text : Form → List Field → List ℕ
+origin_text f [] = []
+origin_text f (first ∷ others) = labelled f (first.name ++ codes "=") (codes ",\"" ++ first.name) first.value ++ fields_text f others
+
+-- a line has the origin and a blank before the kind, and an object has the origin after it
+unfoldable pub opening_from : Form → List Field → List ℕ → List ℕ
+opening_from form.Lines origin kind = origin_text form.Lines origin ++ codes " " ++ kind
+opening_from form.NamedLines origin kind = origin_text form.NamedLines origin ++ codes " " ++ kind
+opening_from form.Json origin kind = opening form.Json kind ++ origin_text form.Json origin
+
+-- what precedes the fields of a record
+abbrev pub heading : Form → List Field → List ℕ → List ℕ
+heading f [] kind = opening f kind
+heading f (first ∷ others) kind = opening_from f (first ∷ others) kind
+
 -- a record without its line feed
 unfoldable pub record_text : Form → Printed → List ℕ
-record_text f r = opening f r.kind ++ fields_text f r.fields ++ closing f
+record_text f r = heading f r.origin r.kind ++ fields_text f r.fields ++ closing f
 
 abbrev pub record_line : Form → Printed → List ℕ
 record_line f r = record_text f r ++ line_feed

@@ -8,11 +8,15 @@ use Rattle.krb_der.specs.declared.profile.Profile.TheVariants as profiles
 use Rattle.krb_der.specs.Octets.{AreOctets}
 use Rattle.krb_file.specs.declared.fault.FileWhy.{FileWhy}
 use Rattle.krb_der.specs.declared.verdict.Refusal.{Refusal}
+use Rattle.krb_der.specs.declared.why.Why.{Why}
 use Rattle.krb_msg.specs.Stream.{End}
 use Rattle.krb_msg.specs.declared.krb_error.KrbError.{KrbError}
 use Rattle.krb_msg.specs.declared.message.Message.{Message}
 use Rattle.krb_msg.specs.declared.message.Message.TheVariants as message
-use Rattle.krb_msg.specs.Grammar.{method_data}
+use Rattle.krb_input.specs.declared.spelling.Spelling.{Spelling}
+use Rattle.krb_msg.specs.Grammar.{method_data, ticket}
+use Rattle.krb_msg.specs.Types.{ticket_value}
+use Rattle.krb_msg.specs.declared.ticket.Ticket.{Ticket}
 use Rattle.krb_msg.specs.Term.{Value, Fits, der}
 use Rattle.krb_msg.specs.Views.{IsInProfile}
 use Rattle.krb_text.specs.Captures.{capture_end_line, capture_refused_line, captured_message_line, captured_refused_line, joined_line, lost_line, password_line}
@@ -20,13 +24,17 @@ use Rattle.krb_text.specs.declared.capture.CaptureCounts.{CaptureCounts}
 use Rattle.krb_text.specs.declared.form.Form.{Form}
 use Rattle.krb_text.specs.declared.origin.Origin.{Origin}
 use Rattle.krb_text.specs.Text.{AllAreOctets, IsPrintable, escape, line_feed, principal_text}
-use Rattle.krb_text.specs.declared.refusal.InputFault.{InputFault}
-use Rattle.krb_text.specs.Refusals.{file_refused_line, message_refused_line, input_refused_line}
-use Rattle.krb_text.specs.Streams.{end_line, counted_end_line}
+use Rattle.krb_text.specs.declared.extent.Extent.{Extent}
+use Rattle.krb_text.specs.declared.input.InputFault.{InputFault}
+use Rattle.krb_text.specs.Inputs.{input_refused_line}
+use Rattle.krb_text.specs.Refusals.{file_refused_line, message_refused_line, untold_message_refused_line}
+use Rattle.krb_text.specs.Streams.{end_line, counted_end_line, untold_refused_line}
 use Rattle.krb_text.specs.Files.{file_line}
-use Rattle.krb_text.specs.Messages.{message_record, message_line}
-use Rattle.krb_text.specs.Masks.{masked, masked_method}
+use Rattle.krb_text.specs.Messages.{message_record, message_line, message_line_from, message_origin, ticket_line}
+use Rattle.krb_text.specs.Masks.{masked, masked_method, masked_ticket}
 use Rattle.krb_text.specs.Time.{civil_date, the_date}
+use Rattle.krb_text.specs.Values.{Field}
+use Rattle.krb_token.specs.declared.layer.Layer.{Layer}
 
 -- different components or realms have different texts
 abbrev pub PrincipalTextIsInjective : Type 0
@@ -49,21 +57,37 @@ IsOneLine line = (text : List ℕ) × IsPrintable text × (line ≡ text ++ line
 abbrev pub MessageIsOneLine : Type 0
 MessageIsOneLine = (form : Form) (m : Message) → IsInProfile profiles.Lenient m → IsOneLine (message_line form m)
 
+-- that of one that comes from a line, or lies in something
+abbrev pub MessageFromIsOneLine : Type 0
+MessageFromIsOneLine = (form : Form) (line : Option ℕ) (layers : List Layer) (m : Message) → IsInProfile profiles.Lenient m → IsOneLine (message_line_from form (message_origin line layers) m)
+
+-- a Ticket's
+abbrev pub TicketIsOneLine : Type 0
+TicketIsOneLine = (form : Form) (line : Option ℕ) (layers : List Layer) (t : Ticket) → Fits ticket (ticket_value t) → IsOneLine (ticket_line form (message_origin line layers) t)
+
 -- that of a refused file
 abbrev pub FileRefusalIsOneLine : Type 0
-FileRefusalIsOneLine = (form : Form) (place : ℕ) (reason : FileWhy) (path : Option (List ℕ)) → IfSome path AreOctets → IsOneLine (file_refused_line form place reason path)
+FileRefusalIsOneLine = (form : Form) (place : ℕ) (reason : FileWhy) (path : Option (List ℕ)) (extent : Extent) → IfSome path AreOctets → IsOneLine (file_refused_line form place reason path extent)
 
 -- that of octets that are no message
 abbrev pub MessageRefusalIsOneLine : Type 0
-MessageRefusalIsOneLine = (form : Form) (refusal : Refusal) (path : Option (List ℕ)) → IfSome path AreOctets → IsOneLine (message_refused_line form refusal path)
+MessageRefusalIsOneLine = (form : Form) (line : Option ℕ) (layers : List Layer) (refusal : Refusal) (path : Option (List ℕ)) (extent : Extent) (spelling : Spelling) → IfSome path AreOctets → IsOneLine (message_refused_line form (message_origin line layers) refusal path extent spelling)
 
--- that of input that is no hexadecimal
+-- the same with the path alone
+abbrev pub UntoldMessageRefusalIsOneLine : Type 0
+UntoldMessageRefusalIsOneLine = (form : Form) (refusal : Refusal) (path : Option (List ℕ)) → IfSome path AreOctets → IsOneLine (untold_message_refused_line form refusal path)
+
+-- that of input that is not looked at as a message
 abbrev pub InputRefusalIsOneLine : Type 0
-InputRefusalIsOneLine = (form : Form) (fault : InputFault) → IsOneLine (input_refused_line form fault)
+InputRefusalIsOneLine = (form : Form) (line : Option ℕ) (layers : List Layer) (fault : InputFault) (place : Option ℕ) (extent : Extent) (spelling : Option Spelling) → IsOneLine (input_refused_line form (message_origin line layers) fault place extent spelling)
 
 -- the last of a stream, which may be that of its refusal
 abbrev pub StreamEndIsOneLine : Type 0
-StreamEndIsOneLine = (form : Form) (messages : ℕ) (end : End) (path : Option (List ℕ)) → IfSome path AreOctets → IsOneLine (end_line form messages end path)
+StreamEndIsOneLine = (form : Form) (messages : ℕ) (end : End) (path : Option (List ℕ)) (extent : Extent) → IfSome path AreOctets → IsOneLine (end_line form messages end path extent)
+
+-- that of a refused frame with the path alone
+abbrev pub UntoldStreamRefusalIsOneLine : Type 0
+UntoldStreamRefusalIsOneLine = (form : Form) (messages place : ℕ) (reason : Why) (path : Option (List ℕ)) → IfSome path AreOctets → IsOneLine (untold_refused_line form messages place reason path)
 
 -- the last of a stream that was gone on with after refusals
 abbrev pub CountedStreamEndIsOneLine : Type 0
@@ -85,7 +109,7 @@ CapturedMessageIsOneLine = (form : Form) (origin : Origin) (m : Message) → Ori
 
 -- that of a refused one
 abbrev pub CapturedRefusalIsOneLine : Type 0
-CapturedRefusalIsOneLine = (form : Form) (origin : Origin) (refusal : Refusal) (path : Option (List ℕ)) → OriginIsInRange origin → IfSome path AreOctets → IsOneLine (captured_refused_line form origin refusal path)
+CapturedRefusalIsOneLine = (form : Form) (origin : Origin) (refusal : Refusal) (path : Option (List ℕ)) (extent : Extent) → OriginIsInRange origin → IfSome path AreOctets → IsOneLine (captured_refused_line form origin refusal path extent)
 
 -- that of a direction whose first octets come without a SYN
 abbrev pub JoinedIsOneLine : Type 0
@@ -105,7 +129,7 @@ CaptureEndIsOneLine = (form : Form) (counts : CaptureCounts) → IsOneLine (capt
 
 -- the last of a capture that is refused
 abbrev pub CaptureRefusalIsOneLine : Type 0
-CaptureRefusalIsOneLine = (form : Form) (counts : CaptureCounts) (place : ℕ) (reason : FileWhy) (path : Option (List ℕ)) → IfSome path AreOctets → IsOneLine (capture_refused_line form counts place reason path)
+CaptureRefusalIsOneLine = (form : Form) (counts : CaptureCounts) (place : ℕ) (reason : FileWhy) (path : Option (List ℕ)) (extent : Extent) → IfSome path AreOctets → IsOneLine (capture_refused_line form counts place reason path extent)
 
 -- ---- no octet of what is sealed or opaque has a part in what is printed
 -- the record of a message, of which its line in each form is made
@@ -115,6 +139,14 @@ CiphersAreNotInRecords = (m : Message) → message_record (masked m) ≡ message
 -- its line
 abbrev pub CiphersAreNotInLines : Type 0
 CiphersAreNotInLines = (form : Form) (m : Message) → message_line form (masked m) ≡ message_line form m
+
+-- its line from an origin
+abbrev pub CiphersAreNotInLinesFrom : Type 0
+CiphersAreNotInLinesFrom = (form : Form) (origin : List Field) (m : Message) → message_line_from form origin (masked m) ≡ message_line_from form origin m
+
+-- that of a Ticket
+abbrev pub CiphersAreNotInTickets : Type 0
+CiphersAreNotInTickets = (form : Form) (origin : List Field) (t : Ticket) → ticket_line form origin (masked_ticket t) ≡ ticket_line form origin t
 
 -- its line in a capture
 abbrev pub CiphersAreNotInCaptures : Type 0

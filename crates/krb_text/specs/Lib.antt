@@ -1,11 +1,13 @@
 pub mod Text
 pub mod FileNames
+pub mod Flows
 pub mod Values
 pub mod Time
 pub mod Errors
 pub mod TicketFlags
 pub mod Forms
 pub mod Refusals
+pub mod Inputs
 pub mod Files
 pub mod Messages
 pub mod Streams

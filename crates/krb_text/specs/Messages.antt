@@ -5,7 +5,7 @@ use Rattle.krb_msg.specs.Grammar.{method_data}
 use Rattle.krb_msg.specs.Judgement.{term_judgement}
 use Rattle.krb_msg.specs.Term.{Value}
 use Rattle.krb_msg.specs.ValueOfDer.{value_of_der}
-use Rattle.krb_msg.specs.Notes.{notes_of, notes_have}
+use Rattle.krb_msg.specs.Notes.{notes_of, notes_of_ticket, notes_have}
 use Rattle.krb_msg.specs.declared.notes.Notes.{Notes}
 use Rattle.krb_msg.specs.declared.pa_data.PaData.{PaData}
 use Rattle.krb_msg.specs.declared.kdc_req.KdcReq.{KdcReq}
@@ -17,6 +17,7 @@ use Rattle.krb_msg.specs.declared.krb_priv.KrbPriv.{KrbPriv}
 use Rattle.krb_msg.specs.declared.krb_cred.KrbCred.{KrbCred}
 use Rattle.krb_msg.specs.declared.krb_error.KrbError.{KrbError}
 use Rattle.krb_msg.specs.declared.message.Message.{Message}
+use Rattle.krb_msg.specs.declared.ticket.Ticket.{Ticket}
 use Rattle.krb_msg.specs.Views.{kind_name, kind_of}
 use Rattle.krb_msg.specs.Types.{pa_data_of}
 use Rattle.krb_msg.specs.declared.message.Message.TheVariants as message
@@ -25,7 +26,8 @@ use Rattle.krb_der.specs.declared.verdict.Verdict.TheVariants as verdict
 use Rattle.krb_registry.specs.declared.registry.Registry.TheVariants as registries
 use Rattle.krb_text.specs.declared.form.Form.{Form}
 use Rattle.krb_text.specs.Forms.{record_text, record_line}
-use Rattle.krb_text.specs.Values.{Value as Shown, Number, Numbers, ErrorCode, String, Quoted, Word, Flags, Field, Printed, the, printed, if_there, count, sealed, principal, client, address, checksum}
+use Rattle.krb_text.specs.Values.{Value as Shown, Number, Numbers, ErrorCode, Layers, String, Quoted, Word, Flags, Field, Printed, the, printed, with_origin, if_there, count, sealed, principal, client, address, checksum}
+use Rattle.krb_token.specs.declared.layer.Layer.{Layer}
 
 -- ---- fields
 -- pre-authentication data is listed by its types
@@ -152,3 +154,31 @@ message_text form m = record_text form (message_record m)
 
 unfoldable pub message_line : Form → Message → List ℕ
 message_line form m = record_line form (message_record m)
+
+-- ---- a Ticket alone
+unfoldable pub ticket_record : Ticket → Printed
+ticket_record t =
+    printed (codes "Ticket") (the (codes "server") (principal t.realm t.sname)
+    ∷ the (codes "ticket") (sealed t.enc_part)
+    ∷ the (codes "notes") (notes (notes_of_ticket t))
+    ∷ [])
+
+-- ---- with an origin
+-- the number of the line, if the input is one of several lines
+abbrev pub line_origin : Option ℕ → List Field
+line_origin None = []
+line_origin (Some line) = the (codes "line") (Number (pos line)) ∷ []
+
+-- what the message lies in, if it does not lie there by itself
+abbrev pub layers_origin : List Layer → List Field
+layers_origin [] = []
+layers_origin (first ∷ others) = the (codes "via") (Layers (first ∷ others)) ∷ []
+
+abbrev pub message_origin : Option ℕ → List Layer → List Field
+message_origin line layers = line_origin line ++ layers_origin layers
+
+abbrev pub message_line_from : Form → List Field → Message → List ℕ
+message_line_from form origin m = record_line form (with_origin origin (message_record m))
+
+abbrev pub ticket_line : Form → List Field → Ticket → List ℕ
+ticket_line form origin t = record_line form (with_origin origin (ticket_record t))

@@ -1,38 +1,51 @@
 -- The ends of listings of streams, and their refusals.
-use Rattle.std.specs.Prelude.{ℕ, pos, List, [], ◌∷◌, Option, codes}
+use Rattle.std.specs.Prelude.{ℕ, pos, List, [], ◌∷◌, ◌++◌, Option, codes}
 use Rattle.krb_der.specs.Reasons.{reason_number, reason_name}
 use Rattle.krb_der.specs.declared.why.Why.{Why}
 use Rattle.krb_der.specs.declared.why.Why.TheVariants.{Truncated}
 use Rattle.krb_msg.specs.Stream.{End, Boundary, Within, Refused}
+use Rattle.krb_text.specs.declared.extent.Extent.{Extent}
 use Rattle.krb_text.specs.declared.form.Form.{Form}
 use Rattle.krb_text.specs.Forms.{record_line}
-use Rattle.krb_text.specs.Refusals.{path_in}
-use Rattle.krb_text.specs.Values.{Number, Reason, Printed, the, printed}
+use Rattle.krb_text.specs.Refusals.{extent_in, path_in}
+use Rattle.krb_text.specs.Values.{Number, Reason, Field, Printed, the, printed}
 
--- a frame that is refused, after n messages, and the path of the field at fault, if it has one
-abbrev pub refused_record : Form → ℕ → ℕ → Why → Option (List ℕ) → Printed
-refused_record form messages place reason path =
+-- a frame that is refused, after n messages, and what is told of it
+abbrev pub refused_frame : ℕ → ℕ → Why → List Field → Printed
+refused_frame messages place reason fields =
     printed (codes "refused") (the (codes "messages") (Number (pos messages))
     ∷ the (codes "place") (Number (pos place))
     ∷ the (codes "why") (Reason (reason_number reason) (reason_name reason))
-    ∷ path_in form path)
+    ∷ fields)
 
--- how a listing ends, after n messages
-abbrev pub end_record : Form → ℕ → End → Option (List ℕ) → Printed
-end_record form messages Boundary path = printed (codes "end") (the (codes "messages") (Number (pos messages)) ∷ [])
-end_record form messages (Within present) path = refused_record form messages present Truncated path
-end_record form messages (Refused place reason) path = refused_record form messages place reason path
+-- with the path of the field at fault, if it has one, where the frame begins, and the length that it says
+abbrev pub refused_record : Form → ℕ → ℕ → Why → Option (List ℕ) → Extent → Printed
+refused_record form messages place reason path extent = refused_frame messages place reason (path_in form path ++ extent_in form extent)
+
+-- how a listing ends, after n messages, and where the frame begins that it may end in
+abbrev pub end_record : Form → ℕ → End → Option (List ℕ) → Extent → Printed
+end_record form messages Boundary path extent = printed (codes "end") (the (codes "messages") (Number (pos messages)) ∷ [])
+end_record form messages (Within present) path extent = refused_record form messages present Truncated path extent
+end_record form messages (Refused place reason) path extent = refused_record form messages place reason path extent
 
 -- how a listing ends that goes on after refusals, after n messages
 abbrev pub counted_end_record : ℕ → ℕ → Printed
 counted_end_record messages refused =
     printed (codes "end") (the (codes "messages") (Number (pos messages)) ∷ the (codes "refused") (Number (pos refused)) ∷ [])
 
-abbrev pub refused_line : Form → ℕ → ℕ → Why → Option (List ℕ) → List ℕ
-refused_line form messages place reason path = record_line form (refused_record form messages place reason path)
+abbrev pub refused_line : Form → ℕ → ℕ → Why → Option (List ℕ) → Extent → List ℕ
+refused_line form messages place reason path extent = record_line form (refused_record form messages place reason path extent)
 
-abbrev pub end_line : Form → ℕ → End → Option (List ℕ) → List ℕ
-end_line form messages end path = record_line form (end_record form messages end path)
+-- the same with the path alone
+abbrev pub untold_refused_line : Form → ℕ → ℕ → Why → Option (List ℕ) → List ℕ
+untold_refused_line form messages place reason path = record_line form (refused_frame messages place reason (path_in form path))
+
+-- a listing that ends between frames
+abbrev pub stream_end_line : Form → ℕ → List ℕ
+stream_end_line form messages = record_line form (printed (codes "end") (the (codes "messages") (Number (pos messages)) ∷ []))
+
+abbrev pub end_line : Form → ℕ → End → Option (List ℕ) → Extent → List ℕ
+end_line form messages end path extent = record_line form (end_record form messages end path extent)
 
 abbrev pub counted_end_line : Form → ℕ → ℕ → List ℕ
 counted_end_line form messages refused = record_line form (counted_end_record messages refused)

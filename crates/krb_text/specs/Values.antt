@@ -1,11 +1,14 @@
--- What is printed, before it is text: records. A record is a kind and fields, a field is a name and a value.
-use Rattle.std.specs.Prelude.{ℕ, ℤ, pos, Bool, List, Option, Some, None, length}
+-- What is printed, before it is text: records. A record is a kind and fields, and maybe an origin, which is fields, too; a field is a name and a value.
+use Rattle.std.specs.Prelude.{ℕ, ℤ, pos, Bool, List, [], Option, Some, None, length}
 use Rattle.krb_der.specs.declared.verdict.Refusal.{Refusal}
 use Rattle.krb_msg.specs.declared.checksum.Checksum.{Checksum}
 use Rattle.krb_msg.specs.declared.encrypted_data.EncryptedData.{EncryptedData}
 use Rattle.krb_msg.specs.declared.host_address.HostAddress.{HostAddress}
 use Rattle.krb_msg.specs.declared.principal_name.PrincipalName.{PrincipalName}
+use Rattle.krb_packet.specs.declared.contents.Endpoint.{Endpoint}
 use Rattle.krb_registry.specs.declared.registry.Registry.{Registry}
+use Rattle.krb_text.specs.declared.origin.Transport.{Transport}
+use Rattle.krb_token.specs.declared.layer.Layer.{Layer}
 
 -- A number has a name if its registry has one. Of what is sealed, of a checksum and of a key, there is the number of octets and none of these.
 pub data Value : Type 0 where
@@ -16,6 +19,7 @@ pub data Value : Type 0 where
   Numbers : (registry : Registry) → (numbers : List ℤ) → Value
   ErrorCode : (code : ℤ) → Value
   Reason : (number : ℕ) → (name : List ℕ) → Value
+  NoReason : Value
   String : (octets : List ℕ) → Value
   Quoted : (octets : List ℕ) → Value
   FileName : (octets : List ℕ) → Value
@@ -29,12 +33,15 @@ pub data Value : Type 0 where
   YesNo : (holds : Bool) → Value
   Offset : (seconds : ℤ) → (microseconds : ℤ) → Value
   RefusedTicket : (refusal : Refusal) → Value
+  Flow : (transport : Transport) → (source : Endpoint) → (target : Endpoint) → Value
+  Layers : (layers : List Layer) → Value
 
 pub record Field : Type 0 where
   pub name : List ℕ
   pub value : Value
 
 pub record Printed : Type 0 where
+  pub origin : List Field
   pub kind : List ℕ
   pub fields : List Field
 
@@ -42,7 +49,11 @@ abbrev pub the : List ℕ → Value → Field
 the name value = record { name = name; value = value }
 
 abbrev pub printed : List ℕ → List Field → Printed
-printed kind fields = record { kind = kind; fields = fields }
+printed kind fields = record { origin = []; kind = kind; fields = fields }
+
+-- the same with an origin
+abbrev pub with_origin : List Field → Printed → Printed
+with_origin origin r = record r { origin = origin }
 
 -- ---- the values of parts of messages
 -- of an optional part

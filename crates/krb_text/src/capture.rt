@@ -6,11 +6,12 @@ ghost use Rattle.krb_msg.specs.ViewValues.{MessageLists, message_of_view};
 ghost use Rattle.krb_text.specs.Captures.{capture_end_line, capture_refused_line, captured_message_line, captured_refused_line, count_fields, joined_line, lost_line, password_line};
 ghost use Rattle.krb_text.specs.Forms.{fields_text};
 
+use crate::extent::Extent;
 use crate::field::{put_end, put_field, put_opening};
 use crate::form::Form;
 use crate::message::put_rest;
 use crate::origin::{Origin, put_captured_opening};
-use crate::refusal::{Reason, put_fault_rest, put_path};
+use crate::refusal::{Reason, put_fault_fields, put_path};
 use crate::text_buffer::TextBuffer;
 use krb_der::{Memory, Refusal};
 use krb_file::FileWhy;
@@ -18,7 +19,7 @@ use krb_msg::MessageView;
 use std::alloc::AllocError;
 
 /// Appends a message of a capture by a view of it, as a line or an object with its line feed.
-#[tactic(auto, unfolding(crate::specs::Captures::captured_text, crate::specs::Messages::message_record))]
+#[tactic(auto, unfolding(crate::specs::Forms::record_text, crate::specs::Messages::message_record))]
 pub fn put_captured_message(
     text: &mut TextBuffer,
     form: Form,
@@ -34,27 +35,30 @@ pub fn put_captured_message(
     Ok(())
 }
 
-/// Appends the line of a refused message of a capture: the place of the octet at fault, what is
-/// wrong with it, and the path of the field at fault, which a line has only if numbers have their
-/// names.
-#[tactic(auto, unfolding(crate::specs::Captures::captured_text))]
+/// Appends the line of a refused message of a capture: the place of the octet at fault and what is
+/// wrong with it, and, to a line only if numbers have their names, the path of the field at fault,
+/// and where the message lies in its direction, or how many octets its datagram has.
+#[tactic(auto, unfolding(crate::specs::Forms::record_text))]
 pub fn put_captured_refusal(
     text: &mut TextBuffer,
     form: Form,
     origin: &Origin,
     refusal: Refusal,
     path: Option<&str>,
+    extent: Extent,
 ) -> Result<(), AllocError>
-    ensures { OnOk result (text.new ≡ text.old ++ captured_refused_line form origin.now refusal (option_copied path.entry)) }
+    ensures { OnOk result (text.new ≡ text.old ++ captured_refused_line form origin.now refusal (option_copied path.entry) extent) }
 {
+    let place = u64::from(refusal.place);
     let reason = Reason::of(refusal.why);
     put_captured_opening(text, form, origin, "refused")?;
-    put_fault_rest(text, form, u64::from(refusal.place), &reason, path)
+    put_fault_fields(text, form, place, &reason, path, extent)?;
+    put_end(text, form)
 }
 
 /// Appends the line of a direction whose first octets come without a SYN: what follows may begin
 /// within a message.
-#[tactic(auto, unfolding(crate::specs::Captures::captured_text))]
+#[tactic(auto, unfolding(crate::specs::Forms::record_text))]
 pub fn put_joined(text: &mut TextBuffer, form: Form, origin: &Origin) -> Result<(), AllocError>
     ensures { OnOk result (text.new ≡ text.old ++ joined_line form origin.now) }
 {
@@ -65,7 +69,7 @@ pub fn put_joined(text: &mut TextBuffer, form: Form, origin: &Origin) -> Result<
 /// Appends the line of octets that are not in the capture: their place in the direction or in the
 /// datagram, how many they are, and the path of the field that has the first one, which a line
 /// has only if numbers have their names.
-#[tactic(auto, unfolding(crate::specs::Captures::captured_text))]
+#[tactic(auto, unfolding(crate::specs::Forms::record_text))]
 pub fn put_lost(
     text: &mut TextBuffer,
     form: Form,
@@ -85,7 +89,7 @@ pub fn put_lost(
 
 /// Appends the line of a message that changes a password (RFC 3244, section 2): its version, how
 /// many octets its AP-REQ or AP-REP has, and how many follow it.
-#[tactic(auto, unfolding(crate::specs::Captures::captured_text))]
+#[tactic(auto, unfolding(crate::specs::Forms::record_text))]
 pub fn put_password(
     text: &mut TextBuffer,
     form: Form,
@@ -144,8 +148,8 @@ pub fn put_capture_end(
 }
 
 /// Appends the last line of a capture that is refused: what was counted before, the place of the
-/// field at fault, what is wrong with it, and its path, which a line has only if numbers have their
-/// names.
+/// field at fault, what is wrong with it, and, to a line only if numbers have their names, its path
+/// and where the part of the file begins that is refused.
 #[tactic(auto, unfolding(crate::specs::Forms::record_text))]
 pub fn put_capture_refusal(
     text: &mut TextBuffer,
@@ -154,10 +158,12 @@ pub fn put_capture_refusal(
     place: u64,
     why: FileWhy,
     path: Option<&str>,
+    extent: Extent,
 ) -> Result<(), AllocError>
-    ensures { OnOk result (text.new ≡ text.old ++ capture_refused_line form counts.now place why (option_copied path.entry)) }
+    ensures { OnOk result (text.new ≡ text.old ++ capture_refused_line form counts.now place why (option_copied path.entry) extent) }
 {
     put_opening(text, form, "refused")?;
     put_counts(text, form, counts)?;
-    put_fault_rest(text, form, place, &Reason::of_file(why), path)
+    put_fault_fields(text, form, place, &Reason::of_file(why), path, extent)?;
+    put_end(text, form)
 }

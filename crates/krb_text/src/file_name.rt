@@ -52,16 +52,16 @@ impl fmt::Display for NameOctet {
     }
 }
 
-/// The name of a file. It is shown without a blank and without a control character: octets 21 to 7E
-/// but `\` as they are, each other as `\x` and two hexadecimal digits in lower case.
+/// The name of a file, which is octets. It is shown without a blank and without a control character:
+/// octets 21 to 7E but `\` as they are, each other as `\x` and two hexadecimal digits in lower case.
 #[derive(Clone, Copy)]
-pub struct FileName<'a>(pub &'a str);
+pub struct FileName<'a>(pub &'a [u8]);
 
 impl fmt::Display for FileName<'_> {
     ghost output = { λ name. Some (name_text name.0.now) };
 
     fn fmt<W: fmt::Write>(&self, f: &mut fmt::Formatter<W>) -> fmt::Result {
-        for octet in self.0.as_bytes() {
+        for octet in self.0 {
             write!(f, "{}", NameOctet(*octet))?;
         }
         Ok(())
@@ -79,13 +79,13 @@ impl<'a> Shown for FileName<'a> {
     #[tactic(auto, unfolding(crate::specs::Forms::members, crate::specs::Forms::json_value, crate::specs::Forms::names_member))]
     fn put_members(&self, object: &mut TextBuffer, begin: &str) -> Result<(), AllocError> {
         put_begin(object, begin)?;
-        put_octets_string(object, self.0.as_bytes())
+        put_octets_string(object, self.0)
     }
 }
 
 /// Appends the line that precedes the listing of the file of a name, if several are listed.
 #[tactic(auto, unfolding(crate::specs::Forms::record_text))]
-pub fn put_file(text: &mut TextBuffer, form: Form, name: &str) -> Result<(), AllocError>
+pub fn put_file(text: &mut TextBuffer, form: Form, name: &[u8]) -> Result<(), AllocError>
     ensures { OnOk result (text.new ≡ text.old ++ file_line form name.now) }
 {
     put_opening(text, form, "file")?;

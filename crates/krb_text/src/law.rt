@@ -1,5 +1,5 @@
 //! Laws of what is printed. Each is the contract of a function that does nothing.
-ghost use Rattle.krb_text.specs.Laws.{CaptureEndIsOneLine, CaptureRefusalIsOneLine, CapturedMessageIsOneLine, CapturedRefusalIsOneLine, CiphersAreNotInCaptures, CiphersAreNotInLines, CiphersAreNotInRecords, CountedStreamEndIsOneLine, DatesAreTheCalendars, EscapeIsGraphic, FileNameIsOneLine, FileRefusalIsOneLine, InputRefusalIsOneLine, JoinedIsOneLine, LostIsOneLine, MessageIsOneLine, MessageRefusalIsOneLine, MethodsAreNotInRecords, PasswordIsOneLine, PrincipalTextIsInjective, StreamEndIsOneLine};
+ghost use Rattle.krb_text.specs.Laws.{CaptureEndIsOneLine, CaptureRefusalIsOneLine, CapturedMessageIsOneLine, CapturedRefusalIsOneLine, CiphersAreNotInCaptures, CiphersAreNotInLines, CiphersAreNotInLinesFrom, CiphersAreNotInRecords, CiphersAreNotInTickets, CountedStreamEndIsOneLine, DatesAreTheCalendars, EscapeIsGraphic, FileNameIsOneLine, FileRefusalIsOneLine, InputRefusalIsOneLine, JoinedIsOneLine, LostIsOneLine, MessageFromIsOneLine, MessageIsOneLine, MessageRefusalIsOneLine, MethodsAreNotInRecords, PasswordIsOneLine, PrincipalTextIsInjective, StreamEndIsOneLine, TicketIsOneLine, UntoldMessageRefusalIsOneLine, UntoldStreamRefusalIsOneLine};
 
 /// Different components or realms have different texts.
 pub fn principal_text_is_injective()
@@ -11,10 +11,12 @@ pub fn escape_is_graphic()
     ensures { EscapeIsGraphic }
 {}
 
-/// What is printed of a message is one line in each form: blanks and graphic characters of ASCII,
-/// and a line feed after them.
+/// What is printed of a message or a Ticket, with an origin too, is one line in each form: blanks
+/// and graphic characters of ASCII, and a line feed after them.
 pub fn message_is_one_line()
-    ensures { MessageIsOneLine }
+    ensures message { MessageIsOneLine }
+    ensures from { MessageFromIsOneLine }
+    ensures ticket { TicketIsOneLine }
 {}
 
 /// What is printed of a refusal, of the end of a stream, and of a file's name, is one line in each
@@ -22,8 +24,10 @@ pub fn message_is_one_line()
 pub fn end_is_one_line()
     ensures file { FileRefusalIsOneLine }
     ensures message { MessageRefusalIsOneLine }
+    ensures untold_message { UntoldMessageRefusalIsOneLine }
     ensures input { InputRefusalIsOneLine }
     ensures stream { StreamEndIsOneLine }
+    ensures untold_stream { UntoldStreamRefusalIsOneLine }
     ensures counted { CountedStreamEndIsOneLine }
     ensures name { FileNameIsOneLine }
 {}
@@ -45,13 +49,15 @@ pub fn dates_are_the_calendars()
     ensures { DatesAreTheCalendars }
 {}
 
-/// What is printed of a message, in each form and of a capture too, is as of the same with every
-/// octet 00 of its ciphers, its checksum, its user data and its values of pre-authentication data,
+/// What is printed of a message or a Ticket, in each form, with an origin and of a capture too, is as
+/// of the same with every octet 00 of its ciphers, its checksum, its user data and its values of pre-authentication data,
 /// and of the data of an error that does not ask for pre-authentication; and the record of one that
 /// asks is as with other values in its METHOD-DATA.
 pub fn ciphers_are_not_shown()
     ensures record { CiphersAreNotInRecords }
     ensures line { CiphersAreNotInLines }
+    ensures from { CiphersAreNotInLinesFrom }
+    ensures ticket { CiphersAreNotInTickets }
     ensures capture { CiphersAreNotInCaptures }
     ensures methods { MethodsAreNotInRecords }
 {}

@@ -5,12 +5,13 @@ ghost use Rattle.krb_msg.specs.Types.{KdcReqBodyLists, KdcReqLists, KdcRepLists,
 ghost use Rattle.krb_msg.specs.ViewValues.{MessageLists, message_of_view};
 ghost use Rattle.krb_registry.specs.declared.registry.Registry.TheVariants as registries;
 ghost use Rattle.krb_text.specs.Forms.{closing, field, fields_text};
-ghost use Rattle.krb_text.specs.Messages.{padata, kdc_req_fields, kdc_rep_fields, ap_req_fields, ap_rep_fields, krb_safe_fields, krb_priv_fields, krb_cred_fields, fields_of, message_record, message_text, message_line};
+ghost use Rattle.krb_text.specs.Messages.{padata, kdc_req_fields, kdc_rep_fields, ap_req_fields, ap_rep_fields, krb_safe_fields, krb_priv_fields, krb_cred_fields, fields_of, message_record, message_text, message_line, message_line_from, message_origin};
 ghost use Rattle.krb_text.specs.Values.{Flags, Number, Numbers, String as Escaped, Word, count, if_there, principal, sealed};
 
 use crate::error::put_krb_error;
 use crate::field::{put_closing, put_field, put_opening};
 use crate::form::Form;
+use crate::message_origin::{MessageOrigin, put_message_opening};
 use crate::text_buffer::TextBuffer;
 use crate::view_field::{
     put_address_field, put_addresses_field, put_checksum_field, put_etypes_field, put_flags_field,
@@ -237,6 +238,24 @@ pub fn put_message_view(
     ensures { OnOk result (text.new ≡ text.old ++ message_line form (message_of_view view.now)) }
 {
     put_text(text, form, view)?;
+    text.push_str("\n")?;
+    Ok(())
+}
+
+/// Appends a message that comes from an origin by a view of it, as [`put_message_view`] does: in a
+/// line the origin precedes its name, in an object it follows it.
+#[tactic(auto, unfolding(crate::specs::Forms::record_text, crate::specs::Messages::message_record))]
+pub fn put_message_from(
+    text: &mut TextBuffer,
+    form: Form,
+    origin: &MessageOrigin<'_>,
+    view: &MessageView<'_>,
+) -> Result<(), Memory>
+    requires { MessageLists view.now }
+    ensures { OnOk result (text.new ≡ text.old ++ message_line_from form (message_origin origin.now.line origin.now.layers.now) (message_of_view view.now)) }
+{
+    put_message_opening(text, form, origin, view.kind().name())?;
+    put_rest(text, form, view)?;
     text.push_str("\n")?;
     Ok(())
 }

@@ -2,10 +2,14 @@
 
 ghost use Rattle.std.specs.Prelude.{◌≡◌, ◌++◌, OnOk, codes, decimal};
 ghost use Rattle.std.specs.Net.Text.{ip_text, ipv4_text};
-ghost use Rattle.krb_text.specs.Captures.{captured_opening, endpoint_object, endpoint_text, flow_field, flow_object, flow_text, host_text, origin_fields, transport_name};
+ghost use Rattle.krb_text.specs.Captures.{origin_fields};
+ghost use Rattle.krb_text.specs.Flows.{endpoint_object, endpoint_text, flow_object, flow_text, host_text, transport_name};
+ghost use Rattle.krb_text.specs.Forms.{heading, origin_text};
+ghost use Rattle.krb_text.specs.Values.{Flow as IsFlow};
 
 use crate::field::{put_field, put_opening};
 use crate::form::Form;
+use crate::shown::{Shown, put_begin};
 use crate::text_buffer::TextBuffer;
 use krb_packet::{Endpoint, Time};
 use std::alloc::AllocError;
@@ -114,7 +118,7 @@ fn put_endpoint_object(object: &mut TextBuffer, endpoint: &Endpoint) -> Result<(
 
 /// Appends the flow as a line has it.
 fn put_flow_text(line: &mut TextBuffer, origin: &Origin) -> Result<(), AllocError>
-    ensures { OnOk result (line.new ≡ line.old ++ flow_text origin.now) }
+    ensures { OnOk result (line.new ≡ line.old ++ flow_text origin.now.transport origin.now.source origin.now.target) }
 {
     line.push_str(origin.transport.name())?;
     line.push_str("/")?;
@@ -125,7 +129,7 @@ fn put_flow_text(line: &mut TextBuffer, origin: &Origin) -> Result<(), AllocErro
 
 /// Appends the object of the flow.
 fn put_flow_object(object: &mut TextBuffer, origin: &Origin) -> Result<(), AllocError>
-    ensures { OnOk result (object.new ≡ object.old ++ flow_object origin.now) }
+    ensures { OnOk result (object.new ≡ object.old ++ flow_object origin.now.transport origin.now.source origin.now.target) }
 {
     object.push_str("{\"over\":\"")?;
     object.push_str(origin.transport.name())?;
@@ -136,42 +140,44 @@ fn put_flow_object(object: &mut TextBuffer, origin: &Origin) -> Result<(), Alloc
     object.push_str("}")
 }
 
-/// Appends the field of the flow.
-#[tactic(auto, unfolding(crate::specs::Captures::flow_field))]
-fn put_flow(text: &mut TextBuffer, form: Form, origin: &Origin) -> Result<(), AllocError>
-    ensures { OnOk result (text.new ≡ text.old ++ flow_field form origin.now) }
-{
-    match form {
-        Form::Lines | Form::NamedLines => {
-            text.push_str(" flow=")?;
-            put_flow_text(text, origin)
-        }
-        Form::Json => {
-            text.push_str(",\"flow\":")?;
-            put_flow_object(text, origin)
-        }
+/// The flow of an origin.
+#[derive(Clone, Copy)]
+struct Flow<'a>(&'a Origin);
+
+impl<'a> Shown for Flow<'a> {
+    ghost shown = { λ flow. IsFlow flow.0.now.transport flow.0.now.source flow.0.now.target };
+
+    #[tactic(auto, unfolding(crate::specs::Forms::value_text))]
+    fn put_text(&self, line: &mut TextBuffer, _names: bool) -> Result<(), AllocError> {
+        put_flow_text(line, self.0)
+    }
+
+    #[tactic(auto, unfolding(crate::specs::Forms::members, crate::specs::Forms::json_value, crate::specs::Forms::names_member))]
+    fn put_members(&self, object: &mut TextBuffer, begin: &str) -> Result<(), AllocError> {
+        put_begin(object, begin)?;
+        put_flow_object(object, self.0)
     }
 }
 
 /// Appends the fields of an origin: the packet, its time and the flow.
 fn put_origin(text: &mut TextBuffer, form: Form, origin: &Origin) -> Result<(), AllocError>
-    ensures { OnOk result (text.new ≡ text.old ++ origin_fields form origin.now) }
+    ensures { OnOk result (text.new ≡ text.old ++ origin_text form (origin_fields origin.now)) }
 {
     put_field(text, form, "packet=", ",\"packet", &origin.packet)?;
     put_field(text, form, " t=", ",\"t", &origin.time)?;
-    put_flow(text, form, origin)
+    put_field(text, form, " flow=", ",\"flow", &Flow(origin))
 }
 
 /// Appends what precedes the fields of a record of a capture: in a line its origin and then its
 /// kind, in an object its kind and then its origin.
-#[tactic(auto, unfolding(crate::specs::Captures::captured_opening))]
+#[tactic(auto, unfolding(crate::specs::Forms::opening_from))]
 pub(crate) fn put_captured_opening(
     text: &mut TextBuffer,
     form: Form,
     origin: &Origin,
     kind: &str,
 ) -> Result<(), AllocError>
-    ensures { OnOk result (text.new ≡ text.old ++ captured_opening form origin.now kind.now) }
+    ensures { OnOk result (text.new ≡ text.old ++ heading form (origin_fields origin.now) kind.now) }
 {
     match form {
         Form::Lines | Form::NamedLines => {

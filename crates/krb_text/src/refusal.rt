@@ -1,21 +1,25 @@
 //! Records of what is refused.
 
-ghost use Rattle.std.specs.Prelude.{◌≡◌, ◌++◌, OnOk};
+ghost use Rattle.std.specs.Prelude.{◌≡◌, [], ◌∷◌, ◌++◌, OnOk, codes, pos};
 ghost use Rattle.std.specs.Option.{option_copied};
 ghost use Rattle.krb_der.specs.Reasons.{reason_name, reason_number};
 ghost use Rattle.krb_file.specs.Faults.{file_reason_name, file_reason_number};
-ghost use Rattle.krb_text.specs.Forms.{closing, fields_text, record_line};
-ghost use Rattle.krb_text.specs.Refusals.{path_in, fault_record, file_refused_line, input_refused_line, message_refused_line};
-ghost use Rattle.krb_text.specs.Text.{line_feed};
-ghost use Rattle.krb_text.specs.Values.{Reason as IsReason};
+ghost use Rattle.krb_text.specs.Forms.{field, fields_text};
+ghost use Rattle.krb_text.specs.Messages.{message_origin};
+ghost use Rattle.krb_text.specs.Refusals.{at_field, extent_in, fault_record, file_refused_line, form_field, length_field, message_refused_line, path_in, spelling_in, untold_message_refused_line};
+ghost use Rattle.krb_text.specs.Values.{NoReason as IsNoReason, Number, Reason as IsReason};
 
+use crate::extent::Extent;
 use crate::field::{put_end, put_field, put_opening};
 use crate::form::Form;
 use crate::json::put_string;
-use crate::shown::{Shown, Text, put_begin};
+use crate::message_origin::{MessageOrigin, put_message_opening};
+use crate::shown::{Plain, Shown, Text, put_begin};
 use crate::text_buffer::TextBuffer;
+use crate::view_field::put_absent_field;
 use krb_der::{Refusal, Why, why_number, why_text};
 use krb_file::{FileWhy, file_why_number, file_why_text};
+use krb_input::Spelling;
 use std::alloc::AllocError;
 use std::marker::Model;
 
@@ -82,6 +86,28 @@ impl Shown for Reason {
     }
 }
 
+/// That there is no reason.
+#[derive(Clone, Copy)]
+pub(crate) struct NoReason;
+
+/// `-` in a line, and null in an object, for the number and for the name.
+impl Shown for NoReason {
+    ghost shown = { λ none. IsNoReason };
+
+    #[tactic(auto, unfolding(crate::specs::Forms::value_text))]
+    fn put_text(&self, line: &mut TextBuffer, _names: bool) -> Result<(), AllocError> {
+        line.push_str("-")
+    }
+
+    #[tactic(auto, unfolding(crate::specs::Forms::members, crate::specs::Forms::json_value, crate::specs::Forms::names_member))]
+    fn put_members(&self, object: &mut TextBuffer, begin: &str) -> Result<(), AllocError> {
+        put_begin(object, begin)?;
+        object.push_str("null")?;
+        object.push_str(begin)?;
+        object.push_str("_name\":null")
+    }
+}
+
 /// Appends the path of the field at fault, if there is one; to a line only if numbers have their
 /// names.
 pub(crate) fn put_path(
@@ -101,98 +127,172 @@ pub(crate) fn put_path(
     }
 }
 
-/// Appends what the line of what is refused at a place has after its kind.
-pub(crate) fn put_fault_rest(
+/// Appends the fields of where the octets lie that are refused.
+pub(crate) fn put_at_and_length(
+    text: &mut TextBuffer,
+    form: Form,
+    extent: Extent,
+) -> Result<(), AllocError>
+    ensures { OnOk result (text.new ≡ text.old ++ fields_text form (at_field extent ∷ length_field extent ∷ [])) }
+{
+    put_field(text, form, " at=", ",\"at", &extent.at)?;
+    put_field(text, form, " length=", ",\"length", &extent.length)
+}
+
+/// Appends the field of how octets are spelled, if they are.
+pub(crate) fn put_form_field(
+    text: &mut TextBuffer,
+    form: Form,
+    spelling: Option<Spelling>,
+) -> Result<(), AllocError>
+    ensures { OnOk result (text.new ≡ text.old ++ fields_text form (form_field spelling ∷ [])) }
+{
+    match spelling {
+        None => put_absent_field(text, form, " form=", ",\"form"),
+        Some(spelling) => {
+            let name = Plain::new(spelling.name().as_bytes());
+            put_field(text, form, " form=", ",\"form", &name)
+        }
+    }
+}
+
+/// Appends where the octets lie that are refused; to a line only if numbers have their names.
+fn put_extent(text: &mut TextBuffer, form: Form, extent: Extent) -> Result<(), AllocError>
+    ensures { OnOk result (text.new ≡ text.old ++ fields_text form (extent_in form extent)) }
+{
+    match form {
+        Form::Lines => Ok(()),
+        Form::NamedLines | Form::Json => put_at_and_length(text, form, extent),
+    }
+}
+
+/// Appends how the octets are spelled that are refused; to a line only if numbers have their names.
+fn put_spelling(text: &mut TextBuffer, form: Form, spelling: Spelling) -> Result<(), AllocError>
+    ensures { OnOk result (text.new ≡ text.old ++ fields_text form (spelling_in form spelling)) }
+{
+    match form {
+        Form::Lines => Ok(()),
+        Form::NamedLines | Form::Json => put_form_field(text, form, Some(spelling)),
+    }
+}
+
+/// Appends the path of the field at fault, and where the octets lie that are refused; to a line only
+/// if numbers have their names.
+pub(crate) fn put_located(
+    text: &mut TextBuffer,
+    form: Form,
+    path: Option<&str>,
+    extent: Extent,
+) -> Result<(), AllocError>
+    ensures { OnOk result (text.new ≡ text.old ++ fields_text form (path_in form (option_copied path.entry) ++ extent_in form extent)) }
+{
+    put_path(text, form, path)?;
+    put_extent(text, form, extent)
+}
+
+/// Appends the path of the field at fault, where the octets lie that are refused, and how they are
+/// spelled; to a line only if numbers have their names.
+fn put_located_and_spelled(
+    text: &mut TextBuffer,
+    form: Form,
+    path: Option<&str>,
+    extent: Extent,
+    spelling: Spelling,
+) -> Result<(), AllocError>
+    ensures { OnOk result (text.new ≡ text.old ++ fields_text form (path_in form (option_copied path.entry) ++ extent_in form extent ++ spelling_in form spelling)) }
+{
+    put_located(text, form, path, extent)?;
+    put_spelling(text, form, spelling)
+}
+
+/// Appends the fields of a place and a reason.
+pub(crate) fn put_place(
     text: &mut TextBuffer,
     form: Form,
     place: u64,
     reason: &Reason,
-    path: Option<&str>,
 ) -> Result<(), AllocError>
-    ensures { OnOk result (text.new ≡ text.old ++ fields_text form (fault_record form place reason.now.0 reason.now.1 (option_copied path.entry)).fields ++ closing form ++ line_feed) }
+    ensures { OnOk result (text.new ≡ text.old ++ field form (codes "place") (Number (pos place)) ++ field form (codes "why") (IsReason reason.now.0 reason.now.1)) }
 {
     put_field(text, form, " place=", ",\"place", &place)?;
-    put_field(text, form, " why=", ",\"why", reason)?;
-    put_path(text, form, path)?;
-    put_end(text, form)
+    put_field(text, form, " why=", ",\"why", reason)
 }
 
-/// Appends the line of what is refused at a place.
-#[tactic(auto, unfolding(crate::specs::Forms::record_text))]
-fn put_fault(
+/// Appends the fields of a place, a reason and, to a line only if numbers have their names, the path
+/// of the field at fault and where the octets lie that are refused.
+pub(crate) fn put_fault_fields(
     text: &mut TextBuffer,
     form: Form,
     place: u64,
     reason: &Reason,
     path: Option<&str>,
+    extent: Extent,
 ) -> Result<(), AllocError>
-    ensures { OnOk result (text.new ≡ text.old ++ record_line form (fault_record form place reason.now.0 reason.now.1 (option_copied path.entry))) }
+    ensures { OnOk result (text.new ≡ text.old ++ fields_text form (fault_record place reason.now.0 reason.now.1 (path_in form (option_copied path.entry) ++ extent_in form extent)).fields) }
 {
-    put_opening(text, form, "refused")?;
-    put_fault_rest(text, form, place, reason, path)
+    put_place(text, form, place, reason)?;
+    put_located(text, form, path, extent)
 }
 
-/// Appends the line of a refused file: the place of the field at fault, what is wrong with it, and
-/// its path, which a line has only if numbers have their names.
+/// Appends the line of a refused file: the place of the field at fault and what is wrong with it,
+/// and, to a line only if numbers have their names, its path and where the part lies that is
+/// refused.
+#[tactic(auto, unfolding(crate::specs::Forms::record_text))]
 pub fn put_file_refusal(
     text: &mut TextBuffer,
     form: Form,
     place: u64,
     why: FileWhy,
     path: Option<&str>,
+    extent: Extent,
 ) -> Result<(), AllocError>
-    ensures { OnOk result (text.new ≡ text.old ++ file_refused_line form place why (option_copied path.entry)) }
+    ensures { OnOk result (text.new ≡ text.old ++ file_refused_line form place why (option_copied path.entry) extent) }
 {
-    put_fault(text, form, place, &Reason::of_file(why), path)
+    put_opening(text, form, "refused")?;
+    put_fault_fields(text, form, place, &Reason::of_file(why), path, extent)?;
+    put_end(text, form)
 }
 
-/// Appends the line of octets that are no message: the place of the octet at fault, what is wrong
-/// with it, and the path of the field at fault, which a line has only if numbers have their names.
+/// Appends the line of octets of an origin that are no message: the place of the octet at fault and
+/// what is wrong with it, and, to a line only if numbers have their names, the path of the field at
+/// fault, where the octets lie in the input, and how they are spelled there.
+#[tactic(auto, unfolding(crate::specs::Forms::record_text))]
 pub fn put_message_refusal(
+    text: &mut TextBuffer,
+    form: Form,
+    origin: &MessageOrigin<'_>,
+    refusal: Refusal,
+    path: Option<&str>,
+    extent: Extent,
+    spelling: Spelling,
+) -> Result<(), AllocError>
+    ensures { OnOk result (text.new ≡ text.old ++ message_refused_line form (message_origin origin.now.line origin.now.layers.now) refusal (option_copied path.entry) extent spelling) }
+{
+    let place = u64::from(refusal.place);
+    put_message_opening(text, form, origin, "refused")?;
+    put_place(text, form, place, &Reason::of(refusal.why))?;
+    put_located_and_spelled(text, form, path, extent, spelling)?;
+    put_end(text, form)
+}
+
+/// Appends the line of octets that are no message, as [`put_message_refusal`] does without an
+/// origin, and with nothing that is told but the path.
+#[tactic(auto, unfolding(crate::specs::Forms::record_text))]
+pub fn put_untold_message_refusal(
     text: &mut TextBuffer,
     form: Form,
     refusal: Refusal,
     path: Option<&str>,
 ) -> Result<(), AllocError>
-    ensures { OnOk result (text.new ≡ text.old ++ message_refused_line form refusal (option_copied path.entry)) }
+    ensures { OnOk result (text.new ≡ text.old ++ untold_message_refused_line form refusal (option_copied path.entry)) }
 {
-    put_fault(
+    put_opening(text, form, "refused")?;
+    put_place(
         text,
         form,
         u64::from(refusal.place),
         &Reason::of(refusal.why),
-        path,
-    )
-}
-
-/// Why input is not looked at as a message.
-#[derive(Clone, Copy, PartialEq, Eq, Debug)]
-pub enum InputFault {
-    /// It is no hexadecimal.
-    Hex,
-    /// It is too long.
-    Length,
-}
-
-/// Returns the line of input that is not looked at as a message.
-fn input_line(form: Form, fault: InputFault) -> &'static str
-    ensures { result.now ≡ input_refused_line form fault }
-{
-    match (form, fault) {
-        (Form::Lines | Form::NamedLines, InputFault::Hex) => "refused hex\n",
-        (Form::Lines | Form::NamedLines, InputFault::Length) => "refused length\n",
-        (Form::Json, InputFault::Hex) => "{\"kind\":\"refused\",\"input\":\"hex\"}\n",
-        (Form::Json, InputFault::Length) => "{\"kind\":\"refused\",\"input\":\"length\"}\n",
-    }
-}
-
-/// Appends the line of input that is not looked at as a message.
-pub fn put_input_refusal(
-    text: &mut TextBuffer,
-    form: Form,
-    fault: InputFault,
-) -> Result<(), AllocError>
-    ensures { OnOk result (text.new ≡ text.old ++ input_refused_line form fault) }
-{
-    text.push_str(input_line(form, fault))
+    )?;
+    put_path(text, form, path)?;
+    put_end(text, form)
 }

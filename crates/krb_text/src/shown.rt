@@ -113,7 +113,7 @@ impl<'a> Shown for Text<'a> {
 
 /// Octets, escaped, which a line has between quotes.
 #[derive(Clone, Copy)]
-pub(crate) struct QuotedText<'a>(pub(crate) &'a [u8]);
+pub struct QuotedText<'a>(pub &'a [u8]);
 
 impl<'a> Shown for QuotedText<'a> {
     ghost shown = { λ text. Quoted text.0.now };

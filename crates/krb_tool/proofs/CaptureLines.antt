@@ -163,8 +163,8 @@ module _ (form : Form) (old new : PacketsModel) (was now : Capture) (rest : Opti
       by : (file_fault : FileFault) (field : CaptureField) → ReturnsNext is_left.file is_left.count (Err (record { fault = file_fault; field = field })) new → AddsFileRefusal file_fault field was form before after ended → AddsLine IsLeft left before after (Ok ended)
       by faults.Read field given adds = absurd adds
       by faults.Memory field given adds = absurd adds
-      by (faults.Refused place why unnamed) field given adds =
-          let refused : Option Refusal = Some (record { fault = record { place = place; why = why; field = unnamed }; field = field }) in
+      by (faults.Refused fault) field given adds =
+          let refused : Option Refusal = Some (record { fault = fault; field = field }) in
           let last = none_left given.counted refused given.is in
           let added = adds is_left.settings is_left.progress is_left.followed is_left.form_is in
           ended_so IsLeft before after ended run.Refused left (listing_from is_left.settings [] refused is_left.progress) added.0 added.1 last refl refl

@@ -14,8 +14,8 @@ use Rattle.krb_frame.specs.declared.decoder.Status.TheVariants as status
 use Rattle.krb_frame.proofs.Skips.{entries-waiting, entries-last}
 use Rattle.krb_text.specs.declared.form.Form.{Form}
 use Rattle.krb_tool.specs.Lines.{refused_line, counted_end_line}
-use Rattle.krb_tool.specs.Paths.{frame_path}
-use Rattle.krb_tool.specs.GoingOn.{Listed, Faulty, entry_of, messages_in, refused_in, lines_after, IsCountedListing, counted_run_end, EndsUnknown, StopsInPiece, ListsAll, AreCountedLines}
+use Rattle.krb_tool.specs.Paths.{frame_extent, frame_path}
+use Rattle.krb_tool.specs.GoingOn.{Listed, Faulty, entry_of, messages_in, octets_in, refused_in, lines_after, IsCountedListing, counted_run_end, EndsUnknown, StopsInPiece, ListsAll, AreCountedLines}
 use Rattle.krb_tool.specs.inner.Streams.{Taken, with_piece, Begins, IsLast, MayFinish, EndsListing, ListsBy}
 use Rattle.krb_tool.specs.inner.Pieces.{TakesPiece, WaitsAfter, IsLastOf, listing_of}
 use Rattle.krb_tool.specs.inner.CountingListers.{HasCounted, last_listed, last_of, PutsCount, PutsLast, CountsEnd, IsUnknownAfter, counting, counting_rules}
@@ -60,7 +60,7 @@ CountsEnd-count old new ended done e p =
       lines =
           p.line
           ∙ ap (λ k. old.text ++ counted_end_line old.form old.messages k) z
-          ∙ ap (λ l. old.text ++ (lines_after old.form old.decoder.current.profile old.messages l ++ counted_end_line old.form old.messages (old.refused + refused_in l))) (sym none);
+          ∙ ap (λ l. old.text ++ (lines_after old.form old.decoder.current.profile old.messages old.offset l ++ counted_end_line old.form old.messages (old.refused + refused_in l))) (sym none);
       ended_so = p.ended_so ∙ ap counted_run_end z ∙ ap (λ l. counted_run_end (old.refused + refused_in l)) (sym none);
     }
 
@@ -71,9 +71,9 @@ CountsEnd-last old new ended refusal e p =
     record {
       lines =
           p.lines
-          ∙ ap (λ l. old.text ++ (l ++ counted_end_line old.form old.messages (old.refused + 1))) (sym (append-nil (refused_line old.form old.messages refusal.place refusal.why (frame_path old.decoder.current.profile old.decoder.current.octets))))
-          ∙ ap (λ k. old.text ++ ((refused_line old.form old.messages refusal.place refusal.why (frame_path old.decoder.current.profile old.decoder.current.octets) ++ []) ++ counted_end_line old.form old.messages k)) z
-          ∙ ap (λ l. old.text ++ (lines_after old.form old.decoder.current.profile old.messages l ++ counted_end_line old.form old.messages (old.refused + refused_in l))) (sym one);
+          ∙ ap (λ l. old.text ++ (l ++ counted_end_line old.form old.messages (old.refused + 1))) (sym (append-nil (refused_line old.form old.messages refusal.place refusal.why (frame_path old.decoder.current.profile old.decoder.current.octets) (frame_extent old.offset old.decoder.current.octets))))
+          ∙ ap (λ k. old.text ++ ((refused_line old.form old.messages refusal.place refusal.why (frame_path old.decoder.current.profile old.decoder.current.octets) (frame_extent old.offset old.decoder.current.octets) ++ []) ++ counted_end_line old.form old.messages k)) z
+          ∙ ap (λ l. old.text ++ (lines_after old.form old.decoder.current.profile old.messages old.offset l ++ counted_end_line old.form old.messages (old.refused + refused_in l))) (sym one);
       ended_so = p.ended_so ∙ ap counted_run_end z ∙ ap (λ l. counted_run_end (old.refused + refused_in l)) (sym one);
     }
 
@@ -86,18 +86,19 @@ module _ (form : Form) (profile : Profile) (limit : ℕ) (read : List ℕ) (list
   both = listed ++ last
 
   abbrev both_lines : List ℕ
-  both_lines = lines_after form profile 0 both ++ counted_end_line form (messages_in both) (refused_in both)
+  both_lines = lines_after form profile 0 0 both ++ counted_end_line form (messages_in both) (refused_in both)
 
   counted-listing : (text : List ℕ) → text ≡ both_lines → IsCountedListing form profile limit read text
   counted-listing text e = record { found = both; in_frames = map-append entry_of listed last ∙ sym all; lines = e }
 
-  both-lines : both_lines ≡ lines_after form profile 0 listed ++ (lines_after form profile (messages_in listed) last ++ counted_end_line form (messages_in listed) (refused_in listed + refused_in last))
+  both-lines : both_lines ≡ lines_after form profile 0 0 listed ++ (lines_after form profile (messages_in listed) (octets_in listed) last ++ counted_end_line form (messages_in listed) (refused_in listed + refused_in last))
   both-lines =
       let m : messages_in both ≡ messages_in listed = omega (arith, messages_in-append listed last, last_messages end octets) in
       let z : 0 + messages_in listed ≡ messages_in listed = omega arith in
-      ap₂ (λ n k. lines_after form profile 0 both ++ counted_end_line form n k) m (refused_in-append listed last)
-      ∙ ap (λ l. l ++ counted_end_line form (messages_in listed) (refused_in listed + refused_in last)) (lines_after-append form profile 0 listed last ∙ ap (λ n. lines_after form profile 0 listed ++ lines_after form profile n last) z)
-      ∙ append_assoc (lines_after form profile 0 listed) (lines_after form profile (messages_in listed) last) (counted_end_line form (messages_in listed) (refused_in listed + refused_in last))
+      let o : 0 + octets_in listed ≡ octets_in listed = omega arith in
+      ap₂ (λ n k. lines_after form profile 0 0 both ++ counted_end_line form n k) m (refused_in-append listed last)
+      ∙ ap (λ l. l ++ counted_end_line form (messages_in listed) (refused_in listed + refused_in last)) (lines_after-append form profile 0 0 listed last ∙ ap₂ (λ n k. lines_after form profile 0 0 listed ++ lines_after form profile n k last) z o)
+      ∙ append_assoc (lines_after form profile 0 0 listed) (lines_after form profile (messages_in listed) (octets_in listed) last) (counted_end_line form (messages_in listed) (refused_in listed + refused_in last))
 
 -- the frames of octets by what a lister was asked for
 abbrev entries_of : CountingLister → List ℕ → List Entry
@@ -144,7 +145,7 @@ module _ (lister : CountingLister) (taken : Taken) (w : WaitsAfter counting list
   -- the lines so far begin the listing
   pub Begins-waits : Begins (counting_rules (counting.request lister)) taken lister.text
   Begins-waits =
-      let last : List ℕ = lines_after lister.form lister.decoder.current.profile (messages_in w.listed.listed) (last_of lister) ++ counted_end_line lister.form (messages_in w.listed.listed) (refused_in w.listed.listed + refused_in (last_of lister)) in
+      let last : List ℕ = lines_after lister.form lister.decoder.current.profile (messages_in w.listed.listed) (octets_in w.listed.listed) (last_of lister) ++ counted_end_line lister.form (messages_in w.listed.listed) (refused_in w.listed.listed + refused_in (last_of lister)) in
       record {
         lines = λ more. record {
           found = w.listed.listed;
@@ -162,8 +163,9 @@ module _ (lister : CountingLister) (taken : Taken) (w : WaitsAfter counting list
 -- No piece follows: the octets have ended, or there is a frame whose length is not known. Then the end is the last frame, if it is one.
 record IsDone (lister : CountingLister) (taken : Taken) (left : Option (List ℕ)) : Type 0 where
   listed : List Listed
-  lines : taken.written ++ lister.text ≡ lines_after lister.form lister.decoder.current.profile 0 listed
+  lines : taken.written ++ lister.text ≡ lines_after lister.form lister.decoder.current.profile 0 0 listed
   counted : lister.messages ≡ messages_in listed
+  offset : lister.offset ≡ octets_in listed
   refused : lister.refused ≡ refused_in listed
   all : entries_of lister taken.octets ≡ map entry_of listed ++ map entry_of (last_of lister)
   few : lister.refused ≤ 65536 * taken.pieces
@@ -175,6 +177,7 @@ done lister taken left (inl (w, a)) = record {
   listed = w.listed.listed;
   lines = w.listed.lines;
   counted = w.listed.messages;
+  offset = w.listed.offset;
   refused = w.listed.refused;
   all = entries_read lister taken w;
   few = omega (arith, w.few);
@@ -185,6 +188,7 @@ done lister taken left (inr r) = record {
   listed = r.listed;
   lines = r.lines;
   counted = r.messages;
+  offset = r.offset;
   refused = r.refused;
   all = r.all;
   few = r.few;
@@ -214,8 +218,9 @@ EndsListing-made lister new ended f taken left last =
           counted-listing lister.form lister.decoder.current.profile lister.decoder.current.limit taken.octets d.listed (end_of lister) lister.decoder.current.octets d.all (taken.written ++ new.text)
           (ap (λ l. taken.written ++ l) f.lines
           ∙ sym (append_assoc taken.written lister.text _)
-          ∙ ap (λ l. l ++ (lines_after lister.form lister.decoder.current.profile lister.messages (last_of lister) ++ counted_end_line lister.form lister.messages (lister.refused + refused_in (last_of lister)))) d.lines
-          ∙ ap₂ (λ n k. lines_after lister.form lister.decoder.current.profile 0 d.listed ++ (lines_after lister.form lister.decoder.current.profile n (last_of lister) ++ counted_end_line lister.form n (k + refused_in (last_of lister)))) d.counted d.refused
+          ∙ ap (λ l. l ++ (lines_after lister.form lister.decoder.current.profile lister.messages lister.offset (last_of lister) ++ counted_end_line lister.form lister.messages (lister.refused + refused_in (last_of lister)))) d.lines
+          ∙ ap₂ (λ n k. lines_after lister.form lister.decoder.current.profile 0 0 d.listed ++ (lines_after lister.form lister.decoder.current.profile n lister.offset (last_of lister) ++ counted_end_line lister.form n (k + refused_in (last_of lister)))) d.counted d.refused
+          ∙ ap (λ o. lines_after lister.form lister.decoder.current.profile 0 0 d.listed ++ (lines_after lister.form lister.decoder.current.profile (messages_in d.listed) o (last_of lister) ++ counted_end_line lister.form (messages_in d.listed) (refused_in d.listed + refused_in (last_of lister)))) d.offset
           ∙ sym (both-lines lister.form lister.decoder.current.profile lister.decoder.current.limit taken.octets d.listed (end_of lister) lister.decoder.current.octets d.all));
       ends = record {
         ended_so = f.ended_so ∙ ap counted_run_end (ap (λ k. k + refused_in (last_of lister)) d.refused ∙ sym (refused_in-append d.listed (last_of lister)));
@@ -238,6 +243,7 @@ stops-unknown old new piece taken short w f =
         lines = h.lines;
         messages = h.messages;
         refused = h.refused;
+        offset = h.offset;
         all = all;
         end = l.end;
         few = omega (arith, w.few, f.few);

@@ -48,7 +48,7 @@ module _ (form : Form) (old new : Cursor) (start kept : Start) (from to : State)
   refusal_added e (Err f) promises adds = tt
   refusal_added faults.Read (Ok ended) promises adds = absurd adds
   refusal_added faults.Memory (Ok ended) promises adds = absurd adds
-  refusal_added (faults.Refused place why field) (Ok ended) promises adds =
+  refusal_added (faults.Refused fault) (Ok ended) promises adds =
       let given = promises is_left.file 16777216 count is_left.reads in
       last_added (credential_line form now) found.items count (ccache_last form (length found.items) found.end) (end_of found.end) IsLeft left is_left.is before after ended
       _ run.Refused given.counted (ap₂ (ccache_last form) given.counted given.is) (ap end_of given.is) adds
@@ -66,15 +66,14 @@ pub start_refused : (form : Form) (now : Option ℕ) (file : List ℕ) (e : File
 unfolding ccache_listing
 start_refused form now file faults.Read fails = tt
 start_refused form now file faults.Memory fails = tt
-start_refused form now file (faults.Refused place why field) fails = ap (λ (r : Result (Start × Source) Fault). cache_listing form now r (credentials field_limit file)) fails
+start_refused form now file (faults.Refused fault) fails = ap (λ (r : Result (Start × Source) Fault). cache_listing form now r (credentials field_limit file)) fails
 
 pub fault_added : (form : Form) (e : FileFault) (left : RecordListing) (old new : List ℕ) (r : Result (Option RunEnd) RunFault) → IsRefusal form e left → IfOk r (AddsRefusal start_path form e old new) → AddsLine (IsRefusal form e) left old new r
 fault_added form e left old new (Err f) is adds = tt
 fault_added form faults.Read left old new (Ok ended) is adds = absurd adds
 fault_added form faults.Memory left old new (Ok ended) is adds = absurd adds
-fault_added form (faults.Refused place why field) left old new (Ok ended) is adds =
-    let fault : Fault = record { place = place; why = why; field = field } in
-    subst (λ (x : Option RunEnd). AddsLine (IsRefusal form (faults.Refused place why field)) left old new (Ok x)) (sym adds.0) (
+fault_added form (faults.Refused fault) left old new (Ok ended) is adds =
+    subst (λ (x : Option RunEnd). AddsLine (IsRefusal form (faults.Refused fault)) left old new (Ok x)) (sym adds.0) (
       adds.1 ∙ ap (λ (l : RecordListing). old ++ l.last) (sym is),
       ap (λ (l : RecordListing). l.lines) is,
       ap (λ (l : RecordListing). l.end) (sym is),

@@ -8,7 +8,7 @@ use Rattle.krb_judge.specs.Paths.{message_path}
 use Rattle.krb_tool.specs.Paths.{refused_path}
 
 -- `take` returns no more octets than there are
-take-few : (count : ℕ) (octets : List ℕ) → take (min count (length octets)) octets ≡ take count octets
+pub take-few : (count : ℕ) (octets : List ℕ) → take (min count (length octets)) octets ≡ take count octets
 take-few count octets = elim (cases_lt (length octets) count) [
   | inl h ↦
       let m : length octets ≤ min count (length octets) = omega (arith, h) in

@@ -41,7 +41,7 @@ keytab-same alike shown form before key other after size up le len =
 credentials-masked : CredentialKeyIsNotShown → (form : Form) (now : Option ℕ) (found : Items Credential) → credentials_listing form now (masked_items found) ≡ credentials_listing form now found
 credentials-masked shown form now found =
     ap₂ (λ (lines last : List ℕ). let it : RecordListing = record { lines = lines; last = last; end = end_of found.end } in it)
-    (lines-same (λ c. credential_line form now c) masked_credential (λ c. ap (λ printed. line_of form printed) (shown now c)) found.items)
+    (lines-same (λ c. credential_line form now c) masked_credential (λ c. ap (λ printed. line_of form printed) (shown form now c)) found.items)
     (ap (λ (count : ℕ). ccache_last form count found.end) (length-map found.items masked_credential))
 
 -- the listing by what is before the credentials, without what is left of the file

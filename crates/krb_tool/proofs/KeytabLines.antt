@@ -49,7 +49,7 @@ module _ (form : Form) (old new : Cursor) (from to : State) (count : ℕ) (left 
   refusal_added e (Err f) promises adds = tt
   refusal_added faults.Read (Ok ended) promises adds = absurd adds
   refusal_added faults.Memory (Ok ended) promises adds = absurd adds
-  refusal_added (faults.Refused place why field) (Ok ended) promises adds =
+  refusal_added (faults.Refused fault) (Ok ended) promises adds =
       let given = promises is_left.file 16777216 count is_left.reads in
       last_added (record_line form) found.records count (keytab_last form (length found.records) found.end) (end_of found.end) IsLeft left is_left.is before after ended
       _ run.Refused given.counted (ap₂ (keytab_last form) given.counted given.is) (ap end_of given.is) adds

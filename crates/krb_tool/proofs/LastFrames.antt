@@ -1,5 +1,5 @@
 -- The last frame of a stream that is decoded.
-use Rattle.std.proofs.Common.{◌≡◌, ℕ, ◌+◌, List, [], ◌∷◌, ◌++◌, drop, sym, ◌∙◌, ap, ap₂, subst, append-nil, append_assoc, drop_at}
+use Rattle.std.proofs.Common.{◌≡◌, ℕ, ◌+◌, List, [], ◌∷◌, ◌++◌, length, drop, sym, ◌∙◌, ap, ap₂, subst, arith, append-nil, append_assoc, drop_at, length-append}
 use Rattle.std.proofs.lemmas.List.{take_at}
 use Rattle.krb_msg.specs.Grammar.{messages}
 use Rattle.krb_msg.specs.Stream.{End, Boundary, Within, Refused, Frames, frames}
@@ -9,7 +9,7 @@ use Rattle.krb_frame.specs.GoingOn.{after_contents}
 use Rattle.krb_frame.specs.declared.decoder.Status.TheVariants as status
 use Rattle.krb_frame.proofs.Ends.{found_of}
 use Rattle.krb_tool.specs.Listing.{IsNotRefused}
-use Rattle.krb_tool.specs.Paths.{frame_path, last_octets, end_path}
+use Rattle.krb_tool.specs.Paths.{end_extent, end_path, frame_extent, frame_path, last_octets}
 
 -- ---- while more is awaited
 pub more_not_refused : (contents : List (List ℕ)) (end : End) → status_at contents end ≡ status.More → IsNotRefused end
@@ -26,8 +26,12 @@ last-octets octets more (Within present) one none = ap (λ l. octets ++ l) (none
 last-octets octets more (Refused place reason) one none = take_at octets more (place + 1) one
 
 -- after the frames that were cleared come the octets that a decoder holds, and then those that were not used
-pub path-at : (d : Decoding) (stream more : List ℕ) (cleared : List (List ℕ)) → HasDecoded (messages d.profile) d stream cleared → frames (messages d.profile) d.limit (stream ++ more) ≡ frames (messages d.profile) d.limit stream → (found (messages d.profile) d).contents ≡ [] → (IsNotRefused (found (messages d.profile) d).end → more ≡ []) → end_path d.profile d.limit (stream ++ more) ≡ frame_path d.profile d.octets
-path-at d stream more cleared h same none rest =
+record IsLastOf (d : Decoding) (octets : List ℕ) (cleared : List (List ℕ)) : Type 0 where
+  contents : (frames (messages d.profile) d.limit octets).contents ≡ cleared
+  last : last_octets (frames (messages d.profile) d.limit octets).end (after_contents (frames (messages d.profile) d.limit octets) octets) ≡ d.octets
+
+last-at : (d : Decoding) (stream more : List ℕ) (cleared : List (List ℕ)) → HasDecoded (messages d.profile) d stream cleared → frames (messages d.profile) d.limit (stream ++ more) ≡ frames (messages d.profile) d.limit stream → (found (messages d.profile) d).contents ≡ [] → (IsNotRefused (found (messages d.profile) d).end → more ≡ []) → IsLastOf d (stream ++ more) cleared
+last-at d stream more cleared h same none rest =
     let current : Frames = found (messages d.profile) d in
     let before : List ℕ = h.last.before in
     let all : Frames = frames (messages d.profile) d.limit (stream ++ more) in
@@ -38,5 +42,26 @@ path-at d stream more cleared h same none rest =
     ∙ ap (λ s. drop (frames_size cleared) (s ++ more)) h.last.parts
     ∙ ap (drop (frames_size cleared)) (append_assoc before d.octets more)
     ∙ drop_at before (d.octets ++ more) (frames_size cleared) h.counted in
-    ap₂ (λ e l. frame_path d.profile (last_octets e l)) (ap (λ f. f.end) read) after
-    ∙ ap (frame_path d.profile) (last-octets d.octets more current.end (subst (λ c. AreOfOne d.octets c current.end) none h.one) rest)
+    record {
+      contents = contents;
+      last =
+          ap₂ last_octets (ap (λ f. f.end) read) after
+          ∙ last-octets d.octets more current.end (subst (λ c. AreOfOne d.octets c current.end) none h.one) rest;
+    }
+
+pub path-at : (d : Decoding) (stream more : List ℕ) (cleared : List (List ℕ)) → HasDecoded (messages d.profile) d stream cleared → frames (messages d.profile) d.limit (stream ++ more) ≡ frames (messages d.profile) d.limit stream → (found (messages d.profile) d).contents ≡ [] → (IsNotRefused (found (messages d.profile) d).end → more ≡ []) → end_path d.profile d.limit (stream ++ more) ≡ frame_path d.profile d.octets
+path-at d stream more cleared h same none rest = ap (frame_path d.profile) (last-at d stream more cleared h same none rest).last
+
+-- the path in the last frame, and where that is
+pub record LastIs (d : Decoding) (octets : List ℕ) (offset : ℕ) : Type 0 where
+  pub path : end_path d.profile d.limit octets ≡ frame_path d.profile d.octets
+  pub extent : end_extent d.profile d.limit octets ≡ frame_extent offset d.octets
+
+pub last-is : (d : Decoding) (stream more : List ℕ) (cleared : List (List ℕ)) (offset : ℕ) → HasDecoded (messages d.profile) d stream cleared → offset + length d.octets ≡ length stream → frames (messages d.profile) d.limit (stream ++ more) ≡ frames (messages d.profile) d.limit stream → (found (messages d.profile) d).contents ≡ [] → (IsNotRefused (found (messages d.profile) d).end → more ≡ []) → LastIs d (stream ++ more) offset
+last-is d stream more cleared offset h size same none rest =
+    let last : IsLastOf d (stream ++ more) cleared = last-at d stream more cleared h same none rest in
+    let counted : frames_size cleared ≡ offset = omega (arith, size, h.counted, ap length h.last.parts, length-append h.last.before d.octets) in
+    record {
+      path = ap (frame_path d.profile) last.last;
+      extent = ap₂ frame_extent (ap frames_size last.contents ∙ counted) last.last;
+    }

@@ -30,3 +30,10 @@ mod DecodedTexts
 pub mod WholeRuns
 mod RoundTrips
 mod KeyOctets
+pub mod OutputLabels
+pub mod OutputTexts
+pub mod OutputLines
+pub mod OutputSteps
+mod OutputWords
+pub mod MessageLines
+pub mod BegunReaders

@@ -8,11 +8,12 @@ use Rattle.krb_msg.specs.Views.{message_der}
 use Rattle.krb_frame.specs.Decoding.{found}
 use Rattle.krb_frame.specs.Decoded.{after_frames}
 use Rattle.krb_frame.proofs.Ends.{none_found, refused_end, found_of, refusal_ends}
-use Rattle.krb_tool.proofs.LastFrames.{more_not_refused, path-at}
+use Rattle.krb_tool.proofs.LastFrames.{LastIs, last-is, more_not_refused}
 use Rattle.krb_tool.proofs.DecoderResults.{more_ready}
+use Rattle.krb_text.specs.declared.extent.Extent.{Extent}
 use Rattle.krb_tool.specs.Lines.{message_line}
 use Rattle.krb_tool.specs.Lines.{end_line}
-use Rattle.krb_tool.specs.Paths.{frame_path, end_path}
+use Rattle.krb_tool.specs.Paths.{end_extent, end_path, frame_extent, frame_path}
 use Rattle.krb_tool.specs.Listing.{end_of, run_end, AllIsRead, IsNotRefused, StopsInPiece, Lists, AreLines}
 use Rattle.krb_tool.specs.inner.Streams.{Taken, with_piece, Begins, EndsListing, ListsBy}
 use Rattle.krb_tool.specs.inner.Pieces.{TakesPiece, WaitsAfter, IsLastOf}
@@ -49,7 +50,7 @@ module _ (lister : Lister) (taken : Taken) (w : WaitsAfter stopping lister taken
   -- the lines so far begin the listing
   pub Begins-waits : Begins (stopping_rules (stopping.request lister)) taken lister.text
   Begins-waits =
-      let last : List ℕ = end_line lister.form (length w.listed.messages) (frames_of lister taken.octets).end (end_path lister.decoder.profile lister.decoder.limit taken.octets) in
+      let last : List ℕ = end_line lister.form (length w.listed.messages) (frames_of lister taken.octets).end (end_path lister.decoder.profile lister.decoder.limit taken.octets) (end_extent lister.decoder.profile lister.decoder.limit taken.octets) in
       record {
         lines = λ more. record {
           found = w.listed.messages;
@@ -72,7 +73,7 @@ record IsDone (lister : Lister) (taken : Taken) (left : Option (List ℕ)) : Typ
   listed : HasListed lister stream taken.written
   same_frames : frames_of lister taken.octets ≡ frames_of lister stream
   none : (current_of lister).contents ≡ []
-  path : end_path lister.decoder.profile lister.decoder.limit taken.octets ≡ frame_path lister.decoder.profile lister.decoder.octets
+  last : LastIs lister.decoder taken.octets lister.offset
   all_read : AllIsRead (current_of lister).end left
   stops : StopsInPiece lister.decoder.profile lister.decoder.limit taken.octets
 
@@ -87,9 +88,9 @@ done lister taken left (inl (w, a)) = record {
   listed = w.listed;
   same_frames = refl;
   none = none_ready lister taken w;
-  path =
-      ap (end_path lister.decoder.profile lister.decoder.limit) (sym (append-nil taken.octets))
-      ∙ path-at lister.decoder taken.octets [] (map message_der w.listed.messages) w.listed.decoded (ap (frames_of lister) (append-nil taken.octets)) (none_ready lister taken w) (λ n. refl);
+  last =
+      subst (λ octets. LastIs lister.decoder octets lister.offset) (append-nil taken.octets)
+      (last-is lister.decoder taken.octets [] (map message_der w.listed.messages) lister.offset w.listed.decoded w.listed.offset (ap (frames_of lister) (append-nil taken.octets)) (none_ready lister taken w) (λ n. refl));
   all_read = all_is_read (current_of lister).end left (not_refused lister taken w) a;
   stops = record { prefix = taken.octets; piece = []; parts = sym (append-nil taken.octets); goes_on = goes_on lister taken w; short = omega arith };
 }
@@ -98,9 +99,9 @@ done lister taken left (inr r) = record {
   listed = r.listed;
   same_frames = r.same_frames;
   none = r.none;
-  path =
-      ap (end_path lister.decoder.profile lister.decoder.limit) r.parts
-      ∙ path-at lister.decoder r.stream r.rest (map message_der r.listed.messages) r.listed.decoded (ap (frames_of lister) (sym r.parts) ∙ r.same_frames) r.none (λ n. absurd (subst IsNotRefused r.end n));
+  last =
+      subst (λ octets. LastIs lister.decoder octets lister.offset) (sym r.parts)
+      (last-is lister.decoder r.stream r.rest (map message_der r.listed.messages) lister.offset r.listed.decoded r.listed.offset (ap (frames_of lister) (sym r.parts) ∙ r.same_frames) r.none (λ n. absurd (subst IsNotRefused r.end n)));
   all_read = subst (λ x. AllIsRead x left) (sym r.end) tt;
   stops = r.stops;
 }
@@ -111,6 +112,7 @@ EndsListing-made lister new ended f taken left last =
     let d : IsDone lister taken left = done lister taken left last in
     let read : frames_of lister taken.octets ≡ after_frames (map message_der d.listed.messages) (current_of lister) = d.same_frames ∙ frames-listed lister d.stream taken.written d.listed in
     let path : Option (List ℕ) = frame_path lister.decoder.profile lister.decoder.octets in
+    let extent : Extent = frame_extent lister.offset lister.decoder.octets in
     let end_is : (frames_of lister taken.octets).end ≡ (current_of lister).end = ap (λ f. f.end) read in
     record {
       listing = record {
@@ -118,10 +120,11 @@ EndsListing-made lister new ended f taken left last =
         in_frames = sym (ap (λ f. f.contents) read ∙ ap (λ c. map message_der d.listed.messages ++ c) d.none ∙ append-nil (map message_der d.listed.messages));
         lines =
             ap (λ l. taken.written ++ l) f.line
-            ∙ sym (append_assoc taken.written lister.text (end_line lister.form lister.messages (current_of lister).end path))
-            ∙ ap (λ l. l ++ end_line lister.form lister.messages (current_of lister).end path) d.listed.lines
-            ∙ ap (λ n. flat_map (message_line lister.form) d.listed.messages ++ end_line lister.form n (current_of lister).end path) d.listed.counted
-            ∙ ap₂ (λ e p. flat_map (message_line lister.form) d.listed.messages ++ end_line lister.form (length d.listed.messages) e p) (sym end_is) (sym d.path);
+            ∙ sym (append_assoc taken.written lister.text (end_line lister.form lister.messages (current_of lister).end path extent))
+            ∙ ap (λ l. l ++ end_line lister.form lister.messages (current_of lister).end path extent) d.listed.lines
+            ∙ ap (λ n. flat_map (message_line lister.form) d.listed.messages ++ end_line lister.form n (current_of lister).end path extent) d.listed.counted
+            ∙ ap₂ (λ e p. flat_map (message_line lister.form) d.listed.messages ++ end_line lister.form (length d.listed.messages) e p extent) (sym end_is) (sym d.last.path)
+            ∙ ap (λ x. flat_map (message_line lister.form) d.listed.messages ++ end_line lister.form (length d.listed.messages) (frames_of lister taken.octets).end (end_path lister.decoder.profile lister.decoder.limit taken.octets) x) (sym d.last.extent);
       };
       ends = record {
         ended_so = f.ended_so ∙ ap run_end (sym end_is);

@@ -1,5 +1,5 @@
 -- Frames listed one after another.
-use Rattle.std.proofs.Common.{◌≡◌, ℕ, ◌+◌, ◌^◌, ◌<◌, Bool, true, false, List, [], ◌∷◌, ◌++◌, length, take, drop, map, refl, sym, ◌∙◌, ap, subst, arith, append_assoc, append-nil, length-append}
+use Rattle.std.proofs.Common.{◌≡◌, ℕ, ◌+◌, ◌-◌, ◌^◌, ◌<◌, Bool, true, false, List, [], ◌∷◌, ◌++◌, length, take, drop, map, refl, sym, ◌∙◌, ap, subst, arith, append_assoc, append-nil, length-append}
 use Rattle.std.proofs.lemmas.List.{map-append}
 use Rattle.std.proofs.lemmas.Grind.{flat_map-append}
 use Rattle.std.specs.List.{flat_map}
@@ -47,19 +47,21 @@ HasListed-ready old new l stream written h =
           (l.cleared.decoded stream l.contents (map message_der h.messages) h.decoded l.is_ready));
       lines = line_added old new l.message h.messages written l.line l.same_form h.lines;
       counted = omega (arith, l.counted, h.counted, length-append h.messages (l.message ∷ []));
+      offset = omega (arith, l.offset, h.offset, ap (λ d. length d.octets) (cleared_is old.decoder.profile old.decoder new.decoder l.contents l.cleared l.is_ready));
     }
 
 pub same_request : (form form' : Form) (old new : Decoding) → form' ≡ form → new.profile ≡ old.profile → new.limit ≡ old.limit → request_of form' new ≡ request_of form old
 same_request form form' old new f p l = λ i. record { form = f i; profile = p i; limit = l i }
 
 -- ---- the decoder used octets of a piece
-module _ (old new : Lister) (piece : List ℕ) (fed : Fed) (f : Uses (messages old.decoder.profile) old.decoder piece new.decoder fed) (o : new.form ≡ old.form) (t : new.text ≡ old.text) (n : new.messages ≡ old.messages) where
-  HasListed-used : (stream written : List ℕ) → HasListed old stream written → HasListed new (stream ++ take fed.used piece) written
+module _ (old new : Lister) (piece : List ℕ) (fed : Fed) (f : Uses (messages old.decoder.profile) old.decoder piece new.decoder fed) (o : new.form ≡ old.form) (t : new.text ≡ old.text) (n : new.messages ≡ old.messages) (k : new.offset ≡ old.offset) where
+  pub HasListed-used : (stream written : List ℕ) → HasListed old stream written → HasListed new (stream ++ take fed.used piece) written
   HasListed-used stream written h = record {
     messages = h.messages;
     decoded = subst (λ p. HasDecoded (messages p) new.decoder (stream ++ take fed.used piece) (map message_der h.messages)) (sym f.same_profile) (f.decoded stream (map message_der h.messages) h.decoded);
     lines = ap (λ x. written ++ x) t ∙ h.lines ∙ ap (λ form. flat_map (message_line form) h.messages) (sym o);
     counted = n ∙ h.counted;
+    offset = omega (arith, k, h.offset, f.within, ap length f.octets, length-append old.decoder.octets (take fed.used piece), length-append stream (take fed.used piece));
   }
 
   same : stopping.request new ≡ stopping.request old
@@ -94,7 +96,7 @@ pub contents_is : (passed : Passed) → contents_of passed ≡ message_der (mess
 unfolding contents_of
 contents_is passed = refl
 
-module _ (old new : Lister) (octets : List ℕ) (passed : Passed) (p : Passes (messages old.decoder.profile) old.decoder octets passed) (l : AddsLine (message_of_view passed.message) old new) where
+module _ (old new : Lister) (octets : List ℕ) (passed : Passed) (p : Passes (messages old.decoder.profile) old.decoder octets passed) (size : ℕ) (moved : size ≡ length octets - length passed.rest.now) (l : AddsLine (message_of_view passed.message) size old new) where
   HasListed-passed : (stream written : List ℕ) → HasListed old stream written → HasListed new (stream ++ framed (contents_of passed)) written
   HasListed-passed stream written h =
       let message : Message = message_of_view passed.message in
@@ -108,6 +110,7 @@ module _ (old new : Lister) (octets : List ℕ) (passed : Passed) (p : Passes (m
             (p.decoded stream (map message_der h.messages) h.decoded));
         lines = line_added old new message h.messages written l.line l.same_form h.lines;
         counted = omega (arith, l.counted, h.counted, length-append h.messages (message ∷ []));
+        offset = omega (arith, l.offset, moved, h.offset, ap (λ d. length d.octets) l.same_decoder, ap length p.parts, length-append (framed (contents_of passed)) passed.rest.now, length-append stream (framed (contents_of passed)));
       }
 
   pub IsFed-passed : stopping.IsWaiting old → IsFed stopping old octets passed.rest.now new

@@ -1,44 +1,125 @@
--- The listing of octets, by what they are parsed as.
-use Rattle.std.proofs.Common.{◌≡◌, ℕ, ◌<◌, if◌then◌else◌, List, ◌++◌, length, Option, Some, None, refl, sym, ◌∙◌, ap, arith, length-append}
-use Rattle.std.proofs.lemmas.Bool.{lt-ltb}
-use Rattle.hex.specs.Hex.{decode_of}
+-- The record of a message, by what its octets are judged as.
+use Rattle.std.proofs.Common.{◌≡◌, ℕ, ◌+◌, ◌^◌, ◌<◌, ◌≤◌, false, min, take, ap₂, if◌then◌else◌, List, [], ◌∷◌, ◌++◌, length, Option, Some, None, refl, sym, ◌∙◌, ap, subst, arith, length-append}
+use Rattle.std.proofs.lemmas.Bool.{lt-ltb, le-ltb}
 use Rattle.krb_der.specs.declared.profile.Profile.{Profile}
 use Rattle.krb_der.specs.declared.verdict.Refusal.{Refusal}
 use Rattle.krb_msg.specs.Views.{message_of_der}
 use Rattle.krb_msg.specs.declared.message.Message.{Message}
-use Rattle.krb_msg.proofs.MessageOfDer.{message_of_der_is_message}
-use Rattle.krb_judge.specs.Parses.{refusal_of, AreOf}
-use Rattle.krb_text.specs.declared.refusal.InputFault.TheVariants as input
+use Rattle.krb_msg.specs.declared.ticket.Ticket.{Ticket}
+use Rattle.krb_msg.specs.Grammar.{ticket}
+use Rattle.krb_msg.specs.Term.{der}
+use Rattle.krb_msg.specs.Types.{ticket_of, ticket_value}
+use Rattle.krb_msg.proofs.ProfileValues.{der_profile}
+use Rattle.krb_msg.proofs.ValueOfDer.{value_of_der_is_value}
+use Rattle.krb_judge.specs.Laws.{RefusalsAreInside}
+use Rattle.krb_judge.specs.Parses.{AreOfTicket, refusal_of, ticket_refusal}
+use Rattle.krb_judge.specs.Paths.{ticket_path}
+use Rattle.krb_text.specs.Forms.{record_line}
+use Rattle.krb_text.specs.Messages.{message_origin, message_line_from, ticket_line}
+use Rattle.krb_text.specs.Refusals.{path_in, extent_in, spelling_in, refusal_record}
+use Rattle.krb_text.specs.Values.{Field, with_origin}
 use Rattle.krb_text.specs.declared.form.Form.{Form}
-use Rattle.krb_tool.specs.Lines.{message_line, message_refused_line, input_refused_line}
-use Rattle.krb_tool.specs.Files.{FileListing}
-use Rattle.krb_tool.specs.Paths.{refused_path}
-use Rattle.krb_tool.specs.Messages.{IsHexListing, clean_with, decoded_listing, hex_listing, refused_with, parsed_listing, octets_listing, without_blanks}
+use Rattle.krb_text.specs.declared.input.InputFault.TheVariants as faults
+use Rattle.krb_input.specs.Inputs.{spelled}
+use Rattle.krb_input.specs.declared.spelling.Spelling.{Spelling}
+use Rattle.krb_token.specs.declared.layer.Layer.{Layer}
+use Rattle.krb_token.specs.Seen.{found_of, opened_of}
+use Rattle.krb_token.specs.Tokens.{opened}
+use Rattle.krb_token.specs.declared.opening.Found.{Found as FoundOfCode}
+use Rattle.krb_token.specs.declared.opening.Opened.{Opened as OpenedOfCode}
+use Rattle.krb_tool.specs.Files.{FileListing, shown}
+use Rattle.krb_tool.specs.Messages.{IsMessageListing, Layered, Puts, extent_of, found_listing, input_octets_listing, judged_listing, message_listing, opened_listing, refused_listing, refused_with, spelled_listing, ticket_listing, ticket_of_der, unread_listing, whole_input}
+use Rattle.krb_tool.specs.Paths.{refused_path, ticket_refused_path}
+use Rattle.krb_tool.proofs.FaultPaths.{take-few}
+use Rattle.krb_tool.specs.declared.file_run.FileText.{FileText}
+use Rattle.krb_tool.specs.declared.message_input.MessageInput.{MessageInput}
+use Rattle.krb_tool.specs.declared.run.RunEnd.TheVariants as run
 
-not_refused : (found : Option Refusal) → ((r : Refusal) → found ≡ Some r → ⊥) → found ≡ None
+-- nothing is refused
+pub not_refused : (found : Option Refusal) → ((r : Refusal) → found ≡ Some r → ⊥) → found ≡ None
 not_refused None never = refl
 not_refused (Some r) never = absurd (never r refl)
 
-pub message-listed : (form : Form) {profile : Profile} (octets : List ℕ) (m : Message) → AreOf profile octets m → ((r : Refusal) → refusal_of profile octets ≡ Some r → ⊥) → octets_listing form profile octets ≡ clean_with (message_line form m)
-unfolding octets_listing
-message-listed form {profile = profile} octets m are never =
-    ap (λ found. parsed_listing form profile found octets) (not_refused (refusal_of profile octets) never)
-    ∙ ap (λ read. clean_with (message_line form read)) (ap message_of_der (sym are.form) ∙ message_of_der_is_message profile m are.in_profile)
+-- ---- a message
+pub puts-message : (input : MessageInput) (layered : Layered) (place : ℕ) (octets : List ℕ) (m : Message) (line : Option ℕ) (layers : List Layer) (old new : List ℕ) → line ≡ input.line → layers ≡ layered.layers → refusal_of input.profile octets ≡ None → m ≡ message_of_der octets
+    → new ≡ old ++ message_line_from input.form (message_origin line layers) m → Puts old new (judged_listing input layered place octets (refusal_of input.profile octets)) run.Clean
+puts-message input layered place octets m line layers old new is_line is_layers none is put =
+    subst (λ (found : Option Refusal). Puts old new (judged_listing input layered place octets found) run.Clean) (sym none)
+    (put ∙ (λ i. old ++ message_line_from input.form (message_origin (is_line i) (is_layers i)) (is i)), refl)
 
-pub refusal-listed : (form : Form) (profile : Profile) (octets : List ℕ) (r : Refusal) → refusal_of profile octets ≡ Some r → octets_listing form profile octets ≡ refused_with (message_refused_line form r (refused_path profile octets r))
-unfolding octets_listing
-refusal-listed form profile octets r e = ap (λ found. parsed_listing form profile found octets) e
+-- a record of a refusal shows a path as the form does
+same-path : (input : MessageInput) (layered : Layered) (refusal : Refusal) (path other : Option (List ℕ)) → path_in input.form path ≡ path_in input.form other → refused_listing input layered refusal path ≡ refused_listing input layered refusal other
+same-path input layered refusal path other same =
+    ap (λ (fields : List Field). refused_with (record_line input.form (with_origin (message_origin input.line layered.layers)
+    (refusal_record refusal (fields ++ extent_in input.form (extent_of input layered.all) ++ spelling_in input.form layered.spelling))))) same
 
-too_long : (form : Form) (profile : Profile) (text : List ℕ) → 16777216 < length text → hex_listing form profile text ≡ refused_with (input_refused_line form input.Length)
-unfolding hex_listing
-too_long form profile text long = ap (λ b. if b then refused_with (input_refused_line form input.Length) else decoded_listing form profile (decode_of (without_blanks text))) (lt-ltb 16777216 (length text) long)
+pub refused-message : (input : MessageInput) (layered : Layered) (place : ℕ) (octets : List ℕ) (refusal : Refusal) (path : Option (List ℕ)) → refusal_of input.profile octets ≡ Some refusal → path_in input.form path ≡ path_in input.form (refused_path input.profile octets refusal)
+    → refused_listing input layered (record { place = place + refusal.place; why = refusal.why }) path ≡ judged_listing input layered place octets (refusal_of input.profile octets)
+refused-message input layered place octets refusal path is same =
+    same-path input layered (record { place = place + refusal.place; why = refusal.why }) path (refused_path input.profile octets refusal) same
+    ∙ ap (judged_listing input layered place octets) (sym is)
+
+-- a refusal is at an octet, or at the first place if there is none
+pub refusal-within : RefusalsAreInside → (profile : Profile) (octets : List ℕ) (refusal : Refusal) → refusal_of profile octets ≡ Some refusal → refusal.place ≤ length octets
+refusal-within inside profile [] refusal is = let none : refusal.place ≡ 0 = place_of refusal is in omega (arith, none)
+  where
+    first : Option Refusal → ℕ
+    first None = 0
+    first (Some r) = r.place
+
+    place_of : (refusal : Refusal) → refusal_of profile [] ≡ Some refusal → refusal.place ≡ 0
+    place_of refusal is = sym (ap first is)
+refusal-within inside profile (x ∷ xs) refusal is =
+    let within = inside.of_message profile (x ∷ xs) refusal (omega arith) is in omega (arith, within)
+
+-- ---- a Ticket
+pub puts-ticket : (input : MessageInput) (layered : Layered) (t : Ticket) (line : Option ℕ) (layers : List Layer) (old new : List ℕ) → line ≡ input.line → layers ≡ layered.layers → ticket_refusal input.profile layered.all ≡ None → t ≡ ticket_of_der layered.all
+    → new ≡ old ++ ticket_line input.form (message_origin line layers) t → Puts old new (ticket_listing input layered (ticket_refusal input.profile layered.all)) run.Clean
+puts-ticket input layered t line layers old new is_line is_layers none is put =
+    subst (λ (found : Option Refusal). Puts old new (ticket_listing input layered found) run.Clean) (sym none)
+    (put ∙ (λ i. old ++ ticket_line input.form (message_origin (is_line i) (is_layers i)) (is i)), refl)
+
+pub refused-ticket : (input : MessageInput) (layered : Layered) (refusal : Refusal) (path : Option (List ℕ)) → ticket_refusal input.profile layered.all ≡ Some refusal → path_in input.form path ≡ path_in input.form (ticket_refused_path input.profile layered.all refusal)
+    → refused_listing input layered refusal path ≡ ticket_listing input layered (ticket_refusal input.profile layered.all)
+refused-ticket input layered refusal path is same =
+    same-path input layered refusal path (ticket_refused_path input.profile layered.all refusal) same ∙ ap (ticket_listing input layered) (sym is)
+
+-- the Ticket whose DER octets are
+pub ticket-read : (profile : Profile) (octets : List ℕ) (t : Ticket) → AreOfTicket profile octets t → t ≡ ticket_of_der octets
+ticket-read profile octets t are =
+    let form : der ticket (ticket_value t) ≡ octets = sym (der_profile profile false ticket (ticket_value t)) ∙ are.form in
+    let short : length (der ticket (ticket_value t)) < 2 ^ 32 = subst (λ (l : List ℕ). length l < 2 ^ 32) (sym form) (let few = are.short in omega arith) in
+    ap ticket_of (sym (value_of_der_is_value ticket (ticket_value t) refl short)) ∙ ap ticket_of_der form
+
+pub short-ticket-path : (profile : Profile) (octets : List ℕ) (refusal : Refusal) (size count : ℕ) → length octets ≤ 2147483647 → size ≡ length octets → count ≡ min (refusal.place + 1) (length octets) → Some (ticket_path profile size (take count octets)) ≡ ticket_refused_path profile octets refusal
+unfolding ticket_refused_path
+short-ticket-path profile octets refusal size count few s c =
+    ap Some (ap₂ (ticket_path profile) s (ap (λ n. take n octets) c ∙ take-few (refusal.place + 1) octets))
+    ∙ rw (le-ltb 2147483647 (length octets) few) refl
+
+-- ---- octets that are opened
+pub opened-listing : (input : MessageInput) (spelling : Spelling) (octets : List ℕ) (o : OpenedOfCode) (found : FoundOfCode) → length octets ≤ 2147483647 → opened_of o ≡ opened octets → o.found ≡ found
+    → found_listing input (record { all = octets; spelling = spelling; layers = o.layers.now }) (found_of found) ≡ input_octets_listing input spelling octets
+unfolding input_octets_listing
+opened-listing input spelling octets o found few is found_is =
+    ap (λ (f : FoundOfCode). found_listing input (record { all = octets; spelling = spelling; layers = o.layers.now }) (found_of f)) (sym found_is)
+    ∙ ap (opened_listing input spelling octets) is
+    ∙ rw (le-ltb 2147483647 (length octets) few) refl
+
+-- ---- an input
+pub shown-is : (made : FileText) (listing : FileListing) → made.text ≡ listing.text → made.end ≡ listing.end → shown made ≡ listing
+shown-is made listing text end = (λ i. record { text = text i; end = end i })
+
+too_long : (form : Form) (profile : Profile) (input : List ℕ) → 16777216 < length input → message_listing form profile input ≡ unread_listing (whole_input form profile) faults.Length None
+unfolding message_listing
+too_long form profile input long = ap (λ b. if b then unread_listing (whole_input form profile) faults.Length None else spelled_listing (whole_input form profile) (spelled input)) (lt-ltb 16777216 (length input) long)
 
 abbrev some_number : Option ℕ → ℕ
 some_number (Some n) = n
 some_number None = 0
 
--- the listing of too much text is that of its first octets
-pub cut-listed : (form : Form) (profile : Profile) (kept rest : List ℕ) (listing : FileListing) → Some 16777217 ≡ Some (length kept) → IsHexListing form profile kept listing → IsHexListing form profile (kept ++ rest) listing
+-- the listing of too much input is that of its first octets
+pub cut-listed : (form : Form) (profile : Profile) (kept rest : List ℕ) (listing : FileListing) → Some 16777217 ≡ Some (length kept) → IsMessageListing form profile kept listing → IsMessageListing form profile (kept ++ rest) listing
 cut-listed form profile kept rest listing e l =
     let long : 16777217 ≡ length kept = ap some_number e in
     l ∙ too_long form profile kept (omega (arith, long)) ∙ sym (too_long form profile (kept ++ rest) (omega (arith, long, length-append kept rest)))

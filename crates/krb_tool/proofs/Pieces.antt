@@ -1,5 +1,5 @@
 -- Pieces of a stream, whatever kind of lister lists it.
-use Rattle.std.proofs.Common.{◌≡◌, ℕ, ◌+◌, ◌-◌, ◌*◌, ◌^◌, ◌<◌, ◌≤◌, inl, inr, Bool, true, false, List, [], ◌++◌, length, take, drop, Option, refl, sym, ◌∙◌, ap, subst, arith, append-nil, append_assoc, length-append, length-drop, drop_at}
+use Rattle.std.proofs.Common.{◌≡◌, ℕ, ◌+◌, ◌-◌, ◌*◌, ◌^◌, ◌<◌, ◌≤◌, inl, inr, Bool, true, false, List, [], ◌++◌, length, take, drop, Option, refl, sym, ◌∙◌, ap, subst, arith, append-nil, append_assoc, length-append, length-drop, length-take, drop_at}
 use Rattle.std.proofs.lemmas.List.{drop-drop, take_all, take_at}
 use Rattle.std.proofs.Math.Seq.{take-add}
 use Rattle.krb_msg.specs.Term.{Term}
@@ -107,6 +107,23 @@ module _ {L Q E : Type 0} (kind : Kind L Q E) where
   pub one_more : {initial now : L} {piece rest : List ℕ} (used : ℕ) → AcceptsPiece (listing_of kind initial) → length piece ≤ 65536 → IsFed kind initial piece rest now → 0 < used → used ≤ length rest → kind.count now + 1 < 2 ^ 64
   one_more used m short i some within = omega (arith, few_left m short i)
 
+  -- what came is listed as far as it was used, and few octets came
+  pub record Came (now : L) (left : ℕ) : Type 0 where
+    pub stream : List ℕ
+    pub written : List ℕ
+    pub listed : kind.HasListed now stream written
+    pub few : length stream + left < 2 ^ 58
+
+  pub came : {initial now : L} {piece rest : List ℕ} → AcceptsPiece (listing_of kind initial) → length piece ≤ 65536 → IsFed kind initial piece rest now → Came now (length rest)
+  came {piece = piece} {rest = rest} m short i =
+      let w = m.waits.1 in
+      record {
+        stream = m.taken.octets ++ take (length piece - length rest) piece;
+        written = m.taken.written;
+        listed = i.listed m.taken.octets m.taken.written w.listed;
+        few = omega (arith, w.short, m.few, short, i.within, length-append m.taken.octets (take (length piece - length rest) piece), length-take (length piece - length rest) piece);
+      }
+
   -- ---- a lister of a stream
   module _ (begins : (lister : L) (taken : Taken) → WaitsAfter kind lister taken → Begins (kind.rules (kind.request lister)) taken (kind.text lister)) where
     -- nothing came yet
@@ -122,6 +139,7 @@ module _ {L Q E : Type 0} (kind : Kind L Q E) where
           listed = subst (λ l. kind.HasListed new (taken.octets ++ l) taken.written) all (f.listed taken.octets taken.written w.listed);
           waits = f.goes.1;
           few = omega (arith, w.few, f.few);
+          short = omega (arith, w.short, short, length-append taken.octets piece);
         }
 
     module _ (stops : (old new : L) (piece : List ℕ) (taken : Taken) → length piece ≤ 65536 → WaitsAfter kind old taken → TakesPiece kind old piece new false → kind.Stops new (with_piece taken piece) × (kind.rules (kind.request new)).AreLines (taken.octets ++ piece) (taken.written ++ kind.text new)) where
@@ -153,6 +171,7 @@ module _ {L Q E : Type 0} (kind : Kind L Q E) where
         listed = listed taken.octets taken.written w.1.listed;
         waits = waits w.1.waits;
         few = omega (arith, w.1.few, count);
+        short = w.1.short;
       },
     );
   }

@@ -1,5 +1,5 @@
 -- Sources that are listed one after another.
-use Rattle.std.proofs.Common.{◌≡◌, ℕ, max, true, false, List, [], ◌∷◌, Option, Result, Ok, Err, IfErr, refl, sym, ◌∙◌, subst, arith}
+use Rattle.std.proofs.Common.{◌≡◌, ℕ, max, true, false, List, [], ◌∷◌, Option, Result, Ok, Err, IfErr, refl, sym, ◌∙◌, ap, subst, arith}
 use Rattle.std.specs.Ordering.{ord_max, nat_cmp}
 use Rattle.krb_text.specs.declared.form.Form.{Form}
 use Rattle.krb_tool.specs.Lines.{file_line}
@@ -8,7 +8,13 @@ use Rattle.krb_tool.specs.declared.run.RunFault.TheVariants as fault
 use Rattle.krb_tool.specs.Faults.{IsWrite}
 use Rattle.krb_tool.specs.Files.{AppendsPrefix}
 use Rattle.krb_tool.specs.Listing.{status_of}
-use Rattle.krb_tool.specs.Sources.{Outcome, Run, FailsName, ListsEach, ends_run}
+use Rattle.krb_tool.specs.Outputs.{IsSent, Sends, labelled, mark_of, output_contents}
+use Rattle.krb_tool.specs.declared.output.Output.{Output}
+use Rattle.krb_tool.specs.declared.output.Place.{Place}
+use Rattle.krb_tool.specs.Sources.{Outcome, Run, FailsName, ListsEach, ListsThrough, ends_run, label_of, place_of}
+use Rattle.std.specs.Io.KnownBytes.{Appends}
+use Rattle.std.specs.Option.{option_map}
+use Rattle.std.specs.Prelude.{Bool, IsSome, Some, None, ◌++◌}
 
 -- the line of a name was written in part
 pub FailsName-write : {T : Type 0} (form : Form) (r : Result T RunFault) (name : List ℕ) (written_before written_after : Option (List ℕ)) → IfErr r IsWrite → AppendsPrefix written_before written_after (file_line form name) → IfErr r (FailsName form name written_before written_after)
@@ -51,3 +57,35 @@ module _ {S : Type 0} (Lists : S → Run) (all : List S) (written_before : Optio
           (goes.whole written_after (max (status_of outcome) status) (subst (λ (l : List S). ListsEach Lists l now written_after (max (status_of outcome) status)) (sym parts)
           (record { between = after; outcome = outcome; others = status; first = listed; follow = rw ends each; greater = refl })));
     }
+
+-- ---- with labels
+-- what an output sent is the text that it took, with its labels
+took : (place : Place) (label had text : List ℕ) (after : Option (List ℕ)) → Appends (Some (mark_of place label had)) after text → after ≡ Some (mark_of place label had ++ text)
+took place label had text None a = absurd a
+took place label had text (Some xs) a = ap Some a
+
+pub through-ok : {W T E : Type 0} (contents : W → Option (List ℕ)) (output : Output W) (writer : W) (place : Place) (label : List ℕ) (written_before before : Option (List ℕ)) (text : List ℕ) (result : Result T E) (done : T) → result ≡ Ok done → before ≡ option_map (λ had. mark_of place label had) written_before
+    → Appends before (output_contents contents output) text → Sends contents output writer result → Appends written_before (contents writer) (labelled place label text)
+through-ok contents output writer place label None before text result done is known took_text sends = tt
+through-ok {T = T} {E = E} contents output writer place label (Some had) before text result done is known took_text sends =
+    subst (λ (r : Result T E). IsSent had (labelled place label text) (contents writer) r) is
+    (sends place label had text (took place label had text (output_contents contents output) (subst (λ (o : Option (List ℕ)). Appends o (output_contents contents output) text) known took_text)))
+
+pub through-err : {W T E : Type 0} (contents : W → Option (List ℕ)) (output : Output W) (writer : W) (place : Place) (label : List ℕ) (written_before before : Option (List ℕ)) (text : List ℕ) (result : Result T E) (error : E) → result ≡ Err error → before ≡ option_map (λ had. mark_of place label had) written_before
+    → Appends before (output_contents contents output) text → Sends contents output writer result → AppendsPrefix written_before (contents writer) (labelled place label text)
+through-err contents output writer place label None before text result error is known took_text sends = record { prefix = []; rest = labelled place label text; added = tt; whole = refl }
+through-err {T = T} {E = E} contents output writer place label (Some had) before text result error is known took_text sends =
+    let s = subst (λ (r : Result T E). IsSent had (labelled place label text) (contents writer) r) is
+    (sends place label had text (took place label had text (output_contents contents output) (subst (λ (o : Option (List ℕ)). Appends o (output_contents contents output) text) known took_text))) in
+    record { prefix = s.0; rest = s.1; added = s.2; whole = s.3 }
+
+-- what is known of a writer is known of an output to it
+pub known-before : (place : Place) (label : List ℕ) (written_before before : Option (List ℕ)) → before ≡ option_map (λ had. mark_of place label had) written_before → IsSome written_before → IsSome before
+known-before place label None before is some = absurd cc
+known-before place label (Some had) before is some = subst (λ (o : Option (List ℕ)). IsSome o) (sym is) refl
+
+pub labelled-by : (form : Form) (has_label : Bool) (name called : List ℕ) (place : Place) (label : List ℕ) (Lists : Run) (written_before written_after : Option (List ℕ)) (outcome : Outcome) → place ≡ place_of form has_label → label ≡ label_of form has_label name → name ≡ called
+    → ListsThrough place label Lists written_before written_after outcome → ListsThrough (place_of form has_label) (label_of form has_label called) Lists written_before written_after outcome
+labelled-by form has_label name called place label Lists written_before written_after outcome is_place is_label is_name through =
+    subst (λ (p : Place). ListsThrough p (label_of form has_label called) Lists written_before written_after outcome) is_place
+    (subst (λ (l : List ℕ). ListsThrough place l Lists written_before written_after outcome) (is_label ∙ ap (label_of form has_label) is_name) through)

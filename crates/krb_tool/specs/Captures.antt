@@ -5,6 +5,7 @@ use Rattle.krb_packet.specs.FieldNames.{capture_field_text}
 use Rattle.krb_packet.specs.Parsers.{Refusal}
 use Rattle.krb_packet.specs.declared.packet.Packet.{Packet}
 use Rattle.krb_capture.specs.Captures.{Progress, Settings, all_counts, at_first, end_taken, end_text, is_clean, lines_of, packet_taken, refusal_text}
+use Rattle.krb_tool.specs.Extents.{extent_of}
 use Rattle.krb_tool.specs.Files.{RecordListing}
 use Rattle.krb_tool.specs.declared.run.RunEnd.{RunEnd}
 use Rattle.krb_tool.specs.declared.run.RunEnd.TheVariants as run
@@ -23,7 +24,7 @@ after_packets settings (first ∷ others) progress = after_packets settings othe
 -- the records of the end, or those of the refusal of the file
 abbrev pub last_records : Settings → Option Refusal → Progress → List ℕ
 last_records settings None progress = end_text settings progress
-last_records settings (Some refusal) progress = refusal_text settings progress refusal.fault.place refusal.fault.why (Some (capture_field_text refusal.field))
+last_records settings (Some refusal) progress = refusal_text settings progress refusal.fault.place refusal.fault.why (Some (capture_field_text refusal.field)) (extent_of refusal.fault)
 
 abbrev pub run_end : Bool → RunEnd
 run_end true = run.Clean

@@ -12,7 +12,7 @@ use Rattle.krb_ccache.specs.Streaming.{file_start, credentials}
 use Rattle.krb_text.specs.declared.form.Form.{Form}
 use Rattle.krb_tool.specs.Lines.{record_line, keytab_end_line}
 use Rattle.krb_tool.specs.Lines.{cache_line, credential_line, cache_end_line}
-use Rattle.krb_tool.specs.Lines.{file_refused_line}
+use Rattle.krb_tool.specs.Extents.{fault_line}
 use Rattle.krb_tool.specs.Paths.{keytab_path, credential_path, start_path}
 use Rattle.krb_tool.specs.declared.file_run.FileText.{FileText}
 use Rattle.krb_tool.specs.declared.run.RunEnd.{RunEnd}
@@ -54,7 +54,7 @@ end_of (Err fault) = run.Refused
 
 -- the one line of what is refused before any record
 abbrev pub refused_listing : Form → Fault → RecordListing
-refused_listing form refusal = record { lines = []; last = file_refused_line form refusal.place refusal.why (start_path refusal.field); end = run.Refused }
+refused_listing form refusal = record { lines = []; last = fault_line form refusal (start_path refusal.field); end = run.Refused }
 
 -- how many octets a field of a file may have
 abbrev pub field_limit : Option ℕ
@@ -62,7 +62,7 @@ field_limit = Some 16777216
 
 abbrev pub keytab_last : Form → ℕ → Result (Stop × ℕ) Fault → List ℕ
 keytab_last form count (Ok end) = keytab_end_line form count end.0
-keytab_last form count (Err fault) = file_refused_line form fault.place fault.why (keytab_path count fault.field)
+keytab_last form count (Err fault) = fault_line form fault (keytab_path count fault.field)
 
 -- the lines of records, and the line of the end or of a refusal
 abbrev pub records_listing : Form → Records → RecordListing
@@ -73,7 +73,7 @@ keytab_listing form file = records_listing form (keytab_records field_limit file
 
 abbrev pub ccache_last : Form → ℕ → Result ℕ Fault → List ℕ
 ccache_last form count (Ok size) = cache_end_line form count
-ccache_last form count (Err fault) = file_refused_line form fault.place fault.why (credential_path count fault.field)
+ccache_last form count (Err fault) = fault_line form fault (credential_path count fault.field)
 
 -- the lines of credentials, and the line of the end or of a refusal
 abbrev pub credentials_listing : Form → Option ℕ → Items Credential → RecordListing

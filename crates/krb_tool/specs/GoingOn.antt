@@ -7,10 +7,10 @@ use Rattle.krb_der.specs.declared.why.Why.TheVariants.{HighBit}
 use Rattle.krb_msg.specs.declared.message.Message.{Message}
 use Rattle.krb_msg.specs.Grammar.{messages}
 use Rattle.krb_msg.specs.Views.{message_der}
-use Rattle.krb_frame.specs.GoingOn.{Entry, Contents, Fault, entries}
+use Rattle.krb_frame.specs.GoingOn.{Entry, Contents, Fault, entries, entry_size}
 use Rattle.krb_text.specs.declared.form.Form.{Form}
 use Rattle.krb_tool.specs.Lines.{message_line}
-use Rattle.krb_tool.specs.Paths.{frame_path}
+use Rattle.krb_tool.specs.Paths.{frame_extent, frame_path}
 use Rattle.krb_tool.specs.Lines.{refused_line, counted_end_line}
 use Rattle.krb_tool.specs.declared.run.RunEnd.{RunEnd}
 use Rattle.krb_tool.specs.declared.run.RunEnd.TheVariants as run
@@ -39,17 +39,22 @@ refused_in [] = 0
 refused_in (Whole message ∷ others) = refused_in others
 refused_in (Faulty place reason prefix ∷ others) = 1 + refused_in others
 
--- their lines, after n messages: each refusal has the number of the messages before it
-abbrev pub lines_after : Form → Profile → ℕ → List Listed → List ℕ
-lines_after form profile n [] = []
-lines_after form profile n (Whole message ∷ others) = message_line form message ++ lines_after form profile (n + 1) others
-lines_after form profile n (Faulty place reason prefix ∷ others) = refused_line form n place reason (frame_path profile prefix) ++ lines_after form profile n others
+-- how many octets their frames have
+abbrev pub octets_in : List Listed → ℕ
+octets_in [] = 0
+octets_in (listed ∷ others) = entry_size (entry_of listed) + octets_in others
+
+-- their lines, after n messages and so many octets: each refusal has the number of the messages before it, and where its frame begins
+abbrev pub lines_after : Form → Profile → ℕ → ℕ → List Listed → List ℕ
+lines_after form profile n offset [] = []
+lines_after form profile n offset (Whole message ∷ others) = message_line form message ++ lines_after form profile (n + 1) (offset + entry_size (entry_of (Whole message))) others
+lines_after form profile n offset (Faulty place reason prefix ∷ others) = refused_line form n place reason (frame_path profile prefix) (frame_extent offset prefix) ++ lines_after form profile n (offset + entry_size (entry_of (Faulty place reason prefix))) others
 
 -- The text is the listing of the stream: the line of each frame, in order, and then the line that counts them.
 pub record IsCountedListing (form : Form) (profile : Profile) (limit : ℕ) (stream text : List ℕ) : Type 0 where
   pub found : List Listed
   pub in_frames : map entry_of found ≡ entries (messages profile) limit stream
-  pub lines : text ≡ lines_after form profile 0 found ++ counted_end_line form (messages_in found) (refused_in found)
+  pub lines : text ≡ lines_after form profile 0 0 found ++ counted_end_line form (messages_in found) (refused_in found)
 
 -- a run is clean if nothing is refused
 abbrev pub counted_run_end : ℕ → RunEnd
@@ -86,7 +91,7 @@ pub record AreCountedLines (form : Form) (profile : Profile) (limit : ℕ) (stre
   pub found : List Listed
   pub others : List Entry
   pub in_frames : entries (messages profile) limit stream ≡ map entry_of found ++ others
-  pub lines : text ≡ lines_after form profile 0 found
+  pub lines : text ≡ lines_after form profile 0 0 found
 
 -- If a run fails by a write, a prefix of the listing of what was read is written. If a read fails or memory runs out, it is a prefix of the lines of its frames, and no last line.
 abbrev pub FailsAll : Form → Profile → ℕ → Option (List ℕ) → Option (List ℕ) → Option (List ℕ) → Option (List ℕ) → RunFault → Type 0

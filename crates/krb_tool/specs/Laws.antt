@@ -1,10 +1,11 @@
 -- The laws of listings and of conversions. Each is the contract of a function of the module `law`.
-use Rattle.std.specs.Prelude.{ℕ, ◌≡◌, ◌<◌, ◌≤◌, ◌^◌, ◌⊎◌, false, true, List, [], ◌++◌, length, map, Option, Some, None}
+use Rattle.std.specs.Prelude.{ℕ, ◌≡◌, ◌+◌, ◌<◌, ◌≤◌, ◌^◌, ◌⊎◌, false, true, List, [], ◌++◌, length, map, Option, Some, None}
 use Rattle.std.specs.List.{AllByRecursion, flat_map}
 use Rattle.krb_der.specs.Octets.{AreOctets}
 use Rattle.krb_der.specs.declared.profile.Profile.{Profile}
 use Rattle.krb_msg.specs.Grammar.{messages}
-use Rattle.krb_msg.specs.Stream.{Boundary, frames}
+use Rattle.krb_der.specs.declared.why.Why.{Why}
+use Rattle.krb_msg.specs.Stream.{Boundary, Refused, frames}
 use Rattle.krb_msg.specs.Views.{message_der}
 use Rattle.krb_msg.specs.declared.message.Message.{Message}
 use Rattle.krb_json.specs.Laws.{IsSpelled, IsText}
@@ -19,12 +20,16 @@ use Rattle.krb_packet.specs.Captures.{packets}
 use Rattle.krb_packet.specs.FieldNames.{capture_field_text}
 use Rattle.krb_packet.specs.Parsers.{Refusal}
 use Rattle.krb_frame.specs.Frame.{framed}
+use Rattle.krb_frame.specs.Laws.{IsRefusedWith}
 use Rattle.krb_text.specs.Captures.{capture_end_line, capture_refused_line}
 use Rattle.krb_text.specs.declared.form.Form.{Form}
 use Rattle.krb_capture.specs.Captures.{Progress, Settings, all_counts, at_first, end_taken, lines_of}
 use Rattle.krb_capture.specs.WholeCaptures.{capture_found}
 use Rattle.krb_tool.specs.declared.run.RunEnd.TheVariants as run
+use Rattle.krb_tool.specs.Extents.{extent_of}
 use Rattle.krb_tool.specs.Files.{keytab_listing, ccache_listing, text_of}
+use Rattle.krb_tool.specs.Listing.{end_of}
+use Rattle.krb_tool.specs.Paths.{end_extent}
 use Rattle.krb_tool.specs.Captures.{after_packets, capture_listing}
 use Rattle.krb_tool.specs.Decoding as decoding
 use Rattle.krb_tool.specs.Encoding as encoding
@@ -60,11 +65,15 @@ SessionKeysAreNotListed =
 -- the totals, or the refusal of the file with them
 abbrev pub last_line : Settings → Option Refusal → Progress → List ℕ
 last_line settings None progress = capture_end_line settings.form (all_counts (end_taken settings progress).progress)
-last_line settings (Some refusal) progress = capture_refused_line settings.form (all_counts (end_taken settings progress).progress) refusal.fault.place refusal.fault.why (Some (capture_field_text refusal.field))
+last_line settings (Some refusal) progress = capture_refused_line settings.form (all_counts (end_taken settings progress).progress) refusal.fault.place refusal.fault.why (Some (capture_field_text refusal.field)) (extent_of refusal.fault)
 
 -- The listing of a capture is the records of what is found in its packets, in order, and then the last line.
 abbrev pub CapturesAreListed : Type 0
 CapturesAreListed = (settings : Settings) (file : List ℕ) → text_of (capture_listing settings file) ≡ lines_of settings.form (capture_found settings (packets file).packets) ++ last_line settings (packets file).refusal (after_packets settings (packets file).packets at_first)
+
+-- The first octet with which a stream is refused is the one at the offset and the place that its last line tells.
+abbrev pub RefusalsAreAtOffsets : Type 0
+RefusalsAreAtOffsets = (profile : Profile) (limit : ℕ) (stream : List ℕ) (place : ℕ) (reason : Why) → end_of profile limit stream ≡ Refused place reason → IsRefusedWith (messages profile) limit stream ((end_extent profile limit stream).at + place)
 
 -- Octets are frames of messages of a profile, none of which has more octets than a limit: these are found in them, and nothing is refused. If all are sealed their lines are what is decoded.
 pub record AreFrames (profile : Profile) (limit : ℕ) (octets : List ℕ) : Type 0 where

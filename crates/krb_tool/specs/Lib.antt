@@ -3,6 +3,7 @@ pub mod Paths
 pub mod Faults
 pub mod Listing
 pub mod GoingOn
+pub mod Extents
 pub mod Files
 pub mod Messages
 pub mod Sources
@@ -12,3 +13,6 @@ pub mod Conversions
 pub mod Decoding
 pub mod Encoding
 pub mod Laws
+pub mod MessageLines
+pub mod Outputs
+pub mod Begun

@@ -11,7 +11,7 @@ use Rattle.krb_text.specs.Forms.{record_line as line_of}
 use Rattle.krb_list.specs.Keytabs.{keytab_end, printed_record}
 pub use Rattle.krb_text.specs.Files.{file_line}
 pub use Rattle.krb_text.specs.Messages.{message_line}
-pub use Rattle.krb_text.specs.Refusals.{message_refused_line, input_refused_line, file_refused_line}
+pub use Rattle.krb_text.specs.Refusals.{file_refused_line}
 pub use Rattle.krb_text.specs.Streams.{refused_line, end_line, counted_end_line}
 
 abbrev pub record_line : Form → Record → List ℕ
@@ -24,7 +24,7 @@ abbrev pub cache_line : Form → Header → FilePrincipal → List ℕ
 cache_line form header principal = line_of form (cache_record header principal)
 
 abbrev pub credential_line : Form → Option ℕ → Credential → List ℕ
-credential_line form now c = line_of form (credential_record now c)
+credential_line form now c = line_of form (credential_record form now c)
 
 abbrev pub cache_end_line : Form → ℕ → List ℕ
 cache_end_line form n = line_of form (cache_end n)

@@ -10,7 +10,7 @@ use Rattle.krb_msg.specs.Stream.{End, Boundary, Within, Refused, frames}
 use Rattle.krb_text.specs.declared.form.Form.{Form}
 use Rattle.krb_tool.specs.Lines.{message_line}
 use Rattle.krb_tool.specs.Lines.{end_line}
-use Rattle.krb_tool.specs.Paths.{end_path}
+use Rattle.krb_tool.specs.Paths.{end_extent, end_path}
 use Rattle.krb_tool.specs.declared.run.RunEnd.{RunEnd}
 use Rattle.krb_tool.specs.declared.run.RunEnd.TheVariants as run
 use Rattle.krb_tool.specs.declared.run.RunFault.{RunFault}
@@ -25,7 +25,7 @@ end_of profile limit stream = (frames (messages profile) limit stream).end
 pub record IsListing (form : Form) (profile : Profile) (limit : ℕ) (stream text : List ℕ) : Type 0 where
   pub found : List Message
   pub in_frames : map message_der found ≡ (frames (messages profile) limit stream).contents
-  pub lines : text ≡ flat_map (message_line form) found ++ end_line form (length found) (end_of profile limit stream) (end_path profile limit stream)
+  pub lines : text ≡ flat_map (message_line form) found ++ end_line form (length found) (end_of profile limit stream) (end_path profile limit stream) (end_extent profile limit stream)
 
 -- a run is clean if the stream ends between frames
 abbrev pub run_end : End → RunEnd

@@ -1,17 +1,32 @@
--- The listing of a message in hexadecimal.
-use Rattle.std.specs.Prelude.{ℕ, ◌≡◌, Bool, not, ◌||◌, ◌==◌, nat_lt, if◌then◌else◌, List, length, Option, Some, None, Result, Ok, Err}
-use Rattle.std.specs.List.{filter}
-use Rattle.hex.specs.Hex.{decode_of}
-use Rattle.hex.specs.declared.error.FromHexError.{FromHexError}
+-- The record of one message, by the input that spells its octets.
+use Rattle.std.specs.Prelude.{ℕ, ◌+◌, ◌≡◌, nat_lt, if◌then◌else◌, List, [], ◌++◌, length, Option, Some, None, Result, Ok, Err}
 use Rattle.krb_der.specs.declared.profile.Profile.{Profile}
 use Rattle.krb_der.specs.declared.verdict.Refusal.{Refusal}
+use Rattle.krb_der.specs.declared.why.Why.TheVariants.{TooLong}
+use Rattle.krb_input.specs.Inputs.{spelled}
+use Rattle.krb_input.specs.declared.spelling.Spelling.{Spelling}
+use Rattle.krb_input.specs.declared.spelling.Spelling.TheVariants.{Octets}
+use Rattle.krb_msg.specs.Grammar.{ticket}
+use Rattle.krb_msg.specs.Types.{ticket_of}
+use Rattle.krb_msg.specs.ValueOfDer.{value_of_der}
 use Rattle.krb_msg.specs.Views.{message_of_der}
-use Rattle.krb_judge.specs.Parses.{refusal_of}
+use Rattle.krb_msg.specs.declared.ticket.Ticket.{Ticket}
+use Rattle.krb_judge.specs.Parses.{refusal_of, ticket_refusal}
+use Rattle.krb_text.specs.Messages.{message_origin, message_line_from, ticket_line}
+use Rattle.krb_text.specs.Refusals.{message_refused_line}
+use Rattle.krb_text.specs.Inputs.{input_refused_line}
+use Rattle.krb_text.specs.declared.extent.Extent.{Extent}
 use Rattle.krb_text.specs.declared.form.Form.{Form}
-use Rattle.krb_text.specs.declared.refusal.InputFault.TheVariants as input
-use Rattle.krb_tool.specs.Lines.{message_line, message_refused_line, input_refused_line}
+use Rattle.krb_text.specs.declared.input.InputFault.{InputFault}
+use Rattle.krb_text.specs.declared.input.InputFault.TheVariants as faults
+use Rattle.krb_token.specs.Opened.{Found, Message, Ticket as IsTicket, Ntlm, Refused, Opened}
+use Rattle.krb_token.specs.Tokens.{opened}
+use Rattle.krb_token.specs.declared.layer.Layer.{Layer}
 use Rattle.krb_tool.specs.Files.{FileListing}
-use Rattle.krb_tool.specs.Paths.{refused_path}
+use Rattle.krb_tool.specs.Paths.{refused_path, ticket_refused_path}
+use Rattle.krb_tool.specs.declared.message_input.Layered.{Layered as LayeredOctets}
+use Rattle.krb_tool.specs.declared.message_input.MessageInput.{MessageInput}
+use Rattle.krb_tool.specs.declared.run.RunEnd.{RunEnd}
 use Rattle.krb_tool.specs.declared.run.RunEnd.TheVariants as run
 
 abbrev pub clean_with : List ℕ → FileListing
@@ -20,32 +35,100 @@ clean_with line = record { text = line; end = run.Clean }
 abbrev pub refused_with : List ℕ → FileListing
 refused_with line = record { text = line; end = run.Refused }
 
--- the line of a message, or of its refusal
-abbrev pub parsed_listing : Form → Profile → Option Refusal → List ℕ → FileListing
-parsed_listing form profile None octets = clean_with (message_line form (message_of_der octets))
-parsed_listing form profile (Some refusal) octets = refused_with (message_refused_line form refusal (refused_path profile octets refusal))
+-- ---- the octets that an input spells, with the layers of them that are opened
+pub record Layered : Type 0 where
+  pub all : List ℕ
+  pub spelling : Spelling
+  pub layers : List Layer
 
--- of octets
-unfoldable pub octets_listing : Form → Profile → List ℕ → FileListing
-octets_listing form profile octets = parsed_listing form profile (refusal_of profile octets) octets
+abbrev pub layered_of : LayeredOctets → Layered
+layered_of octets = record { all = octets.all.now; spelling = octets.spelling; layers = octets.layers.now }
 
--- a space, a tab, CR or LF
-abbrev pub is_blank : ℕ → Bool
-is_blank octet = octet == 32 || octet == 9 || octet == 13 || octet == 10
+-- octets lie in their input, and are so many
+abbrev pub extent_of : MessageInput → List ℕ → Extent
+extent_of input octets = record { at = input.at; length = Some (length octets) }
 
--- a text without its blanks
-abbrev pub without_blanks : List ℕ → List ℕ
-without_blanks text = filter (λ octet. not (is_blank octet)) text
+-- an octet is at fault
+abbrev pub refused_listing : MessageInput → Layered → Refusal → (path : Option (List ℕ)) → FileListing
+refused_listing input layered refusal path =
+    refused_with (message_refused_line input.form (message_origin input.line layered.layers) refusal path (extent_of input layered.all) layered.spelling)
 
-abbrev pub decoded_listing : Form → Profile → Result (List ℕ) FromHexError → FileListing
-decoded_listing form profile (Ok octets) = octets_listing form profile octets
-decoded_listing form profile (Err fault) = refused_with (input_refused_line form input.Hex)
+-- octets that are judged as a message, of which the first is at a place
+abbrev pub judged_listing : MessageInput → Layered → (place : ℕ) → List ℕ → Option Refusal → FileListing
+judged_listing input layered place octets None = clean_with (message_line_from input.form (message_origin input.line layered.layers) (message_of_der octets))
+judged_listing input layered place octets (Some refusal) =
+    refused_listing input layered (record { place = place + refusal.place; why = refusal.why }) (refused_path input.profile octets refusal)
 
--- Of a text: its length decides first, then whether it is hexadecimal, and then its octets.
-unfoldable pub hex_listing : Form → Profile → List ℕ → FileListing
-hex_listing form profile text =
-    if nat_lt 16777216 (length text) then refused_with (input_refused_line form input.Length)
-    else decoded_listing form profile (decode_of (without_blanks text))
+-- the Ticket whose DER octets are
+abbrev pub ticket_of_der : List ℕ → Ticket
+ticket_of_der octets = ticket_of (value_of_der ticket octets)
 
-abbrev pub IsHexListing : Form → Profile → List ℕ → FileListing → Type 0
-IsHexListing form profile text listing = listing ≡ hex_listing form profile text
+-- octets that are judged as a Ticket
+abbrev pub ticket_listing : MessageInput → Layered → Option Refusal → FileListing
+ticket_listing input layered None = clean_with (ticket_line input.form (message_origin input.line layered.layers) (ticket_of_der layered.all))
+ticket_listing input layered (Some refusal) = refused_listing input layered refusal (ticket_refused_path input.profile layered.all refusal)
+
+-- a message of NTLM, whose first octet is at a place
+abbrev pub ntlm_listing : MessageInput → Layered → (place : ℕ) → FileListing
+ntlm_listing input layered place =
+    refused_with (input_refused_line input.form (message_origin input.line layered.layers) faults.Ntlm (Some place) (extent_of input layered.all) (Some layered.spelling))
+
+-- what is found in the last layer
+abbrev pub found_listing : MessageInput → Layered → Found → FileListing
+found_listing input layered (Message part) = judged_listing input layered part.place part.octets (refusal_of input.profile part.octets)
+found_listing input layered IsTicket = ticket_listing input layered (ticket_refusal input.profile layered.all)
+found_listing input layered (Ntlm place) = ntlm_listing input layered place
+found_listing input layered (Refused fault) = refused_listing input layered (record { place = fault.place; why = fault.why }) fault.path
+
+-- octets that no layer of is opened
+abbrev pub by_itself : Spelling → List ℕ → Layered
+by_itself spelling octets = record { all = octets; spelling = spelling; layers = [] }
+
+-- more octets than a frame may have are not opened
+abbrev pub too_long_listing : MessageInput → Spelling → List ℕ → FileListing
+too_long_listing input spelling octets = refused_listing input (by_itself spelling octets) (record { place = 0; why = TooLong }) None
+
+abbrev pub opened_listing : MessageInput → Spelling → List ℕ → Opened → FileListing
+opened_listing input spelling octets o = found_listing input (record { all = octets; spelling = spelling; layers = o.layers }) o.found
+
+-- the record of the message that octets are, or that lies in the layers of a token, or of why there is none
+unfoldable pub input_octets_listing : MessageInput → Spelling → List ℕ → FileListing
+input_octets_listing input spelling octets =
+    if nat_lt 2147483647 (length octets) then too_long_listing input spelling octets else opened_listing input spelling octets (opened octets)
+
+-- ---- the input
+
+-- no octets are made of it
+abbrev pub unread_listing : MessageInput → InputFault → (place : Option ℕ) → FileListing
+unread_listing input fault place = refused_with (input_refused_line input.form (message_origin input.line []) fault place (record { at = input.at; length = None }) None)
+
+abbrev pub spelled_listing : MessageInput → Result (Spelling × List ℕ) (Spelling × ℕ) → FileListing
+spelled_listing input (Ok made) = input_octets_listing input made.0 made.1
+spelled_listing input (Err fault) = unread_listing input (faults.Misspelled fault.0) (Some fault.1)
+
+-- how many octets an input may have
+abbrev pub input_limit : ℕ
+input_limit = 16777216
+
+-- its length decides first, then what it spells, and then what these octets are
+abbrev pub input_listing : MessageInput → (List ℕ → Result (Spelling × List ℕ) (Spelling × ℕ)) → List ℕ → FileListing
+input_listing input spells octets =
+    if nat_lt input_limit (length octets) then unread_listing input faults.Length None else spelled_listing input (spells octets)
+
+-- an input that is all of a source
+abbrev pub whole_input : Form → Profile → MessageInput
+whole_input form profile = record { form = form; profile = profile; line = None; at = 0 }
+
+-- octets that are not read as text
+abbrev pub octets_listing : Form → Profile → List ℕ → FileListing
+octets_listing form profile octets = input_octets_listing (whole_input form profile) Octets octets
+
+unfoldable pub message_listing : Form → Profile → List ℕ → FileListing
+message_listing form profile input = input_listing (whole_input form profile) spelled input
+
+abbrev pub IsMessageListing : Form → Profile → List ℕ → FileListing → Type 0
+IsMessageListing form profile input listing = listing ≡ message_listing form profile input
+
+-- ---- what is appended to a text, and how a run of it ends
+abbrev pub Puts : List ℕ → List ℕ → FileListing → RunEnd → Type 0
+Puts old new listing ended = (new ≡ old ++ listing.text) × (ended ≡ listing.end)

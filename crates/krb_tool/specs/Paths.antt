@@ -1,5 +1,5 @@
--- The field at fault of the frame with which a stream ends, of a message, and of a file.
-use Rattle.std.specs.Prelude.{ℕ, ◌+◌, List, [], length, take, drop, nat_lt, if◌then◌else◌, Option, None}
+-- The field at fault of the frame with which a stream ends, and where that frame is; the field at fault of a message, and of a file.
+use Rattle.std.specs.Prelude.{ℕ, ◌+◌, List, [], length, take, drop, nat_lt, if◌then◌else◌, Option, Some, None}
 use Rattle.std.specs.Option.{option_map}
 use Rattle.krb_file.specs.Names.{field_text}
 use Rattle.krb_file.specs.declared.field_name.FileField.{FileField}
@@ -10,8 +10,11 @@ use Rattle.krb_der.specs.declared.profile.Profile.{Profile}
 use Rattle.krb_der.specs.declared.verdict.Refusal.{Refusal}
 use Rattle.krb_msg.specs.Grammar.{messages}
 use Rattle.krb_msg.specs.Stream.{End, Boundary, Within, Refused, Frames, frames}
-use Rattle.krb_judge.specs.Paths.{message_path}
+use Rattle.krb_judge.specs.Paths.{message_path, ticket_path}
+use Rattle.krb_frame.specs.Decoded.{frames_size}
+use Rattle.krb_frame.specs.Decoding.{announced}
 use Rattle.krb_frame.specs.GoingOn.{after_contents}
+use Rattle.krb_text.specs.declared.extent.Extent.{Extent}
 
 -- The path in a frame, by its octets up to the refused one, or those that are there of one that is cut. There is none in its length.
 unfoldable pub frame_path : Profile → List ℕ → Option (List ℕ)
@@ -30,10 +33,26 @@ found_path profile found stream = frame_path profile (last_octets found.end (aft
 abbrev pub end_path : Profile → ℕ → List ℕ → Option (List ℕ)
 end_path profile limit stream = found_path profile (frames (messages profile) limit stream) stream
 
+-- where a frame is that begins at an offset, and the length that it announces, by its octets that are there
+abbrev pub frame_extent : ℕ → List ℕ → Extent
+frame_extent offset octets = record { at = offset; length = announced octets }
+
+-- the frame in which a stream ends begins after the octets of its whole frames
+abbrev pub found_extent : Frames → List ℕ → Extent
+found_extent found stream = frame_extent (frames_size found.contents) (last_octets found.end (after_contents found stream))
+
+abbrev pub end_extent : Profile → ℕ → List ℕ → Extent
+end_extent profile limit stream = found_extent (frames (messages profile) limit stream) stream
+
 -- the path in octets that are refused as a message, if they are not too many for one
 unfoldable pub refused_path : Profile → List ℕ → Refusal → Option (List ℕ)
 refused_path profile octets refusal =
     if nat_lt 2147483647 (length octets) then None else message_path profile (length octets) (take (refusal.place + 1) octets)
+
+-- the same in octets that are refused as a Ticket
+unfoldable pub ticket_refused_path : Profile → List ℕ → Refusal → Option (List ℕ)
+ticket_refused_path profile octets refusal =
+    if nat_lt 2147483647 (length octets) then None else Some (ticket_path profile (length octets) (take (refusal.place + 1) octets))
 
 -- ---- The field at fault of a file, if there is one: after a number of records of a keytab, after a number of credentials of a cache, and before these.
 

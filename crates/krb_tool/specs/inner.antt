@@ -10,3 +10,4 @@ pub mod Conversions
 pub mod JsonLines
 pub mod EncodedLines
 pub mod WholeRuns
+pub mod MessageLines

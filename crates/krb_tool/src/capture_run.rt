@@ -9,6 +9,7 @@ ghost use Rattle.krb_tool.specs.Faults.{IsRead, IsWrite};
 ghost use Rattle.krb_tool.specs.Files.{ListsRecords};
 ghost use Rattle.krb_tool.specs.inner.CaptureRuns.{AddsCaptureEnd, AddsFileRefusal, IsCaptureLeft};
 
+use crate::extent::extent_of;
 use crate::record_run::{RecordLines, Watch, Watched, in_pieces, list_records};
 use crate::run::{RunEnd, RunFault};
 use krb_capture::{Capture, Rest};
@@ -68,13 +69,15 @@ impl<R: Read> CaptureLines<'_, R> {
         ensures kept { IfErr result (λ e. IsRead e → text.new ≡ text.old) }
     {
         match fault.fault {
-            FileFault::Refused { place, why, .. } => {
+            FileFault::Refused(refusal) => {
                 let path = path_of(alloc, self.form, fault.field)?;
                 let path = match &path {
                     None => None,
                     Some(path) => Some(path.as_str()),
                 };
-                self.capture.refuse(place, why, path, text)?;
+                let extent = extent_of(refusal);
+                self.capture
+                    .refuse(refusal.place, refusal.why, path, extent, text)?;
                 Ok(Some(RunEnd::Refused))
             }
             FileFault::Read => Err(RunFault::Read(self.watch.error())),

@@ -3,14 +3,14 @@
 ghost use Rattle.std.specs.Prelude.{◌≡◌, ◌++◌, IfErr, IfOk, OnOk, string_bytes};
 ghost use Rattle.std.specs.Option.{option_map};
 ghost use Rattle.krb_text.specs.Refusals.{path_in};
-ghost use Rattle.krb_tool.specs.Lines.{refused_line, message_refused_line};
-ghost use Rattle.krb_tool.specs.Paths.{frame_path, refused_path};
+ghost use Rattle.krb_tool.specs.Lines.{refused_line};
+ghost use Rattle.krb_tool.specs.Paths.{frame_extent, frame_path, refused_path};
 
 use crate::run::RunFault;
 use krb_der::{Profile, Refusal};
 use krb_frame::Decoder;
 use krb_judge::path;
-use krb_text::{Form, TextBuffer, put_message_refusal, put_stream_refusal};
+use krb_text::{Extent, Form, TextBuffer, put_stream_refusal};
 use std::alloc::{AllocError, Global};
 
 /// The greatest number of octets of a message.
@@ -33,6 +33,18 @@ pub(crate) fn frame_path(
         None => Ok(None),
         Some(partial) => Ok(path(alloc, decoder.profile(), partial.size, partial.octets)?),
     }
+}
+
+/// Returns where the frame is that a decoder refused or has a part of, which begins at an offset,
+/// and the length that it announces.
+pub(crate) fn frame_extent(offset: u64, decoder: &Decoder) -> Extent
+    ensures { result ≡ frame_extent offset decoder.now.octets }
+{
+    let length = match decoder.announced() {
+        None => None,
+        Some(length) => Some(u64::from(length)),
+    };
+    Extent { at: offset, length }
 }
 
 /// Returns the path in octets that are refused as a message, if records of the form show it.
@@ -63,26 +75,14 @@ pub(crate) fn put_refused_frame(
     messages: u64,
     refusal: Refusal,
     path: &Option<String>,
+    extent: Extent,
 ) -> Result<(), AllocError>
-    ensures { OnOk result (text.new ≡ text.old ++ refused_line form messages refusal.place refusal.why (option_map string_bytes path.now)) }
+    ensures { OnOk result (text.new ≡ text.old ++ refused_line form messages refusal.place refusal.why (option_map string_bytes path.now) extent) }
 {
     match path {
-        None => put_stream_refusal(text, form, messages, refusal, None),
-        Some(path) => put_stream_refusal(text, form, messages, refusal, Some(path.as_str())),
-    }
-}
-
-/// Appends the line of octets that are no message.
-pub(crate) fn put_refused_message(
-    text: &mut TextBuffer,
-    form: Form,
-    refusal: Refusal,
-    path: &Option<String>,
-) -> Result<(), AllocError>
-    ensures { OnOk result (text.new ≡ text.old ++ message_refused_line form refusal (option_map string_bytes path.now)) }
-{
-    match path {
-        None => put_message_refusal(text, form, refusal, None),
-        Some(path) => put_message_refusal(text, form, refusal, Some(path.as_str())),
+        None => put_stream_refusal(text, form, messages, refusal, None, extent),
+        Some(path) => {
+            put_stream_refusal(text, form, messages, refusal, Some(path.as_str()), extent)
+        }
     }
 }

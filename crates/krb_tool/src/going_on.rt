@@ -11,7 +11,7 @@ ghost use Rattle.krb_tool.specs.declared.run.RunFault.TheVariants as fault;
 ghost use Rattle.krb_tool.specs.inner.Pieces.{IsFed, listing_of};
 ghost use Rattle.krb_tool.specs.inner.CountingListers.{CountsReady, CountsLine, SkipsRefused, PutsCount, PutsLast, counting};
 
-use crate::fault_path::{frame_path, put_refused_frame};
+use crate::fault_path::{frame_extent, frame_path, put_refused_frame};
 use crate::run::{RunEnd, RunFault};
 use crate::stream_run::{ListStream, Request, list_all};
 use crate::transfer::Asked;
@@ -48,8 +48,8 @@ pub fn run_stream_going_on<R: Read, W: Write>(
 }
 
 /// A lister of a stream that goes on after refusals: what allocates for it, its decoder, the form
-/// of its lines, those that are not written yet, and the numbers of messages and of refused frames
-/// so far.
+/// of its lines, those that are not written yet, the numbers of messages and of refused frames so
+/// far, and where the current frame begins: the octets of the frames before it.
 #[derive(Drop)]
 pub(crate) struct CountingLister {
     alloc: Global,
@@ -58,7 +58,11 @@ pub(crate) struct CountingLister {
     text: TextBuffer,
     messages: u64,
     refused: u64,
+    offset: u64,
 }
+
+/// How many octets a frame's length has.
+const LENGTH_OCTETS: u64 = 4;
 
 impl CountingLister {
     /// Adds the lines of the frames that are whole at the beginning of a piece, and returns the
@@ -66,33 +70,38 @@ impl CountingLister {
     fn list_passed<'p>(&mut self, piece: &'p [u8]) -> Result<&'p [u8], RunFault>
         requires waits { status_of (messages self.old.decoder.current.profile) self.old.decoder.current ≡ status.More }
         requires few { self.old.messages + self.old.refused + length piece.now < 2 ^ 64 }
+        requires room { self.old.offset + length piece.now < 2 ^ 64 }
         ensures fed { IfOk result (λ rest. IsFed counting self.old piece.now rest.now self.new) }
         ensures passes { IfOk result (λ rest. passed_by self.new.decoder rest.now ≡ None) }
         ensures fault { IfErr result (λ e. e ≡ fault.Memory) }
     {
         let mut rest = piece;
         while let Some(passed) = self.decoder.pass(rest) {
-            self.add_line(&passed.message)?;
+            let size = (rest.len() - passed.rest.len()) as u64;
+            self.add_line(&passed.message, size)?;
             rest = passed.rest;
         }
         Ok(rest)
     }
 
-    /// Adds the line of a message.
-    fn add_line(&mut self, message: &MessageView<'_>) -> Result<(), RunFault>
+    /// Adds the line of a message, whose frame has `size` octets.
+    fn add_line(&mut self, message: &MessageView<'_>, size: u64) -> Result<(), RunFault>
         requires few { self.old.messages + 1 < 2 ^ 64 }
+        requires room { self.old.offset + size < 2 ^ 64 }
         requires lists { MessageLists message.now }
-        ensures added { OnOk result (CountsLine (message_of_view message.now) self.old self.new) }
+        ensures added { OnOk result (CountsLine (message_of_view message.now) size self.old self.new) }
         ensures fault { IfErr result (λ e. e ≡ fault.Memory) }
     {
         put_message_view(&mut self.text, self.form, message)?;
         self.messages += 1;
+        self.offset += size;
         Ok(())
     }
 
     /// Adds the line of the frame that is ready, and clears it.
     fn list_ready(&mut self) -> Result<(), RunFault>
         requires few { self.old.messages + 1 < 2 ^ 64 }
+        requires room { self.old.offset + length self.old.decoder.current.octets < 2 ^ 64 }
         requires ready { IsSome (borrowed (messages self.old.decoder.current.profile) self.old.decoder.current) }
         ensures listed { OnOk result (CountsReady self.old self.new) }
         ensures fault { IfErr result (λ e. e ≡ fault.Memory) }
@@ -102,6 +111,7 @@ impl CountingLister {
         };
         put_message_view(&mut self.text, self.form, &framed.view())?;
         self.messages += 1;
+        self.offset += u64::from(self.decoder.decoder().looked());
         self.decoder.next();
         Ok(())
     }
@@ -110,15 +120,26 @@ impl CountingLister {
     /// known it changes nothing and returns false.
     fn skip_refused(&mut self, refusal: Refusal) -> Result<bool, RunFault>
         requires few { self.old.refused + 1 < 2 ^ 64 }
+        requires room { self.old.offset < 2 ^ 63 }
         ensures skipped { IfOk result (SkipsRefused self.old refusal self.new) }
         ensures fault { IfErr result (λ e. e ≡ fault.Memory) }
     {
         let path = frame_path(self.alloc, self.form, self.decoder.decoder())?;
+        let extent = frame_extent(self.offset, self.decoder.decoder());
+        let announced = self.decoder.decoder().announced().unwrap_or(0);
         if !self.decoder.skip() {
             return Ok(false);
         }
-        put_refused_frame(&mut self.text, self.form, self.messages, refusal, &path)?;
+        put_refused_frame(
+            &mut self.text,
+            self.form,
+            self.messages,
+            refusal,
+            &path,
+            extent,
+        )?;
         self.refused += 1;
+        self.offset += LENGTH_OCTETS + u64::from(announced);
         Ok(true)
     }
 
@@ -130,7 +151,15 @@ impl CountingLister {
         ensures fault { IfErr result (λ e. e ≡ fault.Memory) }
     {
         let path = frame_path(self.alloc, self.form, self.decoder.decoder())?;
-        put_refused_frame(&mut self.text, self.form, self.messages, refusal, &path)?;
+        let extent = frame_extent(self.offset, self.decoder.decoder());
+        put_refused_frame(
+            &mut self.text,
+            self.form,
+            self.messages,
+            refusal,
+            &path,
+            extent,
+        )?;
         self.refused += 1;
         self.put_count()
     }
@@ -163,6 +192,7 @@ impl ListStream for CountingLister {
             text: TextBuffer::new(alloc),
             messages: 0,
             refused: 0,
+            offset: 0,
         }
     }
 

@@ -1,35 +1,20 @@
 //! Lines of JSON as messages.
 
 ghost use Rattle.std.specs.Prelude.{◌≡◌, ◌+◌, ◌++◌, ◌<◌, ◌^◌, ◌&&◌, not, length, [], IfErr, IfOk, OnOk, None};
-ghost use Rattle.memchr.specs.Find.{IsFirstByte, is_byte};
-ghost use Rattle.krb_tool.specs.Encoding.{is_blank, is_blank_line, written_as, ending_of};
+ghost use Rattle.krb_tool.specs.Encoding.{written_as, ending_of};
 ghost use Rattle.krb_tool.specs.declared.run.RunFault.TheVariants as fault;
 ghost use Rattle.krb_tool.specs.inner.Pieces.{listing_of};
 ghost use Rattle.krb_tool.specs.inner.EncodedLines.{EndsLine, ReadsLine, IsFound, EndsLast, ending_by, encoding};
 
 use crate::encode_run::EncodeEnd;
+use crate::lines::{is_blank_line, line_length};
 use crate::run::RunFault;
 use crate::stream_run::ListStream;
 use krb_der::Profile;
 use krb_frame::Limit;
 use krb_json::law::lines_spell_messages;
 use krb_json::{LineFault, Scratch, read_line};
-use memchr::memchr;
 use std::alloc::{AllocError, Global};
-
-/// Returns whether an octet is a blank of a line: a space, a tab or CR.
-fn is_blank(octet: u8) -> bool
-    ensures { result ≡ is_blank octet }
-{
-    matches!(octet, b' ' | b'\t' | b'\r')
-}
-
-/// Returns whether a line has blanks alone.
-fn is_blank_line(line: &[u8]) -> bool
-    ensures { result ≡ is_blank_line line.now }
-{
-    line.iter().all(|octet| is_blank(*octet))
-}
 
 /// What an encoding is asked for: the profile of the messages, the greatest length of one, and
 /// whether each is written as a frame, or there is one without its length.
@@ -175,13 +160,6 @@ fn put_message(text: &mut Vec<u8>, is_framed: bool, octets: &[u8]) -> Result<(),
         text.extend_from_slice(&size.to_be_bytes())?;
     }
     text.extend_from_slice(octets)
-}
-
-/// Returns how many octets come before the first line feed, if there is one.
-fn line_length(octets: &[u8]) -> Option<usize>
-    ensures { IsFirstByte (is_byte 10) octets.now result }
-{
-    memchr(b'\n', octets)
 }
 
 impl ListStream for JsonReader {

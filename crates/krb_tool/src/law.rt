@@ -1,7 +1,8 @@
 //! Laws of listings and of conversions. Each is the contract of a function that does nothing.
-ghost use Rattle.krb_tool.specs.Laws.{CapturesAreListed, DecodedComesBack, DecodedIsLines, EncodedIsMessages, KeysAreNotListed, SessionKeysAreNotListed, UnsealedIsNotDecoded, UpgradeIsListedAlike};
+ghost use Rattle.krb_tool.specs.Laws.{CapturesAreListed, DecodedComesBack, DecodedIsLines, EncodedIsMessages, KeysAreNotListed, RefusalsAreAtOffsets, SessionKeysAreNotListed, UnsealedIsNotDecoded, UpgradeIsListedAlike};
 
 use krb_ccache::law::{session_keys_change_nothing_else, upgrade_holds_the_same};
+use krb_frame::law::refusals_are_at_offsets as refused_at_offsets;
 use krb_json::law::{
     lines_spell_messages, texts_are_json, texts_come_back, unsealed_changes_nothing,
 };
@@ -44,6 +45,14 @@ pub fn keys_are_not_listed()
 pub fn captures_are_listed()
     ensures { CapturesAreListed }
 {}
+
+/// The first octet with which a stream is refused is the one at the offset of its last frame and the
+/// place in that, which the last line of its listing tells as `at` and `place`.
+pub fn refusals_are_at_offsets()
+    ensures { RefusalsAreAtOffsets }
+{
+    refused_at_offsets();
+}
 
 /// What [`run_encode`](crate::run_encode) writes of any text is a stream of messages of the profile,
 /// none of more octets than the limit: nothing in it is refused, and it is decoded to the line of

@@ -4,8 +4,8 @@
 //!
 //! The main calls:
 //!
-//! - [`run_stream`] lists framed messages, [`run_message`] one message in hexadecimal,
-//!   [`run_keytab`] a keytab and [`run_ccache`] a credential cache. [`run_stream_in`] and its like
+//! - [`run_stream`] lists framed messages, [`run_message`] one message that an input
+//!   spells, [`run_lines_in`] messages that lines spell, [`run_keytab`] a keytab and [`run_ccache`] a credential cache. [`run_stream_in`] and its like
 //!   take the form of the records ([`Form`]) and the profile of messages ([`Profile`]);
 //!   [`run_stream_going_on`] goes on after refusals.
 //! - [`run_decode`] writes framed messages as lines of JSON, and [`run_encode`] the messages that
@@ -20,18 +20,26 @@
 //! `krb_list` say what is in a record.
 #![tactic(auto)]
 
+mod begun;
 mod capture_run;
 mod decode_run;
 mod encode_run;
+mod extent;
 mod fault_path;
 mod file_path;
 mod file_run;
 mod going_on;
+mod head;
 mod json_lines;
 mod json_reader;
 pub mod law;
+mod lines;
+mod lines_run;
 mod listing;
+mod message_input;
 mod message_run;
+mod naming;
+mod output;
 mod record_run;
 mod run;
 mod sources;
@@ -39,6 +47,7 @@ mod stream_run;
 mod transfer;
 mod whole_run;
 
+pub use begun::Begun;
 pub use capture_run::run_capture;
 pub use decode_run::{DecodeEnd, run_decode};
 pub use encode_run::{EncodeEnd, run_encode, run_encode_unframed};
@@ -47,7 +56,10 @@ pub use going_on::run_stream_going_on;
 pub use krb_der::Profile;
 pub use krb_frame::Limit;
 pub use krb_text::Form;
+pub use lines_run::run_lines_in;
 pub use message_run::{list_octets, run_message, run_message_in};
+pub use naming::Naming;
+pub use output::{Label, Output, Place};
 pub use record_run::{run_ccache, run_ccache_in, run_keytab, run_keytab_in};
 pub use run::{RunEnd, RunFault, run_stream, run_stream_in, status};
 pub use sources::{ListSource, run_sources, run_sources_unnamed};

@@ -10,7 +10,7 @@ ghost use Rattle.krb_tool.specs.declared.run.RunFault.TheVariants as fault;
 ghost use Rattle.krb_tool.specs.inner.Pieces.{IsFed, listing_of};
 ghost use Rattle.krb_tool.specs.inner.Listers.{ListsReady, AddsLine, AddsEnd, stopping};
 
-use crate::fault_path::{frame_path, put_refused_frame};
+use crate::fault_path::{frame_extent, frame_path, put_refused_frame};
 use crate::run::{RunEnd, RunFault};
 use crate::stream_run::{ListStream, Request};
 use krb_frame::{Decoder, Status};
@@ -19,7 +19,8 @@ use krb_text::{Form, TextBuffer, put_message_view, put_stream_end};
 use std::alloc::Global;
 
 /// A lister of a stream, up to its end or its first refusal: what allocates for it, its decoder,
-/// the form of its lines, those that are not written yet, and the number of messages so far.
+/// the form of its lines, those that are not written yet, the number of messages so far, and where
+/// the current frame begins: the octets of the frames before it.
 #[derive(Drop)]
 pub(crate) struct Lister {
     alloc: Global,
@@ -27,6 +28,7 @@ pub(crate) struct Lister {
     form: Form,
     text: TextBuffer,
     messages: u64,
+    offset: u64,
 }
 
 impl Lister {
@@ -35,33 +37,38 @@ impl Lister {
     fn list_passed<'p>(&mut self, piece: &'p [u8]) -> Result<&'p [u8], RunFault>
         requires waits { status_of (messages self.old.decoder.profile) self.old.decoder ≡ status.More }
         requires few { self.old.messages + length piece.now < 2 ^ 64 }
+        requires room { self.old.offset + length piece.now < 2 ^ 64 }
         ensures fed { IfOk result (λ rest. IsFed stopping self.old piece.now rest.now self.new) }
         ensures passes { IfOk result (λ rest. passed self.new.decoder rest.now ≡ None) }
         ensures fault { IfErr result (λ e. e ≡ fault.Memory) }
     {
         let mut rest = piece;
         while let Some(passed) = self.decoder.pass(rest) {
-            self.add_line(&passed.message)?;
+            let size = (rest.len() - passed.rest.len()) as u64;
+            self.add_line(&passed.message, size)?;
             rest = passed.rest;
         }
         Ok(rest)
     }
 
-    /// Adds the line of a message.
-    fn add_line(&mut self, message: &MessageView<'_>) -> Result<(), RunFault>
+    /// Adds the line of a message, whose frame has `size` octets.
+    fn add_line(&mut self, message: &MessageView<'_>, size: u64) -> Result<(), RunFault>
         requires few { self.old.messages + 1 < 2 ^ 64 }
+        requires room { self.old.offset + size < 2 ^ 64 }
         requires lists { MessageLists message.now }
-        ensures added { OnOk result (AddsLine (message_of_view message.now) self.old self.new) }
+        ensures added { OnOk result (AddsLine (message_of_view message.now) size self.old self.new) }
         ensures fault { IfErr result (λ e. e ≡ fault.Memory) }
     {
         put_message_view(&mut self.text, self.form, message)?;
         self.messages += 1;
+        self.offset += size;
         Ok(())
     }
 
     /// Adds the line of the frame that is ready, and clears it.
     fn list_ready(&mut self) -> Result<(), RunFault>
         requires few { self.old.messages + 1 < 2 ^ 64 }
+        requires room { self.old.offset + length self.old.decoder.octets < 2 ^ 64 }
         requires ready { IsSome (borrowed (messages self.old.decoder.profile) self.old.decoder) }
         ensures listed { OnOk result (ListsReady self.old self.new) }
         ensures fault { IfErr result (λ e. e ≡ fault.Memory) }
@@ -71,6 +78,7 @@ impl Lister {
         };
         put_message_view(&mut self.text, self.form, &framed.view())?;
         self.messages += 1;
+        self.offset += u64::from(self.decoder.looked());
         self.decoder.next();
         Ok(())
     }
@@ -87,7 +95,15 @@ impl Lister {
             }
             Err(refusal) => {
                 let path = frame_path(self.alloc, self.form, &self.decoder)?;
-                put_refused_frame(&mut self.text, self.form, self.messages, refusal, &path)?;
+                let extent = frame_extent(self.offset, &self.decoder);
+                put_refused_frame(
+                    &mut self.text,
+                    self.form,
+                    self.messages,
+                    refusal,
+                    &path,
+                    extent,
+                )?;
                 Ok(RunEnd::Refused)
             }
         }
@@ -110,6 +126,7 @@ impl ListStream for Lister {
             form: request.form,
             text: TextBuffer::new(alloc),
             messages: 0,
+            offset: 0,
         }
     }
 

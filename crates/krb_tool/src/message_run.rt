@@ -1,88 +1,36 @@
-//! A run over one message in hexadecimal.
+//! A run over one message, which an input spells.
 
 ghost use Rattle.std.specs.Prelude.{◌≡◌, IfErr, IfOk};
-ghost use Rattle.krb_tool.specs.Paths.{refused_path};
-ghost use Rattle.krb_tool.specs.Lines.{message_line, message_refused_line, input_refused_line};
+ghost use Rattle.krb_input.specs.Inputs.{spelled};
 ghost use Rattle.krb_tool.specs.Files.{ListsFile, FailsFile, shown};
-ghost use Rattle.krb_tool.specs.Messages.{is_blank, without_blanks, clean_with, refused_with, octets_listing, IsHexListing};
+ghost use Rattle.krb_tool.specs.Messages.{IsMessageListing, Puts, input_listing, octets_listing, whole_input};
 
-use crate::fault_path::{put_refused_message, refused_path};
 use crate::file_run::{FileFormat, FileText, run_file};
+use crate::message_input::{MOST_INPUT, MessageInput};
 use crate::run::{RunEnd, RunFault};
 use crate::transfer::Asked;
-use hex::FromHexError;
-use krb_der::{Profile, Refusal};
-use krb_judge::{ParseFault, parse_in};
-use krb_msg::Message;
-use krb_text::{Form, InputFault, TextBuffer, put_input_refusal, put_message};
-use std::alloc::{AllocError, Global};
+use krb_der::Profile;
+use krb_input::{InputFault, Spelling, read_input};
+use krb_text::{Form, InputFault as Unread, TextBuffer};
+use std::alloc::Global;
 use std::io::{Read, Write};
 
-/// The greatest number of octets of a message in hexadecimal, with its blanks.
-const MOST_TEXT: usize = 16777216;
-
-/// Returns whether an octet of text is ignored: a space, a tab, CR or LF.
-fn is_blank(octet: u8) -> bool
-    ensures { result ≡ is_blank octet }
+/// Returns an input that is all of a source.
+fn whole_input(form: Form, profile: Profile) -> MessageInput
+    ensures { result ≡ whole_input form profile }
 {
-    matches!(octet, b' ' | b'\t' | b'\r' | b'\n')
-}
-
-/// Returns the octets of a text that are no blanks.
-fn without_blanks(alloc: Global, text: &[u8]) -> Result<Vec<u8>, AllocError>
-    ensures { IfOk result (λ digits. digits.items ≡ without_blanks text.now) }
-{
-    let mut digits = Vec::with_capacity(alloc, text.len())?;
-    for octet in text {
-        if !is_blank(*octet) {
-            digits.push(*octet)?;
-        }
+    MessageInput {
+        form,
+        profile,
+        line: None,
+        at: 0,
     }
-    Ok(digits)
 }
 
-/// Returns the line that refuses a text.
-fn refuse_input(alloc: Global, form: Form, fault: InputFault) -> Result<FileText, RunFault>
-    ensures listed { IfOk result (λ made. shown made ≡ refused_with (input_refused_line form fault)) }
-    ensures fault { IfErr result (λ e. e ≡ RunFault.Memory) }
-{
-    let mut text = TextBuffer::new(alloc);
-    put_input_refusal(&mut text, form, fault)?;
-    let end = RunEnd::Refused;
-    Ok(FileText { text, end })
-}
-
-/// Returns the line of a message.
-fn list_message(alloc: Global, form: Form, message: &Message) -> Result<FileText, RunFault>
-    ensures listed { IfOk result (λ made. shown made ≡ clean_with (message_line form message.now)) }
-    ensures fault { IfErr result (λ e. e ≡ RunFault.Memory) }
-{
-    let mut text = TextBuffer::new(alloc);
-    put_message(&mut text, form, message)?;
-    let end = RunEnd::Clean;
-    Ok(FileText { text, end })
-}
-
-/// Returns the line of octets that are no message of a profile.
-fn list_refusal(
-    alloc: Global,
-    form: Form,
-    profile: Profile,
-    octets: &[u8],
-    refusal: Refusal,
-) -> Result<FileText, RunFault>
-    ensures listed { IfOk result (λ made. shown made ≡ refused_with (message_refused_line form refusal (refused_path profile octets.now refusal))) }
-    ensures fault { IfErr result (λ e. e ≡ RunFault.Memory) }
-{
-    let path = refused_path(alloc, form, profile, octets, refusal)?;
-    let mut text = TextBuffer::new(alloc);
-    put_refused_message(&mut text, form, refusal, &path)?;
-    let end = RunEnd::Refused;
-    Ok(FileText { text, end })
-}
-
-/// Returns the line, in a form, of the message of a profile that octets are, or the line of their
-/// refusal: what [`run_message_in`] writes of the same octets in hexadecimal. The one error is
+/// Returns the record, in a form, of the message of a profile that octets are, or of why they are
+/// none: what [`run_message_in`] writes of an input that is these octets, or spells them, but that
+/// it tells them to be octets. They may be those of a frame, of a GSS-API token or one of SPNEGO in
+/// which there is a message, or of a Ticket, too; they are not read as text. The one error is
 /// running out of memory.
 pub fn list_octets(
     alloc: Global,
@@ -93,58 +41,73 @@ pub fn list_octets(
     ensures listed { IfOk result (λ made. shown made ≡ octets_listing form profile octets.now) }
     ensures fault { IfErr result (λ e. e ≡ RunFault.Memory) }
 {
-    match parse_in(alloc, profile, octets) {
-        Ok(message) => list_message(alloc, form, &message),
-        Err(ParseFault::Refused(refusal)) => list_refusal(alloc, form, profile, octets, refusal),
-        Err(ParseFault::Memory) => Err(RunFault::Memory),
-    }
+    let mut text = TextBuffer::new(alloc);
+    let input = whole_input(form, profile);
+    let end = input.put_octets(alloc, &mut text, Spelling::Octets, octets)?;
+    Ok(FileText { text, end })
 }
 
-/// A message of a profile in hexadecimal, and the form of its listing.
+/// An input that spells a message of a profile, and the form of its listing.
 #[derive(Drop)]
-struct HexFormat {
+struct SpelledMessage {
     form: Form,
     profile: Profile,
 }
 
-impl FileFormat for HexFormat {
-    ghost Lists = { λ format text listing. IsHexListing format.form format.profile text listing };
+impl FileFormat for SpelledMessage {
+    ghost Lists = { λ format input listing. IsMessageListing format.form format.profile input listing };
 
     fn most(&self) -> Option<usize> {
-        Some(MOST_TEXT + 1)
+        Some(MOST_INPUT + 1)
     }
 
-    #[tactic(auto, unfolding(crate::specs::Messages::hex_listing))]
-    fn list(&self, alloc: Global, text: &[u8]) -> Result<FileText, RunFault> {
-        if text.len() > MOST_TEXT {
-            return refuse_input(alloc, self.form, InputFault::Length);
-        }
-        let digits = without_blanks(alloc, text)?;
-        match hex::decode(alloc, digits.as_slice()) {
-            Ok(octets) => list_octets(alloc, self.form, self.profile, octets.as_slice()),
-            Err(FromHexError::OutOfMemory) => Err(RunFault::Memory),
-            Err(_) => refuse_input(alloc, self.form, InputFault::Hex),
-        }
+    #[tactic(auto, unfolding(crate::specs::Messages::message_listing))]
+    fn list(&self, alloc: Global, input: &[u8]) -> Result<FileText, RunFault> {
+        let mut text = TextBuffer::new(alloc);
+        let place = whole_input(self.form, self.profile);
+        let end = put_input(alloc, &mut text, &place, input)?;
+        Ok(FileText { text, end })
     }
 }
 
-/// Lists one message in hexadecimal, by the lenient profile and in a line, as
-/// [`run_message_in`] does.
+/// Appends the record of an input.
+fn put_input(
+    alloc: Global,
+    text: &mut TextBuffer,
+    place: &MessageInput,
+    input: &[u8],
+) -> Result<RunEnd, RunFault>
+    ensures put { IfOk result (Puts text.old text.new (input_listing place.now spelled input.now)) }
+    ensures fault { IfErr result (λ e. e ≡ RunFault.Memory) }
+{
+    if input.len() > MOST_INPUT {
+        return place.put_unread(text, Unread::Length, None);
+    }
+    match read_input(alloc, input) {
+        Ok(made) => place.put_octets(alloc, text, made.form, made.octets.as_slice()),
+        Err(InputFault::Misspelled(fault)) => place.put_misspelling(text, fault),
+        Err(InputFault::Memory) => Err(RunFault::Memory),
+    }
+}
+
+/// Lists one message, by the lenient profile and in a line, as [`run_message_in`] does.
 pub fn run_message<R: Read, W: Write>(
     alloc: Global,
     reader: &mut R,
     writer: &mut W,
 ) -> Result<RunEnd, RunFault>
-    ensures listed { IfOk result (ListsFile (IsHexListing Form.Lines Profile.Lenient) (R.remaining reader.old) (R.remaining reader.new) (W.contents writer.old) (W.contents writer.new)) }
-    ensures fault { IfErr result (FailsFile (IsHexListing Form.Lines Profile.Lenient) (R.remaining reader.old) (R.remaining reader.new) (W.contents writer.old) (W.contents writer.new)) }
+    ensures listed { IfOk result (ListsFile (IsMessageListing Form.Lines Profile.Lenient) (R.remaining reader.old) (R.remaining reader.new) (W.contents writer.old) (W.contents writer.new)) }
+    ensures fault { IfErr result (FailsFile (IsMessageListing Form.Lines Profile.Lenient) (R.remaining reader.old) (R.remaining reader.new) (W.contents writer.old) (W.contents writer.new)) }
 {
     run_message_in(alloc, Form::Lines, Profile::Lenient, reader, writer)
 }
 
-/// Lists one message of a profile in a form. It is in hexadecimal, in digits of either case and
-/// with blanks anywhere: writes its line, or the line of its refusal, or `refused hex` if the text
-/// is not hexadecimal, or `refused length` if it has more than 16777216 octets, of which the first
-/// 16777217 are kept. All that the reader has is read first, by at most 2^40 reads of 64 KiB each.
+/// Lists one message of a profile in a form: writes its record, or that of its refusal. The input
+/// spells it as `krb_input` reads it: as octets, in hexadecimal, as a dump or in base64; it is the
+/// message, or a frame, a GSS-API token or one of SPNEGO in which the message lies, as `krb_token`
+/// opens it, or a Ticket. A text that spells no octets is `refused hex`, `refused dump` or `refused
+/// base64`, and an input of more than 16777216 octets `refused length`; of that the first 16777217
+/// are kept. All that the reader has is read first, by at most 2^40 reads of 64 KiB each.
 pub fn run_message_in<R: Read, W: Write>(
     alloc: Global,
     form: Form,
@@ -152,9 +115,9 @@ pub fn run_message_in<R: Read, W: Write>(
     reader: &mut R,
     writer: &mut W,
 ) -> Result<RunEnd, RunFault>
-    ensures listed { IfOk result (ListsFile (IsHexListing form profile) (R.remaining reader.old) (R.remaining reader.new) (W.contents writer.old) (W.contents writer.new)) }
-    ensures fault { IfErr result (FailsFile (IsHexListing form profile) (R.remaining reader.old) (R.remaining reader.new) (W.contents writer.old) (W.contents writer.new)) }
+    ensures listed { IfOk result (ListsFile (IsMessageListing form profile) (R.remaining reader.old) (R.remaining reader.new) (W.contents writer.old) (W.contents writer.new)) }
+    ensures fault { IfErr result (FailsFile (IsMessageListing form profile) (R.remaining reader.old) (R.remaining reader.new) (W.contents writer.old) (W.contents writer.new)) }
 {
     let mut asked = Asked::new(reader);
-    run_file(alloc, &mut asked, writer, &HexFormat { form, profile })
+    run_file(alloc, &mut asked, writer, &SpelledMessage { form, profile })
 }

@@ -3,7 +3,8 @@
 ghost use Rattle.std.specs.Prelude.{◌≡◌, ◌≢◌, ◌++◌, ℕ, suc, List, [], None, Some, IfErr, IfOk, OnErr, OnOk, string_bytes};
 ghost use Rattle.std.specs.Io.Buffered.{reader_remaining};
 ghost use Rattle.std.specs.Option.{option_map};
-ghost use Rattle.krb_tool.specs.Lines.{record_line, keytab_end_line, cache_line, credential_line, cache_end_line, file_refused_line};
+ghost use Rattle.krb_tool.specs.Lines.{record_line, keytab_end_line, cache_line, credential_line, cache_end_line};
+ghost use Rattle.krb_tool.specs.Extents.{fault_line};
 ghost use Rattle.krb_tool.specs.Paths.{keytab_path, credential_path, start_path};
 ghost use Rattle.krb_tool.specs.declared.run.RunEnd.TheVariants as run;
 ghost use Rattle.krb_tool.specs.Faults.{IsRead, IsWrite};
@@ -11,11 +12,12 @@ ghost use Rattle.krb_tool.specs.Files.{RecordListing, after_line, keytab_listing
 ghost use Rattle.krb_tool.specs.inner.RecordRuns.{Adds, AddsRefusal, AddsLine, Moves, WritesBefore, AreRecordsLeft, AreCredentialsLeft, IsRefusal};
 ghost use Rattle.std.specs.Io.KnownBytes.{Appends};
 
+use crate::extent::extent_of;
 use crate::file_path::{credential_path, keytab_path, start_path};
 use crate::run::{PIECE_OCTETS, RunEnd, RunFault};
 use crate::transfer::{MOST_ASKS, too_many_reads, write_all};
 use krb_ccache::{Credential, Credentials, FilePrincipal, Header};
-use krb_file::{FieldLimit, FileFault, FileWhy};
+use krb_file::{FieldLimit, FileFault, FileRefusal};
 use krb_keytab::{Next, Record, Records, Stop};
 use krb_list::{put_cache, put_cache_end, put_credential, put_keytab_end, put_record};
 use krb_text::{Form, TextBuffer, put_file_refusal};
@@ -171,16 +173,17 @@ impl<R: Read> RecordLines for KeytabLines<'_, R> {
 fn put_refusal(
     text: &mut TextBuffer,
     form: Form,
-    place: u64,
-    why: FileWhy,
+    refusal: FileRefusal,
     path: &Option<String>,
 ) -> Result<(), RunFault>
-    ensures line { OnOk result (text.new ≡ text.old ++ file_refused_line form place why (option_map string_bytes path.now)) }
+    ensures line { OnOk result (text.new ≡ text.old ++ fault_line form refusal (option_map string_bytes path.now)) }
     ensures fault { IfErr result (λ e. e ≡ RunFault.Memory) }
 {
+    let FileRefusal { place, why, .. } = refusal;
+    let extent = extent_of(refusal);
     match path {
-        None => put_file_refusal(text, form, place, why, None)?,
-        Some(path) => put_file_refusal(text, form, place, why, Some(path.as_str()))?,
+        None => put_file_refusal(text, form, place, why, None, extent)?,
+        Some(path) => put_file_refusal(text, form, place, why, Some(path.as_str()), extent)?,
     }
     Ok(())
 }
@@ -199,8 +202,8 @@ fn put_fault(
     ensures kept { IfErr result (λ e. IsRead e → text.new ≡ text.old) }
 {
     match fault {
-        FileFault::Refused { place, why, .. } => {
-            put_refusal(text, form, place, why, path)?;
+        FileFault::Refused(refusal) => {
+            put_refusal(text, form, refusal, path)?;
             Ok(Some(RunEnd::Refused))
         }
         FileFault::Read => Err(RunFault::Read(watch.error())),

@@ -90,8 +90,30 @@ impl<'a, R: Read> Asked<'a, R> {
     }
 }
 
-/// Writes all the octets. A write that fails, or writes nothing, is a fault.
+/// Writes all the octets, and flushes the writer. A write that fails, or writes nothing, is a fault,
+/// and so is a flush that fails.
 pub(crate) fn write_all<W: Write>(writer: &mut W, octets: &[u8]) -> Result<(), RunFault>
+    ensures all { OnOk result (Appends (W.contents writer.old) (W.contents writer.new) octets.now) }
+    ensures prefix { OnErr result (AppendsPrefix (W.contents writer.old) (W.contents writer.new) octets.now) }
+    ensures fault { IfErr result IsWrite }
+{
+    write_octets(writer, octets)?;
+    flush(writer)
+}
+
+/// Flushes a writer.
+fn flush<W: Write>(writer: &mut W) -> Result<(), RunFault>
+    ensures kept { Keeps (W.contents writer.old) (W.contents writer.new) }
+    ensures fault { IfErr result IsWrite }
+{
+    match writer.flush() {
+        Ok(()) => Ok(()),
+        Err(error) => Err(RunFault::Write(error)),
+    }
+}
+
+/// Writes all the octets. A write that fails, or writes nothing, is a fault.
+fn write_octets<W: Write>(writer: &mut W, octets: &[u8]) -> Result<(), RunFault>
     ensures all { OnOk result (Appends (W.contents writer.old) (W.contents writer.new) octets.now) }
     ensures prefix { OnErr result (AppendsPrefix (W.contents writer.old) (W.contents writer.new) octets.now) }
     ensures fault { IfErr result IsWrite }

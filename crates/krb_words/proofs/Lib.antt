@@ -1,2 +1,4 @@
+pub mod Days
 pub mod Matched
 pub mod NotRead
+pub mod Shown

@@ -8,7 +8,8 @@ use Rattle.clap.specs.declared.error.Error.{Error}
 use Rattle.clap.specs.declared.error.kind.ErrorKind.{ErrorKind}
 use Rattle.clap.specs.declared.error.kind.ErrorKind.TheVariants.{OutOfMemory}
 use Rattle.clap.specs.declared.parser.matches.ArgMatches.{ArgMatches}
-use Rattle.krb_words.specs.Words.{Spells, IsNumber, IsTextBy, IsOrderOf, IsOrderBy, IsOrderIn, krbls}
+use Rattle.krb_words.specs.Times.{Spells}
+use Rattle.krb_words.specs.Words.{IsNumber, IsTextBy, IsOrderOf, IsOrderBy, IsOrderFor, krbls}
 use Rattle.krb_words.specs.declared.words.Job.{Job}
 use Rattle.krb_words.specs.declared.words.Job.TheVariants as jobs
 use Rattle.krb_words.specs.declared.words.Order.{Order}
@@ -38,19 +39,20 @@ by_text [] words order kind a h f = absurd a
 by_text (first ∷ kinds) words order kind a h f = (kind, a, h, f)
 
 -- the order that the matches of words name
-pub IsOrderIn-matches : (app : App) (words : List Text) (m : ArgMatches) (order : Order) → app ≡ krbls → (is_simple_and_free app ≡ true → fault_of app words ≡ []) → HasMatchesOf app words m → IsOrderOf (subcommand_rows_of m) order → IsOrderIn words order
-IsOrderIn-matches app words m order e nothing has o =
+pub IsOrderFor-matches : (app : App) (texts : List Text) (m : ArgMatches) (order : Order) → app ≡ krbls → (is_simple_and_free app ≡ true → fault_of app texts ≡ []) → HasMatchesOf app texts m → IsOrderOf (subcommand_rows_of m) order → IsOrderFor texts order
+IsOrderFor-matches app texts m order e nothing has o =
     let free : is_simple_and_free app ≡ true = ap is_simple_and_free e ∙ krbls-free in
     let simple : is_simple app ≡ true = ap is_simple e ∙ krbls-simple in
-    by_nothing (fault_of krbls words) words order
-    (ap (λ a. fault_of a words) (sym e) ∙ nothing free)
-    (subst (λ met. IsOrderOf met order) ((has simple).1 ∙ ap (λ a. subcommand_of a words) e) o)
+    by_nothing (fault_of krbls texts) texts order
+    (ap (λ a. fault_of a texts) (sym e) ∙ nothing free)
+    (subst (λ met. IsOrderOf met order) ((has simple).1 ∙ ap (λ a. subcommand_of a texts) e) o)
 
 no_text : (job : Job) → IsTextBy OutOfMemory job → ⊥
+no_text (jobs.List when) text = text
 no_text (jobs.Stream limit chosen after) text = text
-no_text (jobs.Message chosen) text = text
+no_text (jobs.Message chosen each) text = text
 no_text jobs.Keytab text = text
-no_text (jobs.Ccache now) text = text
+no_text (jobs.Ccache when) text = text
 no_text (jobs.Capture limit port) text = text
 no_text (jobs.Decode limit chosen framing) text = text
 no_text (jobs.Encode limit chosen framing) text = text
@@ -62,8 +64,8 @@ among kinds error job (inl m) text = absurd (no_text job (subst (λ k. IsTextBy 
 among kinds error job (inr a) text = a
 
 -- a text, which the words ask for
-pub IsOrderIn-text : (app : App) (words : List Text) (error : Error) (order : Order) → app ≡ krbls → (is_simple_and_free app ≡ true → HasKind (fault_of app words) error) → IsTextBy (kind_of error) order.job → order.sources.items ≡ [] → IsOrderIn words order
-IsOrderIn-text app words error order e fails h f =
+pub IsOrderFor-text : (app : App) (texts : List Text) (error : Error) (order : Order) → app ≡ krbls → (is_simple_and_free app ≡ true → HasKind (fault_of app texts) error) → IsTextBy (kind_of error) order.job → order.sources.items ≡ [] → IsOrderFor texts order
+IsOrderFor-text app texts error order e fails h f =
     let free : is_simple_and_free app ≡ true = ap is_simple_and_free e ∙ krbls-free in
-    by_text (fault_of krbls words) words order (kind_of error)
-    (subst (λ a. IsAmong (kind_of error) (fault_of a words)) e (among (fault_of app words) error order.job (fails free) h)) h f
+    by_text (fault_of krbls texts) texts order (kind_of error)
+    (subst (λ a. IsAmong (kind_of error) (fault_of a texts)) e (among (fault_of app texts) error order.job (fails free) h)) h f

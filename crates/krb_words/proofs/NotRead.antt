@@ -8,7 +8,8 @@ use Rattle.clap.specs.Walk.{Held, Names, answers_to, finished, nothing_held, sto
 use Rattle.clap.specs.declared.error.Error.{Error}
 use Rattle.clap.specs.declared.error.kind.ErrorKind.{ErrorKind}
 use Rattle.clap.specs.declared.parser.matches.ArgMatches.{ArgMatches}
-use Rattle.krb_words.specs.Words.{FindsNoNumber, IsFaultIn, IsNoNumber, IsRequest, IsWrongBy, Spells, krbls}
+use Rattle.krb_words.specs.Words.{FindsUnfit, IsFaultFor, IsNoNumber, IsRequest, IsWrongBy, krbls}
+use Rattle.krb_words.specs.Times.{Spells}
 use Rattle.krb_words.specs.declared.words.WordsFault.{WordsFault}
 use Rattle.krb_words.specs.declared.words.WordsFault.TheVariants as faults
 use Rattle.krb_words.specs.inner.NotRead.{FindsNoJob, IfWrong, IsNoneOf, IsNoText, commands}
@@ -60,21 +61,21 @@ entered_known a (Some p) met e none = go (find (λ s. answers_to p.0 (label_of s
         let name : s.name ≡ met.0 = cc in
         name_found (λ x. answers_to p.0 (label_of x)) a.subs s is (subst (IsNoneOf (map (λ (x : Shape). x.name) a.subs)) (sym name) none)
 
-find_no_number : (a : App) (stop : Option (Text × List Text)) (met : Option (Text × List Row)) → map (λ (x : Shape). x.name) a.subs ≡ commands → entered a stop ≡ met → is_some met ≡ true
-    → FindsNoJob met → FindsNoNumber met
-find_no_number a stop None names is some none = cc
-find_no_number a stop (Some met) names is some (inl none) = absurd (entered_known a stop met is (subst (λ l. IsNoneOf l met.0) (sym names) none))
-find_no_number a stop (Some met) names is some (inr none) = none
+find_unfit : (a : App) (stop : Option (Text × List Text)) (met : Option (Text × List Row)) → map (λ (x : Shape). x.name) a.subs ≡ commands → entered a stop ≡ met → is_some met ≡ true
+    → FindsNoJob met → FindsUnfit met
+find_unfit a stop None names is some none = cc
+find_unfit a stop (Some met) names is some (inl none) = absurd (entered_known a stop met is (subst (λ l. IsNoneOf l met.0) (sym names) none))
+find_unfit a stop (Some met) names is some (inr none) = none
 
-words_find_no_number : (words : List Text) → fault_of krbls words ≡ [] → FindsNoJob (subcommand_of krbls words) → FindsNoNumber (subcommand_of krbls words)
-words_find_no_number words e none =
+words_find_unfit : (words : List Text) → fault_of krbls words ≡ [] → FindsNoJob (subcommand_of krbls words) → FindsUnfit (subcommand_of krbls words)
+words_find_unfit words e none =
     let a = built krbls in
     let taken = argument_words krbls words in
     let stop = stop_after a.top.rules (names_of a) taken in
-    find_no_number a stop (entered a stop) refl refl (level_met a.top (names_of a) nothing_held taken (is_some (entered a stop)) (entered_fault a stop) refl refl e) none
+    find_unfit a stop (entered a stop) refl refl (level_met a.top (names_of a) nothing_held taken (is_some (entered a stop)) (entered_fault a stop) refl refl e) none
 
 -- ---- what is wrong with words
-wrong_by_nothing : (kinds : Kinds) (words : List Text) → kinds ≡ [] → FindsNoNumber (subcommand_of krbls words) → IsWrongBy kinds words
+wrong_by_nothing : (kinds : Kinds) (words : List Text) → kinds ≡ [] → FindsUnfit (subcommand_of krbls words) → IsWrongBy kinds words
 wrong_by_nothing [] words e out = out
 wrong_by_nothing (first ∷ kinds) words e out = cc
 
@@ -83,24 +84,24 @@ wrong_by_kind [] words kind among request = absurd among
 wrong_by_kind (first ∷ kinds) words kind among request = (kind, among, request)
 
 -- by their matches
-pub IsFaultIn-matches : (app : App) (words : List Text) (m : ArgMatches) (e : WordsFault) → app ≡ krbls → (is_simple_and_free app ≡ true → fault_of app words ≡ []) → HasMatchesOf app words m
-    → IfWrong e (FindsNoJob (subcommand_rows_of m)) → IsFaultIn words e
-IsFaultIn-matches app words m (faults.Wrong text) is nothing has none =
+pub IsFaultFor-matches : (app : App) (texts : List Text) (m : ArgMatches) (e : WordsFault) → app ≡ krbls → (is_simple_and_free app ≡ true → fault_of app texts ≡ []) → HasMatchesOf app texts m
+    → IfWrong e (FindsNoJob (subcommand_rows_of m)) → IsFaultFor texts e
+IsFaultFor-matches app texts m (faults.Wrong text) is nothing has none =
     let free : is_simple_and_free app ≡ true = ap is_simple_and_free is ∙ krbls-free in
     let simple : is_simple app ≡ true = ap is_simple is ∙ krbls-simple in
-    let kinds : fault_of krbls words ≡ [] = ap (λ a. fault_of a words) (sym is) ∙ nothing free in
-    let rows : subcommand_rows_of m ≡ subcommand_of krbls words = (has simple).1 ∙ ap (λ a. subcommand_of a words) is in
-    wrong_by_nothing (fault_of krbls words) words kinds (words_find_no_number words kinds (subst FindsNoJob rows none))
-IsFaultIn-matches app words m faults.Memory is nothing has none = tt
+    let kinds : fault_of krbls texts ≡ [] = ap (λ a. fault_of a texts) (sym is) ∙ nothing free in
+    let rows : subcommand_rows_of m ≡ subcommand_of krbls texts = (has simple).1 ∙ ap (λ a. subcommand_of a texts) is in
+    wrong_by_nothing (fault_of krbls texts) texts kinds (words_find_unfit texts kinds (subst FindsNoJob rows none))
+IsFaultFor-matches app texts m faults.Memory is nothing has none = tt
 
 among : (kinds : Kinds) (error : Error) → HasKind kinds error → IsNoText (kind_of error) → IsAmong (kind_of error) kinds
 among kinds error (inl memory) out = absurd (out.1 memory)
 among kinds error (inr a) out = a
 
 -- by an error of `clap`
-pub IsFaultIn-error : (app : App) (words : List Text) (error : Error) (e : WordsFault) → app ≡ krbls → (is_simple_and_free app ≡ true → HasKind (fault_of app words) error)
-    → IfWrong e (IsNoText (kind_of error)) → IsFaultIn words e
-IsFaultIn-error app words error (faults.Wrong text) is fails out =
+pub IsFaultFor-error : (app : App) (texts : List Text) (error : Error) (e : WordsFault) → app ≡ krbls → (is_simple_and_free app ≡ true → HasKind (fault_of app texts) error)
+    → IfWrong e (IsNoText (kind_of error)) → IsFaultFor texts e
+IsFaultFor-error app texts error (faults.Wrong text) is fails out =
     let free : is_simple_and_free app ≡ true = ap is_simple_and_free is ∙ krbls-free in
-    wrong_by_kind (fault_of krbls words) words (kind_of error) (subst (λ a. IsAmong (kind_of error) (fault_of a words)) is (among (fault_of app words) error (fails free) out)) out.0
-IsFaultIn-error app words error faults.Memory is fails out = tt
+    wrong_by_kind (fault_of krbls texts) texts (kind_of error) (subst (λ a. IsAmong (kind_of error) (fault_of a texts)) is (among (fault_of app texts) error (fails free) out)) out.0
+IsFaultFor-error app texts error faults.Memory is fails out = tt

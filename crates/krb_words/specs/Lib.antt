@@ -1,3 +1,5 @@
+pub mod Names
 pub mod Sources
+pub mod Times
 pub mod Words
 pub mod inner

@@ -1,7 +1,6 @@
 -- The command line, by `clap`'s own definitions: the options and words of each command, and the command line of the matches of words.
-use Rattle.std.specs.Prelude.{ℕ, pos, ◌≡◌, ◌≢◌, ◌≤◌, ◌⊎◌, Bool, true, false, List, [], ◌∷◌, ◌++◌, Option, Some, None, Ok, codes, map}
-use Rattle.std.specs.Str.Parse.{ParsesUnsigned}
-use Rattle.clap.specs.Words.{App, IsAmong, Kinds, Row, Rule, Text, fault_of, all_of, first_of, one_of, new_app, new_rule, subcommand_of, with_rule, with_subcommand}
+use Rattle.std.specs.Prelude.{ℕ, pos, ◌≡◌, ◌≢◌, ◌≤◌, ◌⊎◌, Bool, true, false, List, [], ◌∷◌, Option, Some, None, codes, map}
+use Rattle.clap.specs.Words.{App, IsAmong, Kinds, Row, Rule, Text, fault_of, first_of, one_of, new_app, new_rule, subcommand_of, with_rule, with_subcommand}
 use Rattle.clap.specs.Simple.{on_top}
 use Rattle.clap.specs.declared.builder.action.ArgAction.TheVariants.{Set, SetTrue}
 use Rattle.clap.specs.declared.builder.value_parser.ValueParser.TheVariants as parser
@@ -15,6 +14,10 @@ use Rattle.krb_text.specs.declared.form.Form.{Form}
 use Rattle.krb_text.specs.declared.form.Form.TheVariants as form
 use Rattle.krb_words.specs.declared.words.AfterRefusal.{AfterRefusal}
 use Rattle.krb_words.specs.declared.words.AfterRefusal.TheVariants as after
+use Rattle.krb_words.specs.declared.words.Inputs.{Inputs}
+use Rattle.krb_words.specs.declared.words.Inputs.TheVariants as inputs
+use Rattle.krb_words.specs.declared.words.Naming.{Naming}
+use Rattle.krb_words.specs.declared.words.Naming.TheVariants as naming
 use Rattle.krb_words.specs.declared.words.Framing.{Framing}
 use Rattle.krb_words.specs.declared.words.Framing.TheVariants as framing
 use Rattle.krb_words.specs.declared.words.Job.{Job}
@@ -22,7 +25,10 @@ use Rattle.krb_words.specs.declared.words.Job.TheVariants as job
 use Rattle.krb_words.specs.declared.words.Order.{Order}
 use Rattle.krb_words.specs.declared.words.WordsFault.{WordsFault}
 use Rattle.krb_words.specs.declared.words.WordsFault.TheVariants as fault
-use Rattle.krb_words.specs.Sources.{path_of, file_path, word_path, words_of, or_input}
+use Rattle.krb_text.specs.FileNames.{name_text}
+use Rattle.krb_words.specs.Names.{as_command}
+use Rattle.krb_words.specs.Sources.{place_of, sources_of}
+use Rattle.krb_words.specs.Times.{Spells, IsNoWhen, IsWhenIf}
 
 -- ---- the command
 -- an option with one value, for which help has a name
@@ -38,7 +44,7 @@ abbrev pub limit_option : Rule
 limit_option = number_option (codes "limit") (parser.Signed (pos 1) (pos 2147483647))
 
 abbrev pub now_option : Rule
-now_option = number_option (codes "now") (parser.Signed (pos 0) (pos 4294967295))
+now_option = option (codes "now")
 
 abbrev pub port_option : Rule
 port_option = number_option (codes "port") (parser.Signed (pos 1) (pos 65535))
@@ -49,6 +55,9 @@ file_option = option (codes "file")
 -- an option with no value
 abbrev pub flag : Text → Rule
 flag name = record (new_rule name) { long = Some name; action = Some SetTrue }
+
+abbrev pub lines_flag : Rule
+lines_flag = flag (codes "lines")
 
 abbrev pub strict_flag : Rule
 strict_flag = flag (codes "strict")
@@ -65,13 +74,17 @@ names_flag = flag (codes "names")
 abbrev pub json_flag : Rule
 json_flag = flag (codes "json")
 
+-- `-H`, too
+abbrev pub with_filename_flag : Rule
+with_filename_flag = record (flag (codes "with-filename")) { short = Some 0x48 }
+
 -- any number of words, for which help has a name
 abbrev pub file_names : Rule
 file_names = record (new_rule (codes "file names")) { range = Some (record { start_inclusive = 0; end_inclusive = usize_max }); value_names = 1 }
 
 -- the options that choose how records are printed
 abbrev pub with_output : App → App
-with_output app = with_rule (with_rule app names_flag) json_flag
+with_output app = with_rule (with_rule (with_rule app names_flag) json_flag) with_filename_flag
 
 -- the words and the option that name what is read
 abbrev pub with_files : App → App
@@ -81,11 +94,14 @@ with_files app = with_rule (with_rule app file_option) file_names
 abbrev pub with_messages : App → App
 with_messages app = with_files (with_rule (with_rule (with_rule app limit_option) strict_flag) unframed_flag)
 
+abbrev pub list_app : App
+list_app = with_files (with_output (with_rule (new_app (codes "list")) now_option))
+
 abbrev pub stream_app : App
 stream_app = with_files (with_output (with_rule (with_rule (with_rule (new_app (codes "stream")) limit_option) keep_going_flag) strict_flag))
 
 abbrev pub message_app : App
-message_app = with_files (with_output (with_rule (new_app (codes "message")) strict_flag))
+message_app = with_files (with_output (with_rule (with_rule (new_app (codes "message")) lines_flag) strict_flag))
 
 abbrev pub keytab_app : App
 keytab_app = with_files (with_output (new_app (codes "keytab")))
@@ -107,13 +123,9 @@ abbrev pub krbls_top : App
 krbls_top = on_top (λ s. record s { no_binary_name = true; disable_help_subcommand = true; subcommand_required = true; has_version = true }) (new_app (codes "krbls"))
 
 abbrev pub krbls : App
-krbls = with_subcommand (with_subcommand (with_subcommand (with_subcommand (with_subcommand (with_subcommand (with_subcommand krbls_top stream_app.top) message_app.top) keytab_app.top) ccache_app.top) capture_app.top) decode_app.top) encode_app.top
+krbls = with_subcommand (with_subcommand (with_subcommand (with_subcommand (with_subcommand (with_subcommand (with_subcommand (with_subcommand krbls_top list_app.top) stream_app.top) message_app.top) keytab_app.top) ccache_app.top) capture_app.top) decode_app.top) encode_app.top
 
 -- ---- the command line
--- a text is a number of 32 bits, as `u32` reads it
-abbrev pub Spells : Text → ℕ → Type 0
-Spells text number = ParsesUnsigned {E = ℕ} 32 10 text (Ok number)
-
 -- the number that a text is, or the default if there is no text
 abbrev pub IsNumberOr : ℕ → Option Text → ℕ → Type 0
 IsNumberOr none None number = number ≡ none
@@ -139,6 +151,16 @@ abbrev pub IsFraming : Option Text → Framing → Type 0
 IsFraming text framing.Framed = text ≢ Some (codes "true")
 IsFraming text framing.Unframed = text ≡ Some (codes "true")
 
+-- what an input of messages is, by a flag
+abbrev pub IsInputs : Option Text → Inputs → Type 0
+IsInputs text inputs.Whole = text ≢ Some (codes "true")
+IsInputs text inputs.EachLine = text ≡ Some (codes "true")
+
+-- which records name their file, by a flag
+abbrev pub IsNaming : Option Text → Naming → Type 0
+IsNaming text naming.Before = text ≢ Some (codes "true")
+IsNaming text naming.Each = text ≡ Some (codes "true")
+
 -- whether a flag is given
 abbrev pub IsGiven : Option Text → Bool → Type 0
 IsGiven text true = text ≡ Some (codes "true")
@@ -150,26 +172,29 @@ IsForm rows form.Json = IsGiven (first_of (codes "json") rows) true
 IsForm rows form.NamedLines = IsGiven (first_of (codes "json") rows) false × IsGiven (first_of (codes "names") rows) true
 IsForm rows form.Lines = IsGiven (first_of (codes "json") rows) false × IsGiven (first_of (codes "names") rows) false
 
+-- a command has no source
+abbrev pub LacksFile : Text → List Row → Type 0
+LacksFile command rows = sources_of command rows ≡ []
+
 -- the job of a command and its options
 abbrev pub IsJob : Text → List Row → Job → Type 0
+IsJob name rows (job.List when) = (name ≡ codes "list") × IsWhenIf (first_of (codes "now") rows) when
 IsJob name rows (job.Stream limit chosen refused) = (name ≡ codes "stream") × IsNumberOr 16777216 (one_of (codes "limit") rows) limit × IsProfile (first_of (codes "strict") rows) chosen × IsAfter (first_of (codes "keep-going") rows) refused
-IsJob name rows (job.Message chosen) = (name ≡ codes "message") × IsProfile (first_of (codes "strict") rows) chosen
+IsJob name rows (job.Message chosen each) = (name ≡ codes "message") × IsProfile (first_of (codes "strict") rows) chosen × IsInputs (first_of (codes "lines") rows) each
 IsJob name rows job.Keytab = name ≡ codes "keytab"
-IsJob name rows (job.Ccache now) = (name ≡ codes "ccache") × IsNumber (one_of (codes "now") rows) now
+IsJob name rows (job.Ccache when) = (name ≡ codes "ccache") × IsWhenIf (first_of (codes "now") rows) when
 IsJob name rows (job.Capture limit port) = (name ≡ codes "capture") × IsNumberOr 16777216 (one_of (codes "limit") rows) limit × IsNumberOr 88 (one_of (codes "port") rows) port
 IsJob name rows (job.Decode limit chosen framed) = (name ≡ codes "decode") × IsNumberOr 16777216 (one_of (codes "limit") rows) limit × IsProfile (first_of (codes "strict") rows) chosen × IsFraming (first_of (codes "unframed") rows) framed
 IsJob name rows (job.Encode limit chosen framed) = (name ≡ codes "encode") × IsNumberOr 16777216 (one_of (codes "limit") rows) limit × IsProfile (first_of (codes "strict") rows) chosen × IsFraming (first_of (codes "unframed") rows) framed
 IsJob name rows (job.Help text) = ⊥
 IsJob name rows (job.Version text) = ⊥
 
--- the job, by the options and words of a command
-abbrev pub sources_of : List Row → List (Option Text)
-sources_of rows = or_input (file_path (first_of (codes "file") rows) ++ map word_path (words_of (all_of (codes "file names") rows)))
-
--- The command line has the job of the command that was found, the form of records, and the sources.
+-- The command line has the job of the command that was found, the form of records, which of them name their file, and the sources, of which there is one at least.
 abbrev pub IsOrderOf : Option (Text × List Row) → Order → Type 0
 IsOrderOf None order = ⊥
-IsOrderOf (Some met) order = IsJob met.0 met.1 order.job × IsForm met.1 order.form × (map path_of order.sources.items ≡ sources_of met.1)
+IsOrderOf (Some met) order =
+    IsJob met.0 met.1 order.job × IsForm met.1 order.form × IsNaming (first_of (codes "with-filename") met.1) order.naming
+    × (map place_of order.sources.items ≡ sources_of met.0 met.1) × (LacksFile met.0 met.1 → ⊥)
 
 -- the job is to print the text of an error of `clap`
 abbrev pub IsTextBy : ErrorKind → Job → Type 0
@@ -182,8 +207,15 @@ abbrev pub IsOrderBy : Kinds → List Text → Order → Type 0
 IsOrderBy [] words order = IsOrderOf (subcommand_of krbls words) order
 IsOrderBy (first ∷ kinds) words order = (kind : ErrorKind) × IsAmong kind (first ∷ kinds) × IsTextBy kind order.job × (order.sources.items ≡ [])
 
-abbrev pub IsOrderIn : List Text → Order → Type 0
-IsOrderIn words order = IsOrderBy (fault_of krbls words) words order
+abbrev pub IsOrderFor : List Text → Order → Type 0
+IsOrderFor texts order = IsOrderBy (fault_of krbls texts) texts order
+
+-- what `clap` reads in place of words: those of a command, each as the names of files are shown
+abbrev pub texts_of : List (List ℕ) → List Text
+texts_of words = map name_text (as_command words)
+
+abbrev pub IsOrderIn : List (List ℕ) → Order → Type 0
+IsOrderIn words order = IsOrderFor (texts_of words) order
 
 -- ---- words that are no command line
 -- a text that is no number from the least to the greatest one
@@ -191,24 +223,29 @@ abbrev pub IsNoNumber : (least greatest : ℕ) → Option Text → Type 0
 IsNoNumber least greatest None = ⊥
 IsNoNumber least greatest (Some text) = (number : ℕ) → Spells text number → least ≤ number → number ≤ greatest → ⊥
 
--- an option with a value that is no number of its range
-abbrev pub HasNoNumber : List Row → Type 0
-HasNoNumber rows = IsNoNumber 1 2147483647 (one_of (codes "limit") rows) ⊎ (IsNoNumber 0 4294967295 (one_of (codes "now") rows) ⊎ IsNoNumber 1 65535 (one_of (codes "port") rows))
+-- an option with a value that is no number of its range, or no time, or a command without a source
+abbrev pub IsUnfit : Text → List Row → Type 0
+IsUnfit command rows =
+    IsNoNumber 1 2147483647 (one_of (codes "limit") rows) ⊎ (IsNoWhen (first_of (codes "now") rows)
+    ⊎ (IsNoNumber 1 65535 (one_of (codes "port") rows) ⊎ LacksFile command rows))
 
-abbrev pub FindsNoNumber : Option (Text × List Row) → Type 0
-FindsNoNumber None = ⊥
-FindsNoNumber (Some met) = HasNoNumber met.1
+abbrev pub FindsUnfit : Option (Text × List Row) → Type 0
+FindsUnfit None = ⊥
+FindsUnfit (Some met) = IsUnfit met.0 met.1
 
 -- the words ask for a text to be printed
 abbrev pub IsRequest : ErrorKind → Type 0
 IsRequest kind = (kind ≡ DisplayHelp) ⊎ (kind ≡ DisplayVersion)
 
--- By the kinds of error that `clap` may return for the words: one of them is no request, or if there is none, an option of the command that was found has no number of its range.
+-- By the kinds of error that `clap` may return for the words: one of them is no request, or if there is none, the command that was found is unfit.
 abbrev pub IsWrongBy : Kinds → List Text → Type 0
-IsWrongBy [] words = FindsNoNumber (subcommand_of krbls words)
+IsWrongBy [] words = FindsUnfit (subcommand_of krbls words)
 IsWrongBy (first ∷ kinds) words = (kind : ErrorKind) × IsAmong kind (first ∷ kinds) × (IsRequest kind → ⊥)
 
 -- what is wrong with words, unless memory ran out
-abbrev pub IsFaultIn : List Text → WordsFault → Type 0
-IsFaultIn words (fault.Wrong text) = IsWrongBy (fault_of krbls words) words
-IsFaultIn words fault.Memory = Unit {0}
+abbrev pub IsFaultFor : List Text → WordsFault → Type 0
+IsFaultFor texts (fault.Wrong text) = IsWrongBy (fault_of krbls texts) texts
+IsFaultFor texts fault.Memory = Unit {0}
+
+abbrev pub IsFaultIn : List (List ℕ) → WordsFault → Type 0
+IsFaultIn words fault = IsFaultFor (texts_of words) fault

@@ -3,20 +3,30 @@
 //! The main calls:
 //!
 //! - [`read_words`] returns the [`Order`] of the words after the program's name, or what is wrong with
-//!   them.
-//! - [`Order`] has what is to be listed ([`Job`]), in which form ([`Form`]), and from which
-//!   sources ([`Source`]). A [`Job`] may also be a text to print: a help or the version.
-//! - [`NOT_UTF8`] is what is wrong with words that are not UTF-8, which the program finds before.
+//!   them. Words are octets, as the system has them: what is not UTF-8 names a file like any other.
+//! - [`Order`] has what is to be listed ([`Job`]), in which form ([`Form`]), which records name their
+//!   file ([`Naming`]), and from which sources ([`Source`]). A [`Job`] may also be a text to print: a
+//!   help or the version.
+//! - [`When`] is the time that credentials are compared with: the clock's, which the program reads,
+//!   or a number of seconds.
 //!
 //! Nothing here opens a file or prints a text: `krbls` does. What each command lists is in
 //! `krb_tool`.
 #![tactic(auto)]
 
+mod commands;
+mod help;
+mod names;
 mod sources;
+mod when;
 mod words;
 
+pub use commands::VERSION;
 pub use krb_der::Profile;
 pub use krb_frame::Limit;
 pub use krb_text::Form;
-pub use sources::Source;
-pub use words::{AfterRefusal, Framing, Job, NOT_UTF8, Order, VERSION, WordsFault, read_words};
+pub use sources::{NamedPath, Source};
+pub use when::When;
+pub use words::{
+    AfterRefusal, Framing, Inputs, Job, Naming, Order, USUAL_PORT, WordsFault, read_words,
+};

@@ -1,16 +1,19 @@
 //! The words of the command line.
 
-ghost use Rattle.std.specs.Prelude.{◌≡◌, false, codes, map, string_bytes, [], IfOk, IfErr};
-ghost use Rattle.clap.specs.Words.{app_of, new_app, found_of, kind_of, rows_of, rule_of, subcommand_rows_of, first_of, one_of};
-ghost use Rattle.clap.specs.declared.builder.command.Command.TheViews.{out-Command};
-ghost use Rattle.krb_words.specs.Words.{file_option, file_names, with_output, with_files, number_option, limit_option, flag, strict_flag, keep_going_flag, names_flag, json_flag, unframed_flag, with_messages, stream_app, message_app, keytab_app, ccache_app, capture_app, decode_app, encode_app, krbls, IsTextBy, IsJob, IsProfile, IsAfter, IsFraming, IsForm, IsGiven, IsOrderOf, IsOrderIn, IsFaultIn, IsNumber, IsNumberOr, IsNoNumber};
+ghost use Rattle.std.specs.Prelude.{◌≡◌, codes, map, [], Some, IfOk, IfErr, OnOk, string_bytes};
+ghost use Rattle.clap.specs.Words.{found_of, kind_of, rows_of, subcommand_rows_of, first_of, one_of};
+ghost use Rattle.krb_words.specs.Sources.{place_of, sources_of};
+ghost use Rattle.krb_words.specs.Times.{IsNoWhen, IsWhenIf};
+ghost use Rattle.krb_words.specs.Words.{IsTextBy, IsJob, IsProfile, IsAfter, IsFraming, IsInputs, IsNaming, IsForm, IsGiven, IsOrderFor, IsOrderOf, IsOrderIn, IsFaultFor, IsFaultIn, IsNumber, IsNumberOr, IsNoNumber, LacksFile};
 ghost use Rattle.krb_words.specs.declared.words.WordsFault.TheVariants as fault;
 ghost use Rattle.krb_words.specs.inner.NotRead.{FindsNoJob, IfWrong, IsNoJob, IsNoText};
 
+use crate::commands::krbls_command;
+use crate::names::command_words;
 use crate::sources::{Source, sources_of};
-use clap::builder::ValueParser;
+use crate::when::{When, read_when};
 use clap::error::ErrorKind;
-use clap::{Arg, ArgAction, ArgMatches, Command, Error, value_parser};
+use clap::{ArgMatches, Error};
 use krb_der::Profile;
 use krb_frame::Limit;
 use krb_text::Form;
@@ -34,19 +37,39 @@ pub enum Framing {
     Unframed,
 }
 
+/// What an input of messages is.
+#[derive(Clone, Copy, PartialEq, Eq, Debug)]
+pub enum Inputs {
+    /// One input.
+    Whole,
+    /// An input in each line.
+    EachLine,
+}
+
+/// Which records name the file that they are of.
+#[derive(Clone, Copy, PartialEq, Eq, Debug)]
+pub enum Naming {
+    /// A record of its own before those of each file, if there are several.
+    Before,
+    /// Each record.
+    Each,
+}
+
 /// What is to be done with the sources: listed, or turned into another form.
 #[derive(Drop)]
 pub enum Job {
+    /// Each source by the command that its first octets say, without options but the time at which
+    /// credentials may have expired.
+    List(Option<When>),
     /// Framed messages of a profile, with frames of at most the limit's octets, and what becomes of
     /// the stream after a refusal.
     Stream(Limit, Profile, AfterRefusal),
-    /// A message of a profile in hexadecimal.
-    Message(Profile),
+    /// A message or a token of a profile, or one in each line.
+    Message(Profile, Inputs),
     /// A keytab.
     Keytab,
-    /// A credential cache, and the time at which credentials may have expired, in seconds since
-    /// 1970.
-    Ccache(Option<u32>),
+    /// A credential cache, and the time at which credentials may have expired.
+    Ccache(Option<When>),
     /// A capture, with frames of at most the limit's octets, and the port of Kerberos.
     Capture(Limit, u16),
     /// Messages of a profile, of at most the limit's octets, which are turned into lines of JSON.
@@ -66,6 +89,8 @@ pub struct Order {
     pub job: Job,
     /// How records are printed.
     pub form: Form,
+    /// Which of them name their file.
+    pub naming: Naming,
     /// The sources to read, in order. There are none if a text is to be printed.
     pub sources: Vec<Source>,
 }
@@ -89,423 +114,40 @@ impl From<AllocError> for WordsFault {
 }
 
 /// The port of Kerberos if none is given (RFC 4120, 7.2).
-const USUAL_PORT: u16 = 88;
-
-/// The version of the program.
-pub const VERSION: &str = "1.0.0";
-
-/// What is wrong with words that are not UTF-8, how the program is called and how to get help.
-pub const NOT_UTF8: &str = "\
-error: invalid UTF-8 was detected in one or more arguments
-
-Usage: krbls <COMMAND> [OPTIONS] [FILE]...
-
-For more information, try '--help'.
-";
-
-/// What help says of a command: first what it does, then how it is called, and last, below its
-/// options, what it reads and prints.
-struct CommandHelp {
-    about: &'static str,
-    usage: &'static str,
-    below: &'static str,
-}
-
-const KRBLS_HELP: CommandHelp = CommandHelp {
-    about: "Lists Kerberos V5 messages, keytabs, credential caches and captures",
-    usage: "krbls <COMMAND> [OPTIONS] [FILE]...",
-    below: "\
-Reads files or the standard input, and prints a line for each message, record or
-credential. The last line says that all was read, or what was refused, at which
-octet and why. If there are several files, a line `file name=FILE` comes before
-the lines of each. With --json lines are JSON objects. No octet of a key or of a
-cipher is shown.
-
-`decode` writes whole messages as JSON, and `encode` makes the same messages of
-it again; what they refuse is on the standard error. So `decode` prints ciphers,
-which can be attacked, but nothing that is not encrypted, and so no key either.
-
-Exit status, the greatest of those of all files:
-  0  all was read
-  1  something was refused, or of a capture lost or unread
-  2  the command line is wrong
-  3  a read, a write or an allocation failed
-
-Example:
-  echo 6f1d301ba003020105a10302010fa20f300da003020112a2060404deadbeef |
-    krbls message",
-};
-
-const STREAM_HELP: CommandHelp = CommandHelp {
-    about: "Lists framed messages",
-    usage: "krbls stream [OPTIONS] [FILE]...",
-    below: "\
-Reads frames, as one direction of a TCP connection to a KDC has them: four
-octets of length, the highest first, and a message. Prints a line for each
-message, and then `end messages=N` or `refused messages=N place=P why=REASON`;
-P counts from the first octet of the frame. With --keep-going a refusal is a
-line of its own, and `end messages=N refused=M` is the last one.
-
-A message has a note if it has an octet above 7F in a string (1), fewer than 32
-flags (2), a negative kvno, nonce or seq-number (3), or an empty list that may
-be left out (4).
-
-Example:
-  perl -e 'print pack \"H*\", \"0000001f6f1d301ba003020105a10302010fa20f300d\" .
-    \"a003020112a2060404deadbeef\"' | krbls stream",
-};
-
-const MESSAGE_HELP: CommandHelp = CommandHelp {
-    about: "Lists a message in hexadecimal",
-    usage: "krbls message [OPTIONS] [FILE]...",
-    below: "\
-Reads digits of either case; spaces, tabs and line ends are ignored. Prints the
-line of the message, or `refused place=P why=REASON`; `refused hex` if the text
-is not hexadecimal, `refused length` if it is more than 16777216 octets.
-
-A message has a note if it has an octet above 7F in a string (1), fewer than 32
-flags (2), a negative kvno, nonce or seq-number (3), or an empty list that may
-be left out (4).
-
-Example:
-  echo 6f1d301ba003020105a10302010fa20f300da003020112a2060404deadbeef |
-    krbls message",
-};
-
-const KEYTAB_HELP: CommandHelp = CommandHelp {
-    about: "Lists a keytab",
-    usage: "krbls keytab [OPTIONS] [FILE]...",
-    below: "\
-Reads a keytab of format 0x0502. Prints a line for each entry and each hole, and
-then `end records=N zero=no` (`zero=yes` if a length of 0 ends it), or
-`refused place=P why=REASON` after the lines of what comes before the fault.
-
-Example:
-  printf '\\5\\2\\377\\377\\377\\376\\0\\0' | krbls keytab",
-};
-
-const CCACHE_HELP: CommandHelp = CommandHelp {
-    about: "Lists a credential cache",
-    usage: "krbls ccache [OPTIONS] [FILE]...",
-    below: "\
-Reads a cache of version 3 or 4. Prints a line for the cache and one for each
-credential or configuration entry, and then `end credentials=N`, or
-`refused place=P why=REASON` after the lines of what comes before the fault.
-
-Example:
-  printf '\\5\\4\\0\\0\\0\\0\\0\\1\\0\\0\\0\\1\\0\\0\\0\\1A\\0\\0\\0\\1u' |
-    krbls ccache --now \"$(date +%s)\"",
-};
-
-const CAPTURE_HELP: CommandHelp = CommandHelp {
-    about: "Lists the messages in a capture",
-    usage: "krbls capture [OPTIONS] [FILE]...",
-    below: "\
-Reads a pcap or a pcapng, as tcpdump, dumpcap and Wireshark write them, from a
-file or a pipe. Lists the messages that UDP and TCP carry from or to the port,
-and those of port 464, by which passwords are changed. Prints a line for each,
-as `krbls stream` does, with `packet=N t=TIME flow=SOURCE>TARGET` before it: the
-packet that completes it, its time, and who sent it to whom. There are such
-lines also for what is refused and for octets that were not captured. The last
-line is `end packets=N messages=N refused=N lost=N unread=N`; if the file is at
-fault, it begins with `refused` and ends with `place=P why=REASON`.
-
-Example:
-  perl -e 'print pack \"H*\", \"a1b2c3d40002000400000000000000000004000000000065\" .
-    \"6b029b1e000000000000003b0000003b4500003b00000000401100007f0000017f000001\" .
-    \"a0000058002700006f1d301ba003020105a10302010fa20f300d\" .
-    \"a003020112a2060404deadbeef\"' | krbls capture",
-};
-
-const DECODE_HELP: CommandHelp = CommandHelp {
-    about: "Writes framed messages as JSON",
-    usage: "krbls decode [OPTIONS] [FILE]...",
-    below: "\
-Reads frames as `krbls stream` does, and writes a line for each message: a JSON
-object of one member, with the names of RFC 4120, appendix A. Octets are in
-hexadecimal. `krbls encode` makes the same frames of the lines again.
-
-A refusal ends a file: the standard error says at which octet of the frame it
-is, why and in which field. So does an EncryptedData of encryption type 0, which
-is not encrypted and so not printed. Other ciphers are printed, and can be
-attacked.
-
-Example:
-  perl -e 'print pack \"H*\", \"0000001f6f1d301ba003020105a10302010fa20f300d\" .
-    \"a003020112a2060404deadbeef\"' | krbls decode",
-};
-
-const ENCODE_HELP: CommandHelp = CommandHelp {
-    about: "Makes framed messages of JSON",
-    usage: "krbls encode [OPTIONS] [FILE]...",
-    below: "\
-Reads a JSON object in each line, as `krbls decode` writes them, and writes the
-frame of each message. Lines of blanks are passed over.
-
-A line that is at fault ends a file: the standard error has its number, the path
-of a field and what is wrong with that.
-
-Example:
-  printf '{\"AP-REP\":{\"pvno\":5,\"msg-type\":15,%s}}\\n' \\
-    '\"enc-part\":{\"etype\":18,\"cipher\":\"00\"}' | krbls encode | krbls stream",
-};
-
-/// Returns a command with its help and no options yet.
-fn new_command<'a>(alloc: Global, name: &'a str, help: &CommandHelp) -> Command<'a>
-    ensures app { app_of result ≡ new_app name.entry.now }
-    ensures local { (out-Command result).has_globals ≡ false }
-{
-    Command::new(alloc, name)
-        .about(help.about)
-        .override_usage(help.usage)
-        .after_help(help.below)
-}
-
-/// Returns the option `--file PATH`.
-fn file_option<'a>(alloc: Global) -> Arg<'a>
-    ensures rule { rule_of result ≡ file_option }
-    ensures local { result.global ≡ false }
-{
-    Arg::new(alloc, "file")
-        .long("file")
-        .action(ArgAction::Set)
-        .value_name("PATH")
-        .help("Reads this file before those that are named")
-}
-
-/// Returns the words `FILE..`, which come after all options of a command.
-fn file_names<'a>(alloc: Global) -> Arg<'a>
-    ensures rule { rule_of result ≡ file_names }
-    ensures local { result.global ≡ false }
-{
-    Arg::new(alloc, "file names")
-        .num_args(0..)
-        .value_name("FILE")
-        .help("Files to read, - for the standard input [-]")
-}
-
-/// Returns an option with no value.
-fn flag<'a>(alloc: Global, name: &'a str, help: &'a str) -> Arg<'a>
-    ensures rule { rule_of result ≡ flag name.entry.now }
-    ensures local { result.global ≡ false }
-{
-    Arg::new(alloc, name)
-        .long(name)
-        .action(ArgAction::SetTrue)
-        .help(help)
-}
-
-/// Returns the option `--strict`.
-fn strict_flag<'a>(alloc: Global) -> Arg<'a>
-    ensures rule { rule_of result ≡ strict_flag }
-    ensures local { result.global ≡ false }
-{
-    flag(alloc, "strict", "Refuses messages that have a note")
-}
-
-/// Returns the option `--keep-going`.
-fn keep_going_flag<'a>(alloc: Global) -> Arg<'a>
-    ensures rule { rule_of result ≡ keep_going_flag }
-    ensures local { result.global ≡ false }
-{
-    flag(
-        alloc,
-        "keep-going",
-        "Goes on with the next frame after one that is refused",
-    )
-}
-
-/// Returns the option `--unframed`.
-fn unframed_flag<'a>(alloc: Global) -> Arg<'a>
-    ensures rule { rule_of result ≡ unframed_flag }
-    ensures local { result.global ≡ false }
-{
-    flag(
-        alloc,
-        "unframed",
-        "Reads or writes one message, without its length",
-    )
-}
-
-/// Returns the option `--names`.
-fn names_flag<'a>(alloc: Global) -> Arg<'a>
-    ensures rule { rule_of result ≡ names_flag }
-    ensures local { result.global ≡ false }
-{
-    flag(
-        alloc,
-        "names",
-        "Adds the names of numbers: 18:aes256-cts-hmac-sha1-96",
-    )
-}
-
-/// Returns the option `--json`.
-fn json_flag<'a>(alloc: Global) -> Arg<'a>
-    ensures rule { rule_of result ≡ json_flag }
-    ensures local { result.global ≡ false }
-{
-    flag(
-        alloc,
-        "json",
-        "Prints each line as a JSON object, with the names",
-    )
-}
-
-/// Returns an option whose value is a number that a parser accepts.
-fn number_option<'a>(
-    alloc: Global,
-    name: &'a str,
-    parser: ValueParser<'a>,
-    value: &'a str,
-    help: &'a str,
-) -> Arg<'a>
-    ensures rule { rule_of result ≡ number_option name.entry.now parser.entry }
-    ensures local { result.global ≡ false }
-{
-    Arg::new(alloc, name)
-        .long(name)
-        .action(ArgAction::Set)
-        .value_parser(parser)
-        .value_name(value)
-        .help(help)
-}
-
-/// Returns the option `--limit OCTETS`.
-fn limit_option<'a>(alloc: Global) -> Arg<'a>
-    ensures rule { rule_of result ≡ limit_option }
-    ensures local { result.global ≡ false }
-{
-    number_option(
-        alloc,
-        "limit",
-        value_parser!(u32).range(1..=2147483647),
-        "OCTETS",
-        "Greatest length of a frame, 1 to 2147483647 [16777216]",
-    )
-}
-
-/// Returns a command whose records may be printed with names and as JSON.
-fn with_output<'a>(alloc: Global, command: Command<'a>) -> Result<Command<'a>, AllocError>
-    requires local { (out-Command command).has_globals ≡ false }
-    ensures { IfOk result (λ c. (app_of c ≡ with_output (app_of command.entry)) × ((out-Command c).has_globals ≡ false)) }
-{
-    command.arg(names_flag(alloc))?.arg(json_flag(alloc))
-}
-
-/// Returns a command with the words that name files.
-fn with_files<'a>(alloc: Global, command: Command<'a>) -> Result<Command<'a>, AllocError>
-    requires local { (out-Command command).has_globals ≡ false }
-    ensures { IfOk result (λ c. (app_of c ≡ with_files (app_of command.entry)) × ((out-Command c).has_globals ≡ false)) }
-{
-    command.arg(file_option(alloc))?.arg(file_names(alloc))
-}
-
-/// Returns a command with the options and words of one that turns messages into another form.
-fn with_messages<'a>(alloc: Global, command: Command<'a>) -> Result<Command<'a>, AllocError>
-    requires local { (out-Command command).has_globals ≡ false }
-    ensures { IfOk result (λ c. (app_of c ≡ with_messages (app_of command.entry)) × ((out-Command c).has_globals ≡ false)) }
-{
-    let command = command
-        .arg(limit_option(alloc))?
-        .arg(strict_flag(alloc))?
-        .arg(unframed_flag(alloc))?;
-    with_files(alloc, command)
-}
-
-/// Returns the command `stream`.
-fn stream_command<'a>(alloc: Global) -> Result<Command<'a>, AllocError>
-    ensures { IfOk result (λ c. (app_of c ≡ stream_app) × ((out-Command c).has_globals ≡ false)) }
-{
-    let command = new_command(alloc, "stream", &STREAM_HELP)
-        .arg(limit_option(alloc))?
-        .arg(keep_going_flag(alloc))?
-        .arg(strict_flag(alloc))?;
-    with_files(alloc, with_output(alloc, command)?)
-}
-
-/// Returns the command `message`.
-fn message_command<'a>(alloc: Global) -> Result<Command<'a>, AllocError>
-    ensures { IfOk result (λ c. (app_of c ≡ message_app) × ((out-Command c).has_globals ≡ false)) }
-{
-    let command = new_command(alloc, "message", &MESSAGE_HELP).arg(strict_flag(alloc))?;
-    with_files(alloc, with_output(alloc, command)?)
-}
-
-/// Returns the command `keytab`.
-fn keytab_command<'a>(alloc: Global) -> Result<Command<'a>, AllocError>
-    ensures { IfOk result (λ c. (app_of c ≡ keytab_app) × ((out-Command c).has_globals ≡ false)) }
-{
-    let command = new_command(alloc, "keytab", &KEYTAB_HELP);
-    with_files(alloc, with_output(alloc, command)?)
-}
-
-/// Returns the command `ccache`.
-fn ccache_command<'a>(alloc: Global) -> Result<Command<'a>, AllocError>
-    ensures { IfOk result (λ c. (app_of c ≡ ccache_app) × ((out-Command c).has_globals ≡ false)) }
-{
-    let now = number_option(
-        alloc,
-        "now",
-        value_parser!(u32),
-        "SECONDS",
-        "Shows which have expired by then, in seconds since 1970",
-    );
-    let command = new_command(alloc, "ccache", &CCACHE_HELP).arg(now)?;
-    with_files(alloc, with_output(alloc, command)?)
-}
-
-/// Returns the command `capture`.
-fn capture_command<'a>(alloc: Global) -> Result<Command<'a>, AllocError>
-    ensures { IfOk result (λ c. (app_of c ≡ capture_app) × ((out-Command c).has_globals ≡ false)) }
-{
-    let port = number_option(
-        alloc,
-        "port",
-        value_parser!(u16).range(1..),
-        "PORT",
-        "Port of Kerberos, 1 to 65535 [88]",
-    );
-    let command = new_command(alloc, "capture", &CAPTURE_HELP)
-        .arg(limit_option(alloc))?
-        .arg(port)?;
-    with_files(alloc, with_output(alloc, command)?)
-}
-
-/// Returns the command `decode`.
-fn decode_command<'a>(alloc: Global) -> Result<Command<'a>, AllocError>
-    ensures { IfOk result (λ c. (app_of c ≡ decode_app) × ((out-Command c).has_globals ≡ false)) }
-{
-    with_messages(alloc, new_command(alloc, "decode", &DECODE_HELP))
-}
-
-/// Returns the command `encode`.
-fn encode_command<'a>(alloc: Global) -> Result<Command<'a>, AllocError>
-    ensures { IfOk result (λ c. (app_of c ≡ encode_app) × ((out-Command c).has_globals ≡ false)) }
-{
-    with_messages(alloc, new_command(alloc, "encode", &ENCODE_HELP))
-}
-
-/// Returns the command `krbls`, which `clap` calls simple.
-fn krbls_command<'a>(alloc: Global) -> Result<Command<'a>, AllocError>
-    ensures { IfOk result (λ c. app_of c ≡ krbls) }
-{
-    new_command(alloc, "krbls", &KRBLS_HELP)
-        .no_binary_name(true)
-        .disable_help_subcommand(true)
-        .subcommand_required(true)
-        .version(VERSION)
-        .subcommand(stream_command(alloc)?)?
-        .subcommand(message_command(alloc)?)?
-        .subcommand(keytab_command(alloc)?)?
-        .subcommand(ccache_command(alloc)?)?
-        .subcommand(capture_command(alloc)?)?
-        .subcommand(decode_command(alloc)?)?
-        .subcommand(encode_command(alloc)?)
-}
+pub const USUAL_PORT: u16 = 88;
 
 /// Returns the fault of words that `clap` accepts and that are no command line. There are none.
 fn not_read(alloc: Global) -> WordsFault {
     match String::from_str(alloc, "error: the command line is not read\n") {
+        Ok(text) => WordsFault::Wrong(text),
+        Err(_) => WordsFault::Memory,
+    }
+}
+
+/// Returns the fault of a text that says no time.
+fn no_time(alloc: Global, text: &str) -> WordsFault {
+    let line = format!(in alloc;
+        "error: invalid value '{text}' for '--now <WHEN>': not now, a date and time as 2026-11-22T12:00:00Z, or seconds since 1970\n\nFor more information, try '--help'.\n"
+    );
+    match line {
+        Ok(text) => WordsFault::Wrong(text),
+        Err(_) => WordsFault::Memory,
+    }
+}
+
+/// What is wrong with words that name nothing to list.
+const NO_FILE: &str = "\
+error: the following required arguments were not provided:
+  <FILE>
+
+Usage: krbls [list] [OPTIONS] FILE...
+
+For more information, try '--help'.
+";
+
+/// Returns the fault of words that name nothing to list.
+fn no_file(alloc: Global) -> WordsFault {
+    match String::from_str(alloc, NO_FILE) {
         Ok(text) => WordsFault::Wrong(text),
         Err(_) => WordsFault::Memory,
     }
@@ -546,6 +188,20 @@ fn port_of(alloc: Global, found: &ArgMatches<'_>) -> Result<u16, WordsFault>
         Some(number) => match u16::try_from(number) {
             Ok(port) => Ok(port),
             Err(_) => Err(not_read(alloc)),
+        },
+    }
+}
+
+/// Returns the time that is given, if there is one.
+fn when_of(alloc: Global, found: &ArgMatches<'_>) -> Result<Option<When>, WordsFault>
+    ensures when { IfOk result (IsWhenIf (first_of (codes "now") (rows_of (found_of found.now)))) }
+    ensures fault { IfErr result (λ e. IfWrong e (IsNoWhen (first_of (codes "now") (rows_of (found_of found.now))))) }
+{
+    match found.get_str("now") {
+        None => Ok(None),
+        Some(text) => match read_when(text) {
+            Some(when) => Ok(Some(when)),
+            None => Err(no_time(alloc, text)),
         },
     }
 }
@@ -603,6 +259,28 @@ fn framing_of(found: &ArgMatches<'_>) -> Framing
     }
 }
 
+/// Returns what an input of messages is: an input in each line if its flag is given, and else one.
+fn inputs_of(found: &ArgMatches<'_>) -> Inputs
+    ensures { IsInputs (first_of (codes "lines") (rows_of (found_of found.now))) result }
+{
+    if is_given(found, "lines") {
+        Inputs::EachLine
+    } else {
+        Inputs::Whole
+    }
+}
+
+/// Returns which records name their file: each if the flag is given.
+fn naming_of(found: &ArgMatches<'_>) -> Naming
+    ensures { IsNaming (first_of (codes "with-filename") (rows_of (found_of found.now))) result }
+{
+    if is_given(found, "with-filename") {
+        Naming::Each
+    } else {
+        Naming::Before
+    }
+}
+
 /// Returns the form of records: JSON if its flag is given, and else lines, with names if theirs is.
 fn form_of(found: &ArgMatches<'_>) -> Form
     ensures { IsForm (rows_of (found_of found.now)) result }
@@ -623,14 +301,15 @@ fn job_of(alloc: Global, name: &str, found: &ArgMatches<'_>) -> Result<Job, Word
     ensures fault { IfErr result (λ e. IfWrong e (IsNoJob name.now (rows_of (found_of found.now)))) }
 {
     match name {
+        "list" => Ok(Job::List(when_of(alloc, found)?)),
         "stream" => Ok(Job::Stream(
             limit_of(alloc, found)?,
             profile_of(found),
             after_refusal_of(found),
         )),
-        "message" => Ok(Job::Message(profile_of(found))),
+        "message" => Ok(Job::Message(profile_of(found), inputs_of(found))),
         "keytab" => Ok(Job::Keytab),
-        "ccache" => Ok(Job::Ccache(number_of(alloc, found, "now")?)),
+        "ccache" => Ok(Job::Ccache(when_of(alloc, found)?)),
         "capture" => Ok(Job::Capture(limit_of(alloc, found)?, port_of(alloc, found)?)),
         "decode" => Ok(Job::Decode(
             limit_of(alloc, found)?,
@@ -646,6 +325,23 @@ fn job_of(alloc: Global, name: &str, found: &ArgMatches<'_>) -> Result<Job, Word
     }
 }
 
+/// Returns the sources of a command, of which there has to be one.
+fn some_sources_of(
+    alloc: Global,
+    command: &str,
+    found: &ArgMatches<'_>,
+) -> Result<Vec<Source>, WordsFault>
+    ensures sources { IfOk result (λ sources. map place_of sources.items ≡ sources_of command.now (rows_of (found_of found.now))) }
+    ensures some { OnOk result (LacksFile command.now (rows_of (found_of found.now)) → ⊥) }
+    ensures fault { IfErr result (λ e. IfWrong e (LacksFile command.now (rows_of (found_of found.now)))) }
+{
+    let sources = sources_of(alloc, command, found)?;
+    if sources.is_empty() {
+        return Err(no_file(alloc));
+    }
+    Ok(sources)
+}
+
 /// Returns the command line of the matches.
 fn order_of(alloc: Global, matches: &ArgMatches<'_>) -> Result<Order, WordsFault>
     ensures order { IfOk result (IsOrderOf (subcommand_rows_of matches.now)) }
@@ -655,9 +351,13 @@ fn order_of(alloc: Global, matches: &ArgMatches<'_>) -> Result<Order, WordsFault
         None => Err(not_read(alloc)),
         Some((name, found)) => {
             let job = job_of(alloc, name, found)?;
-            let form = form_of(found);
-            let sources = sources_of(alloc, found)?;
-            Ok(Order { job, form, sources })
+            let sources = some_sources_of(alloc, name, found)?;
+            Ok(Order {
+                job,
+                form: form_of(found),
+                naming: naming_of(found),
+                sources,
+            })
         }
     }
 }
@@ -677,19 +377,30 @@ fn text_of(alloc: Global, error: &Error) -> Result<Order, WordsFault>
     Ok(Order {
         job,
         form: Form::Lines,
+        naming: Naming::Before,
         sources: Vec::new(alloc),
     })
 }
 
-/// Returns the command line of the words after the program's name: a command, its options and the
-/// files to read, as `clap` reads them.
-pub fn read_words(alloc: Global, words: &[String]) -> Result<Order, WordsFault>
-    ensures order { IfOk result (IsOrderIn (map string_bytes words.now)) }
-    ensures fault { IfErr result (IsFaultIn (map string_bytes words.now)) }
+/// Returns the command line of texts, as `clap` reads them: a command, its options and the files to
+/// read.
+fn read_texts(alloc: Global, texts: &[String]) -> Result<Order, WordsFault>
+    ensures order { IfOk result (IsOrderFor (map string_bytes texts.now)) }
+    ensures fault { IfErr result (IsFaultFor (map string_bytes texts.now)) }
 {
     let command = krbls_command(alloc)?;
-    match command.try_get_matches_from(words) {
+    match command.try_get_matches_from(texts) {
         Ok(matches) => order_of(alloc, &matches),
         Err(error) => text_of(alloc, &error),
     }
+}
+
+/// Returns the command line of the words after the program's name. Words are octets, as the system
+/// has them.
+pub fn read_words(alloc: Global, words: &[Vec<u8>]) -> Result<Order, WordsFault>
+    ensures order { IfOk result (IsOrderIn (map (λ word. word.items) words.now)) }
+    ensures fault { IfErr result (IsFaultIn (map (λ word. word.items) words.now)) }
+{
+    let texts = command_words(alloc, words)?;
+    read_texts(alloc, texts.as_slice())
 }

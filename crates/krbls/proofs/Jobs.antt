@@ -5,5 +5,5 @@ use Rattle.krb_tool.specs.Sources.{Outcome}
 use Rattle.krb_words.specs.declared.words.Job.{Job}
 use Rattle.krbls.specs.Jobs.{Does}
 
-pub of_job : (IsTold : List ℕ → Type 0) (form : Form) (job other : Job) (had left written_before written_after : Option (List ℕ)) (outcome : Outcome) → job ≡ other → Does IsTold form other had left written_before written_after outcome → Does IsTold form job had left written_before written_after outcome
-of_job IsTold form job other had left written_before written_after outcome is does = subst (λ (j : Job). Does IsTold form j had left written_before written_after outcome) (sym is) does
+pub of_job : (IsTold : List ℕ → Type 0) (form : Form) (now : Option ℕ) (job other : Job) (had left written_before written_after : Option (List ℕ)) (outcome : Outcome) → job ≡ other → Does IsTold form now other had left written_before written_after outcome → Does IsTold form now job had left written_before written_after outcome
+of_job IsTold form now job other had left written_before written_after outcome is does = subst (λ (j : Job). Does IsTold form now j had left written_before written_after outcome) (sym is) does

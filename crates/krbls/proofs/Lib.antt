@@ -1,3 +1,4 @@
 mod Conversions
+mod EachSource
 mod Jobs
-mod Sources
+mod Stand

@@ -2,8 +2,8 @@
 use Rattle.std.specs.Prelude.{ℕ, List, [], ◌++◌, codes, decimal, string_bytes}
 use Rattle.std.specs.Option.{option_map}
 use Rattle.krb_json.specs.Reading.{read_fault_text}
-use Rattle.krb_text.specs.Refusals.{message_refused_line}
-use Rattle.krb_text.specs.Streams.{refused_line}
+use Rattle.krb_text.specs.Refusals.{untold_message_refused_line}
+use Rattle.krb_text.specs.Streams.{untold_refused_line}
 use Rattle.krb_text.specs.declared.form.Form.TheVariants.{NamedLines}
 use Rattle.krb_tool.specs.declared.decode_run.DecodeEnd.{DecodeEnd}
 use Rattle.krb_tool.specs.declared.decode_run.DecodeEnd.TheVariants as decoded
@@ -23,8 +23,8 @@ message_number framing.Unframed number = []
 -- a refusal is that of `krbls stream --names`, or of `krbls message --names`
 abbrev pub decode_end_line : Framing → DecodeEnd → List ℕ
 decode_end_line chosen decoded.Clean = []
-decode_end_line framing.Framed (decoded.Refused messages refusal path) = refused_line NamedLines messages refusal.place refusal.why (option_map string_bytes path)
-decode_end_line framing.Unframed (decoded.Refused messages refusal path) = message_refused_line NamedLines refusal (option_map string_bytes path)
+decode_end_line framing.Framed (decoded.Refused messages refusal path) = untold_refused_line NamedLines messages refusal.place refusal.why (option_map string_bytes path)
+decode_end_line framing.Unframed (decoded.Refused messages refusal path) = untold_message_refused_line NamedLines refusal (option_map string_bytes path)
 decode_end_line chosen (decoded.Unsealed message path) = message_number chosen message ++ string_bytes path ++ codes ": not encrypted, and so not printed\n"
 
 abbrev pub encode_end_line : EncodeEnd → List ℕ

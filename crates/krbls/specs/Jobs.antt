@@ -1,6 +1,13 @@
 -- What is done with a source by a job: the run of its command, in the form and by the profile, the limit and the numbers of the job.
-use Rattle.std.specs.Prelude.{ℕ, ◌≡◌, Bool, true, false, List, [], ◌∷◌, Option, Some, IfOk, IfErr, OnErr}
+use Rattle.std.specs.Prelude.{ℕ, ◌≡◌, Bool, true, false, List, [], ◌∷◌, Option, Some, None, IfOk, IfErr, OnErr}
+use Rattle.std.specs.Option.{option_and_then}
 use Rattle.krb_der.specs.declared.profile.Profile.{Profile}
+use Rattle.krb_der.specs.declared.profile.Profile.TheVariants as profile
+use Rattle.krb_input.specs.Hints.{hint_for}
+use Rattle.krb_input.specs.Sources.{command_for}
+use Rattle.krb_input.specs.declared.hint.Hint.{Hint}
+use Rattle.krb_input.specs.declared.source_kind.SourceKind.{SourceKind}
+use Rattle.krb_input.specs.declared.source_kind.SourceKind.TheVariants as kind
 use Rattle.krb_text.specs.declared.form.Form.{Form}
 use Rattle.krb_tool.specs.Captures.{capture_listing}
 use Rattle.krb_tool.specs.Decoding.{Decodes, DecodesWhole, FailsToDecode, FailsToDecodeWhole}
@@ -8,7 +15,8 @@ use Rattle.krb_tool.specs.Encoding.{Encodes, FailsToEncode}
 use Rattle.krb_tool.specs.Files.{FailsFile, ListsFile, ListsRecords, ccache_listing, keytab_listing}
 use Rattle.krb_tool.specs.GoingOn.{FailsAll, ListsAll}
 use Rattle.krb_tool.specs.Listing.{Fails, Lists}
-use Rattle.krb_tool.specs.Messages.{IsHexListing}
+use Rattle.krb_tool.specs.MessageLines.{FailsLines, ListsLines}
+use Rattle.krb_tool.specs.Messages.{IsMessageListing}
 use Rattle.krb_tool.specs.Sources.{Run}
 use Rattle.krb_tool.specs.declared.decode_run.DecodeEnd.{DecodeEnd}
 use Rattle.krb_tool.specs.declared.encode_run.EncodeEnd.{EncodeEnd}
@@ -17,6 +25,8 @@ use Rattle.krb_tool.specs.declared.run.RunEnd.TheVariants as run
 use Rattle.krb_words.specs.declared.words.AfterRefusal.TheVariants as after
 use Rattle.krb_words.specs.declared.words.Framing.{Framing}
 use Rattle.krb_words.specs.declared.words.Framing.TheVariants as framing
+use Rattle.krb_words.specs.declared.when.When.{When}
+use Rattle.krb_words.specs.declared.words.Inputs.TheVariants as inputs
 use Rattle.krb_words.specs.declared.words.Job.{Job}
 use Rattle.krb_words.specs.declared.words.Job.TheVariants as job
 use Rattle.krbls.specs.Ends.{decode_end_line, encode_end_line}
@@ -48,25 +58,55 @@ pub record Turns {E : Type 0} (TurnsTo : E → Type 0) (line : E → List ℕ) (
   pub turned : TurnsTo end
   pub told : TellsEnd IsTold (line end) ended
 
+-- ---- the command of a source
+-- the job that lists a source of a kind, without options but a time
+abbrev pub job_for : SourceKind → Option When → Job
+job_for kind.Keytab when = job.Keytab
+job_for kind.Ccache when = job.Ccache when
+job_for kind.Capture when = job.Capture 16777216 88
+job_for kind.Message when = job.Message profile.Lenient inputs.Whole
+job_for kind.Stream when = job.Stream 16777216 profile.Lenient after.Ends
+
+-- the job that a source has by its first octets, if there is no command
+abbrev pub chosen : Job → (first : List ℕ) → Job
+chosen (job.List when) first = job_for (command_for first) when
+chosen named first = named
+
+-- the kind of the sources that a job lists
+abbrev pub kind_used : Job → Option SourceKind
+kind_used job.Keytab = Some kind.Keytab
+kind_used (job.Ccache when) = Some kind.Ccache
+kind_used (job.Capture limit port) = Some kind.Capture
+kind_used (job.Message profile each) = Some kind.Message
+kind_used (job.Stream limit profile refused) = Some kind.Stream
+kind_used _ = None
+
+-- the hint for a source that is listed by a job, by its first octets
+abbrev pub hint_by : Job → (first : List ℕ) → Option Hint
+hint_by used first = option_and_then (λ kind. hint_for kind first) (kind_used used)
+
 -- ---- a job over a reader that had octets and has others left, and what is written
-abbrev pub Does : (IsTold : List ℕ → Type 0) → Form → Job → (had left : Option (List ℕ)) → Run
-Does IsTold form (job.Stream limit profile after.Ends) had left written_before written_after outcome =
+abbrev pub Does : (IsTold : List ℕ → Type 0) → Form → (now : Option ℕ) → Job → (had left : Option (List ℕ)) → Run
+Does IsTold form now (job.Stream limit profile after.Ends) had left written_before written_after outcome =
     IfOk outcome (Lists form profile limit had left written_before written_after) × IfErr outcome (Fails form profile limit had left written_before written_after)
-Does IsTold form (job.Stream limit profile after.GoesOn) had left written_before written_after outcome =
+Does IsTold form now (job.Stream limit profile after.GoesOn) had left written_before written_after outcome =
     IfOk outcome (ListsAll form profile limit had left written_before written_after) × IfErr outcome (FailsAll form profile limit had left written_before written_after)
-Does IsTold form (job.Message profile) had left written_before written_after outcome =
-    IfOk outcome (ListsFile (IsHexListing form profile) had left written_before written_after) × IfErr outcome (FailsFile (IsHexListing form profile) had left written_before written_after)
-Does IsTold form job.Keytab had left written_before written_after outcome =
+Does IsTold form now (job.Message profile inputs.Whole) had left written_before written_after outcome =
+    IfOk outcome (ListsFile (IsMessageListing form profile) had left written_before written_after) × IfErr outcome (FailsFile (IsMessageListing form profile) had left written_before written_after)
+Does IsTold form now (job.Message profile inputs.EachLine) had left written_before written_after outcome =
+    IfOk outcome (ListsLines form profile had left written_before written_after) × OnErr outcome (FailsLines form profile had left written_before written_after)
+Does IsTold form now job.Keytab had left written_before written_after outcome =
     (file : List ℕ) → had ≡ Some file → ListsRecords (keytab_listing form file) written_before written_after outcome
-Does IsTold form (job.Ccache now) had left written_before written_after outcome =
+Does IsTold form now (job.Ccache when) had left written_before written_after outcome =
     (file : List ℕ) → had ≡ Some file → ListsRecords (ccache_listing form now file) written_before written_after outcome
-Does IsTold form (job.Capture limit port) had left written_before written_after outcome =
+Does IsTold form now (job.Capture limit port) had left written_before written_after outcome =
     (file : List ℕ) → had ≡ Some file → ListsRecords (capture_listing (record { form = form; limit = limit; port = port }) file) written_before written_after outcome
-Does IsTold form (job.Decode limit profile how) had left written_before written_after outcome =
+Does IsTold form now (job.Decode limit profile how) had left written_before written_after outcome =
     IfOk outcome (Turns (DecodesBy how profile limit had left written_before written_after) (decode_end_line how) IsTold)
     × OnErr outcome (FailsToDecodeBy how profile limit had left written_before written_after)
-Does IsTold form (job.Encode limit profile how) had left written_before written_after outcome =
+Does IsTold form now (job.Encode limit profile how) had left written_before written_after outcome =
     IfOk outcome (Turns (EncodesBy how profile limit had left written_before written_after) encode_end_line IsTold)
     × OnErr outcome (FailsToEncode (is_framed how) profile limit had left written_before written_after)
-Does IsTold form (job.Help text) had left written_before written_after outcome = written_after ≡ written_before
-Does IsTold form (job.Version text) had left written_before written_after outcome = written_after ≡ written_before
+Does IsTold form now (job.List when) had left written_before written_after outcome = written_after ≡ written_before
+Does IsTold form now (job.Help text) had left written_before written_after outcome = written_after ≡ written_before
+Does IsTold form now (job.Version text) had left written_before written_after outcome = written_after ≡ written_before

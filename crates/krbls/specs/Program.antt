@@ -1,56 +1,140 @@
 -- What the program does by its words: to the standard output, to the standard error, and its status.
-use Rattle.std.specs.Prelude.{ℕ, ◌≡◌, ◌⊎◌, Bool, true, false, nat_lt, if◌then◌else◌, List, length, Option, Some, None, Result, Ok, Err, codes, string_bytes, unwrap_or}
-use Rattle.std.specs.Io.KnownBytes.{Appends}
+use Rattle.std.specs.Prelude.{ℕ, ◌≡◌, ◌++◌, ◌⊎◌, max, Bool, true, false, if◌then◌else◌, List, length, map, Option, Some, None, Result, Ok, Err, IfOk, codes, string_bytes}
+use Rattle.std.specs.Io.KnownBytes.{Appends, Keeps}
+use Rattle.std.specs.List.{list_any}
+use Rattle.krb_input.specs.Hints.{hint_text}
+use Rattle.krb_input.specs.declared.hint.Hint.{Hint}
+use Rattle.krb_input.specs.declared.source_kind.SourceKind.{SourceKind}
+use Rattle.krb_text.specs.FileNames.{name_text}
+use Rattle.krb_text.specs.declared.form.Form.{Form}
 use Rattle.krb_tool.specs.Faults.{IsRead, IsWrite}
-use Rattle.krb_tool.specs.Sources.{ListsEach, ListsOne, Outcome, Reports, Run, RunOver}
+use Rattle.krb_tool.specs.Outputs.{head_of, is_refusal, mark_of}
+use Rattle.krb_tool.specs.Sources.{ListsEach, ListsOne, Named, Outcome, Reports, Run, RunOver, names_of, unnamed}
+use Rattle.krb_tool.specs.declared.naming.Naming.{Naming as Labels}
+use Rattle.krb_tool.specs.declared.naming.Naming.TheVariants as labels
+use Rattle.krb_tool.specs.declared.output.Place.{Place}
 use Rattle.krb_tool.specs.declared.run.RunFault.{RunFault}
 use Rattle.krb_tool.specs.declared.run.RunFault.TheVariants as fault
-use Rattle.krb_words.specs.Sources.{path_of}
+use Rattle.krb_words.specs.Sources.{place_of}
 use Rattle.krb_words.specs.Words.{IsFaultIn, IsOrderIn}
 use Rattle.krb_words.specs.declared.sources.Source.{Source}
 use Rattle.krb_words.specs.declared.sources.Source.TheVariants as source
+use Rattle.krb_words.specs.declared.when.When.{When}
+use Rattle.krb_words.specs.declared.when.When.TheVariants as when
 use Rattle.krb_words.specs.declared.words.Job.{Job}
 use Rattle.krb_words.specs.declared.words.Job.TheVariants as job
+use Rattle.krb_words.specs.declared.words.Naming.{Naming}
+use Rattle.krb_words.specs.declared.words.Naming.TheVariants as naming
 use Rattle.krb_words.specs.declared.words.Order.{Order}
 use Rattle.krb_words.specs.declared.words.WordsFault.{WordsFault}
 use Rattle.krb_words.specs.declared.words.WordsFault.TheVariants as words_fault
-use Rattle.krbls.specs.Jobs.{Does}
+use Rattle.krbls.specs.Around.{Around}
+use Rattle.krbls.specs.Expanded.{Expands}
+use Rattle.krbls.specs.Jobs.{Does, chosen, hint_by, kind_used}
 
--- What is around the program: the octets that a source has, where they are known, and what was told to the standard error: the fault by which the run over a source ended, the line of what a source was not turned into another form to its end for, and what is wrong with the words.
-pub record Around : Type 1 where
-  pub octets : Source → Option (List ℕ)
-  pub IsFaultTold : Source → RunFault → Type 0
-  pub IsEndTold : Source → List ℕ → Type 0
-  pub AreWordsTold : List ℕ → Type 0
-
--- the name of a source, among several
+-- the name of a source, as it was given
 abbrev pub name_of : Source → List ℕ
-name_of s = unwrap_or (path_of s) (codes "-")
+name_of source.Input = codes "-"
+name_of (source.File file) = file.name.items
+name_of (source.Directory directory) = directory.name.items
+
+-- ---- times
+-- the time that a job compares credentials with
+abbrev pub when_of : Job → Option When
+when_of (job.List when) = when
+when_of (job.Ccache when) = when
+when_of _ = None
+
+-- it is a number of seconds, or what the clock says
+abbrev pub IsTime : Around → Option When → Option ℕ → Type 0
+IsTime around None now = now ≡ None
+IsTime around (Some (when.Seconds seconds)) now = now ≡ Some seconds
+IsTime around (Some when.Clock) None = ⊥
+IsTime around (Some when.Clock) (Some now) = around.IsNow now
 
 -- ---- sources
 abbrev pub IsUnread : Outcome → Type 0
 IsUnread (Ok ended) = ⊥
 IsUnread (Err fault) = IsRead fault
 
--- a source was opened and its job was done, or it could not be opened
-abbrev pub DoesFrom : Around → Order → Source → Run
-DoesFrom around order s written_before written_after outcome =
-    ((left : Option (List ℕ)) × Does (around.IsEndTold s) order.form order.job (around.octets s) left written_before written_after outcome)
+-- a hint for a source is told, if there is one; it gives the command as it was given
+abbrev pub IsHinted : Around → Source → Option SourceKind → Option Hint → Type 0
+IsHinted around s given None = Unit {0}
+IsHinted around s given (Some hint) = around.IsHintTold s (hint_text hint given (name_text (name_of s)))
+
+abbrev pub IsHintedIf : Bool → Around → Source → Option SourceKind → Option Hint → Type 0
+IsHintedIf false around s given hint = Unit {0}
+IsHintedIf true around s given hint = IsHinted around s given hint
+
+-- a hint for a source is told if the first record of its listing is a refusal
+abbrev pub Hints : Around → Source → Option SourceKind → Option Hint → (written_after : Option (List ℕ)) → Type 0
+Hints around s given hint written_after =
+    (place : Place) (label before told : List ℕ) → written_after ≡ Some (mark_of place label before ++ told) → IsHintedIf (is_refusal (head_of told)) around s given hint
+
+-- A job is done with a source that begins with some octets, and a hint is told.
+pub record ListsBy (around : Around) (form : Form) (now : Option ℕ) (command : Job) (s : Source) (used : Job) (first : List ℕ) (had written_before written_after : Option (List ℕ)) (outcome : Outcome) : Type 0 where
+  pub left : Option (List ℕ)
+  pub result : Outcome
+  pub does : Does (around.IsEndTold s) form now used had left written_before written_after result
+  pub ends : (outcome ≡ result) ⊎ (outcome ≡ Err fault.Memory)
+  pub hinted : IfOk outcome (λ ended. Hints around s (kind_used command) (hint_by used first) written_after)
+
+-- octets that are known begin with these
+abbrev pub BeginsWith : (first : List ℕ) → Option (List ℕ) → Type 0
+BeginsWith first None = Unit {0}
+BeginsWith first (Some octets) = (rest : List ℕ) × (octets ≡ first ++ rest)
+
+-- A source was opened, and its job was done: that of the command line, or, if this has none, that of its first octets, of which 16 are looked at, or all that could be read at first.
+pub record DoesOpened (around : Around) (form : Form) (now : Option ℕ) (command : Job) (s : Source) (written_before written_after : Option (List ℕ)) (outcome : Outcome) : Type 0 where
+  pub first : List ℕ
+  pub begins : BeginsWith first (around.octets s)
+  pub had : Option (List ℕ)
+  pub same : Keeps (around.octets s) had
+  pub lists : ListsBy around form now command s (chosen command first) first had written_before written_after outcome
+
+-- a source was opened, or it could not be
+abbrev pub DoesFrom : Around → Form → Option ℕ → Job → Source → Run
+DoesFrom around form now command s written_before written_after outcome =
+    DoesOpened around form now command s written_before written_after outcome
     ⊎ ((written_after ≡ written_before) × IsUnread outcome)
 
--- messages and lines of JSON are turned into each other, and what sources become is written without their names
+-- messages and lines of JSON are turned into each other
 abbrev pub is_converted : Job → Bool
 is_converted (job.Decode limit profile how) = true
 is_converted (job.Encode limit profile how) = true
 is_converted _ = false
 
-abbrev pub are_named : Order → Bool
-are_named order = if is_converted order.job then false else nat_lt 1 (length order.sources.items)
+-- Each cache of a directory has its record, even if it is the only one.
+abbrev pub is_directory : Source → Bool
+is_directory (source.Directory directory) = true
+is_directory _ = false
 
--- The job of a command line is done with each of its sources, and the fault by which a run ends is told.
-abbrev pub DoesEach : Around → Order → RunOver
-DoesEach around order written_before written_after status =
-    ListsEach (λ s. Reports (around.IsFaultTold s) (ListsOne order.form (are_named order) (name_of s) (DoesFrom around order s))) order.sources.items written_before written_after status
+-- how records say which file they are of
+abbrev pub labels_by : Naming → List Source → Labels
+labels_by naming.Each sources = labels.Labels
+labels_by naming.Before sources = if list_any is_directory sources then labels.Each else labels.Several
+
+abbrev pub labels_of : Order → Labels
+labels_of order = labels_by order.naming order.sources.items
+
+-- which names are printed of so many sources; what sources become is written without their names
+abbrev pub names_for : Order → ℕ → Named
+names_for order count = if is_converted order.job then unnamed else names_of (labels_of order) order.form count
+
+abbrev pub ListsSources : Around → Order → Option ℕ → List Source → RunOver
+ListsSources around order now sources =
+    ListsEach (λ s. Reports (around.IsFaultTold s) (ListsOne order.form (names_for order (length sources)) (name_of s) (DoesFrom around order.form now order.job s))) sources
+
+-- The job of a command line is done with each of its sources, each cache of a directory among them, and the fault by which a run ends is told.
+pub record DoesEach (around : Around) (order : Order) (written_before written_after : Option (List ℕ)) (status : ℕ) : Type 0 where
+  pub sources : List Source
+  pub now : Option ℕ
+  pub unread : ℕ
+  pub listed : ℕ
+  pub expands : Expands around order.sources.items (map place_of sources) unread
+  pub time : IsTime around (when_of order.job) now
+  pub lists : ListsSources around order now sources written_before written_after listed
+  pub greatest : status ≡ max listed unread
 
 -- ---- a text
 -- it is printed, or a write failed, which is told
@@ -66,9 +150,15 @@ text_of (job.Help text) = Some (string_bytes text)
 text_of (job.Version text) = Some (string_bytes text)
 text_of _ = None
 
+-- the job is done, or memory ran out before, which is told
+abbrev pub DoesAny : Around → Order → RunOver
+DoesAny around order written_before written_after status =
+    DoesEach around order written_before written_after status
+    ⊎ (around.IsFaultTold source.Input fault.Memory × (status ≡ 3) × (written_after ≡ written_before))
+
 abbrev pub CarriesOutBy : Option (List ℕ) → Around → Order → RunOver
 CarriesOutBy (Some text) around order written_before written_after status = Prints around text written_before written_after status
-CarriesOutBy None around order written_before written_after status = DoesEach around order written_before written_after status
+CarriesOutBy None around order written_before written_after status = DoesAny around order written_before written_after status
 
 abbrev pub CarriesOut : Around → Order → RunOver
 CarriesOut around order written_before written_after status = CarriesOutBy (text_of order.job) around order written_before written_after status

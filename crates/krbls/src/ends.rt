@@ -3,7 +3,7 @@
 ghost use Rattle.std.specs.Prelude.{◌≡◌, ◌++◌, OnOk};
 ghost use Rattle.krbls.specs.Ends.{decode_end_line, encode_end_line};
 
-use krb_text::{Form, TextBuffer, put_message_refusal, put_stream_refusal};
+use krb_text::{Form, TextBuffer, put_untold_message_refusal, put_untold_stream_refusal};
 use krb_tool::{DecodeEnd, EncodeEnd};
 use krb_words::Framing;
 use std::alloc::AllocError;
@@ -25,10 +25,16 @@ pub(crate) fn put_decode_end(
             path,
         } => match framing {
             Framing::Framed => {
-                put_stream_refusal(line, Form::NamedLines, *messages, *refusal, path.as_deref())
+                put_untold_stream_refusal(
+                    line,
+                    Form::NamedLines,
+                    *messages,
+                    *refusal,
+                    path.as_deref(),
+                )
             }
             Framing::Unframed => {
-                put_message_refusal(line, Form::NamedLines, *refusal, path.as_deref())
+                put_untold_message_refusal(line, Form::NamedLines, *refusal, path.as_deref())
             }
         },
         DecodeEnd::Unsealed { message, path } => {

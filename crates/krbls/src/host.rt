@@ -1,14 +1,14 @@
 //! What the program runs on.
 
-ghost use Rattle.std.specs.Prelude.{◌≡◌, IfOk};
-ghost use Rattle.krbls.specs.Program.{Around};
+ghost use Rattle.std.specs.Prelude.{◌≡◌, map, IfOk};
+ghost use Rattle.krbls.specs.Around.{Around};
 
 use krb_tool::RunFault;
-use krb_words::Source;
+use krb_words::{NamedPath, Source};
 use std::io;
 use std::io::Read;
 
-/// What the program runs on: what opens its sources, and its standard error.
+/// What the program runs on: what opens its sources, its clock, and its standard error.
 pub(crate) trait Host {
     /// A reader of a source.
     type Reader: Read + Drop;
@@ -20,9 +20,22 @@ pub(crate) trait Host {
     fn open(&self, source: &Source) -> io::Result<Self::Reader>
         ensures { IfOk result (λ reader. Self.Reader.remaining reader ≡ (around self.now).octets source.now) };
 
+    /// Returns the names of the credential caches in a directory, in their order.
+    fn caches(&self, directory: &NamedPath) -> io::Result<Vec<Vec<u8>>>
+        ensures { IfOk result (λ names. (around self.now).HasCaches directory.now (map (λ name. name.items) names.items)) };
+
+    /// Returns the seconds since the beginning of 1970 that the clock says.
+    fn now(&self) -> u32
+        ensures { (around self.now).IsNow result };
+
     /// Writes the line of a fault by which the run over a source ended to the standard error.
     fn tell_fault(&self, source: &Source, fault: &RunFault)
         ensures { (around self.now).IsFaultTold source.now fault.now };
+
+    /// Writes the line that says what a source of another kind is to the standard error, after the
+    /// source's name.
+    fn tell_hint(&self, source: &Source, text: &str)
+        ensures { (around self.now).IsHintTold source.now text.now };
 
     /// Writes the line that says why a source was not turned into another form to its end to the
     /// standard error, after the source's name.

@@ -1,21 +1,25 @@
 //! The runs over sources.
 
-ghost use Rattle.std.specs.Prelude.{◌≡◌, IfErr, IfOk, OnErr};
+ghost use Rattle.std.specs.Prelude.{◌≡◌, IfOk, OnErr, OnOk, string_bytes};
+ghost use Rattle.krb_text.specs.FileNames.{name_text};
+ghost use Rattle.krb_tool.specs.Begun.{begun_remaining, first_of};
 ghost use Rattle.krb_tool.specs.Encoding.{FailsToEncode};
+ghost use Rattle.krb_tool.specs.Outputs.{output_contents};
 ghost use Rattle.krbls.specs.Ends.{decode_end_line, encode_end_line};
-ghost use Rattle.krbls.specs.Jobs.{DecodesBy, Does, EncodesBy, FailsToDecodeBy, TellsEnd, Turns, is_framed};
-ghost use Rattle.krbls.specs.Program.{DoesFrom, name_of};
+ghost use Rattle.krbls.specs.Jobs.{DecodesBy, Does, EncodesBy, FailsToDecodeBy, TellsEnd, Turns, chosen, hint_by, is_framed, job_for, kind_used};
+ghost use Rattle.krbls.specs.Program.{DoesFrom, IsHinted, ListsBy, name_of};
 
 use crate::ends::{put_decode_end, put_encode_end};
 use crate::host::Host;
-use krb_text::TextBuffer;
+use krb_input::{Hint, SourceKind, hint_of, kind_of};
+use krb_text::{FileName, TextBuffer};
 use krb_tool::{
-    DecodeEnd, EncodeEnd, Limit, ListSource, Profile, RunEnd, RunFault, run_capture, run_ccache_in,
-    run_decode, run_decode_unframed, run_encode, run_encode_unframed, run_keytab_in,
-    run_message_in, run_stream_going_on, run_stream_in,
+    Begun, DecodeEnd, EncodeEnd, Form, Limit, ListSource, Output, Profile, RunEnd, RunFault,
+    run_capture, run_ccache_in, run_decode, run_decode_unframed, run_encode, run_encode_unframed,
+    run_keytab_in, run_lines_in, run_message_in, run_stream_going_on, run_stream_in,
 };
-use krb_words::{AfterRefusal, Framing, Job, Order, Source};
-use std::alloc::Global;
+use krb_words::{AfterRefusal, Framing, Inputs, Job, Source, USUAL_PORT, When};
+use std::alloc::{AllocError, Global};
 use std::io::{Read, Write};
 
 /// What does the job of a command line with sources.
@@ -23,31 +27,67 @@ use std::io::{Read, Write};
 pub(crate) struct Lister<'a, H> {
     pub(crate) alloc: Global,
     pub(crate) host: &'a H,
-    pub(crate) order: &'a Order,
+    pub(crate) job: &'a Job,
+    pub(crate) form: Form,
+    /// The time that credentials are compared with, in seconds since 1970, if there is one.
+    pub(crate) time: Option<u32>,
+}
+
+/// Returns the job that lists a source of a kind, without options but a time.
+fn job_for(kind: SourceKind, when: Option<When>) -> Job
+    ensures { result ≡ job_for kind when }
+{
+    match kind {
+        SourceKind::Keytab => Job::Keytab,
+        SourceKind::Ccache => Job::Ccache(when),
+        SourceKind::Capture => Job::Capture(Limit::DEFAULT, USUAL_PORT),
+        SourceKind::Message => Job::Message(Profile::Lenient, Inputs::Whole),
+        SourceKind::Stream => { Job::Stream(Limit::DEFAULT, Profile::Lenient, AfterRefusal::Ends) }
+    }
+}
+
+/// Returns the kind of the sources that a job lists, if it lists.
+fn kind_used(job: &Job) -> Option<SourceKind>
+    ensures { result ≡ kind_used job.now }
+{
+    match job {
+        Job::Keytab => Some(SourceKind::Keytab),
+        Job::Ccache(_) => Some(SourceKind::Ccache),
+        Job::Capture(..) => Some(SourceKind::Capture),
+        Job::Message(..) => Some(SourceKind::Message),
+        Job::Stream(..) => Some(SourceKind::Stream),
+        _ => None,
+    }
 }
 
 impl<H: Host> Lister<'_, H> {
-    /// Lists what a reader reads of a source, or turns it into another form.
+    /// Lists what a reader reads of a source by a job, or turns it into another form.
     fn run<R: Read, W: Write>(
         &self,
         source: &Source,
+        job: &Job,
         reader: &mut R,
         writer: &mut W,
     ) -> Result<RunEnd, RunFault>
-        ensures { Does ((H.around self.now.host.now).IsEndTold source.now) self.now.order.now.form self.now.order.now.job (R.remaining reader.old) (R.remaining reader.new) (W.contents writer.old) (W.contents writer.new) result }
+        ensures { Does ((H.around self.now.host.now).IsEndTold source.now) self.now.form self.now.time job.now (R.remaining reader.old) (R.remaining reader.new) (W.contents writer.old) (W.contents writer.new) result }
     {
         let alloc = self.alloc;
-        let form = self.order.form;
-        match &self.order.job {
+        let form = self.form;
+        match job {
             Job::Stream(limit, profile, AfterRefusal::Ends) => {
                 run_stream_in(alloc, form, *profile, reader, writer, *limit)
             }
             Job::Stream(limit, profile, AfterRefusal::GoesOn) => {
                 run_stream_going_on(alloc, form, *profile, reader, writer, *limit)
             }
-            Job::Message(profile) => run_message_in(alloc, form, *profile, reader, writer),
+            Job::Message(profile, Inputs::Whole) => {
+                run_message_in(alloc, form, *profile, reader, writer)
+            }
+            Job::Message(profile, Inputs::EachLine) => {
+                run_lines_in(alloc, form, *profile, reader, writer)
+            }
             Job::Keytab => run_keytab_in(alloc, form, reader, writer),
-            Job::Ccache(now) => run_ccache_in(alloc, form, reader, writer, *now),
+            Job::Ccache(_) => run_ccache_in(alloc, form, reader, writer, self.time),
             Job::Capture(limit, port) => run_capture(alloc, form, reader, writer, *limit, *port),
             Job::Decode(limit, profile, framing) => {
                 self.run_decode(source, *framing, *profile, reader, writer, *limit)
@@ -55,7 +95,7 @@ impl<H: Host> Lister<'_, H> {
             Job::Encode(limit, profile, framing) => {
                 self.run_encode(source, *framing, *profile, reader, writer, *limit)
             }
-            Job::Help(_) | Job::Version(_) => Ok(RunEnd::Clean),
+            Job::List(_) | Job::Help(_) | Job::Version(_) => Ok(RunEnd::Clean),
         }
     }
 
@@ -147,23 +187,111 @@ fn encode<R: Read, W: Write>(
     }
 }
 
+/// Returns the hint for a source that begins with these octets and is listed by a job.
+fn hint_by(job: &Job, first: &[u8]) -> Option<Hint>
+    ensures { result ≡ hint_by job.now first.now }
+{
+    match kind_used(job) {
+        Some(kind) => hint_of(kind, first),
+        None => None,
+    }
+}
+
+impl<H: Host> Lister<'_, H> {
+    /// Tells what a source is, if that is known.
+    fn tell_hint(&self, source: &Source, hint: Option<Hint>) -> Result<(), AllocError>
+        ensures { OnOk result (IsHinted (H.around self.now.host.now) source.now (kind_used self.now.job.now) hint) }
+    {
+        let Some(hint) = hint else {
+            return Ok(());
+        };
+        let name = shown_name(self.alloc, source)?;
+        let text = hint.text(self.alloc, kind_used(self.job), name.as_str())?;
+        self.host.tell_hint(source, text.as_str());
+        Ok(())
+    }
+
+    /// Lists what a reader reads of a source by a job, and tells a hint if its first record is that
+    /// of a refusal.
+    fn list_by<R: Read, W: Write>(
+        &self,
+        source: &Source,
+        job: &Job,
+        reader: &mut Begun<R>,
+        output: &mut Output<W>,
+    ) -> Result<RunEnd, RunFault>
+        ensures { ListsBy (H.around self.now.host.now) self.now.form self.now.time self.now.job.now source.now job.now (first_of reader.old) (begun_remaining R.remaining reader.old) (output_contents W.contents output.old) (output_contents W.contents output.new) result }
+    {
+        let hint = hint_by(job, reader.first());
+        let end = self.run(source, job, reader, output)?;
+        if output.began_with_refusal() {
+            self.tell_hint(source, hint)?;
+        }
+        Ok(end)
+    }
+
+    /// Does the job with what a reader reads of a source.
+    fn list_begun<R: Read, W: Write>(
+        &self,
+        source: &Source,
+        reader: &mut Begun<R>,
+        output: &mut Output<W>,
+    ) -> Result<RunEnd, RunFault>
+        ensures { ListsBy (H.around self.now.host.now) self.now.form self.now.time self.now.job.now source.now (chosen self.now.job.now (first_of reader.old)) (first_of reader.old) (begun_remaining R.remaining reader.old) (output_contents W.contents output.old) (output_contents W.contents output.new) result }
+    {
+        match self.job {
+            Job::List(when) => {
+                let job = job_for(kind_of(reader.first()), *when);
+                self.list_by(source, &job, reader, output)
+            }
+            job => self.list_by(source, job, reader, output),
+        }
+    }
+}
+
+/// Returns the name of a source as it is shown.
+fn shown_name(alloc: Global, source: &Source) -> Result<String, AllocError>
+    ensures { IfOk result (λ name. string_bytes name ≡ name_text (name_of source.now)) }
+{
+    format!(in alloc; "{}", FileName(octets_name(source)))
+}
+
+/// Returns the name of a source.
+fn octets_name(source: &Source) -> &[u8]
+    ensures { result.now ≡ name_of source.now }
+{
+    match source {
+        Source::Input => b"-",
+        Source::File(file) | Source::Directory(file) => file.name.as_slice(),
+    }
+}
+
+/// Returns how many octets of a source are awaited before it is listed: those by which its command
+/// is chosen, or else those that come first, so that a live source is listed as it comes.
+fn octets_awaited(job: &Job) -> usize {
+    match job {
+        Job::List(_) => 16,
+        _ => 1,
+    }
+}
+
 impl<H: Host> ListSource<Source> for Lister<'_, H> {
     ghost called = { name_of };
 
-    ghost Lists = { λ lister source. DoesFrom (H.around lister.host.now) lister.order.now source };
+    ghost Lists = { λ lister source. DoesFrom (H.around lister.host.now) lister.form lister.time lister.job.now source };
 
     ghost IsReported = { λ lister source fault. (H.around lister.host.now).IsFaultTold source fault };
 
-    fn name<'a>(&self, source: &'a Source) -> &'a str {
-        match source {
-            Source::Input => "-",
-            Source::File(path) => path.as_str(),
-        }
+    fn name<'a>(&self, source: &'a Source) -> &'a [u8] {
+        octets_name(source)
     }
 
-    fn list<W: Write>(&self, source: &Source, writer: &mut W) -> Result<RunEnd, RunFault> {
+    fn list<W: Write>(&self, source: &Source, output: &mut Output<W>) -> Result<RunEnd, RunFault> {
         match self.host.open(source) {
-            Ok(mut reader) => self.run(source, &mut reader, writer),
+            Ok(reader) => {
+                let mut begun = Begun::begin(reader, octets_awaited(self.job));
+                self.list_begun(source, &mut begun, output)
+            }
             Err(error) => Err(RunFault::Read(error)),
         }
     }

@@ -1,13 +1,15 @@
 //! What the program does by its words.
 
-ghost use Rattle.std.specs.Prelude.{◌≡◌, codes, map, option_map, string_bytes};
+ghost use Rattle.std.specs.Prelude.{◌≡◌, map, option_map};
+ghost use Rattle.std.specs.List.{list_any};
 ghost use Rattle.std.specs.Process.{exit_status};
-ghost use Rattle.krbls.specs.Program.{CarriesOut, DoesEach, Prints, Refuses, Runs, is_converted, text_of};
+ghost use Rattle.krbls.specs.Program.{CarriesOut, DoesAny, IsTime, ListsSources, Prints, Refuses, Runs, is_converted, is_directory, labels_of, text_of, when_of};
 
 use crate::host::Host;
 use crate::lister::Lister;
-use krb_tool::{RunFault, run_sources, run_sources_unnamed};
-use krb_words::{Job, Order, Source, WordsFault, read_words};
+use crate::sources::expand;
+use krb_tool::{Naming as Labels, RunFault, run_sources, run_sources_unnamed};
+use krb_words::{Job, Naming, Order, Source, When, WordsFault, read_words};
 use std::alloc::Global;
 use std::io::Write;
 use std::process::ExitCode;
@@ -19,24 +21,25 @@ const WRONG_COMMAND_LINE: u8 = 2;
 const FAULT: u8 = 3;
 
 /// Does what the words after the program's name say: the job of their command with each source, or
-/// the printing of a text. Tells what is wrong with them if they are no command line.
+/// the printing of a text. Tells what is wrong with them if they are no command line. Returns the
+/// writer, too.
 pub(crate) fn run_words<H: Host, W: Write>(
     alloc: Global,
     host: &H,
-    words: &[String],
-    writer: &mut W,
-) -> ExitCode
-    ensures { Runs (H.around host.now) (map string_bytes words.now) (W.contents writer.old) (W.contents writer.new) (exit_status result) }
+    words: &[Vec<u8>],
+    writer: W,
+) -> (W, ExitCode)
+    ensures { Runs (H.around host.now) (map (λ word. word.items) words.now) (W.contents writer) (W.contents result.0) (exit_status result.1) }
 {
     match read_words(alloc, words) {
         Ok(order) => carry_out(alloc, host, &order, writer),
-        Err(fault) => refuse(host, &fault),
+        Err(fault) => (writer, refuse(host, &fault)),
     }
 }
 
 /// Does what a command line says.
-fn carry_out<H: Host, W: Write>(alloc: Global, host: &H, order: &Order, writer: &mut W) -> ExitCode
-    ensures { CarriesOut (H.around host.now) order.now (W.contents writer.old) (W.contents writer.new) (exit_status result) }
+fn carry_out<H: Host, W: Write>(alloc: Global, host: &H, order: &Order, writer: W) -> (W, ExitCode)
+    ensures { CarriesOut (H.around host.now) order.now (W.contents writer) (W.contents result.0) (exit_status result.1) }
 {
     match text_of(&order.job) {
         Some(text) => print_text(host, text, writer),
@@ -61,30 +64,110 @@ fn is_converted(job: &Job) -> bool
     matches!(job, Job::Decode(..) | Job::Encode(..))
 }
 
-/// Does the job with sources one after another, and returns the greatest of their statuses.
-fn do_each<H: Host, W: Write>(alloc: Global, host: &H, order: &Order, writer: &mut W) -> ExitCode
-    ensures { DoesEach (H.around host.now) order.now (W.contents writer.old) (W.contents writer.new) (exit_status result) }
+/// Returns the time that a job compares credentials with, if there is one.
+fn when_of(job: &Job) -> Option<When>
+    ensures { result ≡ when_of job.now }
 {
-    let lister = Lister { alloc, host, order };
-    let sources = order.sources.as_slice();
+    match job {
+        Job::List(when) | Job::Ccache(when) => *when,
+        _ => None,
+    }
+}
+
+/// Returns that time in seconds since 1970: the clock is read if it is asked for.
+fn time_of<H: Host>(host: &H, job: &Job) -> Option<u32>
+    ensures { IsTime (H.around host.now) (when_of job.now) result }
+{
+    match when_of(job) {
+        None => None,
+        Some(When::Seconds(seconds)) => Some(seconds),
+        Some(When::Clock) => Some(host.now()),
+    }
+}
+
+/// Returns whether one of the sources is a directory.
+fn has_directory(sources: &[Source]) -> bool
+    ensures { result ≡ list_any is_directory sources.now }
+{
+    let mut found = false;
+    for source in sources {
+        found = found | matches!(source, Source::Directory(_));
+    }
+    found
+}
+
+/// Returns how the records of a command line say which file they are of.
+fn labels_of(order: &Order) -> Labels
+    ensures { result ≡ labels_of order.now }
+{
+    match order.naming {
+        Naming::Each => Labels::Labels,
+        Naming::Before if has_directory(order.sources.as_slice()) => Labels::Each,
+        Naming::Before => Labels::Several,
+    }
+}
+
+/// Does the job with sources that can be opened, one after another, and returns the writer and the
+/// greatest of their statuses.
+fn list_each<H: Host, W: Write>(
+    alloc: Global,
+    host: &H,
+    order: &Order,
+    now: Option<u32>,
+    sources: &[Source],
+    writer: W,
+) -> (W, u8)
+    ensures { ListsSources (H.around host.now) order.now now sources.now (W.contents writer) (W.contents result.0) result.1 }
+{
+    let lister = Lister {
+        alloc,
+        host,
+        job: &order.job,
+        form: order.form,
+        time: now,
+    };
     if is_converted(&order.job) {
-        ExitCode::from(run_sources_unnamed(alloc, &lister, sources, writer))
+        run_sources_unnamed(alloc, &lister, sources, writer)
     } else {
-        ExitCode::from(run_sources(alloc, order.form, &lister, sources, writer))
+        run_sources(
+            alloc,
+            order.form,
+            labels_of(order),
+            &lister,
+            sources,
+            writer,
+        )
+    }
+}
+
+/// Does the job with each source, and returns the writer and the greatest of their statuses.
+fn do_each<H: Host, W: Write>(alloc: Global, host: &H, order: &Order, writer: W) -> (W, ExitCode)
+    ensures { DoesAny (H.around host.now) order.now (W.contents writer) (W.contents result.0) (exit_status result.1) }
+{
+    match expand(alloc, host, order.sources.as_slice()) {
+        Ok(expanded) => {
+            let now = time_of(host, &order.job);
+            let sources = expanded.sources.as_slice();
+            let (writer, status) = list_each(alloc, host, order, now, sources, writer);
+            (writer, ExitCode::from(status.max(expanded.status)))
+        }
+        Err(_) => (writer, refuse(host, &WordsFault::Memory)),
     }
 }
 
 /// Prints a text. If a write fails, that is told.
-fn print_text<H: Host, W: Write>(host: &H, text: &str, writer: &mut W) -> ExitCode
-    ensures { Prints (H.around host.now) text.now (W.contents writer.old) (W.contents writer.new) (exit_status result) }
+fn print_text<H: Host, W: Write>(host: &H, text: &str, writer: W) -> (W, ExitCode)
+    ensures { Prints (H.around host.now) text.now (W.contents writer) (W.contents result.0) (exit_status result.1) }
 {
-    match writer.write_all(text.as_bytes()) {
+    let mut writer = writer;
+    let status = match writer.write_all(text.as_bytes()) {
         Ok(()) => ExitCode::SUCCESS,
         Err(error) => {
             host.tell_fault(&Source::Input, &RunFault::Write(error));
             ExitCode::from(FAULT)
         }
-    }
+    };
+    (writer, status)
 }
 
 /// Tells why words are no command line.

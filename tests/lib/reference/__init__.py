@@ -1,22 +1,24 @@
 """What `krbls` has to print, worked out a second time: a reference to test it against.
 
 It was written from the rules alone (docs/FORMATS.md: the grammar of RFC 4120, appendix A, the order of
-judging, frames, keytabs, credential caches and lines; docs/LISTING.md: names and objects), and not from the
+judging, inputs, tokens, frames, keytabs, credential caches and captures; docs/LISTING.md: lines, names and objects), and not from the
 code of krbls. `grammar` has the types and the messages, `judging` looks at one octet after another, and the
 first rule that one breaks is the refusal, with the path of the field that it is in (`paths`); `messages`,
 `frames` and `files` have the records, `values` what these consist of, with the names of numbers in
 `registries`, and `records` their forms.
 
+`inputs` has what an input of a message spells, with `dumps` and `spellings`, and `tokens` the layers round a message.
+
 `captures` has the records of captures: `capture_files` has their packets, `datagrams` what is in these for
 UDP and TCP, `directions` the streams of TCP, and `kpasswd` the messages that change passwords.
 
-`listing` has the lines of a listing, and the status of the program.
+`listing` has the lines of a listing, and the status of the program; `runs` has whole command lines, with their sources, `hints`
+what is said of a source of another kind, and the command that its first octets say.
 
 `codec` has what `krbls decode` and `krbls encode` write: `objects` has messages as JSON and back, `documents` reads
 JSON, and `der` has the octets of values. `converted` has that of a source, and what is said of one that is at fault.
 """
 
-import re
 from functools import partial
 
 from .captures import capture
@@ -24,7 +26,8 @@ from .codec import written
 from .files import ccache, keytab
 from .frames import stream, stream_going_on
 from .grammar import MESSAGES, STRICT_MESSAGES
-from .messages import message
+from .hints import command_for
+from .messages import lines, message
 from .records import file, json_line, line, named_line
 
 RECORDS = {
@@ -34,23 +37,12 @@ RECORDS = {
     "stream --keep-going --strict": partial(stream_going_on, messages=STRICT_MESSAGES),
     "message": message,
     "message --strict": partial(message, messages=STRICT_MESSAGES),
+    "message --lines": lines,
+    "message --lines --strict": partial(lines, messages=STRICT_MESSAGES),
     "keytab": keytab,
     "ccache": ccache,
     "capture": capture,
 }
-
-# The commands whose refusals krbls prints with the path of the field at fault, `in`. Of the others it prints none.
-COMMANDS_WITH_PATHS = ("stream", "message", "keytab", "ccache", "capture")
-
-PATH_IN_LINE = re.compile(r" in=\S+$")
-PATH_IN_OBJECT = re.compile(r',"in":(?:null|"[^"]*")(?=}$)')
-
-
-def as_printed(command, line):
-    """A wanted line without the path of the field at fault, if the command does not print that."""
-    if command in COMMANDS_WITH_PATHS:
-        return line
-    return PATH_IN_LINE.sub(" in=-", PATH_IN_OBJECT.sub(',"in":null', line))
 
 
 def shown(record, words):
@@ -69,15 +61,22 @@ def taken_number(words, name):
     return {name: int(value)}
 
 
-def listing(command, octets, now=None):
-    """The lines that a command prints of octets, as `stream --limit 300 --json` does, and its status."""
+def records(command, octets, now=None):
+    """The records that a command lists of octets, as `stream --limit 300` does, and its status."""
     words = command.split()
+    if words[0] == "list":
+        words[0] = command_for(octets)
     numbers = {**taken_number(words, "limit"), **taken_number(words, "port"), **taken_number(words, "now")}
-    if now is not None:
+    if now is not None and words[0] == "ccache":
         numbers["now"] = now
     which = " ".join(word for word in words if word not in ("--names", "--json"))
-    records, status = RECORDS[which](octets, **numbers)
-    return [as_printed(words[0], shown(record, words)) for record in records], status
+    return RECORDS[which](octets, **numbers)
+
+
+def listing(command, octets, now=None):
+    """The lines that a command prints of octets, as `stream --limit 300 --json` does, and its status."""
+    found, status = records(command, octets, now)
+    return [shown(record, command.split()) for record in found], status
 
 
 def converted(command, octets):

@@ -3,7 +3,6 @@
 from typing import NamedTuple
 
 from .files import FIELD_LIMIT, Fields
-from .judging import Refused
 
 # The magic of a pcap, with the order of its numbers and the units of its times in a second.
 PCAP_MAGICS = {
@@ -67,7 +66,7 @@ def packets(octets):
         fields.place = 0
         yield from Blocks(fields).packets()
     else:
-        raise Refused(0, "Magic", "magic")
+        fields.refuse("magic", "Magic", 4)
 
 
 def pcap_packets(fields, units):
@@ -80,7 +79,7 @@ def pcap_packets(fields, units):
         fraction = fields.number(f"{path}.fraction", 4)
         captured = fields.number(f"{path}.captured-length", 4)
         if captured > FIELD_LIMIT:
-            raise Refused(fields.place - 4, "TooLong", f"{path}.captured-length")
+            fields.refuse(f"{path}.captured-length", "TooLong", 4, length=captured)
         original = fields.number(f"{path}.original-length", 4)
         octets = fields.take(f"{path}.data", captured)
         packet_count += 1
@@ -90,10 +89,9 @@ def pcap_packets(fields, units):
 
 def pcap_link(fields):
     """The link type in the header of a pcap, of which the magic was read."""
-    place = fields.place
     version = fields.take("version", 4)
     if tuple(int.from_bytes(part, fields.order) for part in (version[:2], version[2:])) != PCAP_VERSION:
-        raise Refused(place, "Version", "version")
+        fields.refuse("version", "Version", 4)
     for unread in ("thiszone", "sigfigs", "snaplen"):
         fields.take(unread, 4)
     return fields.number("linktype", 4) & 0x0FFFFFFF
@@ -123,9 +121,9 @@ class Blocks:
     def number(self, name, size, signed=False):
         return self.fields.number(self.path(name), size, signed)
 
-    def refuse(self, name, why, octets_before=0):
-        """Refuses a field that begins this number of octets before the next one."""
-        raise Refused(self.fields.place - octets_before, why, self.path(name))
+    def refuse(self, name, why, octets_before=0, length=None):
+        """Refuses a field as `Fields` does."""
+        self.fields.refuse(self.path(name), why, octets_before, length)
 
     def block(self):
         """The next block: what there is of a packet in it but for the number, or None."""
@@ -134,9 +132,9 @@ class Blocks:
             self.begin_section()
         length = self.number("length", 4)
         if length < LEAST_BLOCK or length % 4 != 0:
-            self.refuse("length", "Overrun", 4)
+            self.refuse("length", "Overrun", 4, length)
         if length > FIELD_LIMIT:
-            self.refuse("length", "TooLong", 4)
+            self.refuse("length", "TooLong", 4, length)
         packet = self.body(block_type, length - LEAST_BLOCK)
         if self.number("length-again", 4) != length:
             self.refuse("length-again", "Overrun", 4)

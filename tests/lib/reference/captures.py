@@ -65,6 +65,7 @@ class Capture:
             found = self.reading(datagram.flow)(octets, size)
         except Ended as ended:
             found = [lost(len(octets), size - len(octets), ended.path)]
+        found = [one.within(0, size) if isinstance(one, Refused) else one for one in found]
         return [(datagram.flow, one) for one in found]
 
     def records(self, due):

@@ -6,7 +6,7 @@ from .frames import LIMIT, found_in_by
 from .grammar import MESSAGES
 from .judging import Refused, judge, whole
 from .objects import Wrong, message_of, text_of, unsealed
-from .records import named_line, refused
+from .records import named_line, refused, without_extent
 from .values import count
 
 BLANKS = b" \t\r"
@@ -43,13 +43,13 @@ def lines_of(octets, limit, messages, unframed):
         try:
             name, value = unframed_message(octets, limit, messages)
         except Refused as refusal:
-            raise Ends(named_line(refused(refusal))) from None
+            raise Ends(named_line(without_extent(refused(refusal)))) from None
         yield line_of(name, messages[name], value)
         return
     lines = []
     for found in found_in_by(lambda octets, n: [message_or_refusal(octets, n, messages)], octets, limit):
         if isinstance(found, Refused):
-            raise Ends(named_line(refused(found, {"messages": count(lines)})))
+            raise Ends(named_line(without_extent(refused(found, {"messages": count(lines)}))))
         name, value = found
         lines.append(name)
         yield line_of(name, messages[name], value, f"message {len(lines)}: ")

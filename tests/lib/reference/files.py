@@ -14,15 +14,20 @@ from .values import (
     number,
     offset,
     principal,
+    quoted,
     refused_ticket,
     sealed,
     ticket_flags,
+    told,
     word,
     yes_or_no,
 )
 
 # how many octets a field of octets may have
 FIELD_LIMIT = 16777216
+
+# the keys of configuration entries whose values are shown
+SHOWN_KEYS = (b"fast_avail", b"pa_type", b"proxy_impersonator", b"refresh_time", b"start_realm")
 
 FILE_REASONS = "Magic Version Truncated Overrun TooLong".split()
 
@@ -39,21 +44,32 @@ class Fields:
         self.room_end = room_end
         # The order of the octets of numbers.
         self.order = "big"
+        # The first part of the path that was taken last, and where it begins.
+        self.part = None
+        self.part_begin = 0
 
     def take(self, path, size, most=None):
+        self.enter(path)
         end = self.place + size
         if size > 0 and self.room_end is not None and end > self.room_end:
             self.refuse(path, "Overrun")
         if most is not None and size > most:
-            self.refuse(path, "TooLong")
+            self.refuse(path, "TooLong", length=size)
         if size > 0 and end > len(self.octets):
             self.refuse(path, "Truncated")
         start, self.place = self.place, end
         return self.octets[start:end]
 
-    def refuse(self, path, why):
-        """Refuses the field that is next."""
-        raise Refused(self.place, why, path)
+    def enter(self, path):
+        """Keeps where the first part of a path begins."""
+        part = path.split(".")[0]
+        if part != self.part:
+            self.part, self.part_begin = part, self.place
+
+    def refuse(self, path, why, octets_before=0, length=None):
+        """Refuses a field that begins this number of octets before the next one, and may tell the length that was read."""
+        self.enter(path)
+        raise Refused(self.place - octets_before, why, path, self.part_begin, length)
 
     def number(self, path, size, signed=False):
         return int.from_bytes(self.take(path, size), self.order, signed=signed)
@@ -66,7 +82,7 @@ class Fields:
         """A number that is one of these, or is refused."""
         found = self.number(path, size)
         if found not in numbers:
-            raise Refused(self.place - size, why, path)
+            self.refuse(path, why, size)
         return found
 
     def version(self, *versions):
@@ -199,6 +215,11 @@ def state(end, now):
     return word("live" if now < end else "expired")
 
 
+def config_value(names, value):
+    """The value of a configuration entry, by the components of its server's name, if it is one that is shown."""
+    return quoted(value) if len(names) > 1 and names[1] in SHOWN_KEYS else ABSENT
+
+
 def credential(fields, path, version, now):
     """The record of a credential or of a configuration entry."""
     client = file_principal(fields, f"{path}.client")
@@ -217,7 +238,7 @@ def credential(fields, path, version, now):
     whose = {"client": principal(*client), "server": principal(*server)}
     _, server_names, server_realm = server
     if server_realm == b"X-CACHECONF:" and server_names[:1] == [b"krb5_ccache_conf_data"]:
-        return Record("config", {**whose, "size": count(ticket)})
+        return Record("config", {**whose, "size": count(ticket), "value": told(config_value(server_names, ticket))})
     ticket_part, ticket_principal = ticket_and_server(ticket)
     shown = {
         **whose,

@@ -21,8 +21,9 @@ class Frames:
         # Gives what is found in the contents of a frame: records and refusals.
         self.read = read
         self.limit = limit
-        # The octets there are of a frame that is open.
+        # The octets there are of a frame that is open, and where it begins.
         self.front = b""
+        self.at = 0
         # How many octets to come are passed over.
         self.passed = 0
         # The path of what is open.
@@ -35,6 +36,7 @@ class Frames:
             gone = min(self.passed, len(self.front))
             self.passed -= gone
             self.front = self.front[gone:]
+            self.at += gone
             self.path = None
             try:
                 found = self.frame()
@@ -43,7 +45,7 @@ class Frames:
                 return
             n = self.length()
             self.passed = math.inf if n >= 2**31 else 4 + n
-            yield from found
+            yield from (one.within(self.at, n) if isinstance(one, Refused) else one for one in found)
 
     def length(self):
         return int.from_bytes(self.front[:4], "big")
@@ -65,7 +67,8 @@ class Frames:
 
     def cut(self):
         """The refusal of the frame that is open, if one is, at the end of the stream."""
-        return [Refused(len(self.front), "Truncated", self.path)] if self.front else []
+        length = self.length() if len(self.front) >= 4 else None
+        return [Refused(len(self.front), "Truncated", self.path, self.at, length)] if self.front else []
 
 
 def found_in_by(read, octets, limit):

@@ -24,6 +24,11 @@ class String:
 
 
 @dataclass(frozen=True)
+class ObjectIdentifier:
+    tag: int = 0x06
+
+
+@dataclass(frozen=True)
 class Time:
     tag: int = 0x18
 
@@ -44,6 +49,13 @@ class Tagged:
 
 
 @dataclass(frozen=True)
+class Choice:
+    """One of some types, by its tag."""
+
+    items: tuple
+
+
+@dataclass(frozen=True)
 class Field:
     name: str
     item: Tagged
@@ -56,11 +68,15 @@ class Sequence:
     tag: int = 0x30
 
 
+def tagged(number, item):
+    return Tagged(0xA0 + number, item)
+
+
 def sequence(*fields):
     """A SEQUENCE of fields, each given as its number, its name (with `?` if optional) and its type."""
     return Sequence(
         tuple(
-            Field(name.rstrip("?"), Tagged(0xA0 + number, item), name.endswith("?"))
+            Field(name.rstrip("?"), tagged(number, item), name.endswith("?"))
             for number, name, item in fields
         )
     )
@@ -79,6 +95,7 @@ WIDE32 = Integer(-(2**31), 2**32 - 1, 5)
 MICROS = Integer(0, 999999, 3)
 OCTETS = String(0x04)
 TEXT = String(0x1B)
+OBJECT_IDENTIFIER = ObjectIdentifier()
 PRINCIPAL_NAME = sequence((0, "name-type", INT32), (1, "name-string", ListOf(TEXT)))
 HOST_ADDRESS = sequence((0, "addr-type", INT32), (1, "address", OCTETS))
 PA_DATA = sequence((1, "padata-type", INT32), (2, "padata-value", OCTETS))
@@ -227,3 +244,4 @@ def strict(item, optional=False):
 
 
 STRICT_MESSAGES = {name: strict(item) for name, item in MESSAGES.items()}
+STRICT_TICKET = strict(TICKET)

@@ -4,7 +4,7 @@ The value of a SEQUENCE is a dict of the fields that are there, that of a SEQUEN
 a number, of flags the number of unused bits and the octets, and of all else the octets.
 """
 
-from .grammar import MESSAGES, Bits, Integer, ListOf, Sequence, String, Tagged, Time
+from .grammar import MESSAGES, Bits, Choice, Integer, ListOf, ObjectIdentifier, Sequence, String, Tagged, Time
 
 REASONS = (
     "HighBit TooLong Empty Tag Overrun Indefinite LengthWide LengthNotMinimal Loose Size "
@@ -13,17 +13,26 @@ REASONS = (
 
 
 class Refused(Exception):
-    """An octet at fault, why, and the path of the field that it is in, if one is known."""
+    """An octet at fault, why, and the path of the field that it is in, if one is known.
 
-    def __init__(self, place, why, path=None):
-        super().__init__(place, why, path)
+    It is in what begins at a place of the source, `at`, and has a length, if one is told.
+    """
+
+    def __init__(self, place, why, path=None, at=0, length=None):
+        super().__init__(place, why, path, at, length)
         self.place = place
         self.why = why
         self.path = path
+        self.at = at
+        self.length = length
 
     def moved(self, octets):
         """The same refusal with this number of octets before it."""
-        return Refused(self.place + octets, self.why, self.path)
+        return Refused(self.place + octets, self.why, self.path, self.at, self.length)
+
+    def within(self, at, length):
+        """The same refusal, in what begins at a place and has a length."""
+        return Refused(self.place, self.why, self.path, at, length)
 
 
 class Ended(Exception):
@@ -64,19 +73,20 @@ class Judge:
         return self.octets[self.place - count : self.place]
 
     def item(self, choices, room, sole):
-        """One item of one of some types, in a room: the name of the type that it is of, and its value.
+        """One item of one of some types, in a room: which of these it is of, and its value.
 
-        The name of each type is what the item adds to the path of its container, once its tag is known.
+        Each type comes after what the item adds to the path of its container, once its tag is known.
         """
         tag = self.next()
-        name = next((name for name, choice in choices.items() if choice.tag == tag), None)
-        if name is None:
+        index = next((index for index, (_, choice) in enumerate(choices) if choice.tag == tag), None)
+        if index is None:
             self.refuse("Tag")
+        name, choice = choices[index]
         container = self.path
         self.path += name
-        value = self.contents(choices[name], self.length(room, sole))
+        value = self.contents(choice, self.length(room, sole))
         self.path = container
-        return name, value
+        return index, value
 
     def length(self, room, sole):
         """The length of an item in a room, of which the tag octet was looked at."""
@@ -113,6 +123,8 @@ class Judge:
                 return self.bits(item, size)
             case Time():
                 return self.time(size)
+            case ObjectIdentifier():
+                return self.identifier(size)
             case String():
                 return self.string(item, size)
             case Tagged():
@@ -123,7 +135,7 @@ class Judge:
                 end = self.place + size
                 values = []
                 while self.place < end:
-                    values.append(self.item({f"[{len(values)}]": item.item}, end - self.place, False)[1])
+                    values.append(self.item([(f"[{len(values)}]", item.item)], end - self.place, False)[1])
                 return values
             case Sequence():
                 return self.sequence(item, size)
@@ -149,6 +161,20 @@ class Judge:
             octets += bytes([self.next()])
             if octets[-1] > item.greatest:
                 self.refuse("Charset")
+        return octets
+
+    def identifier(self, size):
+        """Numbers of seven bits an octet, each in the fewest octets, the last of which is below 80."""
+        if size == 0:
+            self.refuse("Size")
+        octets = b""
+        for _ in range(size):
+            begins = not octets or octets[-1] < 0x80
+            octets += bytes([self.next()])
+            if begins and octets[-1] == 0x80:
+                self.refuse("IntegerNotMinimal")
+        if octets[-1] >= 0x80:
+            self.refuse("Range")
         return octets
 
     def bits(self, item, size):
@@ -177,7 +203,14 @@ class Judge:
     def tagged(self, item, size):
         if size == 0:
             self.refuse("Missing")
-        return self.item({"": item.item}, size, True)[1]
+        return self.item([("", self.chosen(item.item))], size, True)[1]
+
+    def chosen(self, item):
+        """The type of a choice that the next octet is the tag of, or else the first."""
+        if not isinstance(item, Choice):
+            return item
+        tag = self.octets[self.place] if self.place < len(self.octets) else None
+        return next((one for one in item.items if one.tag == tag), item.items[0])
 
     def sequence(self, item, size):
         end = self.place + size
@@ -190,9 +223,8 @@ class Judge:
                 may_stand.append(field)
                 if not field.optional:
                     break
-            choices = {f".{field.name}": field.item for field in may_stand}
-            found, value = self.item(choices, end - self.place, False)
-            index = list(choices).index(found)
+            choices = [(f".{field.name}", field.item) for field in may_stand]
+            index, value = self.item(choices, end - self.place, False)
             values[fields[index].name] = value
             fields = fields[index + 1 :]
         missing = next((field.name for field in fields if not field.optional), None)
@@ -204,7 +236,8 @@ class Judge:
 
 def judge(octets, n, choices=MESSAGES):
     """The name of the choice that n octets are, of which these are present, and their value."""
-    return Judge(octets[:n]).item(choices, n, True)
+    index, value = Judge(octets[:n]).item(list(choices.items()), n, True)
+    return list(choices)[index], value
 
 
 def whole(octets, choices=MESSAGES):

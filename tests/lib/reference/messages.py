@@ -1,9 +1,23 @@
-"""The records of messages, with their notes, and that of a message in hexadecimal."""
+"""The records of messages and of Tickets, with their notes, and those of inputs."""
 
-from .grammar import MESSAGES, METHOD_DATA, Bits, ListOf, Sequence, String, Tagged
+from .grammar import (
+    MESSAGES,
+    METHOD_DATA,
+    STRICT_MESSAGES,
+    STRICT_TICKET,
+    TICKET,
+    Bits,
+    ListOf,
+    Sequence,
+    String,
+    Tagged,
+)
+from .inputs import line_spelled, spelled
 from .judging import Refused, judge, whole
-from .records import Record, refused
+from .records import Record, refused, refused_input
 from .registries import AP_OPTIONS, ENCRYPTION_TYPES, KDC_OPTIONS, NOTES, PA_DATA_TYPES
+from .spellings import BLANKS, Misspelled, all_of
+from .tokens import Ntlm, Token
 from .values import (
     ABSENT,
     address,
@@ -11,6 +25,7 @@ from .values import (
     count,
     error_code,
     flags,
+    layers,
     message_time,
     number,
     numbers,
@@ -19,11 +34,13 @@ from .values import (
     quoted,
     sealed,
     string,
-    word,
 )
 
-# How many octets of text are read of a message.
+# How many octets of an input are read.
 MOST_TEXT = 16777216
+
+# A Ticket by itself, as the lenient and as the strict profile has it.
+TICKETS = (TICKET, STRICT_TICKET)
 
 
 def notes(item, value, field=""):
@@ -196,18 +213,60 @@ def record_or_refusal(octets, n, messages=MESSAGES):
         return refusal
 
 
-def refused_input(why):
-    """A refusal of text that is not hexadecimal."""
-    return Record("refused", {"input": word(why)})
+def ticket_record(value):
+    fields = {"server": ticket_server(value), "ticket": sealed(value["enc-part"])}
+    return Record("Ticket", {**fields, "notes": numbers(sorted(notes(TICKET, value)), NOTES)})
+
+
+def inside_record(inside, messages):
+    """The record of what is inside of all layers."""
+    if inside.kind == "Ticket":
+        return ticket_record(whole(inside.octets, {"Ticket": TICKETS[messages is STRICT_MESSAGES]})[1])
+    kinds = messages if inside.kind == "message" else {inside.kind: messages[inside.kind]}
+    return message_record(*whole(inside.octets, kinds))
+
+
+def octets_record(octets, form, at, messages):
+    """The record of octets that an input spells, or of their refusal, with the layers that were opened."""
+    token = Token(octets)
+    inside = None
+    try:
+        inside = token.open()
+        found = inside_record(inside, messages)
+    except Ntlm as ntlm:
+        found = refused_input("ntlm", ntlm.place, at, len(octets), form)
+    except Refused as refusal:
+        place = 0 if inside is None else inside.place
+        found = refused(refusal.moved(place).within(at, len(octets)), form=form)
+    return found._replace(before={"via": layers(token.via)} if token.via else {})
+
+
+def input_record(text, read, at, messages):
+    """The record of an input that begins at a place of its source."""
+    if len(text) > MOST_TEXT:
+        return refused_input("length", None, at)
+    try:
+        form, octets = read(text)
+    except Misspelled as fault:
+        return refused_input(fault.word, fault.place, at)
+    return octets_record(octets, form, at, messages)
 
 
 def message(text, messages=MESSAGES):
-    """The records of one message in hexadecimal, and the status of the program."""
-    if len(text) > MOST_TEXT:
-        return [refused_input("length")], 1
-    digits = text.translate(None, delete=b" \t\r\n")
-    if len(digits) % 2 != 0 or digits.strip(b"0123456789abcdefABCDEF"):
-        return [refused_input("hex")], 1
-    octets = bytes.fromhex(digits.decode("ascii"))
-    found = record_or_refusal(octets, len(octets), messages)
-    return ([refused(found)], 1) if isinstance(found, Refused) else ([found], 0)
+    """The record of an input, and the status of the program."""
+    record = input_record(text, spelled, 0, messages)
+    return [record], int(record.kind == "refused")
+
+
+def lines(text, messages=MESSAGES):
+    """The records of an input a line, and the status of the program."""
+    records = []
+    place = 0
+    for line_number, line in enumerate(text.split(b"\n"), 1):
+        if len(line) > MOST_TEXT or not all_of(line, BLANKS):
+            record = input_record(line, line_spelled, place, messages)
+            records.append(record._replace(before={"line": number(line_number), **record.before}))
+        place += len(line) + 1
+    refusals = sum(record.kind == "refused" for record in records)
+    shown = {"messages": number(len(records) - refusals), "refused": number(refusals)}
+    return [*records, Record("end", shown)], min(refusals, 1)

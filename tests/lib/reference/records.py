@@ -4,7 +4,7 @@ import json
 from typing import NamedTuple
 
 from .judging import REASONS
-from .values import file_name, number, path, reason
+from .values import NO_REASON, file_name, number, optional, path, reason, told, word
 
 
 class Record(NamedTuple):
@@ -14,21 +14,50 @@ class Record(NamedTuple):
     # Those before the kind in a line, and between the kind and the others in an object.
     before: dict = {}
 
+    def named_at_end(self, name):
+        """The record with the name of its source after all else."""
+        return self._replace(fields={**self.fields, "file": file_name(name)})
+
 
 def file(name):
-    """The record before the listing of each of several files."""
+    """The record before the listing of each of several sources."""
     return Record("file", {"name": file_name(name)})
 
 
-def refused(refusal, before=None, reasons=REASONS):
-    """A refusal, after the fields of what came before it."""
+def extent(at, length):
+    """Where what is refused begins, and its length, if one is told."""
+    return {"at": told(number(at)), "length": told(optional(number, length))}
+
+
+def refused(refusal, before=None, reasons=REASONS, form=None):
+    """A refusal, after the fields of what came before it, and with the form of an input if it was one."""
     shown = {
         **(before or {}),
         "place": number(refusal.place),
         "why": reason(refusal.why, reasons),
         "in": path(refusal.path),
+        **extent(refusal.at, refusal.length),
+        **({} if form is None else {"form": told(word(form))}),
     }
     return Record("refused", shown)
+
+
+def refused_input(why, place, at, length=None, form=None):
+    """A refusal of an input as a whole: all but the word is told."""
+    shown = {
+        "input": word(why),
+        "place": told(optional(number, place)),
+        "why": told(NO_REASON),
+        "in": path(None),
+        **extent(at, length),
+        "form": told(optional(word, form)),
+    }
+    return Record("refused", shown)
+
+
+def without_extent(record):
+    """A refusal as it is said on the standard error."""
+    return record._replace(fields={name: value for name, value in record.fields.items() if name not in ("at", "length")})
 
 
 def field_text(name, text):

@@ -35,6 +35,7 @@ def plain(text, member):
 
 
 ABSENT = plain("-", None)
+NO_REASON = ABSENT._replace(second_member=("_name", None))
 
 
 def optional(show, value):
@@ -85,9 +86,14 @@ def message_time(octets):
     return word(octets.decode("ascii"))
 
 
+def told(value):
+    """A value that is told with names and in objects alone."""
+    return value._replace(text=None)
+
+
 def path(text):
-    """The path of a field at fault, which is told with names and in objects alone."""
-    return Value(None, "-" if text is None else text, text)
+    """The path of a field at fault."""
+    return told(optional(word, text))
 
 
 def file_time(seconds):
@@ -241,6 +247,11 @@ def checksum(value):
 
 def offset(seconds, microseconds):
     return plain(f"{seconds}:{microseconds}", {"seconds": seconds, "microseconds": microseconds})
+
+
+def layers(names):
+    """What was opened, from the outside to the inside."""
+    return plain(",".join(names), names)
 
 
 NO_TICKET = plain("absent", None)

@@ -10,6 +10,7 @@ use krb_ccache::{Ccache, CcacheFault, TicketState, ticket_of};
 use krb_der::{Memory, Profile, Refusal, Why};
 use krb_file::FileFault;
 use krb_frame::{Decoder, Framed, Limit, Status, frame};
+use krb_input::{InputFault, read_input};
 use krb_judge::{ParseFault, parse, parse_method_data, parse_ticket};
 use krb_keytab::{Keytab, KeytabFault, Record, Stop};
 use krb_list::{
@@ -64,6 +65,8 @@ pub(super) enum Reading {
     Keytab,
     Cache,
     TicketState,
+    Input(&'static [u8]),
+    Line(&'static [u8]),
 }
 
 /// A call that allocates.
@@ -87,7 +90,7 @@ pub(super) enum Call {
 }
 
 /// Each call with its name, and with what it has to return.
-pub(super) const CALLS: [(&str, Call); 50] = [
+pub(super) const CALLS: [(&str, Call); 58] = [
     ("feed", Call::Feed(1)),
     ("feed", Call::Feed(7)),
     ("feed", Call::Feed(100)),
@@ -157,6 +160,17 @@ pub(super) const CALLS: [(&str, Call); 50] = [
         "run_encode_unframed",
         Call::Convert(Conversion::EncodeUnframed),
     ),
+    ("read_input", Call::Read(Reading::Input(AP_REP))),
+    ("read_input", Call::Read(Reading::Input(b"6f 1d"))),
+    (
+        "read_input",
+        Call::Read(Reading::Input(b"0000  6f 1d\n0002\n")),
+    ),
+    ("read_input", Call::Read(Reading::Input(b"{0x6f, 0x1d}"))),
+    ("read_input", Call::Read(Reading::Input(b"\\x6f\\x1d"))),
+    ("read_input", Call::Read(Reading::Input(b"6f:1d"))),
+    ("read_input", Call::Read(Reading::Input(b"Negotiate bx0="))),
+    ("krb_input::read_line", Call::Read(Reading::Line(b"bx0="))),
     ("krb_keytab::read", Call::Read(Reading::Keytab)),
     ("krb_keytab::write", Call::Encode(Encoding::Keytab)),
     (
@@ -185,7 +199,7 @@ pub(super) const CALLS: [(&str, Call); 50] = [
         "ccache_lines",
         Call::Text(
             Text::Caches,
-            "{\"kind\":\"cache\",\"principal\":{\"text\":\"u@A\",\"type\":1,\"type_name\":\"NT-PRINCIPAL\",\"components\":[\"u\"],\"realm\":\"A\"},\"type\":1,\"type_name\":\"NT-PRINCIPAL\",\"offset\":{\"seconds\":0,\"microseconds\":0},\"fields\":1}\n{\"kind\":\"config\",\"client\":{\"text\":\"u@A\",\"type\":1,\"type_name\":\"NT-PRINCIPAL\",\"components\":[\"u\"],\"realm\":\"A\"},\"server\":{\"text\":\"krb5_ccache_conf_data/pa_type@X-CACHECONF:\",\"type\":0,\"type_name\":\"NT-UNKNOWN\",\"components\":[\"krb5_ccache_conf_data\",\"pa_type\"],\"realm\":\"X-CACHECONF:\"},\"size\":1}\n{\"kind\":\"cred\",\"client\":{\"text\":\"u@A\",\"type\":1,\"type_name\":\"NT-PRINCIPAL\",\"components\":[\"u\"],\"realm\":\"A\"},\"server\":{\"text\":\"h@A\",\"type\":2,\"type_name\":\"NT-SRV-INST\",\"components\":[\"h\"],\"realm\":\"A\"},\"enctype\":18,\"enctype_name\":\"aes256-cts-hmac-sha1-96\",\"key\":2,\"auth\":\"2000-01-01T00:00:00Z\",\"start\":\"2000-01-01T00:00:00Z\",\"end\":\"2000-01-01T01:00:00Z\",\"renew\":null,\"skey\":0,\"flags\":{\"bits\":32,\"hex\":\"40e10000\",\"names\":[\"forwardable\",\"renewable\",\"initial\",\"pre-authent\",\"enc-pa-rep\"]},\"state\":null,\"addresses\":0,\"authdata\":0,\"ticket\":{\"refused\":{\"place\":1,\"why\":6,\"why_name\":\"Indefinite\"}},\"tserver\":null,\"second\":0}\n{\"kind\":\"end\",\"credentials\":2}\n",
+            "{\"kind\":\"cache\",\"principal\":{\"text\":\"u@A\",\"type\":1,\"type_name\":\"NT-PRINCIPAL\",\"components\":[\"u\"],\"realm\":\"A\"},\"type\":1,\"type_name\":\"NT-PRINCIPAL\",\"offset\":{\"seconds\":0,\"microseconds\":0},\"fields\":1}\n{\"kind\":\"config\",\"client\":{\"text\":\"u@A\",\"type\":1,\"type_name\":\"NT-PRINCIPAL\",\"components\":[\"u\"],\"realm\":\"A\"},\"server\":{\"text\":\"krb5_ccache_conf_data/pa_type@X-CACHECONF:\",\"type\":0,\"type_name\":\"NT-UNKNOWN\",\"components\":[\"krb5_ccache_conf_data\",\"pa_type\"],\"realm\":\"X-CACHECONF:\"},\"size\":1,\"value\":\"2\"}\n{\"kind\":\"cred\",\"client\":{\"text\":\"u@A\",\"type\":1,\"type_name\":\"NT-PRINCIPAL\",\"components\":[\"u\"],\"realm\":\"A\"},\"server\":{\"text\":\"h@A\",\"type\":2,\"type_name\":\"NT-SRV-INST\",\"components\":[\"h\"],\"realm\":\"A\"},\"enctype\":18,\"enctype_name\":\"aes256-cts-hmac-sha1-96\",\"key\":2,\"auth\":\"2000-01-01T00:00:00Z\",\"start\":\"2000-01-01T00:00:00Z\",\"end\":\"2000-01-01T01:00:00Z\",\"renew\":null,\"skey\":0,\"flags\":{\"bits\":32,\"hex\":\"40e10000\",\"names\":[\"forwardable\",\"renewable\",\"initial\",\"pre-authent\",\"enc-pa-rep\"]},\"state\":null,\"addresses\":0,\"authdata\":0,\"ticket\":{\"refused\":{\"place\":1,\"why\":6,\"why_name\":\"Indefinite\"}},\"tserver\":null,\"second\":0}\n{\"kind\":\"end\",\"credentials\":2}\n",
         ),
     ),
     (
@@ -231,7 +245,7 @@ pub(super) const CALLS: [(&str, Call); 50] = [
         Call::Capture(
             Form::NamedLines,
             CUT,
-            "packet=1 t=2000-01-01T00:00:01.000005000Z flow=udp/127.0.0.1:40000>127.0.0.1:88 AP-REP enc=18:aes256-cts-hmac-sha1-96:-:4 notes=[]\nrefused packets=1 messages=1 refused=0 lost=0 unread=0 place=115 why=3 Truncated in=packet\n",
+            "packet=1 t=2000-01-01T00:00:01.000005000Z flow=udp/127.0.0.1:40000>127.0.0.1:88 AP-REP enc=18:aes256-cts-hmac-sha1-96:-:4 notes=[]\nrefused packets=1 messages=1 refused=0 lost=0 unread=0 place=115 why=3 Truncated in=packet at=115 length=-\n",
         ),
     ),
     ("Fragments::take", Call::Fragments),
@@ -324,6 +338,10 @@ impl Reading {
             Reading::Keytab => is_returned(krb_keytab::read(alloc, KEYTAB), FileFault::Memory),
             Reading::Cache => is_returned(krb_ccache::read(alloc, CACHE), FileFault::Memory),
             Reading::TicketState => is_refused(alloc, given.cache),
+            Reading::Input(input) => is_returned(read_input(alloc, input), InputFault::Memory),
+            Reading::Line(line) => {
+                is_returned(krb_input::read_line(alloc, line), InputFault::Memory)
+            }
         }
     }
 }

@@ -4,13 +4,14 @@ use super::Outcome;
 use super::octets::AP_REP;
 use super::readers::faulted;
 use krb_capture::Capture;
-use krb_file::FileFault;
+use krb_file::{FileFault, FileRefusal};
 use krb_flow::Direction;
 use krb_frame::Limit;
 use krb_list::{Form, TextBuffer};
 use krb_packet::{
     CaptureFault, Endpoint, Fragment, Fragments, Original, Packets, Payload, Reassembled, Segment,
 };
+use krb_text::Extent;
 use std::alloc::Global;
 use std::net::{IpAddr, Ipv4Addr};
 
@@ -68,12 +69,17 @@ fn put_records(
             }
             Err(
                 CaptureFault {
-                    fault: FileFault::Refused { place, why, .. },
+                    fault: FileFault::Refused(FileRefusal { place, why, .. }),
                     ..
                 },
             ) => {
-                if capture.refuse(place, why, Some("packet"), text).is_err() {
-                    return ended(capture.refuse(place, why, Some("packet"), text).is_err());
+                let extent = Extent {
+                    at: place,
+                    length: None,
+                };
+                let path = Some("packet");
+                if capture.refuse(place, why, path, extent, text).is_err() {
+                    return ended(capture.refuse(place, why, path, extent, text).is_err());
                 }
                 return Outcome::Done;
             }

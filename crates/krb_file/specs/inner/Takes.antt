@@ -1,6 +1,6 @@
 -- What a reader of fields takes from its source.
-use Rattle.std.specs.Prelude.{ℕ, ◌+◌, ◌<◌, ◌≤◌, ◌≡◌, false, List, [], ◌++◌, length, Option, None}
-use Rattle.krb_file.specs.Fields.{exceeds}
+use Rattle.std.specs.Prelude.{ℕ, ◌+◌, ◌<◌, ◌≤◌, ◌≡◌, false, List, [], ◌++◌, length, Option}
+use Rattle.krb_file.specs.Fields.{exceeds, fault_of}
 use Rattle.krb_file.specs.FieldReaders.{Cursor, MayRemain, FetchesTo}
 use Rattle.krb_file.specs.declared.fault.FileFault.{FileFault}
 use Rattle.krb_file.specs.declared.fault.FileFault.TheVariants as faults
@@ -26,7 +26,7 @@ pub record FallsShort (had left : Cursor) (size : ℕ) : Type 0 where
 
 -- a fault of taking octets of the field that begins at `start`
 abbrev pub FailsTaking : FileFault → ℕ → Cursor → Cursor → ℕ → Type 0
-FailsTaking (faults.Refused place reason field) start had left size = (place ≡ start) × (reason ≡ why.Truncated) × (field ≡ None) × FallsShort had left size
+FailsTaking (faults.Refused fault) start had left size = (fault ≡ fault_of start why.Truncated) × FallsShort had left size
 FailsTaking faults.Read start had left size = Unit {0}
 FailsTaking faults.Memory start had left size = Unit {0}
 

@@ -13,6 +13,7 @@ use Rattle.krb_capture.specs.Rests.{HasFollowedBut}
 use Rattle.krb_capture.specs.declared.capture.Capture.{Capture}
 use Rattle.krb_capture.specs.declared.directions.Rest.{Rest}
 use Rattle.krb_tool.specs.Captures.{capture_run_end, listing_from}
+use Rattle.krb_tool.specs.Extents.{extent_of}
 use Rattle.krb_tool.specs.Files.{RecordListing, after_line}
 use Rattle.krb_tool.specs.declared.run.RunEnd.{RunEnd}
 use Rattle.krb_tool.specs.declared.run.RunEnd.TheVariants as run
@@ -36,7 +37,7 @@ AddsCaptureEnd capture old new ended =
 
 -- the record of a refused file was added; other faults have none
 abbrev pub AddsFileRefusal : FileFault → CaptureField → Capture → Form → List ℕ → List ℕ → Option RunEnd → Type 0
-AddsFileRefusal (faults.Refused place why unnamed) field capture form old new ended =
-    (settings : Settings) (progress : Progress) → HasFollowed capture settings progress → form ≡ settings.form → (ended ≡ Some run.Refused) × (new ≡ old ++ refusal_text settings progress place why (Some (capture_field_text field)))
+AddsFileRefusal (faults.Refused fault) field capture form old new ended =
+    (settings : Settings) (progress : Progress) → HasFollowed capture settings progress → form ≡ settings.form → (ended ≡ Some run.Refused) × (new ≡ old ++ refusal_text settings progress fault.place fault.why (Some (capture_field_text field)) (extent_of fault))
 AddsFileRefusal faults.Read field capture form old new ended = ⊥
 AddsFileRefusal faults.Memory field capture form old new ended = ⊥

@@ -1,5 +1,6 @@
 -- What a lister does with a stream that goes on after refusals.
-use Rattle.std.specs.Prelude.{ℕ, ◌≡◌, ◌+◌, ◌*◌, ◌≤◌, ◌⊎◌, Bool, true, false, List, [], ◌∷◌, ◌++◌, map, Option, Some, None}
+use Rattle.std.specs.Prelude.{ℕ, ◌≡◌, ◌+◌, ◌*◌, ◌≤◌, ◌<◌, ◌^◌, ◌⊎◌, Bool, true, false, List, [], ◌∷◌, ◌++◌, length, map, Option, Some, None}
+use Rattle.std.specs.Option.{unwrap_or}
 use Rattle.std.specs.Io.KnownBytes.{IsAtEnd}
 use Rattle.krb_der.specs.declared.profile.Profile.{Profile}
 use Rattle.krb_der.specs.declared.why.Why.TheVariants.{HighBit, Truncated}
@@ -8,28 +9,32 @@ use Rattle.krb_msg.specs.declared.message.Message.{Message}
 use Rattle.krb_msg.specs.Grammar.{messages as grammar}
 use Rattle.krb_msg.specs.Stream.{End, Boundary, Within, Refused}
 use Rattle.krb_msg.specs.Views.{message_der}
-use Rattle.krb_frame.specs.Decoding.{found, status_of, borrowed}
+use Rattle.krb_frame.specs.Decoding.{announced, found, status_of, borrowed}
 use Rattle.krb_frame.specs.GoingOn.{entries, rest_to_come, GoesOn, ClearsEntry, Skips}
 use Rattle.krb_frame.specs.declared.decoder.Status.TheVariants as status
 use Rattle.krb_tool.specs.Lines.{message_line}
 use Rattle.krb_tool.specs.Lines.{refused_line, counted_end_line}
-use Rattle.krb_tool.specs.Paths.{frame_path}
-use Rattle.krb_tool.specs.GoingOn.{Listed, Faulty, entry_of, messages_in, refused_in, lines_after, IsCountedListing, AreCountedLines, EndsUnknown, StopsInPiece, counted_run_end}
+use Rattle.krb_tool.specs.Paths.{frame_extent, frame_path}
+use Rattle.krb_tool.specs.GoingOn.{Listed, Faulty, entry_of, messages_in, refused_in, lines_after, IsCountedListing, AreCountedLines, EndsUnknown, StopsInPiece, counted_run_end, octets_in}
 use Rattle.krb_tool.specs.inner.Streams.{Rules, Taken}
 use Rattle.krb_tool.specs.inner.Pieces.{request_of, NeedsMore, Kind}
 use Rattle.krb_tool.specs.declared.going_on.CountingLister.{CountingLister}
 use Rattle.krb_tool.specs.declared.run.RunEnd.{RunEnd}
 use Rattle.krb_tool.specs.declared.stream_run.Request.{Request}
 
--- The frames of a stream that were cleared or skipped are listed. Their lines are in what was written and then in the text, and they are counted.
+-- The frames of a stream that were cleared or skipped are listed. Their lines are in what was written and then in the text, and they and their octets are counted.
 pub record HasCounted (lister : CountingLister) (stream written : List ℕ) : Type 0 where
   pub listed : List Listed
   pub goes_on : GoesOn (grammar lister.decoder.current.profile) lister.decoder stream (map entry_of listed)
   -- the length of the last of them is known
   pub known : EndsUnknown (map entry_of listed) → ⊥
-  pub lines : written ++ lister.text ≡ lines_after lister.form lister.decoder.current.profile 0 listed
+  pub lines : written ++ lister.text ≡ lines_after lister.form lister.decoder.current.profile 0 0 listed
   pub messages : lister.messages ≡ messages_in listed
   pub refused : lister.refused ≡ refused_in listed
+  pub offset : lister.offset ≡ octets_in listed
+  -- of these only those that are to be skipped are not in the stream
+  pub within : lister.offset + length lister.decoder.current.octets ≤ length stream + lister.decoder.skipped
+  pub short : lister.decoder.skipped < 2 ^ 32
 
 -- the line of the message that is ready was added, and its frame is cleared
 pub record CountsReady (old new : CountingLister) : Type 0 where
@@ -40,22 +45,25 @@ pub record CountsReady (old new : CountingLister) : Type 0 where
   pub line : new.text ≡ old.text ++ message_line old.form message
   pub messages : new.messages ≡ old.messages + 1
   pub refused : new.refused ≡ old.refused
+  pub offset : new.offset ≡ old.offset + length old.decoder.current.octets
   pub same_form : new.form ≡ old.form
   pub cleared : ClearsEntry (grammar old.decoder.current.profile) old.decoder new.decoder true
 
--- the line of a message was added, which is counted
-pub record CountsLine (message : Message) (old new : CountingLister) : Type 0 where
+-- the line of a message was added, which is counted, with the octets of its frame
+pub record CountsLine (message : Message) (size : ℕ) (old new : CountingLister) : Type 0 where
   pub line : new.text ≡ old.text ++ message_line old.form message
   pub messages : new.messages ≡ old.messages + 1
   pub refused : new.refused ≡ old.refused
+  pub offset : new.offset ≡ old.offset + size
   pub same_form : new.form ≡ old.form
   pub same_decoder : new.decoder ≡ old.decoder
 
 -- the line of the frame that is refused was added, and it is skipped
 pub record CountsRefused (old : CountingLister) (refusal : Refusal) (new : CountingLister) : Type 0 where
-  pub line : new.text ≡ old.text ++ refused_line old.form old.messages refusal.place refusal.why (frame_path old.decoder.current.profile old.decoder.current.octets)
+  pub line : new.text ≡ old.text ++ refused_line old.form old.messages refusal.place refusal.why (frame_path old.decoder.current.profile old.decoder.current.octets) (frame_extent old.offset old.decoder.current.octets)
   pub messages : new.messages ≡ old.messages
   pub refused : new.refused ≡ old.refused + 1
+  pub offset : new.offset ≡ old.offset + (4 + unwrap_or (announced old.decoder.current.octets) 0)
   pub same_form : new.form ≡ old.form
   pub skipped : Skips (grammar old.decoder.current.profile) old.decoder new.decoder true
 
@@ -81,21 +89,22 @@ pub record PutsCount (old new : CountingLister) (ended : RunEnd) : Type 0 where
 
 -- the line of the last frame was added, and the one that counts
 pub record PutsLast (old : CountingLister) (refusal : Refusal) (new : CountingLister) (ended : RunEnd) : Type 0 where
-  pub lines : new.text ≡ old.text ++ (refused_line old.form old.messages refusal.place refusal.why (frame_path old.decoder.current.profile old.decoder.current.octets) ++ counted_end_line old.form old.messages (old.refused + 1))
+  pub lines : new.text ≡ old.text ++ (refused_line old.form old.messages refusal.place refusal.why (frame_path old.decoder.current.profile old.decoder.current.octets) (frame_extent old.offset old.decoder.current.octets) ++ counted_end_line old.form old.messages (old.refused + 1))
   pub ended_so : ended ≡ counted_run_end (old.refused + 1)
 
 -- the lines of the end were added
 pub record CountsEnd (old new : CountingLister) (ended : RunEnd) : Type 0 where
-  pub lines : new.text ≡ old.text ++ (lines_after old.form old.decoder.current.profile old.messages (last_of old) ++ counted_end_line old.form old.messages (old.refused + refused_in (last_of old)))
+  pub lines : new.text ≡ old.text ++ (lines_after old.form old.decoder.current.profile old.messages old.offset (last_of old) ++ counted_end_line old.form old.messages (old.refused + refused_in (last_of old)))
   pub ended_so : ended ≡ counted_run_end (old.refused + refused_in (last_of old))
 
 -- ---- a lister of a stream
 -- The length of the last frame is not known. The frames before it are listed.
 pub record IsUnknownAfter (lister : CountingLister) (taken : Taken) : Type 0 where
   pub listed : List Listed
-  pub lines : taken.written ++ lister.text ≡ lines_after lister.form lister.decoder.current.profile 0 listed
+  pub lines : taken.written ++ lister.text ≡ lines_after lister.form lister.decoder.current.profile 0 0 listed
   pub messages : lister.messages ≡ messages_in listed
   pub refused : lister.refused ≡ refused_in listed
+  pub offset : lister.offset ≡ octets_in listed
   pub all : entries (grammar lister.decoder.current.profile) lister.decoder.current.limit taken.octets ≡ map entry_of listed ++ map entry_of (last_of lister)
   pub end : (found (grammar lister.decoder.current.profile) lister.decoder.current).end ≡ Refused 3 HighBit
   pub few : lister.refused ≤ 65536 * taken.pieces

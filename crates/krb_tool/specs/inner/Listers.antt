@@ -13,7 +13,7 @@ use Rattle.krb_frame.specs.Feeds.{Clears}
 use Rattle.krb_frame.specs.declared.decoder.Status.TheVariants as status
 use Rattle.krb_tool.specs.Lines.{message_line}
 use Rattle.krb_tool.specs.Lines.{end_line}
-use Rattle.krb_tool.specs.Paths.{frame_path}
+use Rattle.krb_tool.specs.Paths.{frame_extent, frame_path}
 use Rattle.krb_tool.specs.Listing.{end_of, run_end, IsListing, AllIsRead, StopsInPiece, AreLines}
 use Rattle.krb_tool.specs.inner.Streams.{Rules, Taken}
 use Rattle.krb_tool.specs.inner.Pieces.{request_of, NeedsMore, Kind}
@@ -21,12 +21,13 @@ use Rattle.krb_tool.specs.declared.listing.Lister.{Lister}
 use Rattle.krb_tool.specs.declared.run.RunEnd.{RunEnd}
 use Rattle.krb_tool.specs.declared.stream_run.Request.{Request}
 
--- The frames that the decoder cleared of a stream are messages. Their lines are in what was written and then in the text, and they are counted.
+-- The frames that the decoder cleared of a stream are messages. Their lines are in what was written and then in the text, and they and their octets are counted.
 pub record HasListed (lister : Lister) (stream written : List ℕ) : Type 0 where
   pub messages : List Message
   pub decoded : HasDecoded (grammar lister.decoder.profile) lister.decoder stream (map message_der messages)
   pub lines : written ++ lister.text ≡ flat_map (message_line lister.form) messages
   pub counted : lister.messages ≡ length messages
+  pub offset : lister.offset + length lister.decoder.octets ≡ length stream
 
 -- the line of the message that is ready was added, and its frame is cleared
 pub record ListsReady (old new : Lister) : Type 0 where
@@ -36,19 +37,21 @@ pub record ListsReady (old new : Lister) : Type 0 where
   pub form : message_der message ≡ contents
   pub line : new.text ≡ old.text ++ message_line old.form message
   pub counted : new.messages ≡ old.messages + 1
+  pub offset : new.offset ≡ old.offset + length old.decoder.octets
   pub same_form : new.form ≡ old.form
   pub cleared : Clears (grammar old.decoder.profile) old.decoder new.decoder true
 
--- the line of a message was added, which is counted
-pub record AddsLine (message : Message) (old new : Lister) : Type 0 where
+-- the line of a message was added, which is counted, with the octets of its frame
+pub record AddsLine (message : Message) (size : ℕ) (old new : Lister) : Type 0 where
   pub line : new.text ≡ old.text ++ message_line old.form message
   pub counted : new.messages ≡ old.messages + 1
+  pub offset : new.offset ≡ old.offset + size
   pub same_form : new.form ≡ old.form
   pub same_decoder : new.decoder ≡ old.decoder
 
 -- the line of the end was added
 pub record AddsEnd (old new : Lister) (ended : RunEnd) : Type 0 where
-  pub line : new.text ≡ old.text ++ end_line old.form old.messages (found (grammar old.decoder.profile) old.decoder).end (frame_path old.decoder.profile old.decoder.octets)
+  pub line : new.text ≡ old.text ++ end_line old.form old.messages (found (grammar old.decoder.profile) old.decoder).end (frame_path old.decoder.profile old.decoder.octets) (frame_extent old.offset old.decoder.octets)
   pub ended_so : ended ≡ run_end (found (grammar old.decoder.profile) old.decoder).end
 
 -- ---- a lister of a stream

@@ -61,6 +61,7 @@ pub record WaitsAfter {L Q E : Type 0} (kind : Kind L Q E) (lister : L) (taken :
   pub listed : kind.HasListed lister taken.octets taken.written
   pub waits : kind.IsWaiting lister
   pub few : kind.count lister ≤ 65536 * taken.pieces
+  pub short : length taken.octets ≤ 65536 * taken.pieces
 
 abbrev pub IsLastOf : {L Q E : Type 0} → Kind L Q E → L → Taken → Option (List ℕ) → Type 0
 IsLastOf kind lister taken left = (WaitsAfter kind lister taken × IsAtEnd left) ⊎ kind.Stops lister taken

@@ -17,7 +17,7 @@ use Rattle.krb_ccache.specs.declared.credentials.State.{State as CredentialsStat
 use Rattle.krb_text.specs.declared.form.Form.{Form}
 use Rattle.krb_tool.specs.Lines.{record_line}
 use Rattle.krb_tool.specs.Lines.{credential_line}
-use Rattle.krb_tool.specs.Lines.{file_refused_line}
+use Rattle.krb_tool.specs.Extents.{fault_line}
 use Rattle.krb_tool.specs.declared.run.RunEnd.{RunEnd}
 use Rattle.krb_tool.specs.declared.run.RunEnd.TheVariants as run
 use Rattle.krb_tool.specs.declared.run.RunFault.{RunFault}
@@ -36,7 +36,7 @@ Adds line wanted old new ended = (ended ≡ wanted) × (new ≡ old ++ line)
 
 -- The line of a refusal was added, with the path that the field at fault has, which ends the run.
 abbrev pub AddsRefusal : (Option FileField → Option (List ℕ)) → Form → FileFault → List ℕ → List ℕ → Option RunEnd → Type 0
-AddsRefusal path form (faults.Refused place why field) old new ended = Adds (file_refused_line form place why (path field)) (Some run.Refused) old new ended
+AddsRefusal path form (faults.Refused fault) old new ended = Adds (fault_line form fault (path fault.field)) (Some run.Refused) old new ended
 AddsRefusal path form faults.Read old new ended = ⊥
 AddsRefusal path form faults.Memory old new ended = ⊥
 
@@ -77,6 +77,6 @@ pub record AreCredentialsLeft (form : Form) (written_before : Cursor) (start : S
 
 -- if a file is refused, the line of the refusal is what is left
 abbrev pub IsRefusal : Form → FileFault → RecordListing → Type 0
-IsRefusal form (faults.Refused place why field) left = left ≡ refused_listing form (record { place = place; why = why; field = field })
+IsRefusal form (faults.Refused fault) left = left ≡ refused_listing form fault
 IsRefusal form faults.Read left = Unit {0}
 IsRefusal form faults.Memory left = Unit {0}

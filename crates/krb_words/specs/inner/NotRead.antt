@@ -3,7 +3,7 @@ use Rattle.std.specs.Prelude.{◌≡◌, ◌⊎◌, List, [], ◌∷◌, Option,
 use Rattle.clap.specs.Words.{Row, Text}
 use Rattle.clap.specs.declared.error.kind.ErrorKind.{ErrorKind}
 use Rattle.clap.specs.declared.error.kind.ErrorKind.TheVariants.{OutOfMemory}
-use Rattle.krb_words.specs.Words.{HasNoNumber, IsRequest}
+use Rattle.krb_words.specs.Words.{IsRequest, IsUnfit}
 use Rattle.krb_words.specs.declared.words.WordsFault.{WordsFault}
 use Rattle.krb_words.specs.declared.words.WordsFault.TheVariants as fault
 
@@ -17,11 +17,11 @@ IsNoneOf [] name = Unit {0}
 IsNoneOf (first ∷ others) name = (name ≡ first → ⊥) × IsNoneOf others name
 
 abbrev pub commands : List Text
-commands = codes "stream" ∷ codes "message" ∷ codes "keytab" ∷ codes "ccache" ∷ codes "capture" ∷ codes "decode" ∷ codes "encode" ∷ []
+commands = codes "list" ∷ codes "stream" ∷ codes "message" ∷ codes "keytab" ∷ codes "ccache" ∷ codes "capture" ∷ codes "decode" ∷ codes "encode" ∷ []
 
--- the name of a command that is none of the program's, or an option with no number of its range
+-- the name of a command that is none of the program's, or a command that is unfit
 abbrev pub IsNoJob : Text → List Row → Type 0
-IsNoJob name rows = IsNoneOf commands name ⊎ HasNoNumber rows
+IsNoJob name rows = IsNoneOf commands name ⊎ IsUnfit name rows
 
 abbrev pub FindsNoJob : Option (Text × List Row) → Type 0
 FindsNoJob None = Unit {0}

@@ -16,4 +16,4 @@ pub returns-in-Err : goal.returns-in-Err
 unfolding message_found
 returns-in-Err c =
     let e : refusal_of Lenient c.args.octets.now ≡ Some c.in-Err.refusal = (c.read_message.ensures.refused c.in-Err.refusal).0 (subst (λ x. IsErrOf x c.in-Err.refusal) (sym c.in-Err.is) refl) in
-    subst (λ o. OnOk c.list_refused.result (c.list_refused.new.listing ≡ with_found c.args.origin.now (found_unless o c.args.before c.args.octets.now) c.args.listing.now)) (sym e) c.list_refused.ensures
+    subst (λ o. OnOk c.list_refused.result (c.list_refused.new.listing ≡ with_found c.args.origin.now (found_unless o c.args.extent c.args.before c.args.octets.now) c.args.listing.now)) (sym e) c.list_refused.ensures

@@ -1,30 +1,35 @@
 use Rattle.std.proofs.Common.{None, ◌∙◌}
-use Rattle.krb_file.proofs.FieldReaders.{known_end}
-use Rattle.krb_keytab.specs.Reading.{record_at, items_after}
+use Rattle.krb_file.proofs.FieldReaders.{known_end, part_read}
+use Rattle.krb_keytab.specs.Reading.{next_record_at, record_at, items_after}
 use Rattle.krb_keytab.specs.declared.reading.Next.TheVariants as nexts
-use Rattle.krb_keytab.proofs.Loops.{goes_on, shorter, is_done, left_of, step}
+use Rattle.krb_keytab.proofs.Loops.{goes_on, shorter, is_done, ends_begun, left_of, step}
 use Rattle.krb_keytab.proofs.reading.keytab.Goals as goal
 
-pub loop-records-smaller : goal.loop-records-smaller
-loop-records-smaller c =
-    let s = c.loop-records.reader in
+pub loop-record-smaller : goal.loop-record-smaller
+loop-record-smaller c =
+    let s = c.loop-record.reader in
     let t = c.record.new.reader in
-    shorter (left_of s) (left_of t) c.in-Item.record (step s t (nexts.Item c.in-Item.record) c.loop-records.invariant.unbounded (rw c.in-Item.is at c.in_ok-record.ensures.read))
+    shorter (left_of s) (left_of t) c.in-Ok-Item.record (step s t (nexts.Item c.in-Ok-Item.record) c.loop-record.invariant.unbounded (part_read next_record_at (rw c.in-Ok-Item.field-0-is at c.in-Ok-Item.ensures.read)))
 
-pub loop-records-preserved : goal.loop-records-preserved
-loop-records-preserved c =
-    let s = c.loop-records.reader in
+pub loop-record-preserved : goal.loop-record-preserved
+loop-record-preserved c =
+    let s = c.loop-record.reader in
     let t = c.record.new.reader in
-    let next = nexts.Item c.in-Item.record in
-    let read = rw c.in-Item.is at c.in_ok-record.ensures.read in
+    let next = nexts.Item c.in-Ok-Item.record in
+    let read = part_read next_record_at (rw c.in-Ok-Item.field-0-is at c.in-Ok-Item.ensures.read) in
     record {
-      unbounded = known_end record_at next s t read ∙ c.loop-records.invariant.unbounded;
-      so_far = rw c.in_ok-push-in-Item.ensures.items (goes_on c.loop-records.records.items (left_of s) (left_of t) c.in-Item.record (items_after None (left_of c.args.reader.now)) (step s t next c.loop-records.invariant.unbounded read) c.loop-records.invariant.so_far);
+      unbounded = known_end record_at next s t read ∙ c.loop-record.invariant.unbounded;
+      so_far = rw c.in_ok-push-in-Ok-Item.ensures.items (goes_on c.loop-record.records.items (left_of s) (left_of t) c.in-Ok-Item.record (items_after None (left_of c.args.reader.now)) (step s t next c.loop-record.invariant.unbounded read) c.loop-record.invariant.so_far);
     }
 
-pub returns-in-Done : goal.returns-in-Done
-returns-in-Done c =
-    let s = c.loop-records.reader in
+pub returns-in-Ok-Done : goal.returns-in-Ok-Done
+returns-in-Ok-Done c =
+    let s = c.loop-record.reader in
     let t = c.record.new.reader in
-    rw (c.new-records-in-Done.ensures, c.place.ensures.value)
-    (is_done c.loop-records.records.items (left_of s) (left_of t) c.in-Done.stop (items_after None (left_of c.args.reader.now)) (step s t (nexts.Done c.in-Done.stop) c.loop-records.invariant.unbounded (rw c.in-Done.is at c.in_ok-record.ensures.read)) c.loop-records.invariant.so_far)
+    rw (c.new-records-in-Ok-Done.ensures, c.place.ensures.value)
+    (is_done c.loop-record.records.items (left_of s) (left_of t) c.in-Ok-Done.stop (items_after None (left_of c.args.reader.now)) (step s t (nexts.Done c.in-Ok-Done.stop) c.loop-record.invariant.unbounded (part_read next_record_at (rw c.in-Ok-Done.field-0-is at c.in-Ok-Done.ensures.read))) c.loop-record.invariant.so_far)
+
+pub returns-in-Err : goal.returns-in-Err
+returns-in-Err c =
+    ends_begun c.in-Err.fault c.begun_at.result c.place-begin.result c.loop-record.records.items c.loop-record.reader (items_after None (left_of c.args.reader.now))
+    c.place-begin.ensures.value c.begun_at.ensures c.loop-record.invariant.unbounded c.in-Err.ensures.read c.loop-record.invariant.so_far

@@ -1,4 +1,4 @@
-use Rattle.krb_list.proofs.Masks.{same_ticket, same_cache, same_cache3, same_credential}
+use Rattle.krb_list.proofs.Masks.{other_value, same_ticket, same_cache, same_cache3, same_credential}
 use Rattle.krb_list.proofs.law.session_keys_are_not_shown.Goals as goal
 
 pub returns-clause-cache : goal.returns-clause-cache
@@ -12,3 +12,6 @@ returns-clause-credential c = same_credential
 
 pub returns-clause-ticket : goal.returns-clause-ticket
 returns-clause-ticket c = same_ticket
+
+pub returns-clause-config : goal.returns-clause-config
+returns-clause-config c = other_value

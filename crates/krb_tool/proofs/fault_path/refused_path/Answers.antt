@@ -1,4 +1,4 @@
-use Rattle.std.proofs.Common.{length, refl, arith, ap, ◌∙◌}
+use Rattle.std.proofs.Common.{◌≡◌, None, length, refl, arith, ap, ◌∙◌}
 use Rattle.std.proofs.lemmas.Bool.{lt-ltb}
 use Rattle.krb_text.specs.Refusals.{path_in}
 use Rattle.krb_tool.specs.Paths.{refused_path}
@@ -7,7 +7,9 @@ use Rattle.krb_tool.proofs.fault_path.refused_path.Goals as goal
 
 pub returns-then-octets-gt-MOST_OCTETS-clause-path : goal.returns-then-octets-gt-MOST_OCTETS-clause-path
 unfolding refused_path
-returns-then-octets-gt-MOST_OCTETS-clause-path c = ap (path_in c.args.form) (rw (lt-ltb 2147483647 (length c.args.octets.now) (omega arith)) refl)
+returns-then-octets-gt-MOST_OCTETS-clause-path c =
+    let none : None ≡ refused_path c.args.profile c.args.octets.now c.args.refusal = rw (lt-ltb 2147483647 (length c.args.octets.now) (omega arith)) refl in
+    ap (path_in c.args.form) none
 
 pub returns-clause-path : goal.returns-clause-path
 returns-clause-path c = ap (path_in c.args.form) (c.in_ok-path.ensures ∙ short_path c.args.profile c.args.octets.now c.args.refusal (length c.args.octets.now) c.min-prefix.result (omega arith) refl c.min-prefix.ensures)

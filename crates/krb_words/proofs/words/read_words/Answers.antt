@@ -1,24 +1,10 @@
-use Rattle.std.proofs.lemmas.Result.{IfErr-weaker, IfOk-weaker}
-use Rattle.krb_words.proofs.Matched.{IsOrderIn-matches, IsOrderIn-text}
-use Rattle.krb_words.proofs.NotRead.{IsFaultIn-error, IsFaultIn-matches}
+use Rattle.std.proofs.Common.{◌∙◌, List, IfErr, IfOk, ap, map, string_bytes, subst}
+use Rattle.clap.specs.Words.{Text}
+use Rattle.krb_words.specs.Words.{IsFaultFor, IsOrderFor}
 use Rattle.krb_words.proofs.words.read_words.Goals as goal
 
-pub returns-in-Ok : goal.returns-in-Ok
-returns-in-Ok c = record {
-  order = IfOk-weaker c.order_of.result _ _
-      (λ order o. IsOrderIn-matches _ _ c.in-Ok.matches order c.in_ok-command.ensures c.in-Ok.ensures.kinds c.in-Ok.ensures.matches o)
-      c.order_of.ensures.order;
-  fault = IfErr-weaker c.order_of.result _ _
-      (λ e no. IsFaultIn-matches _ _ c.in-Ok.matches e c.in_ok-command.ensures c.in-Ok.ensures.kinds c.in-Ok.ensures.matches no)
-      c.order_of.ensures.fault;
-}
+pub returns-clause-order : goal.returns-clause-order
+returns-clause-order c = subst (λ (l : List Text). IfOk c.read_texts.result (IsOrderFor l)) (ap (map string_bytes) c.as_slice.ensures.value ∙ c.in_ok-texts.ensures) c.read_texts.ensures.order
 
-pub returns-in-Err : goal.returns-in-Err
-returns-in-Err c = record {
-  order = IfOk-weaker c.text_of.result _ _
-      (λ order h. IsOrderIn-text _ _ c.in-Err.error order c.in_ok-command.ensures c.in-Err.ensures.kinds h.0 h.1)
-      c.text_of.ensures.text;
-  fault = IfErr-weaker c.text_of.result _ _
-      (λ e no. IsFaultIn-error _ _ c.in-Err.error e c.in_ok-command.ensures c.in-Err.ensures.kinds no)
-      c.text_of.ensures.fault;
-}
+pub returns-clause-fault : goal.returns-clause-fault
+returns-clause-fault c = subst (λ (l : List Text). IfErr c.read_texts.result (IsFaultFor l)) (ap (map string_bytes) c.as_slice.ensures.value ∙ c.in_ok-texts.ensures) c.read_texts.ensures.fault

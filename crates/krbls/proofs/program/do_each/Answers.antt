@@ -1,13 +1,20 @@
-use Rattle.std.proofs.Common.{sym, ◌∙◌}
-use Rattle.krbls.proofs.Sources.{each_named, each_unnamed}
+use Rattle.std.proofs.Common.{List, map, inl, subst, sym, ◌∙◌}
+use Rattle.krb_words.specs.Sources.{place_of}
+use Rattle.krb_words.specs.declared.sources.Source.{Source}
+use Rattle.krbls.specs.Expanded.{Expands}
 use Rattle.krbls.proofs.program.do_each.Goals as goal
 
-pub returns-then-is_converted : goal.returns-then-is_converted
-returns-then-is_converted g c =
-    each_unnamed (g.H.Host.around c.args.host.now) c.args.order.now _ _ _ _ _ c.as_slice-sources.ensures.value c.from.ensures
-    (sym c.is_converted.ensures ∙ c.if-is_converted.true) c.run_sources_unnamed.ensures
-
-pub returns-else-is_converted : goal.returns-else-is_converted
-returns-else-is_converted g c =
-    each_named (g.H.Host.around c.args.host.now) c.args.order.now _ _ _ _ _ c.as_slice-sources.ensures.value c.from-else-is_converted.ensures
-    (sym c.is_converted.ensures ∙ c.if-is_converted.false) c.run_sources.ensures
+pub returns-in-Ok : goal.returns-in-Ok
+returns-in-Ok g c = inl (record {
+  sources = c.as_slice-sources.result.now;
+  now = c.time_of-now.result;
+  unread = c.in-Ok.expanded.status;
+  listed = c.list_each-writer.result.1;
+  expands =
+      subst (λ (given : List Source). Expands (g.H.Host.around c.args.host.now) given (map place_of c.as_slice-sources.result.now) c.in-Ok.expanded.status) c.as_slice.ensures.value
+      (subst (λ (sources : List Source). Expands (g.H.Host.around c.args.host.now) c.as_slice.result.now (map place_of sources) c.in-Ok.expanded.status) (sym c.as_slice-sources.ensures.value)
+      c.in-Ok.ensures);
+  time = c.time_of-now.ensures;
+  lists = c.list_each-writer.ensures;
+  greatest = c.from.ensures ∙ c.max.ensures;
+})

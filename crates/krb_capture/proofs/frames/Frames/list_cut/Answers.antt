@@ -8,5 +8,5 @@ returns-in_default-finish c = no_cut-listed c.args.self.now c.in-Passwords.frame
 pub returns-in-Some-finish : goal.returns-in-Some-finish
 returns-in-Some-finish c =
     on_ok_weaker c.put_refusal-in-Passwords.result
-    (cut-listed c.args.self.now c.in-Passwords.frames c.finish-in-Passwords.result c.in-Some-finish.refusal _ c.args.origin.now c.args.listing.now c.put_refusal-in-Passwords.new.self c.in-Passwords.is c.in-Some-finish.is c.path-in-Passwords.ensures c.finish-in-Passwords.ensures)
+    (cut-listed c.args.self.now c.in-Passwords.frames c.finish-in-Passwords.result c.in-Some-finish.refusal _ _ c.args.origin.now c.args.listing.now c.put_refusal-in-Passwords.new.self c.in-Passwords.is c.in-Some-finish.is c.path-in-Passwords.ensures c.extent-in-Passwords.ensures c.finish-in-Passwords.ensures)
     c.put_refusal-in-Passwords.ensures

@@ -5,8 +5,8 @@ use Rattle.krb_capture.proofs.message_frames.MessageFrames.list.Goals as goal
 pub returns-in_ok-new-in-Before-clause-listed : goal.returns-in_ok-new-in-Before-clause-listed
 returns-in_ok-new-in-Before-clause-listed c =
     let limit = c.args.self.now.limit in
-    let old = c.args.self.now.decoder in
-    let new = c.list_frames.new.decoder in
+    let old = c.args.self.now.placed in
+    let new = c.list_frames.new.placed in
     let before = subst (λ l. ListsSome l limit old new c.args.octets.now c.args.origin.now c.args.listing.now c.list_frames.new.listing) c.in-Before.is c.in_ok-list_frames.ensures.listed in
     record {
       used = c.args.octets.now;

@@ -9,10 +9,10 @@ returns-then-self c = takes-over c.args.self.now (c.args.octet ∷ []) c.args.or
 
 pub returns-then-self-gt0 : goal.returns-then-self-gt0
 returns-then-self-gt0 c =
-    let new : PasswordFrames = record { limit = c.args.self.now.limit; octets = c.args.self.now.octets; skipped = c.args.self.now.skipped - 1; is_over = c.args.self.now.is_over } in
-    takes-skipped c.args.self.now new c.args.octet c.args.origin.now c.args.listing.now c.if-self.false (omega arith) refl refl refl refl
+    let new : PasswordFrames = record { limit = c.args.self.now.limit; octets = c.args.self.now.octets; skipped = c.args.self.now.skipped - 1; is_over = c.args.self.now.is_over; offset = c.args.self.now.offset } in
+    takes-skipped c.args.self.now new c.args.octet c.args.origin.now c.args.listing.now c.if-self.false (omega arith) refl refl refl refl refl
 
 pub returns : goal.returns
 returns c =
-    let pushed : PasswordFrames = record { limit = c.args.self.now.limit; octets = c.push.new.self; skipped = c.args.self.now.skipped; is_over = c.args.self.now.is_over } in
-    on_ok_weaker c.list_whole.result (takes-pushed c.args.self.now pushed c.list_whole.new.self c.args.octet c.args.origin.now c.args.listing.now c.list_whole.new.listing c.if-self.false (omega arith) refl refl refl c.in_ok-push.ensures.items) c.list_whole.ensures
+    let pushed : PasswordFrames = record { limit = c.args.self.now.limit; octets = c.push.new.self; skipped = c.args.self.now.skipped; is_over = c.args.self.now.is_over; offset = c.args.self.now.offset } in
+    on_ok_weaker c.list_whole.result (takes-pushed c.args.self.now pushed c.list_whole.new.self c.args.octet c.args.origin.now c.args.listing.now c.list_whole.new.listing c.if-self.false (omega arith) refl refl refl c.in_ok-push.ensures.items refl) c.list_whole.ensures

@@ -6,4 +6,4 @@ pub returns-else-is_one_of-clause-read : goal.returns-else-is_one_of-clause-read
 returns-else-is_one_of-clause-read g c =
     let now = some_rest (g.Self.FieldReader.cursor c.number8.new.self) in
     let a = c.in_ok-octet.ensures.read.from now.rest now.there in
-    record { octets = a.0; there = a.1; refused = rw (a.2, c.place-place.ensures.value) (search rules) }
+    rw c.refused.ensures (record { octets = a.0; there = a.1; refused = rw (a.2, c.place-place.ensures.value) (search rules) })

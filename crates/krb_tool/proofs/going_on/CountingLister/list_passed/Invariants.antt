@@ -1,10 +1,10 @@
-use Rattle.std.proofs.Common.{length}
+use Rattle.std.proofs.Common.{◌≡◌, ◌+◌, length}
 use Rattle.krb_tool.specs.inner.Pieces.{IsFed}
 use Rattle.krb_tool.specs.inner.CountingListers.{counting}
 use Rattle.krb_tool.proofs.going_on.CountingLister.list_passed.Given as goal
 
 abbrev pub invariant-loop-passed : goal.invariant-loop-passed
-invariant-loop-passed l = IsFed counting l.initial.self l.piece l.rest l.self
+invariant-loop-passed l = IsFed counting l.initial.self l.piece l.rest l.self × (l.self.offset + length l.rest ≡ l.initial.self.offset + length l.piece)
 
 abbrev pub decreases-loop-passed : goal.decreases-loop-passed
 decreases-loop-passed l = length l.rest

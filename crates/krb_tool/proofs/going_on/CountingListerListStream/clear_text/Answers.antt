@@ -13,4 +13,7 @@ returns c =
       lines = ap (λ l. (written ++ c.args.self.now.text) ++ l) c.clear.ensures ∙ append-nil (written ++ c.args.self.now.text) ∙ h.lines;
       messages = h.messages;
       refused = h.refused;
+      offset = h.offset;
+      within = h.within;
+      short = h.short;
     })

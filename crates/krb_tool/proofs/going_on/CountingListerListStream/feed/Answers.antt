@@ -1,13 +1,13 @@
-use Rattle.std.proofs.Common.{false, refl, sym, subst, arith, length-drop}
+use Rattle.std.proofs.Common.{ℕ, false, List, take, refl, sym, subst, arith, length-append, length-drop, length-take}
 use Rattle.std.proofs.lemmas.List.{take_rest}
 use Rattle.krb_frame.specs.declared.decoder.Status.TheVariants as status
 use Rattle.krb_tool.specs.inner.Streams.{Feeds}
 use Rattle.krb_tool.specs.inner.Pieces.{listing_of}
 use Rattle.krb_tool.specs.inner.CountingListers.{counting, counting_rules}
 use Rattle.krb_tool.specs.declared.going_on.CountingLister.{CountingLister}
-use Rattle.krb_tool.proofs.Pieces.{IsFed-start, IsFed-both, TakesPiece-both, may_wait, few_left, one_more, Feeds-made}
+use Rattle.krb_tool.proofs.Pieces.{IsFed-start, IsFed-both, TakesPiece-both, may_wait, few_left, one_more, came, Feeds-made}
 use Rattle.krb_tool.proofs.DecoderResults.{memory_ready, memory_refused, more_ready}
-use Rattle.krb_tool.proofs.CountedListings.{fed_within, fed_some, TakesPiece-more, TakesPiece-unknown, IsFed-ready, IsFed-refused, more_refused, skipped-none, skipped-one}
+use Rattle.krb_tool.proofs.CountedListings.{HasCounted-used, fed_within, fed_some, TakesPiece-more, TakesPiece-unknown, IsFed-ready, IsFed-refused, more_refused, skipped-none, skipped-one}
 use Rattle.krb_tool.proofs.CountedPieces.{Begins-waits, stops-unknown}
 use Rattle.krb_tool.proofs.going_on.CountingListerListStream.feed.Goals as goal
 
@@ -17,10 +17,15 @@ frames-init c = IsFed-start counting c.args.self.now c.args.piece.now (may_wait 
 pub list_passed-requires-clause-few : goal.list_passed-requires-clause-few
 list_passed-requires-clause-few c = few_left counting c.requires.waits c.requires.short c.frames.invariant
 
+pub list_passed-requires-clause-room : goal.list_passed-requires-clause-room
+list_passed-requires-clause-room c =
+    let before = came counting c.requires.waits c.requires.short c.frames.invariant in
+    omega (arith, before.few, before.listed.within, before.listed.short)
+
 pub returns-in-More-clause-fed : goal.returns-in-More-clause-fed
 returns-in-More-clause-fed c =
     let new : CountingLister = record c.list_passed.new.self { decoder = c.feed-fed.new.self } in
-    Feeds-made counting Begins-waits stops-unknown c.requires.short (TakesPiece-both counting (IsFed-both counting c.frames.invariant c.in_ok-after.ensures.fed) (TakesPiece-more c.list_passed.new.self new c.in_ok-after.after.now c.feed-fed.result c.feed-fed.ensures refl refl refl refl c.in-More.is))
+    Feeds-made counting Begins-waits stops-unknown c.requires.short (TakesPiece-both counting (IsFed-both counting c.frames.invariant c.in_ok-after.ensures.fed) (TakesPiece-more c.list_passed.new.self new c.in_ok-after.after.now c.feed-fed.result c.feed-fed.ensures refl refl refl refl refl c.in-More.is))
 
 -- ---- a frame is ready
 pub list_ready-requires-clause-few : goal.list_ready-requires-clause-few
@@ -29,6 +34,15 @@ list_ready-requires-clause-few c =
     let some = fed_some c.list_passed.new.self new c.in_ok-after.after.now c.feed-fed.result c.feed-fed.ensures status.Ready c.in_ok-after.ensures.fed.waits c.in-Ready.is more_ready memory_ready in
     let within = fed_within c.list_passed.new.self new c.in_ok-after.after.now c.feed-fed.result c.feed-fed.ensures in
     omega (arith, one_more counting c.feed-fed.result.used c.requires.waits c.requires.short (IsFed-both counting c.frames.invariant c.in_ok-after.ensures.fed) some within)
+
+pub list_ready-requires-clause-room : goal.list_ready-requires-clause-room
+list_ready-requires-clause-room c =
+    let before = came counting c.requires.waits c.requires.short (IsFed-both counting c.frames.invariant c.in_ok-after.ensures.fed) in
+    let new : CountingLister = record c.list_passed.new.self { decoder = c.feed-fed.new.self } in
+    let now = HasCounted-used c.list_passed.new.self new c.in_ok-after.after.now c.feed-fed.result c.feed-fed.ensures refl refl refl refl refl before.stream before.written before.listed in
+    let within = fed_within c.list_passed.new.self new c.in_ok-after.after.now c.feed-fed.result c.feed-fed.ensures in
+    let used : List ℕ = take c.feed-fed.result.used c.in_ok-after.after.now in
+    omega (arith, before.few, now.within, now.short, within, length-append before.stream used, length-take c.feed-fed.result.used c.in_ok-after.after.now)
 
 pub frames-smaller-in_ok-list_ready-in-Ready : goal.frames-smaller-in_ok-list_ready-in-Ready
 frames-smaller-in_ok-list_ready-in-Ready c =
@@ -41,15 +55,24 @@ pub frames-preserved-in_ok-list_ready-in-Ready : goal.frames-preserved-in_ok-lis
 frames-preserved-in_ok-list_ready-in-Ready c =
     let between : CountingLister = record c.list_passed.new.self { decoder = c.feed-fed.new.self } in
     rw (take_rest c.in_ok-after.after.now c.feed-fed.result.used)
-    (IsFed-both counting (IsFed-both counting c.frames.invariant c.in_ok-after.ensures.fed) (IsFed-ready c.list_passed.new.self between c.in_ok-after.after.now c.feed-fed.result c.feed-fed.ensures refl refl refl refl c.list_ready.new.self c.in_ok-after.ensures.fed.waits c.in-Ready.is c.in_ok-list_ready-in-Ready.ensures.listed))
+    (IsFed-both counting (IsFed-both counting c.frames.invariant c.in_ok-after.ensures.fed) (IsFed-ready c.list_passed.new.self between c.in_ok-after.after.now c.feed-fed.result c.feed-fed.ensures refl refl refl refl refl c.list_ready.new.self c.in_ok-after.ensures.fed.waits c.in-Ready.is c.in_ok-list_ready-in-Ready.ensures.listed))
 
 -- ---- a frame is refused
-pub skip_refused-requires : goal.skip_refused-requires
-skip_refused-requires c =
+pub skip_refused-requires-clause-few : goal.skip_refused-requires-clause-few
+skip_refused-requires-clause-few c =
     let new : CountingLister = record c.list_passed.new.self { decoder = c.feed-fed.new.self } in
     let some = fed_some c.list_passed.new.self new c.in_ok-after.after.now c.feed-fed.result c.feed-fed.ensures (status.Refused c.in-Refused.refusal) c.in_ok-after.ensures.fed.waits c.in-Refused.is (more_refused c.in-Refused.refusal) (memory_refused c.in-Refused.refusal) in
     let within = fed_within c.list_passed.new.self new c.in_ok-after.after.now c.feed-fed.result c.feed-fed.ensures in
     omega (arith, one_more counting c.feed-fed.result.used c.requires.waits c.requires.short (IsFed-both counting c.frames.invariant c.in_ok-after.ensures.fed) some within)
+
+pub skip_refused-requires-clause-room : goal.skip_refused-requires-clause-room
+skip_refused-requires-clause-room c =
+    let before = came counting c.requires.waits c.requires.short (IsFed-both counting c.frames.invariant c.in_ok-after.ensures.fed) in
+    let new : CountingLister = record c.list_passed.new.self { decoder = c.feed-fed.new.self } in
+    let now = HasCounted-used c.list_passed.new.self new c.in_ok-after.after.now c.feed-fed.result c.feed-fed.ensures refl refl refl refl refl before.stream before.written before.listed in
+    let within = fed_within c.list_passed.new.self new c.in_ok-after.after.now c.feed-fed.result c.feed-fed.ensures in
+    let used : List ℕ = take c.feed-fed.result.used c.in_ok-after.after.now in
+    omega (arith, before.few, now.within, now.short, within, length-append before.stream used, length-take c.feed-fed.result.used c.in_ok-after.after.now)
 
 pub returns-then-not-branch-clause-fed : goal.returns-then-not-branch-clause-fed
 returns-then-not-branch-clause-fed c =
@@ -57,7 +80,7 @@ returns-then-not-branch-clause-fed c =
     let none = skipped-none between c.skip_refused.new.self c.in-Refused.refusal c.in_ok-skip_refused-in-Refused.field-0 c.if-not-branch.true c.in_ok-skip_refused-in-Refused.ensures.skipped in
     subst (λ n. Feeds counting_rules (listing_of counting c.args.self.now) c.args.piece.now (listing_of counting n) false) (sym none.0)
     (Feeds-made counting Begins-waits stops-unknown c.requires.short
-    (TakesPiece-both counting (IsFed-both counting c.frames.invariant c.in_ok-after.ensures.fed) (TakesPiece-unknown c.list_passed.new.self between c.in_ok-after.after.now c.feed-fed.result c.feed-fed.ensures refl refl refl refl c.in-Refused.refusal c.in-Refused.is none.1)))
+    (TakesPiece-both counting (IsFed-both counting c.frames.invariant c.in_ok-after.ensures.fed) (TakesPiece-unknown c.list_passed.new.self between c.in_ok-after.after.now c.feed-fed.result c.feed-fed.ensures refl refl refl refl refl c.in-Refused.refusal c.in-Refused.is none.1)))
 
 pub frames-smaller : goal.frames-smaller
 frames-smaller c =
@@ -71,4 +94,4 @@ frames-preserved c =
     let between : CountingLister = record c.list_passed.new.self { decoder = c.feed-fed.new.self } in
     let one = skipped-one between c.skip_refused.new.self c.in-Refused.refusal c.in_ok-skip_refused-in-Refused.field-0 c.if-not-branch.false c.in_ok-skip_refused-in-Refused.ensures.skipped in
     rw (take_rest c.in_ok-after.after.now c.feed-fed.result.used)
-    (IsFed-both counting (IsFed-both counting c.frames.invariant c.in_ok-after.ensures.fed) (IsFed-refused c.list_passed.new.self between c.in_ok-after.after.now c.feed-fed.result c.feed-fed.ensures refl refl refl refl c.skip_refused.new.self c.in-Refused.refusal c.in_ok-after.ensures.fed.waits c.in-Refused.is one))
+    (IsFed-both counting (IsFed-both counting c.frames.invariant c.in_ok-after.ensures.fed) (IsFed-refused c.list_passed.new.self between c.in_ok-after.after.now c.feed-fed.result c.feed-fed.ensures refl refl refl refl refl c.skip_refused.new.self c.in-Refused.refusal c.in_ok-after.ensures.fed.waits c.in-Refused.is one))

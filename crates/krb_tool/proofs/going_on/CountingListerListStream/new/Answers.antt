@@ -1,4 +1,4 @@
-use Rattle.std.proofs.Common.{◌≡◌, [], refl, sym, ◌∙◌, ap, subst, arith}
+use Rattle.std.proofs.Common.{◌≡◌, [], length, refl, sym, ◌∙◌, ap, subst, arith}
 use Rattle.krb_msg.specs.Grammar.{messages}
 use Rattle.krb_frame.specs.Decoded.{HasDecoded}
 use Rattle.krb_frame.specs.Decoding.{status_of}
@@ -24,7 +24,11 @@ returns c =
         lines = c.new-2.ensures;
         messages = refl;
         refused = refl;
+        offset = refl;
+        within = omega (arith, ap (λ d. length d.octets) (same ∙ nothing));
+        short = omega (arith, ap (λ s. s.skipped) c.new.ensures.decoder);
       };
       waits = ap (λ d. status_of (messages d.profile) d) (same ∙ nothing) ∙ more-nothing (messages c.args.request.profile) c.args.request.profile c.args.request.limit _ _;
       few = omega arith;
+      short = omega arith;
     })

@@ -24,4 +24,5 @@ returns c =
       };
       waits = ap (λ d. status_of (messages d.profile) d) nothing ∙ more-nothing (messages c.args.request.profile) c.args.request.profile c.args.request.limit _ _;
       few = omega (arith, c.new.ensures.messages);
+      short = omega arith;
     })

@@ -11,4 +11,5 @@ returns c =
       listed = HasRead-start _ c.new-2.ensures.items c.new-3.ensures.items refl refl;
       waits = refl;
       few = omega arith;
+      short = omega arith;
     })

@@ -11,4 +11,5 @@ returns c =
       decoded = h.decoded;
       lines = ap (λ l. (written ++ c.args.self.now.text) ++ l) c.clear.ensures ∙ append-nil (written ++ c.args.self.now.text) ∙ h.lines;
       counted = h.counted;
+      offset = h.offset;
     })

@@ -1,4 +1,4 @@
-use Rattle.std.proofs.Common.{◌≡◌, [], refl, sym, ◌∙◌, ap, subst, arith}
+use Rattle.std.proofs.Common.{◌≡◌, [], length, refl, sym, ◌∙◌, ap, subst, arith}
 use Rattle.krb_msg.specs.Grammar.{messages}
 use Rattle.krb_frame.specs.Decoding.{status_of}
 use Rattle.krb_frame.specs.Decoded.{HasDecoded}
@@ -15,7 +15,8 @@ returns c =
     let profile : c.with_profile.result.profile ≡ c.args.request.profile = ap (λ d. d.profile) nothing in
     IsNew-made stopping Begins-waits (ap (request_of c.args.request.form) nothing)
     (record {
-      listed = record { messages = []; decoded = subst (λ p. HasDecoded (messages p) c.with_profile.result [] []) (sym profile) c.with_profile.ensures.decoded; lines = c.new.ensures; counted = refl };
+      listed = record { messages = []; decoded = subst (λ p. HasDecoded (messages p) c.with_profile.result [] []) (sym profile) c.with_profile.ensures.decoded; lines = c.new.ensures; counted = refl; offset = omega (arith, ap (λ d. length d.octets) nothing) };
       waits = ap (λ d. status_of (messages d.profile) d) nothing ∙ more-nothing (messages c.args.request.profile) c.args.request.profile c.args.request.limit _ _;
       few = omega arith;
+      short = omega arith;
     })

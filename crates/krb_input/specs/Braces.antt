@@ -1,0 +1,44 @@
+-- What stands in braces, as in an array of C.
+use Rattle.std.specs.Prelude.{ℕ, suc, ◌+◌, ◌==◌, true, false, List, [], ◌∷◌, length, take, drop, Option, Some, None, Ok, Err}
+use Rattle.krb_input.specs.Characters.{when, length_before}
+use Rattle.krb_input.specs.Readings.{Reading}
+use Rattle.krb_input.specs.Escapes.{has_escape, escapes}
+use Rattle.krb_input.specs.Tokens.{first_unfit, tokens}
+use Rattle.krb_input.specs.Comments.{blanked, unclosed}
+use Rattle.krb_input.specs.declared.text.Comments.TheVariants.{Outside}
+
+-- what follows the first of an octet, if it is there
+abbrev pub after_first : ℕ → List ℕ → Option (List ℕ)
+after_first octet [] = None
+after_first octet (first ∷ text) = when (first == octet) (λ _. Some text) (λ _. after_first octet text)
+
+-- tokens, of a text that has nothing else
+abbrev pub tokens_if_fit : Option ℕ → List ℕ → Reading
+tokens_if_fit None text = tokens true text
+tokens_if_fit (Some left) text = Err left
+
+-- a text of escapes, if it has one, or else of tokens
+abbrev pub escapes_or_tokens : List ℕ → Reading
+escapes_or_tokens text = when (has_escape text) (λ _. escapes text) (λ _. tokens_if_fit (first_unfit false text) text)
+
+-- A block, in which comments are blanks. A comment that does not end is at fault.
+abbrev pub block_if_closed : Option ℕ → List ℕ → Reading
+block_if_closed None block = escapes_or_tokens (blanked Outside block)
+block_if_closed (Some left) block = Err left
+
+abbrev pub block : List ℕ → Reading
+block octets = block_if_closed (unclosed octets) octets
+
+-- what is read of a text that others follow
+abbrev pub before : (following : ℕ) → Reading → Reading
+before following (Ok octets) = Ok octets
+before following (Err left) = Err (left + following)
+
+-- what is before a `}`, and the text from there on; it is missing at the end if there is none
+abbrev pub to_brace : (inside following : List ℕ) → Reading
+to_brace inside [] = Err 0
+to_brace inside (brace ∷ following) = before (suc (length following)) (block inside)
+
+-- What is before the next `}`. The text is what follows the first `{`.
+abbrev pub braces : List ℕ → Reading
+braces text = to_brace (take (length_before 0x7D text) text) (drop (length_before 0x7D text) text)

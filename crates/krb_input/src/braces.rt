@@ -1,0 +1,59 @@
+//! What stands in braces, as in an array of C.
+
+ghost use Rattle.std.specs.Prelude.{◌≡◌, Ok, IfErr, IfOk};
+ghost use Rattle.krb_input.specs.Braces.{after_first, block, braces};
+ghost use Rattle.krb_input.specs.inner.Results.{IsPart, IsFault};
+
+use crate::characters::length_before;
+use crate::escapes::{has_escape, read_escapes};
+use crate::text::{Text, unclosed};
+use crate::text_fault::TextFault;
+use crate::tokens::{first_unfit, read_tokens};
+use std::alloc::Global;
+
+/// Returns what follows the first of an octet in a text, if it is there.
+pub(crate) fn after_first(octet: u8, text: &[u8]) -> Option<&[u8]>
+    ensures { IsPart (after_first octet text.now) result }
+{
+    let mut rest = text;
+    while let [first, others @ ..] = rest {
+        if *first == octet {
+            return Some(others);
+        }
+        rest = others;
+    }
+    None
+}
+
+/// Returns the octets of what is between a `{` and the next `}`. The text is what follows the `{`.
+pub(crate) fn read_braces(alloc: Global, text: &[u8]) -> Result<Vec<u8>, TextFault>
+    ensures octets { IfOk result (λ octets. braces text.now ≡ Ok octets.items) }
+    ensures fault { IfErr result (IsFault (braces text.now)) }
+{
+    let (inside, following) = text.split_at(length_before(b'}', text));
+    if following.is_empty() {
+        return Err(TextFault::Left(0));
+    }
+    match read_block(alloc, inside) {
+        Ok(octets) => Ok(octets),
+        Err(fault) => Err(fault.before(following)),
+    }
+}
+
+/// Returns the octets of a text in which comments are blanks: escapes, if it has one, or else tokens.
+fn read_block(alloc: Global, text: &[u8]) -> Result<Vec<u8>, TextFault>
+    ensures octets { IfOk result (λ octets. block text.now ≡ Ok octets.items) }
+    ensures fault { IfErr result (IsFault (block text.now)) }
+{
+    if let Some(left) = unclosed(text) {
+        return Err(TextFault::Left(left));
+    }
+    let uncommented = Text::with_comments(text);
+    if has_escape(uncommented) {
+        return read_escapes(alloc, uncommented);
+    }
+    if let Some(left) = first_unfit(uncommented) {
+        return Err(TextFault::Left(left));
+    }
+    read_tokens(alloc, uncommented)
+}

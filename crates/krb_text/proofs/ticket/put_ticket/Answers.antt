@@ -1,0 +1,13 @@
+use Rattle.std.proofs.lemmas.Result.{on_ok_weaker}
+use Rattle.krb_text.specs.Forms.{record_text}
+use Rattle.krb_text.specs.Messages.{ticket_record}
+use Rattle.krb_text.proofs.Appended.{three_fields}
+use Rattle.krb_text.proofs.ticket.put_ticket.Goals as goal
+
+pub returns : goal.returns
+unfolding record_text ticket_record
+returns c =
+    on_ok_weaker
+    c.put_end.result
+    (three_fields _ _ _ _ _ _ _ c.in_ok-put_message_opening.ensures c.in_ok-put_principal_field.ensures c.in_ok-put_sealed_field.ensures (rw c.notes_of_ticket-notes.ensures at c.in_ok-put_field.ensures))
+    c.put_end.ensures

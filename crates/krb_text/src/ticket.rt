@@ -1,0 +1,34 @@
+//! What is printed of Tickets that lie in no message, written from views of their octets.
+
+ghost use Rattle.std.specs.Prelude.{◌≡◌, ◌++◌, OnOk};
+ghost use Rattle.krb_msg.specs.Types.{TicketLists, ticket_of_view};
+ghost use Rattle.krb_text.specs.Messages.{message_origin, ticket_line};
+
+use crate::field::{put_end, put_field};
+use crate::form::Form;
+use crate::message_origin::{MessageOrigin, put_message_opening};
+use crate::text_buffer::TextBuffer;
+use crate::view_field::{put_principal_field, put_sealed_field};
+use krb_msg::{TicketView, notes_of_ticket};
+use std::alloc::AllocError;
+
+/// Appends a Ticket (RFC 4120, 5.3) that comes from an origin by a view of it, as a line or an
+/// object with its line feed: its server, what is sealed in it, and its notes.
+#[tactic(auto, unfolding(crate::specs::Forms::record_text, crate::specs::Messages::ticket_record))]
+pub fn put_ticket(
+    text: &mut TextBuffer,
+    form: Form,
+    origin: &MessageOrigin<'_>,
+    ticket: &TicketView<'_>,
+) -> Result<(), AllocError>
+    requires { TicketLists ticket.now }
+    ensures { OnOk result (text.new ≡ text.old ++ ticket_line form (message_origin origin.now.line origin.now.layers.now) (ticket_of_view ticket.now)) }
+{
+    let server = &ticket.sname;
+    let notes = notes_of_ticket(ticket);
+    put_message_opening(text, form, origin, "Ticket")?;
+    put_principal_field(text, form, " server=", ",\"server", server, ticket.realm)?;
+    put_sealed_field(text, form, " ticket=", ",\"ticket", &ticket.enc_part)?;
+    put_field(text, form, " notes=", ",\"notes", &notes)?;
+    put_end(text, form)
+}

@@ -1,0 +1,5 @@
+pub mod FoundInLayers
+pub mod Frames
+pub mod LayersOpened
+pub mod Opens
+pub mod Walks

@@ -1,0 +1,56 @@
+-- The records of the messages that the lines of a text spell, one in each line.
+use Rattle.std.specs.Prelude.{ℕ, ◌+◌, ◌==◌, ◌&&◌, nat_lt, not, Bool, List, [], ◌∷◌, length, Option, Some, if◌then◌else◌}
+use Rattle.krb_der.specs.Octets.{when}
+use Rattle.krb_der.specs.declared.profile.Profile.{Profile}
+use Rattle.krb_input.specs.Inputs.{line_spelled}
+use Rattle.krb_text.specs.declared.form.Form.{Form}
+use Rattle.krb_tool.specs.Conversions.{Converted, after_text, Converts, ConvertsInPart}
+use Rattle.krb_tool.specs.Encoding.{is_blank_line, lines_of}
+use Rattle.krb_tool.specs.Lines.{counted_end_line}
+use Rattle.krb_tool.specs.Messages.{input_limit, input_listing}
+use Rattle.krb_tool.specs.declared.lines_run.Seen.{Seen}
+use Rattle.krb_tool.specs.declared.message_input.MessageInput.{MessageInput}
+use Rattle.krb_tool.specs.declared.run.RunEnd.{RunEnd}
+use Rattle.krb_tool.specs.declared.run.RunEnd.TheVariants as run
+
+-- the line after those that were seen
+abbrev pub next_line : Form → Profile → Seen → MessageInput
+next_line form profile seen = record { form = form; profile = profile; line = Some (seen.lines + 1); at = seen.octets }
+
+-- a line of blanks alone is passed over, unless it is too long
+abbrev pub is_passed : List ℕ → Bool
+is_passed line = not (nat_lt input_limit (length line)) && is_blank_line line
+
+-- with a line more, and the line feed after it
+abbrev pub with_line : Seen → (size : ℕ) → Seen
+with_line seen size = record seen { lines = seen.lines + 1; octets = seen.octets + size + 1 }
+
+-- with a record more
+abbrev pub with_record : RunEnd → Seen → Seen
+with_record run.Clean seen = record seen { messages = seen.messages + 1 }
+with_record run.Refused seen = record seen { refused = seen.refused + 1 }
+
+abbrev pub end_of : (refused : ℕ) → RunEnd
+end_of refused = if refused == 0 then run.Clean else run.Refused
+
+-- The records of lines after others: that of each that is not passed over, and then that of the end.
+abbrev pub records_of : Form → Profile → Seen → List (List ℕ) → Converted RunEnd
+records_of form profile seen [] = record { text = counted_end_line form seen.messages seen.refused; end = end_of seen.refused }
+records_of form profile seen (line ∷ lines) =
+    when (is_passed line) (λ _. records_of form profile (with_line seen (length line)) lines)
+    (λ _. let listing = input_listing (next_line form profile seen) line_spelled line in
+    after_text listing.text (records_of form profile (with_record listing.end (with_line seen (length line))) lines))
+
+abbrev pub none_seen : Seen
+none_seen = record { lines = 0; octets = 0; messages = 0; refused = 0 }
+
+-- of a text
+unfoldable pub lines_listed : Form → Profile → (text : List ℕ) → Converted RunEnd
+lines_listed form profile text = records_of form profile none_seen (lines_of text)
+
+-- ---- what a run does: no line ends it
+abbrev pub ListsLines : Form → Profile → (had left written_before written_after : Option (List ℕ)) → RunEnd → Type 0
+ListsLines form profile had left written_before written_after ended = Converts (lines_listed form profile) (λ read. Unit {0}) had left written_before written_after ended
+
+abbrev pub FailsLines : Form → Profile → (had left written_before written_after : Option (List ℕ)) → Type 0
+FailsLines form profile had left written_before written_after = ConvertsInPart (lines_listed form profile) had left written_before written_after

@@ -1,0 +1,227 @@
+//! A run over messages that the lines of a text spell, one in each line.
+
+ghost use Rattle.std.specs.Prelude.{◌≡◌, ◌+◌, ◌++◌, ◌<◌, ◌^◌, [], length, take, IfOk, IfErr, OnOk, OnErr};
+ghost use Rattle.krb_tool.specs.MessageLines.{ListsLines, FailsLines, is_passed};
+ghost use Rattle.krb_tool.specs.Messages.{Puts, input_listing};
+ghost use Rattle.krb_input.specs.Inputs.{line_spelled};
+ghost use Rattle.krb_tool.specs.declared.run.RunFault.TheVariants as fault;
+ghost use Rattle.krb_tool.specs.inner.MessageLines.{AddsOctets, EndsLine, EndsLast, PutsLine, lines_kind};
+ghost use Rattle.krb_tool.specs.inner.Pieces.{listing_of};
+
+use crate::lines::{is_blank_line, line_length};
+use crate::message_input::{MOST_INPUT, MessageInput};
+use crate::run::{RunEnd, RunFault};
+use crate::stream_run::{ListStream, list_all};
+use crate::transfer::Asked;
+use krb_der::Profile;
+use krb_input::{InputFault, read_line};
+use krb_text::{Form, InputFault as Unread, TextBuffer, put_counted_stream_end};
+use std::alloc::{AllocError, Global};
+use std::io::{Read, Write};
+
+/// What was seen of a text: how many lines, how many octets these have with their line feeds, and
+/// how many of the lines spell a message or a Ticket and how many are refused.
+#[derive(Clone, Copy)]
+pub(crate) struct Seen {
+    lines: u64,
+    octets: u64,
+    messages: u64,
+    refused: u64,
+}
+
+/// What a listing of lines is asked for: the form of the records, and the profile of the messages.
+#[derive(Clone, Copy, Drop)]
+pub(crate) struct LinesRequest {
+    form: Form,
+    profile: Profile,
+}
+
+/// A lister of lines: what allocates for it, what it is asked for, the octets of the line that has
+/// not ended, as far as they decide its record, and how many that line has, what was seen of the
+/// lines before it, and the records that are not written yet.
+#[derive(Drop)]
+pub(crate) struct LineLister {
+    alloc: Global,
+    request: LinesRequest,
+    line: Vec<u8>,
+    size: u64,
+    seen: Seen,
+    text: TextBuffer,
+}
+
+impl LineLister {
+    /// Adds octets to the line that has not ended.
+    fn add(&mut self, octets: &[u8]) -> Result<(), AllocError>
+        requires few { self.old.size + length octets.now < 2 ^ 64 }
+        ensures added { OnOk result (AddsOctets self.old octets.now self.new) }
+    {
+        let room = (MOST_INPUT + 1).saturating_sub(self.line.len());
+        let kept = octets.len().min(room);
+        self.line.extend_from_slice(&octets[..kept])?;
+        self.size += octets.len() as u64;
+        Ok(())
+    }
+
+    /// Ends the line: adds its record, unless it is passed over.
+    fn end_line(&mut self) -> Result<(), RunFault>
+        requires few { self.old.seen.octets + self.old.size + 1 < 2 ^ 64 }
+        requires lines { self.old.seen.lines + 1 < 2 ^ 64 }
+        requires records { self.old.seen.messages + self.old.seen.refused + 1 < 2 ^ 64 }
+        ensures ended { OnOk result (EndsLine self.old self.new) }
+        ensures fault { IfErr result (λ e. e ≡ fault.Memory) }
+    {
+        if !self.is_passed() {
+            self.put_line()?;
+        }
+        self.seen.lines += 1;
+        self.seen.octets += self.size + 1;
+        self.size = 0;
+        self.line.clear();
+        Ok(())
+    }
+
+    /// Returns whether the line is passed over.
+    fn is_passed(&self) -> bool
+        ensures { result ≡ is_passed self.now.line.items }
+    {
+        self.line.len() <= MOST_INPUT && is_blank_line(self.line.as_slice())
+    }
+
+    /// Adds the record of the line, and counts it.
+    fn put_line(&mut self) -> Result<(), RunFault>
+        requires lines { self.old.seen.lines + 1 < 2 ^ 64 }
+        requires records { self.old.seen.messages + self.old.seen.refused + 1 < 2 ^ 64 }
+        ensures put { OnOk result (PutsLine self.old self.new) }
+        ensures fault { IfErr result (λ e. e ≡ fault.Memory) }
+    {
+        let input = MessageInput {
+            form: self.request.form,
+            profile: self.request.profile,
+            line: Some(self.seen.lines + 1),
+            at: self.seen.octets,
+        };
+        match put_input(self.alloc, &mut self.text, &input, self.line.as_slice())? {
+            RunEnd::Clean => self.seen.messages += 1,
+            RunEnd::Refused => self.seen.refused += 1,
+        }
+        Ok(())
+    }
+
+    /// Ends the last line if it is not empty.
+    fn end_last_line(&mut self) -> Result<(), RunFault>
+        requires few { self.old.seen.octets + self.old.size + 1 < 2 ^ 64 }
+        requires lines { self.old.seen.lines + 1 < 2 ^ 64 }
+        requires records { self.old.seen.messages + self.old.seen.refused + 1 < 2 ^ 64 }
+        ensures ended { OnOk result (EndsLast self.old self.new) }
+        ensures fault { IfErr result (λ e. e ≡ fault.Memory) }
+    {
+        if !self.line.is_empty() {
+            self.end_line()?;
+        }
+        Ok(())
+    }
+}
+
+/// Appends the record of a line.
+fn put_input(
+    alloc: Global,
+    text: &mut TextBuffer,
+    input: &MessageInput,
+    line: &[u8],
+) -> Result<RunEnd, RunFault>
+    ensures put { IfOk result (Puts text.old text.new (input_listing input.now line_spelled line.now)) }
+    ensures fault { IfErr result (λ e. e ≡ fault.Memory) }
+{
+    if line.len() > MOST_INPUT {
+        return input.put_unread(text, Unread::Length, None);
+    }
+    match read_line(alloc, line) {
+        Ok(made) => input.put_octets(alloc, text, made.form, made.octets.as_slice()),
+        Err(InputFault::Misspelled(fault)) => input.put_misspelling(text, fault),
+        Err(InputFault::Memory) => Err(RunFault::Memory),
+    }
+}
+
+impl ListStream for LineLister {
+    type Request = LinesRequest;
+
+    type End = RunEnd;
+
+    ghost rules = { lines_kind.rules };
+
+    ghost listing = { listing_of lines_kind };
+
+    fn new(alloc: Global, request: LinesRequest) -> LineLister {
+        LineLister {
+            alloc,
+            request,
+            line: Vec::new(alloc),
+            size: 0,
+            seen: Seen {
+                lines: 0,
+                octets: 0,
+                messages: 0,
+                refused: 0,
+            },
+            text: TextBuffer::new(alloc),
+        }
+    }
+
+    fn feed(&mut self, piece: &[u8]) -> Result<bool, RunFault> {
+        let mut rest = piece;
+        'lines: while let Some(end) = line_length(rest) {
+            self.add(&rest[..end])?;
+            rest = &rest[end + 1..];
+            self.end_line()?;
+        }
+        self.add(rest)?;
+        Ok(true)
+    }
+
+    fn text(&self) -> &[u8] {
+        self.text.octets()
+    }
+
+    fn clear_text(&mut self) {
+        self.text.clear();
+    }
+
+    fn finish(&mut self) -> Result<RunEnd, RunFault> {
+        self.end_last_line()?;
+        let Seen {
+            messages,
+            refused,
+            ..
+        } = self.seen;
+        put_counted_stream_end(&mut self.text, self.request.form, messages, refused)?;
+        Ok(if refused == 0 {
+            RunEnd::Clean
+        } else {
+            RunEnd::Refused
+        })
+    }
+}
+
+/// Lists the messages of a profile, in a form, that the lines of a text spell, one in each line, as
+/// [`run_message_in`](crate::run_message_in) lists one, but that a line is text, and no dump: writes
+/// a record of each line, with its number, from 1, and then the record of the end, with how many
+/// lines spell a message or a Ticket and how many are refused. A line is what comes before a line
+/// feed, and the rest if it is not empty; a line of spaces, tabs and CR alone is passed over, and
+/// one of more than 16777216 octets is `refused length`. The reader is asked at most 2^40 times, for
+/// 64 KiB each, and the records of the lines that end in what came are written before it is asked
+/// again. If a read fails or memory runs out, the records of the lines before that are written, all
+/// or the first of them, and no last one. Memory is allocated for the greatest line alone.
+pub fn run_lines_in<R: Read, W: Write>(
+    alloc: Global,
+    form: Form,
+    profile: Profile,
+    reader: &mut R,
+    writer: &mut W,
+) -> Result<RunEnd, RunFault>
+    ensures listed { IfOk result (ListsLines form profile (R.remaining reader.old) (R.remaining reader.new) (W.contents writer.old) (W.contents writer.new)) }
+    ensures fault { OnErr result (FailsLines form profile (R.remaining reader.old) (R.remaining reader.new) (W.contents writer.old) (W.contents writer.new)) }
+{
+    let mut asked = Asked::new(reader);
+    let request = LinesRequest { form, profile };
+    list_all::<LineLister, _, _>(alloc, request, &mut asked, writer)
+}
