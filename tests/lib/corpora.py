@@ -1,15 +1,8 @@
 """What is wanted of the files of a corpus, which has the named lines and objects in two places: those of `inputs/want` take the
-place of others of the same name. What these show of what is in the clear is left out: krbls has none of it."""
-
-import json
-import re
+place of others of the same name."""
 
 # The name of each form, the folder of its listings, and how their names end.
 FORMS = [("", "want", ".want"), (" --names", "want-named", ""), (" --json", "want-json", "")]
-
-INSIDE = re.compile(r" inside=\d+(?: .*)?$")
-VALUE = re.compile(r"^(config .*) value=(?:-|\".*\")$")
-CLEAR = ("inside", "value")
 
 
 def where_wanted(corpus, path, form, folder, ending):
@@ -23,15 +16,6 @@ def where_wanted(corpus, path, form, folder, ending):
     return newer if newer.exists() else corpus / folder / name
 
 
-def without_clear(line):
-    """A line or an object without what is in the clear."""
-    if not line.startswith("{"):
-        return VALUE.sub(r"\1", INSIDE.sub("", line))
-    members = {name: value for name, value in json.loads(line).items() if name not in CLEAR}
-    return json.dumps(members, separators=(",", ":"))
-
-
 def wanted(corpus, path, form, folder, ending):
     """The listing that is expected of a file, with its status."""
-    lines = where_wanted(corpus, path, form, folder, ending).read_text().splitlines()
-    return "".join(f"{without_clear(line)}\n" for line in lines)
+    return where_wanted(corpus, path, form, folder, ending).read_text()

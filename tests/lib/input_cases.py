@@ -6,7 +6,6 @@ import pathlib
 import shutil
 from typing import NamedTuple
 
-from corpora import without_clear
 from reference.runs import run
 
 DATA = pathlib.Path(__file__).resolve().parents[1] / "data"
@@ -121,12 +120,11 @@ class Case(NamedTuple):
 
 
 def kept_cases(path):
-    """The cases of a file, without what they show of what is in the clear. They may name the files of tests/data/sources."""
+    """The cases of a file. They may name the files of tests/data/sources."""
     for line in path.read_text().splitlines():
         case = json.loads(line)
         words = case.get("words") or [word for word in (case["command"],) if word] + case["options"]
-        output = "".join(f"{without_clear(line)}\n" for line in case["output"].splitlines())
-        yield Case(case["kind"], words, bytes.fromhex(case["input"]), output, case["error"], case["status"])
+        yield Case(case["kind"], words, bytes.fromhex(case["input"]), case["output"], case["error"], case["status"])
 
 
 def files_in(folder):

@@ -4,8 +4,8 @@ It was written from the rules alone (docs/FORMATS.md: the grammar of RFC 4120, a
 judging, inputs, tokens, frames, keytabs, credential caches and captures; docs/LISTING.md: lines, names and objects), and not from the
 code of krbls. `grammar` has the types and the messages, `judging` looks at one octet after another, and the
 first rule that one breaks is the refusal, with the path of the field that it is in (`paths`); `messages`,
-`frames` and `files` have the records, `values` what these consist of, with the names of numbers in
-`registries`, and `records` their forms.
+`frames` and `files` have the records, `fields` those of messages, `inside` what is in the clear in these, `values` what all
+consist of, with the names of numbers in `registries`, and `records` their forms.
 
 `inputs` has what an input of a message spells, with `dumps` and `spellings`, and `tokens` the layers round a message.
 

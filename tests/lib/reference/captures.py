@@ -3,11 +3,12 @@
 from .capture_files import packets
 from .datagrams import Fragments, Segment, Unread, internet, transport
 from .directions import Directions, lost
+from .fields import FIELDS
 from .files import FILE_REASONS
 from .frames import LIMIT, Frames
 from .judging import Ended, Refused
 from .kpasswd import change_password
-from .messages import FIELDS, record_or_refusal
+from .messages import record_or_refusal
 from .records import Record, refused
 from .values import flow, instant, number
 

@@ -1,8 +1,8 @@
 """The records of keytabs and of credential caches."""
 
+from .fields import ticket_server
 from .grammar import TICKET
 from .judging import Refused, whole
-from .messages import ticket_server
 from .records import Record, refused
 from .registries import ENCRYPTION_TYPES, NAME_TYPES
 from .values import (

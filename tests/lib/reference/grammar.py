@@ -4,6 +4,11 @@ from dataclasses import dataclass, replace
 
 
 @dataclass(frozen=True)
+class Boolean:
+    tag: int = 0x01
+
+
+@dataclass(frozen=True)
 class Integer:
     low: int
     high: int
@@ -95,6 +100,7 @@ WIDE32 = Integer(-(2**31), 2**32 - 1, 5)
 MICROS = Integer(0, 999999, 3)
 OCTETS = String(0x04)
 TEXT = String(0x1B)
+BOOLEAN = Boolean()
 OBJECT_IDENTIFIER = ObjectIdentifier()
 PRINCIPAL_NAME = sequence((0, "name-type", INT32), (1, "name-string", ListOf(TEXT)))
 HOST_ADDRESS = sequence((0, "addr-type", INT32), (1, "address", OCTETS))

@@ -1,10 +1,10 @@
 """The order of judging: octets to the values of the grammar, or the first octet at fault.
 
 The value of a SEQUENCE is a dict of the fields that are there, that of a SEQUENCE OF a list, of an INTEGER
-a number, of flags the number of unused bits and the octets, and of all else the octets.
+a number, of a BOOLEAN whether it is true, of flags the number of unused bits and the octets, and of all else the octets.
 """
 
-from .grammar import MESSAGES, Bits, Choice, Integer, ListOf, ObjectIdentifier, Sequence, String, Tagged, Time
+from .grammar import MESSAGES, Bits, Boolean, Choice, Integer, ListOf, ObjectIdentifier, Sequence, String, Tagged, Time
 
 REASONS = (
     "HighBit TooLong Empty Tag Overrun Indefinite LengthWide LengthNotMinimal Loose Size "
@@ -117,6 +117,8 @@ class Judge:
 
     def contents(self, item, size):
         match item:
+            case Boolean():
+                return self.boolean(size)
             case Integer():
                 return self.integer(item, size)
             case Bits():
@@ -139,6 +141,14 @@ class Judge:
                 return values
             case Sequence():
                 return self.sequence(item, size)
+
+    def boolean(self, size):
+        if size != 1:
+            self.refuse("Size")
+        octet = self.next()
+        if octet not in (0x00, 0xFF):
+            self.refuse("Range")
+        return octet == 0xFF
 
     def integer(self, item, size):
         if size == 0 or size > item.widest:

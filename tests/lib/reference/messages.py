@@ -1,40 +1,15 @@
-"""The records of messages and of Tickets, with their notes, and those of inputs."""
+"""The records of messages and of Tickets, with their notes and what is in the clear inside, and those of inputs."""
 
-from .grammar import (
-    MESSAGES,
-    METHOD_DATA,
-    STRICT_MESSAGES,
-    STRICT_TICKET,
-    TICKET,
-    Bits,
-    ListOf,
-    Sequence,
-    String,
-    Tagged,
-)
+from .fields import FIELDS, bits_of, sealed_ticket
+from .grammar import MESSAGES, STRICT_MESSAGES, STRICT_TICKET, TICKET, Bits, ListOf, Sequence, String, Tagged
 from .inputs import line_spelled, spelled
+from .inside import inside
 from .judging import Refused, judge, whole
 from .records import Record, refused, refused_input
-from .registries import AP_OPTIONS, ENCRYPTION_TYPES, KDC_OPTIONS, NOTES, PA_DATA_TYPES
+from .registries import NOTES
 from .spellings import BLANKS, Misspelled, all_of
 from .tokens import Ntlm, Token
-from .values import (
-    ABSENT,
-    address,
-    checksum,
-    count,
-    error_code,
-    flags,
-    layers,
-    message_time,
-    number,
-    numbers,
-    optional,
-    principal,
-    quoted,
-    sealed,
-    string,
-)
+from .values import layers, number, numbers
 
 # How many octets of an input are read.
 MOST_TEXT = 16777216
@@ -69,138 +44,9 @@ def notes(item, value, field=""):
     return found
 
 
-def bits_of(value):
-    unused, octets = value
-    return 8 * len(octets) - unused
-
-
-def options(value, registry):
-    return flags(bits_of(value), value[1], registry)
-
-
-def name_in(realm):
-    """What shows a PrincipalName in a realm."""
-    return lambda name: principal(name["name-type"], name["name-string"], realm)
-
-
-def ticket_server(ticket):
-    return name_in(ticket["realm"])(ticket["sname"])
-
-
-def types(items):
-    """LIST of the types of PA-DATA."""
-    return numbers([item["padata-type"] for item in items], PA_DATA_TYPES)
-
-
-def request(value):
-    body = value["req-body"]
-    shown_name = name_in(body["realm"])
-    return {
-        "realm": string(body["realm"]),
-        "client": optional(shown_name, body.get("cname")),
-        "server": optional(shown_name, body.get("sname")),
-        "options": options(body["kdc-options"], KDC_OPTIONS),
-        "from": optional(message_time, body.get("from")),
-        "till": message_time(body["till"]),
-        "rtime": optional(message_time, body.get("rtime")),
-        "nonce": number(body["nonce"]),
-        "etypes": numbers(body["etype"], ENCRYPTION_TYPES),
-        "padata": optional(types, value.get("padata")),
-        "addresses": optional(count, body.get("addresses")),
-        "authdata": optional(sealed, body.get("enc-authorization-data")),
-        "tickets": optional(count, body.get("additional-tickets")),
-    }
-
-
-def reply(value):
-    return {
-        "client": name_in(value["crealm"])(value["cname"]),
-        "server": ticket_server(value["ticket"]),
-        "padata": optional(types, value.get("padata")),
-        "ticket": sealed(value["ticket"]["enc-part"]),
-        "enc": sealed(value["enc-part"]),
-    }
-
-
-def ap_request(value):
-    return {
-        "server": ticket_server(value["ticket"]),
-        "options": options(value["ap-options"], AP_OPTIONS),
-        "ticket": sealed(value["ticket"]["enc-part"]),
-        "auth": sealed(value["authenticator"]),
-    }
-
-
-def ap_reply(value):
-    return {"enc": sealed(value["enc-part"])}
-
-
-def safe(value):
-    body = value["safe-body"]
-    return {
-        "size": count(body["user-data"]),
-        "time": optional(message_time, body.get("timestamp")),
-        "usec": optional(number, body.get("usec")),
-        "seq": optional(number, body.get("seq-number")),
-        "sender": address(body["s-address"]),
-        "receiver": optional(address, body.get("r-address")),
-        "cksum": checksum(value["cksum"]),
-    }
-
-
-def private(value):
-    return {"enc": sealed(value["enc-part"])}
-
-
-def credentials(value):
-    return {"tickets": count(value["tickets"]), "enc": sealed(value["enc-part"])}
-
-
-def methods(value):
-    """LIST of the types in the METHOD-DATA of an error, if there are any."""
-    if value["error-code"] != 25 or "e-data" not in value:
-        return ABSENT
-    try:
-        return types(whole(value["e-data"], {"METHOD-DATA": METHOD_DATA})[1])
-    except Refused:
-        return ABSENT
-
-
-def error(value):
-    client = ABSENT
-    if "cname" in value and "crealm" in value:
-        client = name_in(value["crealm"])(value["cname"])
-    return {
-        "code": error_code(value["error-code"]),
-        "client": client,
-        "server": name_in(value["realm"])(value["sname"]),
-        "ctime": optional(message_time, value.get("ctime")),
-        "cusec": optional(number, value.get("cusec")),
-        "stime": message_time(value["stime"]),
-        "susec": number(value["susec"]),
-        "text": optional(quoted, value.get("e-text")),
-        "data": optional(count, value.get("e-data")),
-        "methods": methods(value),
-    }
-
-
-FIELDS = {
-    "AS-REQ": request,
-    "AS-REP": reply,
-    "TGS-REQ": request,
-    "TGS-REP": reply,
-    "AP-REQ": ap_request,
-    "AP-REP": ap_reply,
-    "KRB-SAFE": safe,
-    "KRB-PRIV": private,
-    "KRB-CRED": credentials,
-    "KRB-ERROR": error,
-}
-
-
 def message_record(name, value):
     noted = sorted(notes(MESSAGES[name], value))
-    return Record(name, {**FIELDS[name](value), "notes": numbers(noted, NOTES)})
+    return Record(name, {**FIELDS[name](value), "notes": numbers(noted, NOTES), **inside(name, value)})
 
 
 def record_or_refusal(octets, n, messages=MESSAGES):
@@ -214,8 +60,7 @@ def record_or_refusal(octets, n, messages=MESSAGES):
 
 
 def ticket_record(value):
-    fields = {"server": ticket_server(value), "ticket": sealed(value["enc-part"])}
-    return Record("Ticket", {**fields, "notes": numbers(sorted(notes(TICKET, value)), NOTES)})
+    return Record("Ticket", {**sealed_ticket(value), "notes": numbers(sorted(notes(TICKET, value)), NOTES)})
 
 
 def inside_record(inside, messages):

@@ -4,7 +4,7 @@ import json
 from typing import NamedTuple
 
 from .judging import REASONS
-from .values import NO_REASON, file_name, number, optional, path, reason, told, word
+from .values import NO_REASON, file_name, number, optional, path, plain, reason, told, word
 
 
 class Record(NamedTuple):
@@ -91,6 +91,12 @@ def members(record):
             ending, names = value.second_member
             found[f"{name}{ending}"] = names
     return found
+
+
+def told_records(records):
+    """Records inside of another one: how many there are, and then each."""
+    text = " ".join([str(len(records)), *map(named_line, records)])
+    return told(plain(text, list(map(members, records))))
 
 
 def json_line(record):

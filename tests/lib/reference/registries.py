@@ -262,6 +262,14 @@ AP_OPTIONS = {
     2: "mutual-required",
 }
 
+# The bits of PA-PAC-OPTIONS: MS-KILE, 2.2.10.
+PAC_OPTIONS = {
+    0: "claims",
+    1: "branch-aware",
+    2: "forward-to-full-dc",
+    3: "resource-based-constrained-delegation",
+}
+
 # The bits of TicketFlags: RFC 4120, 5.3; 15 is of RFC 6806, 16 of RFC 8062.
 TICKET_FLAGS = {
     1: "forwardable",

@@ -82,6 +82,11 @@ def file_name(octets):
     return plain(escaped(octets, "\\"), in_object(octets))
 
 
+def hexadecimal(octets):
+    """HEX"""
+    return word(octets.hex())
+
+
 def message_time(octets):
     return word(octets.decode("ascii"))
 
