@@ -4,11 +4,13 @@ A table is one of the kinds that the heading before it names, or has the kind of
 Each of its rows has fields and their values, and a kind may have several tables: the end of a stream and that of
 a keytab have other fields. The table of the heading Origin has the fields that come before those of its kind in a
 record of a capture, and that of the heading What a message is in those of an input of `message`, if they are there.
+The kinds of the heading What is inside are those of records inside of others, and of these alone.
 """
 
 import pathlib
 import re
 
+INSIDE = "What is inside"
 LISTING = pathlib.Path(__file__).resolve().parents[2] / "docs/LISTING.md"
 QUOTED = re.compile(r"`([^`]+)`")
 LINK = re.compile(r"\[([^]]*)\]\([^)]*\)")
@@ -85,6 +87,8 @@ SHAPES = {
     "checksum": members(type=is_number, type_name=is_name, size=is_number),
     "offset": members(seconds=is_number, microseconds=is_number),
     "path": is_text,
+    "hexadecimal": is_hex,
+    "records": list_of(lambda value: has_members_of(PARTS, value)),
 }
 
 # What the name of a second member has at its end, and its type, by the value.
@@ -107,7 +111,7 @@ def fields_of(names, values):
 
 
 def tables():
-    """The kinds and the fields of each row that begins a kind, and of those below it."""
+    """The heading, the kinds and the fields of each row that begins a kind, and of those below it."""
     heading, header, previous = "", None, ""
     for line in LISTING.read_text().splitlines():
         if line.startswith("#"):
@@ -118,17 +122,19 @@ def tables():
             header = cells(line)
         elif header[:2] == ["Field", "Value"] and not line.startswith("|---"):
             names, values = cells(line)[:2]
-            yield heading.split(", ") if previous.startswith("|---") else [], fields_of(names, values)
+            yield heading, heading.split(", ") if previous.startswith("|---") else [], fields_of(names, values)
         elif header[:3] == ["Line", "Field", "Value"] and not line.startswith("|---"):
             kinds, names, values = cells(line)[:3]
-            yield QUOTED.findall(kinds), fields_of(names, values)
+            yield heading, QUOTED.findall(kinds), fields_of(names, values)
         previous = line
 
 
-def kinds_of_records():
-    """The kinds, each with the lists of fields that its records may have."""
+def kinds_of_records(is_inside):
+    """The kinds of records inside of others, or of all else, each with the lists of fields that its records may have."""
     found, now = {}, []
-    for kinds, fields in tables():
+    for heading, kinds, fields in tables():
+        if (heading == INSIDE) != is_inside:
+            continue
         if kinds:
             now = []
             for kind in kinds:
@@ -137,7 +143,8 @@ def kinds_of_records():
     return found
 
 
-KINDS = kinds_of_records()
+KINDS = kinds_of_records(False)
+PARTS = kinds_of_records(True)
 [ORIGIN] = KINDS.pop("Origin")
 [LAYERS] = KINDS.pop("What a message is in")
 
@@ -153,11 +160,16 @@ def members_after_kind(fields, record):
             yield f"{name}{ending}", second
 
 
-def is_as_listed(record):
-    """Whether an object has the members of its kind, in their order and of their types."""
-    before = ORIGIN if "packet" in record else [field for field in LAYERS if field[0] in record]
-    after = [("file", "file name")] if "file" in record else []
+def has_members_of(kinds, record, before=(), after=()):
+    """Whether an object has the members of its kind, with some before and after these, in their order and of their types."""
     return any(
         members(kind=is_text, **dict(members_after_kind([*before, *fields, *after], record)))(record)
-        for fields in KINDS.get(record["kind"], [])
+        for fields in kinds.get(record["kind"], [])
     )
+
+
+def is_as_listed(record):
+    """Whether an object of a listing has the members that the tables say."""
+    before = ORIGIN if "packet" in record else [field for field in LAYERS if field[0] in record]
+    after = [("file", "file name")] if "file" in record else []
+    return has_members_of(KINDS, record, before, after)
