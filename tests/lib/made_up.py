@@ -10,6 +10,7 @@ from reference.grammar import (
     METHOD_DATA,
     TICKET,
     Bits,
+    Boolean,
     Choice,
     Integer,
     ListOf,
@@ -85,6 +86,8 @@ class Maker:
 
     def contents(self, item):
         match item:
+            case Boolean():
+                return self.boolean()
             case Integer():
                 return self.integer(item)
             case Bits():
@@ -111,6 +114,9 @@ class Maker:
         if self.dice.random() < 0.5:
             return self.octets(size)
         return bytes(self.dice.choices(range(0x80), k=size))
+
+    def boolean(self):
+        return self.dice.choice([b"", b"\x01", b"\xff\xff"] if self.is_wrong(OFTEN) else [b"\x00", b"\xff"])
 
     def integer(self, item):
         near = [item.low, item.high, 0, -1, 127, 128, -128, -129, 32767, -(2**31), 2**31]
@@ -159,14 +165,18 @@ class Maker:
     def field(self, field):
         """A field: as its type says, but that most errors have a code with a name, and METHOD-DATA."""
         if field.name == "error-code" and self.dice.random() < 0.8:
-            code = self.dice.choice([*NAMED_CODES, 25, 25, 25, 25, 25])
+            code = self.dice.choice([*NAMED_CODES, 24, 24, 25, 25, 25, 25, 25])
             return self.item(Tagged(field.item.tag, Integer(code, code, 4)))
         if field.name == "e-data" and self.dice.random() < 0.8:
             return self.wrapped(field.item.tag, self.wrapped(0x04, self.item(METHOD_DATA)))
         return self.item(field.item)
 
+    def has(self, field):
+        """Whether a field that may be left out is there."""
+        return self.dice.random() < 0.5
+
     def sequence(self, item):
-        fields = [field for field in item.fields if not field.optional or self.dice.random() < 0.5]
+        fields = [field for field in item.fields if not field.optional or self.has(field)]
         if fields and self.is_wrong(OFTEN):
             field = fields.pop(self.dice.randrange(len(fields)))
             for _ in range(self.dice.randint(0, 2)):

@@ -1,6 +1,6 @@
 """The DER octets of the values that `judging` has (X.690)."""
 
-from .grammar import Bits, Integer, ListOf, Sequence, Tagged
+from .grammar import Bits, Boolean, Integer, ListOf, Sequence, Tagged
 
 
 def length_octets(size):
@@ -22,6 +22,8 @@ def der(item, value):
 
 def contents(item, value):
     match item:
+        case Boolean():
+            return b"\xff" if value else b"\x00"
         case Integer():
             return integer_octets(value)
         case Bits():
