@@ -3,16 +3,7 @@ has to stay as it is."""
 
 from reference.der import der
 from reference.grammar import CHECKSUM, ENCRYPTED_DATA, MESSAGES, METHOD_DATA, PA_DATA, ListOf, Sequence, Tagged
-from reference.inside import (
-    ARMOR_AP_REQUEST,
-    FAST_ARMOR,
-    INSIDE,
-    OF_OTHERS,
-    OF_REQUESTS,
-    PA_TGS_REQ,
-    SALT,
-    value_of,
-)
+from reference.inside import ARMOR_AP_REQUEST, FAST_ARMOR, OF_OTHERS, OF_REQUESTS, PA_TGS_REQ, SALT, value_of
 
 REQUESTS = ("AS-REQ", "TGS-REQ")
 

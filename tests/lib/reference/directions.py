@@ -1,6 +1,5 @@
 """The directions of TCP connections: what comes of segments in any order, copied, cut or lost (RFC 9293)."""
 
-from .frames import Frames
 from .records import Record
 from .values import number, path
 
