@@ -58,7 +58,7 @@ def term_of(type):
 
 def is_plain(it):
     """Whether the type has so few fields that a view of it is made in one step."""
-    return it.application is None and not it.fixed and len(it.kept) <= 3
+    return it.application is None and not it.fixed and len(it.kept) <= 4
 
 
 def item_row(type):

@@ -1,11 +1,11 @@
-"""Reads an ASN.1 module, as far as krb5.asn1 needs it, into the types that are written from it."""
+"""Reads an ASN.1 module, as far as those here need it, into the types that are written from it."""
 
 import pathlib
 import re
 from dataclasses import dataclass, field
 from typing import NamedTuple
 
-TOKEN = re.compile(r"--!(?P<note>.*)|--(?P<comment>.*?)(?:--|$)|(?P<word>[A-Za-z][\w-]*|\d+|::=|\.\.|[\[\](){}|,])|\s+", re.M)
+TOKEN = re.compile(r"--!(?P<note>.*)|--(?P<comment>.*?)(?:--|$)|(?P<word>[A-Za-z][\w-]*|\d+|::=|\.\.|[\[\](){}|,;])|\s+", re.M)
 
 
 class Refused(Exception):
@@ -16,6 +16,13 @@ class Token(NamedTuple):
     kind: str
     text: str
     line: int
+
+
+class Home(NamedTuple):
+    """Where a module is, and the crate that is written from it."""
+
+    path: str
+    crate: str
 
 
 @dataclass(frozen=True)
@@ -54,6 +61,20 @@ class ListOf:
     name: str = ""
     about: str = ""
 
+    rust = property(lambda self: camel(self.name))
+    term = property(lambda self: snake(self.name))
+
+
+@dataclass(frozen=True)
+class Tagged:
+    """A CHOICE of one type, in a tag [index]."""
+
+    item: object
+    name: str
+    index: int
+    about: str
+
+    rust = property(lambda self: camel(self.name))
     term = property(lambda self: snake(self.name))
 
 
@@ -83,12 +104,16 @@ class Sequence:
     section: str
     about: str
     notes: list
+    home: Home
     application: int = None
     fields: list = field(default_factory=list)
     messages: list = field(default_factory=list)  # those that are it in a tag of their own
 
     rust = property(lambda self: camel(self.name))
     term = property(lambda self: snake(self.name))
+    crate = property(lambda self: self.home.crate)
+    # a section of another document than RFC 4120 is named with it
+    source = property(lambda self: self.section if " " in self.section else f"RFC 4120, {self.section}")
     kept = property(lambda self: [it for it in self.fields if not it.is_fixed])
     fixed = property(lambda self: [it for it in self.fields if it.is_fixed])
     # a list of more than ten fields is cut in half, since lists nest no deeper than a proof of them stays short
@@ -118,10 +143,14 @@ class Message:
 
 @dataclass
 class Module:
+    name: str
+    home: Home
     types: list
     lists: list  # those with a name that are part of no type
+    tagged: list
     messages: list
     sections: dict  # the heading with which a section begins, by the name of its first type
+    named: dict  # each type, by its name
 
 
 def words(name):
@@ -137,8 +166,9 @@ def camel(name):
 
 
 class Reader:
-    def __init__(self, path, text):
-        self.path, self.at, self.named, self.parts = path, 0, {}, set()
+    def __init__(self, path, text, home, others):
+        self.path, self.home, self.others, self.at = path, home, others, 0
+        self.named, self.parts, self.imported = {}, set(), set()
         self.tokens = list(self.split(text))
 
     def split(self, text):
@@ -191,18 +221,40 @@ class Reader:
             self.at += 1
         return about, notes
 
+    def imports(self):
+        """Takes names that are imported, if there are some."""
+        before, _ = self.at, self.comments()
+        if not self.takes("IMPORTS"):
+            self.at = before
+            return
+        names = [self.take()]
+        while self.take(",", "FROM") == ",":
+            names.append(self.take())
+        other = self.others.get(self.take()) or self.refuse("there is no such module")
+        self.take(";")
+        for name in names:
+            if name not in BASICS and name not in other.named:
+                self.refuse(f"there is no type {name} in {other.name}")
+            self.imported.add(name)
+            if name not in BASICS:
+                self.named[name] = other.named[name]
+
     def module(self):
+        self.comments()
+        module_name = self.take()
         while self.take() != "BEGIN":
             pass
-        types, messages, sections, section, heading = [], [], {}, "", None
+        self.imports()
+        types, tagged, messages, sections, section, heading = [], [], [], {}, "", None
         while True:
             about, notes = self.comments()
             if about and about[0].startswith("# "):
                 heading, about = about[0].removeprefix("# "), about[1:]
                 section = heading.split(":")[0]
             if self.takes("END"):
-                lists = [made for name, made in self.named.items() if isinstance(made, ListOf) and name not in self.parts]
-                return Module(types, lists, messages, sections)
+                own = {name: made for name, made in self.named.items() if name not in self.imported}
+                lists = [made for name, made in own.items() if isinstance(made, ListOf) and name not in self.parts]
+                return Module(module_name, self.home, types, lists, tagged, messages, sections, own)
             name = self.take()
             if name in self.named or name in BASICS:
                 self.refuse(f"there is a type {name} already")
@@ -210,7 +262,11 @@ class Reader:
                 sections[name], heading = heading, None
             self.take("::=")
             if self.takes("CHOICE"):
-                messages = self.choice()
+                if self.tokens[self.at + 2].text == "[":
+                    self.named[name] = made = self.tagged(name, " ".join(about))
+                    tagged.append(made)
+                else:
+                    messages = self.choice()
                 continue
             self.named[name] = made = self.type(name, section, " ".join(about), notes)
             if isinstance(made, Sequence):
@@ -225,14 +281,14 @@ class Reader:
         if self.takes("SEQUENCE"):
             if self.takes("OF"):
                 return ListOf(self.type(), name, about)
-            return Sequence(name, section, about, list(notes), application, self.fields())
+            return Sequence(name, section, about, list(notes), self.home, application, self.fields())
         if self.takes("INTEGER"):
             return self.number()
         word = self.take()
         if word == "OCTET":
             self.take("STRING")
             word = "OCTET STRING"
-        if word in BASICS:
+        if word == "OCTET STRING" or word in BASICS and (word in self.imported or not self.others):
             return BASICS[word]
         if word not in self.named:
             self.refuse(f"there is no type {word}")
@@ -289,6 +345,14 @@ class Reader:
             return self.take()
         return ""
 
+    def tagged(self, name, about):
+        """Takes the one alternative of a choice, which is in a tag."""
+        self.take("{")
+        made = self.field([])
+        self.comments()
+        self.take("}")
+        return Tagged(made.type, name, made.index, about)
+
     def choice(self):
         made = []
         self.take("{")
@@ -307,5 +371,7 @@ class Reader:
         return made
 
 
-def read(path):
-    return Reader(path, pathlib.Path(path).read_text()).module()
+def read(path, crate, others=()):
+    """The module of a file, from which a crate is written, with those that it may import from."""
+    home = Home(f"asn1/{pathlib.Path(path).name}", crate)
+    return Reader(path, pathlib.Path(path).read_text(), home, {it.name: it for it in others}).module()

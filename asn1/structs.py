@@ -72,8 +72,8 @@ def rows(fields, type_of, sign="pub "):
     return "".join(f"{doc(field.about, 4)}\n    {sign}{field.rust}: {option(field, type_of(field.type))},\n" for field in fields)
 
 
-def structs(it):
-    return fill("struct.rt", Type=it.rust, about=doc(about(it)), a_NAME=an(it.name), fields=rows(it.kept, owned), views=rows(it.kept, viewed))
+def structs(it, derives="PartialEq, Eq, Debug, Drop"):
+    return fill("struct.rt", Type=it.rust, derives=derives, about=doc(about(it)), a_NAME=an(it.name), fields=rows(it.kept, owned), views=rows(it.kept, viewed))
 
 
 def slot(field):
@@ -88,11 +88,16 @@ def halves(it):
     return it.fields[: it.fields.index(first)], it.kept[it.cut :]
 
 
-def layout_type(fields, end):
+def held(type):
+    """A field of a description by which values are encoded, too."""
+    return f"FieldOf<H, {owned(type)}>"
+
+
+def layout_type(fields, end, held=held):
     def wrap(field, rest):
         if field.is_fixed:
             return f"Fixed<{field.index}, {field.type.values[0] if len(field.type.values) == 1 else 'N'}, {rest}>"
-        return f"{slot(field)}<{field.index}, FieldOf<H, {owned(field.type)}>, {rest}>"
+        return f"{slot(field)}<{field.index}, {held(field.type)}, {rest}>"
 
     return nested(fields, end, wrap)
 
@@ -176,17 +181,28 @@ def view_of_fields(it):
     return of_fields(f"{it.rust}View", "Seen", clauses, made, fields, number, first, fill("two_view.rt", type=it.term, Type=it.rust) if it.is_parametric else "")
 
 
+def view_impl(it, layout, seen, made):
+    """How a view is made of the views of the fields."""
+    tag = 0x30 if it.application is None else 0x60 + it.application
+    inlined = "never" if it.note("not inlined") is not None else "always"
+    words = {"tag": f"{tag:02X}", "inlined": inlined, "layout": layout, "seen": seen, "made": made}
+    return fill("view.rt", type=it.term, Type=it.rust, term=term_name(it), **words)
+
+
+def in_one_step(it):
+    """The views of the fields, and the view that has them."""
+    names = [field.rust for field in it.kept]
+    return pairs(names, "()"), f"{it.rust}View {{ {', '.join(names)} }}"
+
+
 def view_impls(it):
     """The impls of the view: how it is made, noted and copied."""
     seen, made, fields = "seen", f"{it.rust}View::of_fields(&seen)", "seen.fields()"
     if is_plain(it):
-        names = [field.rust for field in it.kept]
-        seen, made = pairs(names, "()"), f"{it.rust}View {{ {', '.join(names)} }}"
-        fields = pairs([f"seen.{name}" for name in names], "()")
-    tag = 0x30 if it.application is None else 0x60 + it.application
-    inlined = "never" if it.note("not inlined") is not None else "always"
-    words = {"tag": f"{tag:02X}", "inlined": inlined, "seen": seen, "made": made, "fields": fields}
-    return fill("view.rt", type=it.term, Type=it.rust, term=term_name(it), copy=copy(it), **words)
+        seen, made = in_one_step(it)
+        fields = pairs([f"seen.{field.rust}" for field in it.kept], "()")
+    uses = fill("view_uses.rt", type=it.term, Type=it.rust, fields=fields, copy=copy(it))
+    return f"{view_impl(it, 'Layout::<Owned>', seen, made)}\n{uses}"
 
 
 def copied(field):
@@ -235,7 +251,7 @@ def uses_of_items(items):
 def lists_file(module):
     """krb_msg/src/view/lists.rt: the lists of the grammar, each with what its items are."""
     items = lists_of_items(module)
-    views = "\n".join(fill("list_view.rt", Type=owned(item), term=item.term) for item in items)
+    views = "\n".join(fill("list_view.rt", List=f"Many<{owned(item)}>", Type=owned(item), term=item.term) for item in items)
     return fill("lists.rt", terms=", ".join(item.term for item in items), uses=uses_of_items(items), views=views)
 
 

@@ -4,7 +4,13 @@ import pathlib
 import re
 import textwrap
 
-BY = "asn1/generate wrote this from asn1/krb5.asn1"
+
+def by(path="asn1/krb5.asn1"):
+    """What a written file says of itself."""
+    return f"asn1/generate wrote this from {path}"
+
+
+BY = by()
 
 
 def doc(text, indent=0, sign="///"):

@@ -1,10 +1,10 @@
-"""krb_msg/specs and proofs: the grammar, values of types and of views as those of terms, and that they come back."""
+"""specs and proofs: the grammar, values of types and of views as those of terms, and that they come back."""
 
 from model import back, fixed_value, mapped, moved, term_of, there
-from module import Basic, Number, Sequence
-from text import BY, brought, equation, pairs, path, record
+from module import BASICS, Basic, Number, Sequence
+from text import BY, brought, by, equation, pairs, path, record
 
-PRELUDE = "ℕ pos ◌≡◌ ◌≤ℤ◌ ◌^◌ ◌<◌ List [] ◌∷◌ length map Option refl".split()
+PRELUDE = "⊤ ℕ pos ◌≡◌ ◌≤ℤ◌ ◌^◌ ◌<◌ List [] ◌∷◌ length map Option refl".split()
 
 
 def field_term(type):
@@ -36,12 +36,46 @@ pub use Rattle.krb_msg.specs.Basic.{{exactly, version, int32, wide32, microsecon
 """
 
 
-def grammar(module):
-    parts = [GRAMMAR]
+def type_terms(module):
+    """The terms of the types of a module."""
     for it in module.types:
         heading = f"-- ---- {module.sections[it.name]}\n" if it.name in module.sections else ""
-        parts.append(heading + grammar_type(it))
-    parts += [f"abbrev pub {made.term} : Term\n{made.term} = {term_of(made)[1:-1]}\n" for made in module.lists]
+        yield heading + grammar_type(it)
+
+
+def list_term(made):
+    return f"abbrev pub {made.term} : Term\n{made.term} = {term_of(made)[1:-1]}\n"
+
+
+def tagged_term(made):
+    return f"abbrev pub {made.term} : Term\n{made.term} = Tagged {made.index} {term_of(made.item)}\n"
+
+
+def padata_grammar(module):
+    """krb_padata/specs/Grammar."""
+    parts = []
+    for it, text in zip(module.types, type_terms(module)):
+        parts += [text] + [list_term(made) for made in module.lists if made.item is it]
+        parts += [tagged_term(made) for made in module.tagged if made.item is it]
+    body = "\n".join(parts)
+    basics = [basic.term for basic in BASICS.values()]
+    homes = [
+        ("Rattle.krb_msg.specs.Term", ["Term", "Sequence", "Tagged", "End"]),
+        ("Rattle.krb_msg.specs.Basic", ["◌⨟◌", "field", "optional", "sequence_of"] + basics),
+        ("Rattle.krb_msg.specs.Grammar", imported_terms(module)),
+    ]
+    text = f"-- Pre-authentication data as terms. A line of a SEQUENCE is a line of its document: the index, the field's name, its type. {by(module.home.path)}\n"
+    return f"{text}{brought(body, homes)}\n{body}"
+
+
+def imported_terms(module):
+    """The terms of the types of another module that are parts of these."""
+    parts = [field.part for it in module.types for field in it.kept]
+    return list(dict.fromkeys(part.term for part in parts if isinstance(part, Sequence) and part.home != module.home))
+
+
+def grammar(module):
+    parts = [GRAMMAR, *type_terms(module), *map(list_term, module.lists)]
     messages = " ∷ ".join(message.term for message in module.messages)
     parts.append(f"""-- The messages of a profile, by their tags; any other first octet is refused.
 abbrev pub messages : Profile → List Term
@@ -133,7 +167,7 @@ def view_values(it):
     if len(facts) > 2:
         lists = f"pub record {it.rust}Lists ({letter} : {view}) : Type 0 where\n" + "".join(f"  pub {name} : {fact}\n" for name, fact in facts.items())
     else:
-        lists = f"abbrev pub {it.rust}Lists : {view} → Type 0\n{it.rust}Lists {letter} = {' × '.join(facts.values())}\n"
+        lists = f"abbrev pub {it.rust}Lists : {view} → Type 0\n{it.rust}Lists {letter} = {' × '.join(facts.values()) or '⊤'}\n"
     return f"""-- ---- a view of it: as a value of its term, as a value of the type, and what is known of it
 abbrev pub {it.term}_view_value : {number}{view} → {value_type(it)}
 {equation(f"{it.term}_view_value{argument} {letter}", values)}
@@ -166,14 +200,14 @@ def values_file(it):
         ("Rattle.krb_msg.specs.Basic", ["micros_of", "flags_of_view"]),
         ("Rattle.krb_msg.specs.Viewed", ["AreViewed", "OfSome", "items_of"]),
     ]
-    text = f"-- {it.name} (RFC 4120, {it.section}): values of the type and of views of it, as values of its term, and back. {BY}\n"
-    text += brought(body, homes) + f"use Rattle.krb_msg.specs.Grammar.{{{terms}}}\n"
+    text = f"-- {it.name} ({it.source}): values of the type and of views of it, as values of its term, and back. {by(it.home.path)}\n"
+    text += brought(body, homes) + f"use Rattle.{it.crate}.specs.Grammar.{{{terms}}}\n"
     for name in (it.rust, f"{it.rust}View"):
-        text += f"use Rattle.krb_msg.specs.declared.{it.term}.{name}.{{{name}}}\n"
+        text += f"use Rattle.{it.crate}.specs.declared.{it.term}.{name}.{{{name}}}\n"
     for part in parts_in(it):
         if isinstance(part, Sequence):
             words = [f"{part.term}_value", f"{part.term}_of", f"{part.term}_view_value", f"{part.rust}Lists"]
-            text += brought(body, [(f"Rattle.krb_msg.specs.Types.{part.rust}", words)])
+            text += brought(body, [(f"Rattle.{part.crate}.specs.Types.{part.rust}", words)])
     return f"{text}\n{body}"
 
 
@@ -185,7 +219,7 @@ def defined(it):
 
 def index_of_types(module):
     """specs/Types."""
-    text = f"-- The types of the grammar, a file each: values of a type as those of its term, and back; views of it. {BY}\n"
+    text = f"-- The types of the grammar, a file each: values of a type as those of its term, and back; views of it. {by(module.home.path)}\n"
     text += "".join(f"pub mod {it.rust}\n" for it in module.types)
     return text + "".join(f"pub use {it.rust}.{{{', '.join(defined(it))}}}\n" for it in module.types)
 

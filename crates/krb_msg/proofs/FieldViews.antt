@@ -7,7 +7,7 @@ use Rattle.std.proofs.lemmas.Int.{ints}
 use Rattle.krb_der.specs.Octets.{item, number, integer_octets, integer_value, AreOctets}
 use Rattle.krb_der.specs.inner.Items.{same_from_item}
 use Rattle.krb_der.specs.inner.Numbers.{IsShortestInteger, IsShortestInteger-integer_octets, integer_octets-integer_value, integer_value-integer_octets, length-integer_octets-le, spelled-number}
-use Rattle.krb_msg.specs.Term.{Term, Fields, Integer, Text, Octets, Sequence, Tagged, Application, End, Required, Optional, tag_of, Value, Values, der, der_of_fields}
+use Rattle.krb_msg.specs.Term.{Term, Fields, Integer, Text, Octets, Sequence, Tagged, Application, End, Required, Optional, tag_of, Value, Values, der, der_of_fields, Fits}
 use Rattle.krb_msg.specs.Judgement.{is_padded}
 use Rattle.krb_msg.specs.ValueOfDer.{begins_with}
 use Rattle.krb_msg.specs.Shape.{may_begin}
@@ -106,17 +106,35 @@ sequence_none fields octets none value a = none value (record { fit = a.fits; fo
 pub sequence_some : (fields : Fields) (octets : List ℕ) (values : Values fields) → AreFields fields octets values → AreContents (Sequence fields) octets values
 sequence_some fields octets values a = record { fits = a.fit; form = ap (item 0x30) a.form }
 
--- ---- [APPLICATION number]
+-- ---- an item in a tag of its own, from its octets: the contents of [index] and of [APPLICATION number]
+pub inside_no_item : (tag : ℕ) (term : Term) (octets : List ℕ) → tag ≡ tag_of term → IsNoItem tag octets → (value : Value term) → octets ≡ der term value → ⊥
+inside_no_item tag term octets t none value e = none (contents term value) (e ∙ der_is term value ∙ ap (λ n. item n (contents term value)) (sym t))
+
+pub inside_none : (tag : ℕ) (term : Term) (octets inner : List ℕ) → tag ≡ tag_of term → octets ≡ item tag inner → AreNoContents term inner → (value : Value term) → Fits term value → octets ≡ der term value → ⊥
+inside_none tag term octets inner t e none value fits form = none value (record { fits = fits; form = ap (λ n. item n inner) (sym t) ∙ sym e ∙ form })
+
+pub inside_some : (tag : ℕ) (term : Term) (octets inner : List ℕ) (value : Value term) → tag ≡ tag_of term → octets ≡ item tag inner → AreContents term inner value → octets ≡ der term value
+inside_some tag term octets inner value t e a = e ∙ ap (λ n. item n inner) t ∙ a.form
+
 pub application_no_item : (number tag : ℕ) (term : Term) (octets : List ℕ) → tag ≡ tag_of term → IsNoItem tag octets → AreNoContents (Application number term) octets
-application_no_item number tag term octets t none value a =
-    none (contents term value) (same_contents (0x60 + number) octets (der term value) a.form ∙ der_is term value ∙ ap (λ n. item n (contents term value)) (sym t))
+application_no_item number tag term octets t none value a = inside_no_item tag term octets t none value (same_contents (0x60 + number) octets (der term value) a.form)
 
 pub application_none : (number tag : ℕ) (term : Term) (octets inner : List ℕ) → tag ≡ tag_of term → octets ≡ item tag inner → AreNoContents term inner → AreNoContents (Application number term) octets
 application_none number tag term octets inner t e none value a =
-    none value (record { fits = a.fits; form = ap (λ n. item n inner) (sym t) ∙ sym e ∙ same_contents (0x60 + number) octets (der term value) a.form })
+    inside_none tag term octets inner t e none value a.fits (same_contents (0x60 + number) octets (der term value) a.form)
 
 pub application_some : (number tag : ℕ) (term : Term) (octets inner : List ℕ) (value : Value term) → tag ≡ tag_of term → octets ≡ item tag inner → AreContents term inner value → AreContents (Application number term) octets value
-application_some number tag term octets inner value t e a = record { fits = a.fits; form = ap (item (0x60 + number)) (e ∙ ap (λ n. item n inner) t ∙ a.form) }
+application_some number tag term octets inner value t e a = record { fits = a.fits; form = ap (item (0x60 + number)) (inside_some tag term octets inner value t e a) }
+
+pub tagged_no_item : (index tag : ℕ) (term : Term) (octets : List ℕ) → tag ≡ tag_of term → IsNoItem tag octets → AreNoContents (Tagged index term) octets
+tagged_no_item index tag term octets t none value a = inside_no_item tag term octets t none value (same_contents (0xA0 + index) octets (der term value) a.form)
+
+pub tagged_none : (index tag : ℕ) (term : Term) (octets inner : List ℕ) → tag ≡ tag_of term → octets ≡ item tag inner → AreNoContents term inner → AreNoContents (Tagged index term) octets
+tagged_none index tag term octets inner t e none value a =
+    inside_none tag term octets inner t e none value a.fits (same_contents (0xA0 + index) octets (der term value) a.form)
+
+pub tagged_some : (index tag : ℕ) (term : Term) (octets inner : List ℕ) (value : Value term) → tag ≡ tag_of term → octets ≡ item tag inner → AreContents term inner value → AreContents (Tagged index term) octets value
+tagged_some index tag term octets inner value t e a = record { fits = a.fits; form = ap (item (0xA0 + index)) (inside_some tag term octets inner value t e a) }
 
 -- ---- numbers
 shortest_some : (octets : List ℕ) → IsShortestInteger octets → 0 < length octets

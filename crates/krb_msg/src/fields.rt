@@ -38,6 +38,10 @@ pub struct Cut<F>(pub F);
 #[derive(Drop)]
 pub struct Sequence<F>(pub F);
 
+/// An item in `[INDEX]` (X.690, 8.14).
+#[derive(Drop)]
+pub struct Tagged<const INDEX: u8, E>(pub E);
+
 /// An item in `[APPLICATION NUMBER]`.
 #[derive(Drop)]
 pub struct Application<const NUMBER: u8, E>(pub E);

@@ -13,6 +13,11 @@
 //! [`View`]), such as a [`Ticket`], and [`FromView`] copies it. [`first_item`] finds an item in
 //! octets that were judged.
 //!
+//! A crate above describes a type of its own, of which no message is made, as the types here are
+//! described: its fields as a type like `Sequence<Required<0, Int32, Optional<1, Octets, End>>>`,
+//! in a [`Tagged`] if a tag is round it. That has a [`View`] with the term that the type spells, and
+//! so has a list of its items by [`view_items`].
+//!
 //! [`notes_of`], and [`notes_of_view`] of a view, return what is unusual in a message
 //! ([`notes_of_ticket`] in a Ticket alone), and [`is_strict`] whether it is in the strict profile, too. [`grammar`] is the table by which octets
 //! are judged, and [`law`] has the laws about all this.
@@ -69,7 +74,7 @@ pub use contents::{has_bits, is_padded, is_time_octet};
 pub use copying::FromView;
 pub use encoding::{EncodeFault, encode, put, size};
 pub use encrypted_data::{EncryptedData, EncryptedDataView};
-pub use fields::View;
+pub use fields::{End, Optional, Required, Sequence, Tagged, View, ViewFields};
 pub use host_address::{HostAddress, HostAddressView};
 pub use item::Item;
 pub use kdc_rep::{KdcRep, KdcRepView};
@@ -88,7 +93,7 @@ pub use pa_data::{PaData, PaDataView};
 pub use principal_name::{PrincipalName, PrincipalNameView};
 pub use ticket::{Ticket, TicketView};
 pub use view::head::{first_item, first_length};
-pub use view::items::{ItemsView, next_item};
+pub use view::items::{ItemsView, next_item, view_items};
 pub use view::scalars::FlagsView;
 pub use view::view_whole;
 pub use viewing::{view_message, view_message_in};

@@ -2,12 +2,12 @@
 
 ghost use Rattle.std.specs.Prelude.{⊤, ◌≡◌, ◌+◌, ◌^◌, ◌<◌, true, pos, length, MatchOption};
 ghost use Rattle.std.specs.Option.{option_map};
-ghost use Rattle.krb_msg.specs.Term.{Term, Fields as TermFields, Value, Values, Sequence as SequenceTerm, Application as ApplicationTerm, Tagged, End as NoField, Required as RequiredField, Optional as OptionalField, tag_of};
+ghost use Rattle.krb_msg.specs.Term.{Term, Fields as TermFields, Value, Values, Sequence as SequenceTerm, Application as ApplicationTerm, Tagged as TaggedTerm, End as NoField, Required as RequiredField, Optional as OptionalField, tag_of};
 ghost use Rattle.krb_msg.specs.Grammar.{exactly};
 ghost use Rattle.krb_msg.specs.Shape.{is_unambiguous, are_unambiguous, has_octet_tags, have_octet_tags};
 ghost use Rattle.krb_msg.specs.Viewed.{AreContents, AreNoContents, AreFields, AreNoFields, BeginsWithValue, BeginsWithNoValue, MayBeginWithValue, IsMalformedField, OfSome};
 
-use crate::fields::{Application, End, Fixed, Optional, Required, Sequence};
+use crate::fields::{Application, End, Fixed, Optional, Required, Sequence, Tagged};
 use crate::view::head::{first_field, only_item};
 use crate::view::scalars::Exactly;
 
@@ -64,9 +64,9 @@ pub trait ViewFields<'a> {
 #[inline(always)]
 fn view_field<'a, const INDEX: u8, T: View<'a>>(octets: &'a [u8]) -> Option<(T::Of, &'a [u8])>
     requires short { length octets.now < 2 ^ 31 }
-    requires tags { has_octet_tags (Tagged INDEX T.term) ≡ true }
+    requires tags { has_octet_tags (TaggedTerm INDEX T.term) ≡ true }
     requires unambiguous { is_unambiguous T.term ≡ true }
-    ensures { MatchOption result (BeginsWithNoValue (Tagged INDEX T.term) octets.now) (λ (seen, rest). BeginsWithValue (Tagged INDEX T.term) octets.now (T.value seen) rest.now × T.Lists seen) }
+    ensures { MatchOption result (BeginsWithNoValue (TaggedTerm INDEX T.term) octets.now) (λ (seen, rest). BeginsWithValue (TaggedTerm INDEX T.term) octets.now (T.value seen) rest.now × T.Lists seen) }
 {
     let Some((contents, rest)) = first_field(0xA0 + INDEX, T::tag(), octets) else {
         return None;
@@ -83,9 +83,9 @@ fn view_optional<'a, const INDEX: u8, T: View<'a>>(
     octets: &'a [u8],
 ) -> Option<(Option<T::Of>, &'a [u8])>
     requires short { length octets.now < 2 ^ 31 }
-    requires tags { has_octet_tags (Tagged INDEX T.term) ≡ true }
+    requires tags { has_octet_tags (TaggedTerm INDEX T.term) ≡ true }
     requires unambiguous { is_unambiguous T.term ≡ true }
-    ensures { MatchOption result (IsMalformedField (Tagged INDEX T.term) octets.now) (λ (seen, rest). MayBeginWithValue (Tagged INDEX T.term) octets.now (option_map T.value seen) rest.now × OfSome T.Lists seen) }
+    ensures { MatchOption result (IsMalformedField (TaggedTerm INDEX T.term) octets.now) (λ (seen, rest). MayBeginWithValue (TaggedTerm INDEX T.term) octets.now (option_map T.value seen) rest.now × OfSome T.Lists seen) }
 {
     match octets.first() {
         Some(tag) if *tag == 0xA0 + INDEX => {
@@ -116,7 +116,7 @@ impl<'a> ViewFields<'a> for End {
 impl<'a, const INDEX: u8, T: View<'a>, F: ViewFields<'a>> ViewFields<'a> for Required<INDEX, T, F> {
     type Of = (T::Of, F::Of);
 
-    ghost fields = { RequiredField (Tagged INDEX T.term) F.fields };
+    ghost fields = { RequiredField (TaggedTerm INDEX T.term) F.fields };
 
     ghost values = { λ seen. (T.value seen.0, F.values seen.1) };
 
@@ -137,7 +137,7 @@ impl<'a, const INDEX: u8, T: View<'a>, F: ViewFields<'a>> ViewFields<'a> for Req
 impl<'a, const INDEX: u8, T: View<'a>, F: ViewFields<'a>> ViewFields<'a> for Optional<INDEX, T, F> {
     type Of = (Option<T::Of>, F::Of);
 
-    ghost fields = { OptionalField (Tagged INDEX T.term) F.fields };
+    ghost fields = { OptionalField (TaggedTerm INDEX T.term) F.fields };
 
     ghost values = { λ seen. (option_map T.value seen.0, F.values seen.1) };
 
@@ -159,7 +159,7 @@ impl<'a, const INDEX: u8, const NUMBER: u8, F: ViewFields<'a>> ViewFields<'a>
     for Fixed<INDEX, NUMBER, F> {
     type Of = F::Of;
 
-    ghost fields = { RequiredField (Tagged INDEX (exactly NUMBER)) F.fields };
+    ghost fields = { RequiredField (TaggedTerm INDEX (exactly NUMBER)) F.fields };
 
     ghost values = { λ seen. (pos NUMBER, F.values seen) };
 
@@ -191,6 +191,29 @@ impl<'a, F: ViewFields<'a>> View<'a> for Sequence<F> {
     #[inline(always)]
     fn view(contents: &'a [u8]) -> Option<F::Of> {
         F::view_fields(contents)
+    }
+}
+
+impl<'a, const INDEX: u8, E: View<'a>> View<'a> for Tagged<INDEX, E> {
+    type Of = E::Of;
+
+    ghost term = { TaggedTerm INDEX E.term };
+
+    ghost value = { λ seen. E.value seen };
+
+    ghost Lists = { λ seen. E.Lists seen };
+
+    #[inline(always)]
+    fn tag() -> u8 {
+        0xA0 + INDEX
+    }
+
+    #[inline(always)]
+    fn view(contents: &'a [u8]) -> Option<E::Of> {
+        let Some(inner) = only_item(E::tag(), contents) else {
+            return None;
+        };
+        E::view(inner)
     }
 }
 

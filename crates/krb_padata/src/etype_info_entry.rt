@@ -1,0 +1,82 @@
+//! ETYPE-INFO-ENTRY. `asn1/generate` wrote this from `asn1/padata.asn1`.
+
+ghost use Rattle.std.specs.Prelude.{◌≡◌, ◌^◌, ◌<◌, true, length, MatchOption};
+ghost use Rattle.krb_msg.specs.Term.{tag_of};
+ghost use Rattle.krb_msg.specs.Basic.{sequence_of};
+ghost use Rattle.krb_msg.specs.Viewed.{AreContents, AreNoContents, AreViewed, items_of};
+ghost use Rattle.krb_padata.specs.Grammar.{etype_info_entry};
+ghost use Rattle.krb_padata.specs.Types.{etype_info_entry_view_value, EtypeInfoEntryLists};
+
+use krb_der::{Int32, Octets};
+use krb_msg::{End, ItemsView, Optional, Required, Sequence, View, view_items};
+
+/// An encryption type for which the client has a key, with its salt (RFC 4120, 5.2.7.4).
+#[derive(Drop)]
+pub struct EtypeInfoEntry {
+    /// The encryption type (RFC 3961).
+    pub etype: Int32,
+    /// What the password is salted with.
+    pub salt: Option<Octets>,
+}
+
+/// A view of an ETYPE-INFO-ENTRY: its strings and lists are borrowed from the octets.
+#[derive(Clone, Copy)]
+pub struct EtypeInfoEntryView<'a> {
+    /// The encryption type (RFC 3961).
+    pub etype: i64,
+    /// What the password is salted with.
+    pub salt: Option<&'a [u8]>,
+}
+
+/// Its fields.
+type Layout = Sequence<Required<0, Int32, Optional<1, Octets, End>>>;
+
+impl<'a> View<'a> for EtypeInfoEntry {
+    type Of = EtypeInfoEntryView<'a>;
+
+    ghost term = { etype_info_entry };
+
+    ghost value = { etype_info_entry_view_value };
+
+    ghost Lists = { EtypeInfoEntryLists };
+
+    #[inline(always)]
+    fn tag() -> u8
+        ensures { result ≡ tag_of etype_info_entry }
+    {
+        0x30
+    }
+
+    #[inline(always)]
+    fn view(contents: &'a [u8]) -> Option<EtypeInfoEntryView<'a>> {
+        let Some((etype, (salt, ()))) = Layout::view(contents) else {
+            return None;
+        };
+        Some(EtypeInfoEntryView { etype, salt })
+    }
+}
+
+/// ETYPE-INFO (RFC 4120, 5.2.7.4). Its view is its items, one after another.
+pub struct EtypeInfo;
+
+impl<'a> View<'a> for EtypeInfo {
+    type Of = ItemsView<'a>;
+
+    ghost term = { sequence_of etype_info_entry };
+
+    ghost value = { λ seen. items_of etype_info_entry seen.octets.now };
+
+    ghost Lists = { λ seen. AreViewed etype_info_entry seen.octets.now };
+
+    #[inline(always)]
+    fn tag() -> u8
+        ensures { result ≡ tag_of (sequence_of etype_info_entry) }
+    {
+        0x30
+    }
+
+    #[inline(always)]
+    fn view(contents: &'a [u8]) -> Option<ItemsView<'a>> {
+        view_items::<EtypeInfoEntry>(contents)
+    }
+}

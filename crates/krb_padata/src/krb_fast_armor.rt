@@ -1,0 +1,59 @@
+//! KrbFastArmor. `asn1/generate` wrote this from `asn1/padata.asn1`.
+
+ghost use Rattle.std.specs.Prelude.{◌≡◌, ◌^◌, ◌<◌, true, length, MatchOption};
+ghost use Rattle.krb_msg.specs.Term.{tag_of};
+ghost use Rattle.krb_msg.specs.Viewed.{AreContents, AreNoContents};
+ghost use Rattle.krb_padata.specs.Grammar.{krb_fast_armor};
+ghost use Rattle.krb_padata.specs.Types.{krb_fast_armor_view_value, KrbFastArmorLists};
+
+use krb_der::{Int32, Octets};
+use krb_msg::{End, Required, Sequence, View};
+
+/// What armors a request (RFC 6113, 5.4.1).
+#[derive(Drop)]
+pub struct KrbFastArmor {
+    /// What kind of armor it is: 1 is an AP-REQ (RFC 6113, 5.4.1.1).
+    pub armor_type: Int32,
+    /// The armor.
+    pub armor_value: Octets,
+}
+
+/// A view of a KrbFastArmor: its strings and lists are borrowed from the octets.
+#[derive(Clone, Copy)]
+pub struct KrbFastArmorView<'a> {
+    /// What kind of armor it is: 1 is an AP-REQ (RFC 6113, 5.4.1.1).
+    pub armor_type: i64,
+    /// The armor.
+    pub armor_value: &'a [u8],
+}
+
+/// Its fields.
+type Layout = Sequence<Required<0, Int32, Required<1, Octets, End>>>;
+
+impl<'a> View<'a> for KrbFastArmor {
+    type Of = KrbFastArmorView<'a>;
+
+    ghost term = { krb_fast_armor };
+
+    ghost value = { krb_fast_armor_view_value };
+
+    ghost Lists = { KrbFastArmorLists };
+
+    #[inline(always)]
+    fn tag() -> u8
+        ensures { result ≡ tag_of krb_fast_armor }
+    {
+        0x30
+    }
+
+    #[inline(always)]
+    fn view(contents: &'a [u8]) -> Option<KrbFastArmorView<'a>> {
+        let Some((armor_type, (armor_value, ()))) = Layout::view(contents) else {
+            return None;
+        };
+        Some(KrbFastArmorView {
+            armor_type,
+            armor_value,
+        })
+    }
+}
