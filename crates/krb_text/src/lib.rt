@@ -16,6 +16,8 @@
 #![tactic(auto)]
 
 mod capture;
+mod clear;
+mod clear_type;
 mod error;
 mod escape;
 mod extent;
@@ -24,6 +26,7 @@ mod file_name;
 mod flags;
 mod form;
 mod input;
+mod inside;
 mod item;
 mod json;
 mod law;
@@ -33,6 +36,8 @@ mod message_origin;
 mod notes;
 mod number;
 mod origin;
+mod padata;
+mod part;
 mod principal;
 mod refusal;
 mod shown;
