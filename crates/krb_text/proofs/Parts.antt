@@ -1,0 +1,2 @@
+-- Parts one after another.
+use Rattle.std.proofs.Common.{◌≡◌, List}
