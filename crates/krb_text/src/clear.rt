@@ -3,9 +3,9 @@
 ghost use Rattle.std.specs.Prelude.{◌≡◌, ◌++◌, ◌^◌, ◌<◌, codes, length, IfOk, MatchOption, None, OnOk, Some};
 ghost use Rattle.std.specs.Option.{option_map};
 ghost use Rattle.krb_msg.specs.Grammar.{ap_req, encrypted_data};
-ghost use Rattle.krb_msg.specs.Types.{ApReqLists, ap_req_of, ap_req_view_value, encrypted_data_of, encrypted_data_of_view, ticket_of};
+ghost use Rattle.krb_msg.specs.Types.{ApReqLists, ap_req_of, ap_req_of_view, ap_req_view_value, encrypted_data_of, encrypted_data_of_view, ticket_of_view};
 ghost use Rattle.krb_msg.specs.Viewed.{OfSome};
-ghost use Rattle.krb_padata.specs.Types.{KrbFastArmorLists, etype_info2_entry_of, etype_info_entry_of, krb_fast_armor_of, krb_fast_armor_view_value, krb_fast_armored_rep_of, krb_fast_armored_req_of, pa_for_user_of, pa_pac_options_of};
+ghost use Rattle.krb_padata.specs.Types.{KrbFastArmorLists, etype_info2_entry_of_view, etype_info_entry_of_view, krb_fast_armor_of, krb_fast_armor_view_value, krb_fast_armored_rep_of_view, krb_fast_armored_req_of_view, pa_for_user_of_view, pa_pac_options_of_view};
 ghost use Rattle.krb_registry.specs.declared.registry.Registry.TheVariants.{EncryptionTypes};
 ghost use Rattle.krb_text.specs.Forms.{field, part_text};
 ghost use Rattle.krb_text.specs.Inside.{ap_req_in, etype_info2_part, etype_info_part, fast_reply_part, fast_request_part, for_user_part, one_if, pac_options_part, pac_request_part, salt_part, sealed_part, tgs_req_part, ticket_part};
@@ -38,7 +38,7 @@ const AP_REQUEST_ARMOR: i64 = 1;
 
 /// PA-TGS-REQ (RFC 4120, 5.2.7.1): what a line of an AP-REQ has.
 impl<'a> Clear<'a> for ApReq {
-    ghost part = { λ v. tgs_req_part (ap_req_of v) };
+    ghost part = { λ seen. tgs_req_part (ap_req_of_view seen) };
 
     #[tactic(auto, unfolding(crate::specs::Forms::part_text))]
     fn put_part(
@@ -55,7 +55,7 @@ impl<'a> Clear<'a> for ApReq {
 
 /// An entry of PA-ETYPE-INFO (RFC 4120, 5.2.7.4).
 impl<'a> Clear<'a> for EtypeInfoEntry {
-    ghost part = { λ v. etype_info_part (etype_info_entry_of v) };
+    ghost part = { λ seen. etype_info_part (etype_info_entry_of_view seen) };
 
     #[tactic(auto, unfolding(crate::specs::Forms::part_text))]
     fn put_part(
@@ -73,7 +73,7 @@ impl<'a> Clear<'a> for EtypeInfoEntry {
 
 /// An entry of PA-ETYPE-INFO2 (RFC 4120, 5.2.7.5).
 impl<'a> Clear<'a> for EtypeInfo2Entry {
-    ghost part = { λ v. etype_info2_part (etype_info2_entry_of v) };
+    ghost part = { λ seen. etype_info2_part (etype_info2_entry_of_view seen) };
 
     #[tactic(auto, unfolding(crate::specs::Forms::part_text))]
     fn put_part(
@@ -92,7 +92,7 @@ impl<'a> Clear<'a> for EtypeInfo2Entry {
 
 /// PA-FOR-USER (MS-SFU, 2.2.1).
 impl<'a> Clear<'a> for PaForUser {
-    ghost part = { λ v. for_user_part (pa_for_user_of v) };
+    ghost part = { λ seen. for_user_part (pa_for_user_of_view seen) };
 
     #[tactic(auto, unfolding(crate::specs::Forms::part_text))]
     fn put_part(
@@ -113,7 +113,7 @@ impl<'a> Clear<'a> for PaForUser {
 
 /// PA-FX-FAST of a request (RFC 6113, 5.4.2).
 impl<'a> Clear<'a> for PaFxFastRequest {
-    ghost part = { λ v. fast_request_part (krb_fast_armored_req_of v) };
+    ghost part = { λ seen. fast_request_part (krb_fast_armored_req_of_view seen) };
 
     #[tactic(auto, unfolding(crate::specs::Forms::part_text))]
     fn put_part(
@@ -131,7 +131,7 @@ impl<'a> Clear<'a> for PaFxFastRequest {
 
 /// PA-FX-FAST of a reply or an error (RFC 6113, 5.4.3).
 impl<'a> Clear<'a> for PaFxFastReply {
-    ghost part = { λ v. fast_reply_part (krb_fast_armored_rep_of v) };
+    ghost part = { λ seen. fast_reply_part (krb_fast_armored_rep_of_view seen) };
 
     #[tactic(auto, unfolding(crate::specs::Forms::part_text))]
     fn put_part(
@@ -151,7 +151,7 @@ impl<'a> Clear<'a> for PaFxFastReply {
 
 /// PA-PAC-OPTIONS (MS-KILE, 2.2.10).
 impl<'a> Clear<'a> for PaPacOptions {
-    ghost part = { λ v. pac_options_part (pa_pac_options_of v) };
+    ghost part = { λ seen. pac_options_part (pa_pac_options_of_view seen) };
 
     #[tactic(auto, unfolding(crate::specs::Forms::part_text))]
     fn put_part(
@@ -169,7 +169,7 @@ impl<'a> Clear<'a> for PaPacOptions {
 
 /// A Ticket (RFC 4120, 5.3).
 impl<'a> Clear<'a> for Ticket {
-    ghost part = { λ v. ticket_part (ticket_of v) };
+    ghost part = { λ seen. ticket_part (ticket_of_view seen) };
 
     #[tactic(auto, unfolding(crate::specs::Forms::part_text))]
     fn put_part(

@@ -18,8 +18,8 @@ use std::alloc::AllocError;
 
 /// A type each item of which has a part.
 pub(crate) trait Clear<'a>: View<'a> {
-    /// The part of an item.
-    ghost part: { Value Self.View.term → Part };
+    /// The part of a view of an item.
+    ghost part: { Self.Of → Part };
 
     /// Appends the part of an item, after what separates it from the parts that were told before.
     fn put_part(
@@ -29,7 +29,7 @@ pub(crate) trait Clear<'a>: View<'a> {
         seen: &Self::Of,
     ) -> Result<(), AllocError>
         requires { Self.View.Lists seen.now }
-        ensures { OnOk result (text.new ≡ text.old ++ separator form told ++ part_text form (part (Self.View.value seen.now))) };
+        ensures { OnOk result (text.new ≡ text.old ++ separator form told ++ part_text form (part seen.now)) };
 }
 
 /// Appends what separates a part from those before it, if any was told, and what precedes its
@@ -62,7 +62,7 @@ pub(crate) fn put_whole<'a, T: Clear<'a>>(
     requires short { length octets.now < 2 ^ 31 }
     requires tags { has_octet_tags T.View.term ≡ true }
     requires unambiguous { is_unambiguous T.View.term ≡ true }
-    ensures { IfOk result (λ by_now. Tells form (one_if T.part (judged T.View.term octets.now)) told text.old by_now text.new) }
+    ensures { (part : Value T.View.term → Part) → ((seen : T.Of) → part (T.View.value seen) ≡ T.part seen) → IfOk result (λ by_now. Tells form (one_if part (judged T.View.term octets.now)) told text.old by_now text.new) }
 {
     match view_whole::<T>(octets) {
         None => Ok(told),
@@ -84,7 +84,7 @@ pub(crate) fn put_each<'a, T: Clear<'a>>(
     requires tags { has_octet_tags T.View.term ≡ true }
     requires unambiguous { is_unambiguous T.View.term ≡ true }
     requires viewed { AreViewed T.View.term items.octets.now }
-    ensures { IfOk result (λ by_now. Tells form (map T.part (items_of T.View.term items.entry.octets.now)) told text.old by_now text.new) }
+    ensures { (part : Value T.View.term → Part) → ((seen : T.Of) → part (T.View.value seen) ≡ T.part seen) → IfOk result (λ by_now. Tells form (map part (items_of T.View.term items.entry.octets.now)) told text.old by_now text.new) }
 {
     let mut by_now = told;
     let mut others = items;
@@ -98,11 +98,11 @@ pub(crate) fn put_each<'a, T: Clear<'a>>(
 
 /// Returns how many parts octets have that are all of one item, or none.
 #[inline(always)]
-pub(crate) fn count_whole<'a, T: Clear<'a>>(octets: &'a [u8]) -> u64
+pub(crate) fn count_whole<'a, T: View<'a>>(octets: &'a [u8]) -> u64
     requires short { length octets.now < 2 ^ 31 }
-    requires tags { has_octet_tags T.View.term ≡ true }
-    requires unambiguous { is_unambiguous T.View.term ≡ true }
-    ensures { result ≡ length (one_if T.part (judged T.View.term octets.now)) }
+    requires tags { has_octet_tags T.term ≡ true }
+    requires unambiguous { is_unambiguous T.term ≡ true }
+    ensures { (part : Value T.term → Part) → result ≡ length (one_if part (judged T.term octets.now)) }
 {
     match view_whole::<T>(octets) {
         None => 0,

@@ -26,4 +26,4 @@ told_after told (p ∷ ps) = true
 -- parts were appended to a text: what was told before and after, and the text before and after
 pub record Tells (f : Form) (parts : List Part) (old_told : Bool) (old : List ℕ) (told : Bool) (new : List ℕ) : Type 0 where
   pub text : new ≡ old ++ parts_after f old_told parts
-  pub told : told ≡ told_after old_told parts
+  pub by_now : told ≡ told_after old_told parts
