@@ -31,6 +31,7 @@ all_plain registries.PreAuthenticationData = refl
 all_plain registries.ErrorCodes = refl
 all_plain registries.KdcOptions = refl
 all_plain registries.ApOptions = refl
+all_plain registries.PacOptions = refl
 all_plain registries.TicketFlags = refl
 all_plain registries.NameTypes = refl
 all_plain registries.AddressTypes = refl

@@ -40,6 +40,7 @@ all_sorted registries.PreAuthenticationData = refl
 all_sorted registries.ErrorCodes = refl
 all_sorted registries.KdcOptions = refl
 all_sorted registries.ApOptions = refl
+all_sorted registries.PacOptions = refl
 all_sorted registries.TicketFlags = refl
 all_sorted registries.NameTypes = refl
 all_sorted registries.AddressTypes = refl

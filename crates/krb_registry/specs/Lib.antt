@@ -4,6 +4,7 @@ pub mod PreAuthenticationData
 pub mod ErrorCodes
 pub mod KdcOptions
 pub mod ApOptions
+pub mod PacOptions
 pub mod TicketFlags
 pub mod NameTypes
 pub mod AddressTypes

@@ -12,6 +12,7 @@ use Rattle.krb_registry.specs.PreAuthenticationData.{pre_authentication_data}
 use Rattle.krb_registry.specs.ErrorCodes.{error_codes}
 use Rattle.krb_registry.specs.KdcOptions.{kdc_options}
 use Rattle.krb_registry.specs.ApOptions.{ap_options}
+use Rattle.krb_registry.specs.PacOptions.{pac_options}
 use Rattle.krb_registry.specs.TicketFlags.{ticket_flags}
 use Rattle.krb_registry.specs.NameTypes.{name_types}
 use Rattle.krb_registry.specs.AddressTypes.{address_types}
@@ -25,6 +26,7 @@ rows registry.PreAuthenticationData = pre_authentication_data
 rows registry.ErrorCodes = error_codes
 rows registry.KdcOptions = kdc_options
 rows registry.ApOptions = ap_options
+rows registry.PacOptions = pac_options
 rows registry.TicketFlags = ticket_flags
 rows registry.NameTypes = name_types
 rows registry.AddressTypes = address_types

@@ -6,7 +6,7 @@ ghost use Rattle.krb_registry.specs.Rows.{number_and_name, rows};
 use crate::row::Row;
 use crate::tables::{
     address_types, ap_options, checksum_types, encryption_types, error_codes, kdc_options,
-    name_types, notes, pre_authentication_data, ticket_flags,
+    name_types, notes, pac_options, pre_authentication_data, ticket_flags,
 };
 
 /// A registry of numbers that have names.
@@ -24,6 +24,8 @@ pub enum Registry {
     KdcOptions,
     /// The options of an AP-REQ, by the numbers of their bits (RFC 4120, 5.5.1).
     ApOptions,
+    /// The options of PA-PAC-OPTIONS, by the numbers of their bits (MS-KILE, 2.2.10).
+    PacOptions,
     /// The flags of a ticket, by the numbers of their bits (RFC 4120, 5.3).
     TicketFlags,
     /// The types of the names of principals (RFC 4120, 6.2).
@@ -46,6 +48,7 @@ pub fn rows(registry: Registry) -> &'static [Row]
         Registry::ErrorCodes => &error_codes::ROWS,
         Registry::KdcOptions => &kdc_options::ROWS,
         Registry::ApOptions => &ap_options::ROWS,
+        Registry::PacOptions => &pac_options::ROWS,
         Registry::TicketFlags => &ticket_flags::ROWS,
         Registry::NameTypes => &name_types::ROWS,
         Registry::AddressTypes => &address_types::ROWS,

@@ -8,5 +8,6 @@ pub mod error_codes;
 pub mod kdc_options;
 pub mod name_types;
 pub mod notes;
+pub mod pac_options;
 pub mod pre_authentication_data;
 pub mod ticket_flags;
