@@ -1,3 +1,4 @@
 pub mod Lookups
 pub mod Names
 pub mod Orders
+pub mod Searches

@@ -1,13 +1,14 @@
 -- The order of rows.
-use Rattle.std.proofs.Common.{◌≡◌, ℤ, Ordering, Less, Equal, Greater, Bool, true, ◌&&◌, List, [], ◌∷◌, map, refl}
+use Rattle.std.proofs.Common.{◌≡◌, ℤ, Ordering, Less, Equal, Greater, Bool, true, ◌&&◌, List, [], ◌∷◌, map, refl, sym, ap, subst, ◌∙◌}
 use Rattle.std.proofs.lemmas.Bool.{and_parts}
 use Rattle.std.specs.List.{AllByRecursion, list_all}
 use Rattle.std.specs.List.Sorted.{IsStrictlySortedBy}
 use Rattle.std.specs.Ordering.{is_lt, int_cmp}
 use Rattle.krb_registry.specs.declared.registry.Registry.{Registry}
 use Rattle.krb_registry.specs.declared.registry.Registry.TheVariants as registries
+use Rattle.krb_registry.specs.declared.row.Row.{Row}
 use Rattle.krb_registry.specs.Laws.{RowsAreInOrder}
-use Rattle.krb_registry.specs.Rows.{rows}
+use Rattle.krb_registry.specs.Rows.{number_and_name, rows}
 
 -- a test of order, which computes
 abbrev is_sorted : List ℤ → Bool
@@ -48,3 +49,15 @@ all_sorted registries.Notes = refl
 
 pub in_order : RowsAreInOrder
 in_order registry = sorted (map (λ row. row.0) (rows registry)) (all_sorted registry)
+
+-- rows in order of number, no number twice
+abbrev pub AreInOrder : List Row → Type 0
+AreInOrder rows = IsStrictlySortedBy int_cmp (map (λ row. row.number) rows)
+
+numbers : (rows : List Row) → map (λ row. row.0) (map number_and_name rows) ≡ map (λ row. row.number) rows
+numbers [] = refl
+numbers (row ∷ rows) = ap (λ others. row.number ∷ others) (numbers rows)
+
+-- the rows of a registry are in order
+pub listed_in_order : (registry : Registry) (listed : List Row) → map number_and_name listed ≡ rows registry → AreInOrder listed
+listed_in_order registry listed same = subst (IsStrictlySortedBy int_cmp) (ap (map (λ row. row.0)) (sym same) ∙ numbers listed) (in_order registry)

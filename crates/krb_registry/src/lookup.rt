@@ -1,19 +1,24 @@
 //! Looking numbers up.
 
-ghost use Rattle.std.specs.Prelude.{◌≡◌};
+ghost use Rattle.std.specs.Prelude.{◌≡◌, map};
+ghost use Rattle.std.specs.List.Sorted.{IsStrictlySortedBy};
 ghost use Rattle.std.specs.List.{find};
 ghost use Rattle.std.specs.Option.{option_copied};
-ghost use Rattle.std.specs.Ordering.{int_eq};
+ghost use Rattle.std.specs.Ordering.{int_cmp, int_eq};
 ghost use Rattle.krb_registry.specs.Rows.{name_of};
 
 use crate::registry::{Registry, rows};
 use crate::row::Row;
 
-/// Returns the first row with a number, if there is one.
+/// Returns the row with a number, if there is one among rows in order of number.
 fn row_of(rows: &'static [Row], number: i64) -> Option<&'static Row>
+    requires { IsStrictlySortedBy int_cmp (map (λ row. row.number) rows.now) }
     ensures { option_copied result ≡ find (λ row. int_eq row.number number) rows.now }
 {
-    rows.iter().find(|row| row.number == number)
+    match rows.binary_search_by_key(&number, |row| row.number) {
+        Ok(index) => Some(&rows[index]),
+        Err(_) => None,
+    }
 }
 
 /// Returns the name of a number in a registry, if it has one. A name has only octets from 21 to 7E,
