@@ -1,5 +1,5 @@
 -- What a value shows is printable in each form, if its octets are octets and its words are printable; and so is a record of such values.
-use Rattle.std.proofs.Common.{◌≡◌, ℕ, ℤ, pos, negsuc, unsigned_abs, ◌+◌, ◌-◌, ◌^◌, ◌<◌, ◌≤◌, ◌==◌, ◌&&◌, nat_le, not, Bool, true, false, cond, Option, Some, None, List, [], ◌∷◌, ◌++◌, map, refl, arith, codes, if◌then◌else◌}
+use Rattle.std.proofs.Common.{◌≡◌, ℕ, ℤ, pos, negsuc, unsigned_abs, ◌+◌, ◌-◌, ◌^◌, ◌<◌, ◌≤◌, ◌==◌, ◌&&◌, nat_le, not, Bool, true, false, cond, Option, Some, None, List, [], ◌∷◌, ◌++◌, length, map, refl, arith, codes, if◌then◌else◌}
 use Rattle.std.proofs.lemmas.Bool.{and_parts}
 use Rattle.std.proofs.lemmas.Bool.Decides.{nat_tests}
 use Rattle.std.proofs.lemmas.Nat.{and_le_r}
@@ -18,10 +18,10 @@ use Rattle.krb_text.specs.declared.form.Form.{Form}
 use Rattle.krb_text.specs.declared.form.Form.TheVariants as form
 use Rattle.krb_text.specs.Errors.{code_name, code_suffix, code_text}
 use Rattle.krb_text.specs.FileNames.{is_plain_in_name, name_octet, name_text}
-use Rattle.krb_text.specs.Forms.{four_octets, plus_text, unnamed, unnamed_from, named_in, is_set, set_names, named_flags_text, number_text, flags_text, refused_ticket_text, value_text, json_character, json_string, shown_octet, octets_string, or_null, name_string, flags_object, sealed_object, principal_object, address_object, digest_object, offset_object, refused_object, true_or_false, json_value, names_member, members, labelled, field, opening, closing, fields_text, origin_text, opening_from, heading, record_text}
+use Rattle.krb_text.specs.Forms.{four_octets, plus_text, unnamed, unnamed_from, named_in, is_set, set_names, named_flags_text, number_text, flags_text, refused_ticket_text, value_text, json_character, json_string, shown_octet, octets_string, or_null, name_string, flags_object, sealed_object, principal_object, address_object, digest_object, offset_object, refused_object, true_or_false, json_value, names_member, members, labelled, field, opening, closing, fields_text, origin_text, opening_from, heading, part_text, inside_text, ending, record_text}
 use Rattle.krb_text.specs.Text.{AllAreOctets, IsPrintable, principal_text, two_hex, yes_or_no}
 use Rattle.krb_text.specs.TicketFlags.{flag_name, set_flags, names_text, other_flags, eight_hex, others_text, ticket_flags_text}
-use Rattle.krb_text.specs.Values.{Value, Absent, NoTicket, Number, Named, Numbers, ErrorCode, Reason, NoReason, String, Quoted, FileName, Word, Flags, TicketFlags, Sealed, Principal, Address, Digest, YesNo, Offset, RefusedTicket, Flow, Layers, Field, Printed}
+use Rattle.krb_text.specs.Values.{Value, Absent, NoTicket, Number, Named, Numbers, ErrorCode, Reason, NoReason, String, Quoted, FileName, Word, Hex, Flags, TicketFlags, Sealed, Principal, Address, Digest, YesNo, Offset, RefusedTicket, Flow, Layers, Field, Part, Printed}
 use Rattle.krb_text.specs.inner.Flags.{names_set}
 use Rattle.krb_token.specs.Layers.{layer_name}
 use Rattle.krb_token.specs.declared.layer.Layer.{Layer}
@@ -244,6 +244,7 @@ IsShown (String octets) = AreOctets octets
 IsShown (Quoted octets) = AreOctets octets
 IsShown (FileName octets) = AreOctets octets
 IsShown (Word text) = IsPrintable text
+IsShown (Hex octets) = AreOctets octets
 IsShown (Flags registry bits) = AreOctets bits.1
 IsShown (TicketFlags flags) = flags < 2 ^ 32
 IsShown (Principal name_type components realm) = AllAreOctets components × AreOctets realm
@@ -266,6 +267,7 @@ in_line names (String octets) h = escaped octets h
 in_line names (Quoted octets) h = join (join (word (codes "\"") refl) (escaped octets h)) (word (codes "\"") refl)
 in_line names (FileName octets) h = file_name octets h
 in_line names (Word text) h = record { all = h }
+in_line names (Hex octets) h = in_hex octets h
 in_line names (Flags registry bits) h = flags names registry bits h
 in_line false (TicketFlags bits) h = ticket_flags bits
 in_line true (TicketFlags bits) h = named_flags registries.TicketFlags (four_octets bits)
@@ -294,6 +296,7 @@ in_object (String octets) h = octets_in_string octets h
 in_object (Quoted octets) h = octets_in_string octets h
 in_object (FileName octets) h = octets_in_string octets h
 in_object (Word text) h = string text h
+in_object (Hex octets) h = join (join (word (codes "\"") refl) (in_hex octets h)) (word (codes "\"") refl)
 in_object (Flags registry bits) h = flags_in_object registry bits h
 in_object (TicketFlags bits) h = flags_in_object registries.TicketFlags (0, four_octets bits) (four bits h)
 in_object (Sealed etype kvno size) h = sealed_in_object etype kvno size
@@ -369,6 +372,31 @@ heads : (f : Form) (origin : List Field) (kind : List ℕ) → names_are_plain o
 heads f [] kind e h k = begins f kind k
 heads f (first ∷ others) kind e h k = begins_from f (first ∷ others) kind e h k
 
-pub record_prints : (f : Form) (r : Printed) → names_are_plain r.origin ≡ true → AreShown r.origin → list_all is_printable r.kind ≡ true → names_are_plain r.fields ≡ true → AreShown r.fields → Prints (record_text f r)
+-- ---- what is inside
+-- the kind and the names of a part are plain, and its values are shown
+pub record IsPlainPart (p : Part) : Type 0 where
+  pub kind : list_all is_printable p.kind ≡ true
+  pub names : names_are_plain p.fields ≡ true
+  pub fields : AreShown p.fields
+
+abbrev pub ArePlainParts : List Part → Type 0
+ArePlainParts parts = AllByRecursion IsPlainPart parts
+
+a_part : (f : Form) (p : Part) → IsPlainPart p → Prints (part_text f p)
+unfolding part_text
+a_part f p h = join (join (begins f p.kind h.kind) (all_fields f p.fields h.names h.fields)) (ends f)
+
+parts_print : (f : Form) (parts : List Part) → ArePlainParts parts → Prints (inside_text f parts)
+unfolding inside_text
+parts_print form.Lines parts h = word [] refl
+parts_print form.NamedLines parts h =
+    join (join (word (codes " inside=") refl) (number (length parts))) (flat (λ p. codes " " ++ part_text form.NamedLines p) IsPlainPart (λ p plain. join (word (codes " ") refl) (a_part form.NamedLines p plain)) parts h)
+parts_print form.Json parts h = join (word (codes ",\"inside\":") refl) (listed (part_text form.Json) IsPlainPart (a_part form.Json) parts h)
+
+ends_with : (f : Form) (inside : Option (List Part)) → IfPresent ArePlainParts inside → Prints (ending f inside)
+ends_with f None h = ends f
+ends_with f (Some parts) h = join (parts_print f parts h) (ends f)
+
+pub record_prints : (f : Form) (r : Printed) → names_are_plain r.origin ≡ true → AreShown r.origin → list_all is_printable r.kind ≡ true → names_are_plain r.fields ≡ true → AreShown r.fields → IfPresent ArePlainParts r.inside → Prints (record_text f r)
 unfolding record_text
-record_prints f r plain shown kind names h = join (join (heads f r.origin r.kind plain shown kind) (all_fields f r.fields names h)) (ends f)
+record_prints f r plain shown kind names h inside = join (join (heads f r.origin r.kind plain shown kind) (all_fields f r.fields names h)) (ends_with f r.inside inside)

@@ -23,22 +23,23 @@ use Rattle.krb_text.specs.Messages.{message_origin}
 use Rattle.krb_text.specs.Refusals.{path_in, extent_in, spelling_in, refusal_record, file_refused_record, file_refused_line, message_refused_record, message_refused_line, untold_message_refused_line}
 use Rattle.krb_text.specs.Streams.{counted_end_line, counted_end_record, end_line, end_record, refused_frame, refused_line, refused_record, untold_refused_line}
 use Rattle.krb_text.specs.Text.{line_feed}
-use Rattle.krb_text.specs.Values.{Field, Number, String, Word, Printed, if_there, with_origin}
+use Rattle.krb_msg.specs.Term.{IfPresent}
+use Rattle.krb_text.specs.Values.{Field, Number, String, Word, Printed, if_there, with_inside, with_origin}
 use Rattle.krb_token.specs.declared.layer.Layer.{Layer}
 use Rattle.krb_text.proofs.Printable.{Prints, is_printable, word}
 use Rattle.krb_text.proofs.Reasons as reasons
-use Rattle.krb_text.proofs.EachForm.{IsShown, AreShown, names_are_plain, record_prints}
+use Rattle.krb_text.proofs.EachForm.{ArePlainParts, IsShown, AreShown, names_are_plain, record_prints}
 
 ended : {text : List ℕ} → Prints text → IsOneLine (text ++ line_feed)
 ended {text} h = (text, h.all, refl)
 
--- a record of plain names whose values are shown, from an origin
-pub line_from : (form : Form) (origin : List Field) (r : Printed) → names_are_plain origin ≡ true → AreShown origin → list_all is_printable r.kind ≡ true → names_are_plain r.fields ≡ true → AreShown r.fields → IsOneLine (record_line form (with_origin origin r))
-line_from form origin r plain shown kind names h = ended (record_prints form (with_origin origin r) plain shown kind names h)
+-- a record of plain names whose values are shown, and whose parts are so, from an origin
+pub line_from : (form : Form) (origin : List Field) (r : Printed) → names_are_plain origin ≡ true → AreShown origin → list_all is_printable r.kind ≡ true → names_are_plain r.fields ≡ true → AreShown r.fields → IfPresent ArePlainParts r.inside → IsOneLine (record_line form (with_origin origin r))
+line_from form origin r plain shown kind names h inside = ended (record_prints form (with_origin origin r) plain shown kind names h inside)
 
--- and from none
-pub one_line : (form : Form) (r : Printed) → list_all is_printable r.kind ≡ true → names_are_plain r.fields ≡ true → AreShown r.fields → IsOneLine (record_line form (with_origin [] r))
-one_line form r kind names h = line_from form [] r refl tt kind names h
+-- and without parts, from none
+pub one_line : (form : Form) (r : Printed) → list_all is_printable r.kind ≡ true → names_are_plain r.fields ≡ true → AreShown r.fields → IsOneLine (record_line form (with_inside None (with_origin [] r)))
+one_line form r kind names h = line_from form [] (with_inside None r) refl tt kind names h tt
 
 -- the path of the field at fault
 pub path_is_plain : (form : Form) (path : Option (List ℕ)) → names_are_plain (path_in form path) ≡ true
@@ -105,8 +106,8 @@ origin_shown (Some line) [] = (tt, tt)
 origin_shown (Some line) (first ∷ others) = (tt, (tt, tt))
 
 -- a record that comes from a message
-pub message_line_from : (form : Form) (line : Option ℕ) (layers : List Layer) (r : Printed) → list_all is_printable r.kind ≡ true → names_are_plain r.fields ≡ true → AreShown r.fields → IsOneLine (record_line form (with_origin (message_origin line layers) r))
-message_line_from form line layers r kind names h = line_from form (message_origin line layers) r (origin_is_plain line layers) (origin_shown line layers) kind names h
+pub message_line_from : (form : Form) (line : Option ℕ) (layers : List Layer) (r : Printed) → list_all is_printable r.kind ≡ true → names_are_plain r.fields ≡ true → AreShown r.fields → IfPresent ArePlainParts r.inside → IsOneLine (record_line form (with_origin (message_origin line layers) r))
+message_line_from form line layers r kind names h inside = line_from form (message_origin line layers) r (origin_is_plain line layers) (origin_shown line layers) kind names h inside
 
 -- ---- refused files and messages
 pub file_refused : (form : Form) (place : ℕ) (reason : FileWhy) (path : Option (List ℕ)) (extent : Extent) → IfSome path AreOctets → IsOneLine (file_refused_line form place reason path extent)
@@ -115,7 +116,7 @@ file_refused form place reason path extent h =
 
 pub message_refused : (form : Form) (line : Option ℕ) (layers : List Layer) (refusal : Refusal) (path : Option (List ℕ)) (extent : Extent) (spelling : Spelling) → IfSome path AreOctets → IsOneLine (message_refused_line form (message_origin line layers) refusal path extent spelling)
 message_refused form line layers refusal path extent spelling h =
-    message_line_from form line layers (message_refused_record form refusal path extent spelling) refl (spelled_is_plain form path extent spelling) (tt, ((reasons.name refusal.why).all, spelled_shown form path extent spelling h))
+    message_line_from form line layers (message_refused_record form refusal path extent spelling) refl (spelled_is_plain form path extent spelling) (tt, ((reasons.name refusal.why).all, spelled_shown form path extent spelling h)) tt
 
 pub untold_message_refused : (form : Form) (refusal : Refusal) (path : Option (List ℕ)) → IfSome path AreOctets → IsOneLine (untold_message_refused_line form refusal path)
 untold_message_refused form refusal path h =
@@ -154,7 +155,7 @@ input_shown forms.Json fault place extent spelling = ((worded fault).all, (numbe
 
 pub input_refused : (form : Form) (line : Option ℕ) (layers : List Layer) (fault : InputFault) (place : Option ℕ) (extent : Extent) (spelling : Option Spelling) → IsOneLine (input_refused_line form (message_origin line layers) fault place extent spelling)
 input_refused form line layers fault place extent spelling =
-    message_line_from form line layers (input_refused_record form fault place extent spelling) (kind_is_plain form fault) (input_is_plain form fault place extent spelling) (input_shown form fault place extent spelling)
+    message_line_from form line layers (input_refused_record form fault place extent spelling) (kind_is_plain form fault) (input_is_plain form fault place extent spelling) (input_shown form fault place extent spelling) tt
 
 -- ---- streams
 refused : (form : Form) (messages place : ℕ) (reason : Why) (path : Option (List ℕ)) (extent : Extent) → IfSome path AreOctets → IsOneLine (refused_line form messages place reason path extent)

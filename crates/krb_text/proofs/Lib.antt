@@ -16,10 +16,16 @@ pub mod Reasons
 pub mod Flows
 pub mod EachForm
 pub mod Appended
+pub mod Judged
 pub mod Methods
+pub mod Parts
 pub mod Records
 pub mod EndOneLine
+pub mod FieldsOneLine
+pub mod InsideOneLine
 pub mod MessageOneLine
 pub mod CaptureOneLine
+pub mod MaskedLengths
+pub mod MaskedParts
 pub mod Masks
 pub mod MethodMasks

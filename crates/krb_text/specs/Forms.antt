@@ -16,7 +16,7 @@ use Rattle.krb_text.specs.Flows.{flow_text, flow_object}
 use Rattle.krb_text.specs.TicketFlags.{ticket_flags_text}
 use Rattle.krb_text.specs.Errors.{code_text}
 use Rattle.krb_token.specs.Layers.{layer_name}
-use Rattle.krb_text.specs.Values.{Value, Absent, NoTicket, Number, Named, Numbers, ErrorCode, Reason, NoReason, String, Quoted, FileName, Word, Flags, TicketFlags, Sealed, Principal, Address, Digest, YesNo, Offset, RefusedTicket, Flow, Layers, Field, Printed}
+use Rattle.krb_text.specs.Values.{Value, Absent, NoTicket, Number, Named, Numbers, ErrorCode, Reason, NoReason, String, Quoted, FileName, Word, Hex, Flags, TicketFlags, Sealed, Principal, Address, Digest, YesNo, Offset, RefusedTicket, Flow, Layers, Field, Part, Printed}
 
 -- ---- flags by name; bit 0 is the highest of the first octet
 -- whether a bit is set; those after the last octet are not
@@ -87,6 +87,7 @@ value_text names (String octets) = escape octets
 value_text names (Quoted octets) = codes "\"" ++ escape octets ++ codes "\""
 value_text names (FileName octets) = name_text octets
 value_text names (Word text) = text
+value_text names (Hex octets) = hex octets
 value_text names (Flags registry bits) = flags_text names registry bits
 value_text false (TicketFlags flags) = ticket_flags_text flags
 value_text true (TicketFlags flags) = named_flags_text registries.TicketFlags (four_octets flags)
@@ -183,6 +184,7 @@ json_value (String octets) = octets_string octets
 json_value (Quoted octets) = octets_string octets
 json_value (FileName octets) = octets_string octets
 json_value (Word text) = json_string text
+json_value (Hex octets) = codes "\"" ++ hex octets ++ codes "\""
 json_value (Flags registry bits) = flags_object registry bits
 json_value (TicketFlags flags) = flags_object registries.TicketFlags (0, four_octets flags)
 json_value (Sealed etype kvno size) = sealed_object etype kvno size
@@ -248,9 +250,24 @@ abbrev pub heading : Form → List Field → List ℕ → List ℕ
 heading f [] kind = opening f kind
 heading f (first ∷ others) kind = opening_from f (first ∷ others) kind
 
+-- a record inside of another
+unfoldable pub part_text : Form → Part → List ℕ
+part_text f p = opening f p.kind ++ fields_text f p.fields ++ closing f
+
+-- the records inside of another: how many there are, and each after a blank; in an object an array of them
+unfoldable pub inside_text : Form → List Part → List ℕ
+inside_text form.Lines parts = []
+inside_text form.NamedLines parts = codes " inside=" ++ decimal (length parts) ++ flat_map (λ p. codes " " ++ part_text form.NamedLines p) parts
+inside_text form.Json parts = codes ",\"inside\":" ++ list_text (part_text form.Json) parts
+
+-- what follows the fields of a record
+abbrev pub ending : Form → Option (List Part) → List ℕ
+ending f None = closing f
+ending f (Some parts) = inside_text f parts ++ closing f
+
 -- a record without its line feed
 unfoldable pub record_text : Form → Printed → List ℕ
-record_text f r = heading f r.origin r.kind ++ fields_text f r.fields ++ closing f
+record_text f r = heading f r.origin r.kind ++ fields_text f r.fields ++ ending f r.inside
 
 abbrev pub record_line : Form → Printed → List ℕ
 record_line f r = record_text f r ++ line_feed

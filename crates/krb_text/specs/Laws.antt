@@ -1,5 +1,5 @@
 -- Laws of what is printed.
-use Rattle.std.specs.Prelude.{ℕ, pos, ◌≡◌, ◌≤◌, ◌<◌, ◌^◌, unsigned_abs, Option, Some, IfSome, List, ◌++◌, length, map}
+use Rattle.std.specs.Prelude.{ℕ, pos, ◌≡◌, ◌≤◌, ◌<◌, ◌^◌, unsigned_abs, Option, Some, None, IfSome, List, ◌++◌, length, map}
 use Rattle.std.specs.List.{AllByRecursion}
 use Rattle.std.specs.Net.Addr.{IsIpv4Addr, IsIpv6Addr, MatchIp}
 use Rattle.jiff_core.specs.Date.{epoch_day}
@@ -22,6 +22,8 @@ use Rattle.krb_msg.specs.Views.{IsInProfile}
 use Rattle.krb_text.specs.Captures.{capture_end_line, capture_refused_line, captured_message_line, captured_refused_line, joined_line, lost_line, password_line}
 use Rattle.krb_text.specs.declared.capture.CaptureCounts.{CaptureCounts}
 use Rattle.krb_text.specs.declared.form.Form.{Form}
+use Rattle.krb_text.specs.declared.form.Form.TheVariants.{Lines}
+use Rattle.krb_text.specs.Forms.{record_line}
 use Rattle.krb_text.specs.declared.origin.Origin.{Origin}
 use Rattle.krb_text.specs.Text.{AllAreOctets, IsPrintable, escape, line_feed, principal_text}
 use Rattle.krb_text.specs.declared.extent.Extent.{Extent}
@@ -33,7 +35,7 @@ use Rattle.krb_text.specs.Files.{file_line}
 use Rattle.krb_text.specs.Messages.{message_record, message_line, message_line_from, message_origin, ticket_line}
 use Rattle.krb_text.specs.Masks.{masked, masked_method, masked_ticket}
 use Rattle.krb_text.specs.Time.{civil_date, the_date}
-use Rattle.krb_text.specs.Values.{Field}
+use Rattle.krb_text.specs.Values.{Field, Printed}
 use Rattle.krb_token.specs.declared.layer.Layer.{Layer}
 
 -- different components or realms have different texts
@@ -130,6 +132,10 @@ CaptureEndIsOneLine = (form : Form) (counts : CaptureCounts) → IsOneLine (capt
 -- the last of a capture that is refused
 abbrev pub CaptureRefusalIsOneLine : Type 0
 CaptureRefusalIsOneLine = (form : Form) (counts : CaptureCounts) (place : ℕ) (reason : FileWhy) (path : Option (List ℕ)) (extent : Extent) → IfSome path AreOctets → IsOneLine (capture_refused_line form counts place reason path extent)
+
+-- ---- a line without names has nothing of what is inside
+abbrev pub PlainLinesHaveNothingInside : Type 0
+PlainLinesHaveNothingInside = (r : Printed) → record_line Lines r ≡ record_line Lines (record r { inside = None })
 
 -- ---- no octet of what is sealed or opaque has a part in what is printed
 -- the record of a message, of which its line in each form is made

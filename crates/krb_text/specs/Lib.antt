@@ -9,6 +9,9 @@ pub mod Forms
 pub mod Refusals
 pub mod Inputs
 pub mod Files
+pub mod Judged
+pub mod MessageFields
+pub mod Inside
 pub mod Messages
 pub mod Streams
 pub mod Captures

@@ -1,5 +1,5 @@
--- Messages without what is sealed or opaque: each octet of ciphers, of checksums, of user data, of the values of pre-authentication data and of the data of errors is 00.
-use Rattle.std.specs.Prelude.{ℕ, ℤ, List, length, map, Option, if◌then◌else◌}
+-- Messages without what is sealed or opaque: each octet of ciphers, of checksums and of user data is 00, also inside of pre-authentication data, and so is each octet of other pre-authentication data and of the data of errors.
+use Rattle.std.specs.Prelude.{ℕ, ℤ, ◌||◌, Bool, true, false, List, length, map, Option, Some, None, if◌then◌else◌}
 use Rattle.std.specs.Option.{option_map}
 use Rattle.krb_file.specs.Fields.{zeros}
 use Rattle.krb_msg.specs.declared.ap_rep.ApRep.{ApRep}
@@ -18,9 +18,14 @@ use Rattle.krb_msg.specs.declared.message.Message.{Message}
 use Rattle.krb_msg.specs.declared.message.Message.TheVariants as message
 use Rattle.krb_msg.specs.declared.pa_data.PaData.{PaData}
 use Rattle.krb_msg.specs.declared.ticket.Ticket.{Ticket}
-use Rattle.krb_msg.specs.Grammar.{pa_data}
-use Rattle.krb_msg.specs.Term.{Value}
-use Rattle.krb_text.specs.Messages.{asks_for_preauth}
+use Rattle.krb_msg.specs.Grammar.{ap_req, checksum, encrypted_data, pa_data, ticket}
+use Rattle.krb_msg.specs.Term.{Term, Value, der}
+use Rattle.krb_padata.specs.Grammar.{etype_info, etype_info2, krb_fast_armor, pa_for_user, pa_fx_fast_reply, pa_fx_fast_request, pa_pac_options}
+use Rattle.krb_padata.specs.PacRequest.{pac_request_in}
+use Rattle.krb_text.specs.Inside.{clear_type, is_ap_req_armor}
+use Rattle.krb_text.specs.Judged.{asks_for_preauth, judged, says_preauth_failed}
+use Rattle.krb_text.specs.declared.clear_type.ClearType.{ClearType}
+use Rattle.krb_text.specs.declared.clear_type.ClearType.TheVariants as types
 
 -- ---- parts
 abbrev pub masked_sealed : EncryptedData → EncryptedData
@@ -28,9 +33,6 @@ masked_sealed e = record e { cipher = zeros (length e.cipher) }
 
 abbrev pub masked_checksum : Checksum → Checksum
 masked_checksum c = record c { checksum = zeros (length c.checksum) }
-
-abbrev pub masked_item : PaData → PaData
-masked_item p = record p { padata_value = zeros (length p.padata_value) }
 
 abbrev pub masked_ticket : Ticket → Ticket
 masked_ticket t = record t { enc_part = masked_sealed t.enc_part }
@@ -41,12 +43,78 @@ masked_req_body b = record b { enc_authorization_data = option_map masked_sealed
 abbrev pub masked_safe_body : KrbSafeBody → KrbSafeBody
 masked_safe_body b = record b { user_data = zeros (length b.user_data) }
 
+-- ---- pre-authentication data, as values of their terms
+abbrev pub masked_sealed_value : Value encrypted_data → Value encrypted_data
+masked_sealed_value v = (v.0, (v.1.0, (zeros (length v.1.1.0), tt)))
+
+abbrev pub masked_checksum_value : Value checksum → Value checksum
+masked_checksum_value v = (v.0, (zeros (length v.1.0), tt))
+
+abbrev pub masked_ticket_value : Value ticket → Value ticket
+masked_ticket_value v = (v.0, (v.1.0, (v.1.1.0, (masked_sealed_value v.1.1.1.0, tt))))
+
+abbrev pub masked_ap_req_value : Value ap_req → Value ap_req
+masked_ap_req_value v = (v.0, (v.1.0, (v.1.1.0, (masked_ticket_value v.1.1.1.0, (masked_sealed_value v.1.1.1.1.0, tt)))))
+
+abbrev pub masked_for_user : Value pa_for_user → Value pa_for_user
+masked_for_user v = (v.0, (v.1.0, (masked_checksum_value v.1.1.0, (v.1.1.1.0, tt))))
+
+-- the DER of a value, or octets 00
+abbrev pub der_or_zeros : (term : Term) → List ℕ → Option (Value term) → List ℕ
+der_or_zeros term octets None = zeros (length octets)
+der_or_zeros term octets (Some value) = der term value
+
+-- octets that are judged, as those of another value; what is not judged to be of its term is opaque
+abbrev pub masked_as : (term : Term) → (Value term → Value term) → List ℕ → List ℕ
+masked_as term mask octets = der_or_zeros term octets (option_map mask (judged term octets))
+
+-- an armor is opaque unless it is an AP-REQ
+abbrev pub masked_armor_if : Bool → List ℕ → List ℕ
+masked_armor_if false octets = zeros (length octets)
+masked_armor_if true octets = masked_as ap_req masked_ap_req_value octets
+
+abbrev pub masked_armor : Value krb_fast_armor → Value krb_fast_armor
+masked_armor v = (v.0, (masked_armor_if (is_ap_req_armor v.0) v.1.0, tt))
+
+abbrev pub masked_fast_request : Value pa_fx_fast_request → Value pa_fx_fast_request
+masked_fast_request v = (option_map masked_armor v.0, (masked_checksum_value v.1.0, (masked_sealed_value v.1.1.0, tt)))
+
+abbrev pub masked_fast_reply : Value pa_fx_fast_reply → Value pa_fx_fast_reply
+masked_fast_reply v = (masked_sealed_value v.0, tt)
+
+abbrev pub octets_or_zeros : {A : Type 0} → List ℕ → Option A → List ℕ
+octets_or_zeros octets None = zeros (length octets)
+octets_or_zeros octets (Some value) = octets
+
+-- by type; what is of another type is opaque
+abbrev pub masked_clear : ClearType → List ℕ → List ℕ
+masked_clear types.TgsReq octets = masked_as ap_req masked_ap_req_value octets
+masked_clear types.EncTimestamp octets = masked_as encrypted_data masked_sealed_value octets
+masked_clear types.PwSalt octets = octets
+masked_clear types.EtypeInfo octets = octets_or_zeros octets (judged etype_info octets)
+masked_clear types.EtypeInfo2 octets = octets_or_zeros octets (judged etype_info2 octets)
+masked_clear types.PacRequest octets = octets_or_zeros octets (pac_request_in octets)
+masked_clear types.ForUser octets = masked_as pa_for_user masked_for_user octets
+masked_clear types.FastRequest octets = masked_as pa_fx_fast_request masked_fast_request octets
+masked_clear types.FastReply octets = masked_as pa_fx_fast_reply masked_fast_reply octets
+masked_clear types.EncryptedChallenge octets = masked_as encrypted_data masked_sealed_value octets
+masked_clear types.PacOptions octets = octets_or_zeros octets (judged pa_pac_options octets)
+masked_clear types.Other octets = zeros (length octets)
+
+-- in a request, or in a reply or an error
+abbrev pub masked_item : Bool → PaData → PaData
+masked_item in_request p = record p { padata_value = masked_clear (clear_type in_request p.padata_type) p.padata_value }
+
+-- an item of METHOD-DATA, as a value of its term
+abbrev pub masked_method : Value pa_data → Value pa_data
+masked_method item = (item.0, (masked_clear (clear_type false item.0) item.1.0, tt))
+
 -- ---- messages
 abbrev pub masked_kdc_req : KdcReq → KdcReq
-masked_kdc_req m = record m { padata = option_map (map masked_item) m.padata; body = masked_req_body m.body }
+masked_kdc_req m = record m { padata = option_map (map (masked_item true)) m.padata; body = masked_req_body m.body }
 
 abbrev pub masked_kdc_rep : KdcRep → KdcRep
-masked_kdc_rep m = record m { padata = option_map (map masked_item) m.padata; ticket = masked_ticket m.ticket; enc_part = masked_sealed m.enc_part }
+masked_kdc_rep m = record m { padata = option_map (map (masked_item false)) m.padata; ticket = masked_ticket m.ticket; enc_part = masked_sealed m.enc_part }
 
 abbrev pub masked_ap_req : ApReq → ApReq
 masked_ap_req m = record m { ticket = masked_ticket m.ticket; authenticator = masked_sealed m.authenticator }
@@ -63,9 +131,9 @@ masked_krb_priv m = record m { enc_part = masked_sealed m.enc_part }
 abbrev pub masked_krb_cred : KrbCred → KrbCred
 masked_krb_cred m = record m { tickets = map masked_ticket m.tickets; enc_part = masked_sealed m.enc_part }
 
--- the data of an error are opaque unless it asks for pre-authentication
+-- the data of an error are opaque unless it asks for pre-authentication or says that it failed
 abbrev pub masked_data : ℤ → Option (List ℕ) → Option (List ℕ)
-masked_data code octets = if asks_for_preauth code then octets else option_map (λ some. zeros (length some)) octets
+masked_data code octets = if asks_for_preauth code || says_preauth_failed code then octets else option_map (λ some. zeros (length some)) octets
 
 abbrev pub masked_krb_error : KrbError → KrbError
 masked_krb_error m = record m { e_data = masked_data m.error_code m.e_data }
@@ -81,7 +149,3 @@ masked (message.KrbSafe m) = message.KrbSafe (masked_krb_safe m)
 masked (message.KrbPriv m) = message.KrbPriv (masked_krb_priv m)
 masked (message.KrbCred m) = message.KrbCred (masked_krb_cred m)
 masked (message.KrbError m) = message.KrbError (masked_krb_error m)
-
--- an item of METHOD-DATA, as a value of its term
-abbrev pub masked_method : Value pa_data → Value pa_data
-masked_method item = (item.0, (zeros (length item.1.0), tt))

@@ -1,4 +1,4 @@
--- What is printed, before it is text: records. A record is a kind and fields, and maybe an origin, which is fields, too; a field is a name and a value.
+-- What is printed, before it is text: records. A record is a kind and fields, and maybe an origin, which is fields, too; a field is a name and a value. The record of a message may have parts, which are records inside of it.
 use Rattle.std.specs.Prelude.{ℕ, ℤ, pos, Bool, List, [], Option, Some, None, length}
 use Rattle.krb_der.specs.declared.verdict.Refusal.{Refusal}
 use Rattle.krb_msg.specs.declared.checksum.Checksum.{Checksum}
@@ -24,6 +24,7 @@ pub data Value : Type 0 where
   Quoted : (octets : List ℕ) → Value
   FileName : (octets : List ℕ) → Value
   Word : (text : List ℕ) → Value
+  Hex : (octets : List ℕ) → Value
   Flags : (registry : Registry) → (bits : ℕ × List ℕ) → Value
   TicketFlags : (flags : ℕ) → Value
   Sealed : (etype : ℤ) → (kvno : Option ℤ) → (size : ℕ) → Value
@@ -40,16 +41,30 @@ pub record Field : Type 0 where
   pub name : List ℕ
   pub value : Value
 
+-- a record inside of another
+pub record Part : Type 0 where
+  pub kind : List ℕ
+  pub fields : List Field
+
+-- `inside` is told, so lines without names have nothing of it; it is None of what has no parts, of which no form has anything
 pub record Printed : Type 0 where
   pub origin : List Field
   pub kind : List ℕ
   pub fields : List Field
+  pub inside : Option (List Part)
 
 abbrev pub the : List ℕ → Value → Field
 the name value = record { name = name; value = value }
 
 abbrev pub printed : List ℕ → List Field → Printed
-printed kind fields = record { origin = []; kind = kind; fields = fields }
+printed kind fields = record { origin = []; kind = kind; fields = fields; inside = None }
+
+abbrev pub part : List ℕ → List Field → Part
+part kind fields = record { kind = kind; fields = fields }
+
+-- the same with what is inside
+abbrev pub with_inside : Option (List Part) → Printed → Printed
+with_inside inside r = record r { inside = inside }
 
 -- the same with an origin
 abbrev pub with_origin : List Field → Printed → Printed

@@ -2,3 +2,4 @@
 pub mod Strings
 pub mod Items
 pub mod Flags
+pub mod Parts

@@ -1,12 +1,13 @@
 //! What is printed of a KRB-ERROR.
 
 ghost use Rattle.std.specs.Prelude.{◌≡◌, ◌++◌, ◌^◌, ◌<◌, Some, None, codes, length, pos, MatchOption, OnOk};
-ghost use Rattle.krb_msg.specs.Grammar.{pa_data};
+ghost use Rattle.krb_msg.specs.Grammar.{method_data, pa_data};
 ghost use Rattle.krb_msg.specs.Types.{KrbErrorLists, krb_error_of_view};
 ghost use Rattle.krb_msg.specs.Viewed.{AreViewed, items_of};
 ghost use Rattle.krb_text.specs.Errors.{code_suffix, code_text};
 ghost use Rattle.krb_text.specs.Forms.{field, fields_text, labelled};
-ghost use Rattle.krb_text.specs.Messages.{krb_error_fields, method_data_in, methods, methods_in};
+ghost use Rattle.krb_text.specs.Judged.{judged, methods_in};
+ghost use Rattle.krb_text.specs.MessageFields.{krb_error_fields, methods};
 ghost use Rattle.krb_text.specs.Values.{ErrorCode, Number, Quoted, Word, client, count, if_there, principal};
 
 use crate::field::put_field;
@@ -26,7 +27,7 @@ use krb_registry::Registry;
 use std::alloc::AllocError;
 
 /// The code of an error that asks for pre-authentication (RFC 4120, 7.5.9).
-const PREAUTH_REQUIRED: i64 = 25;
+pub(crate) const PREAUTH_REQUIRED: i64 = 25;
 
 /// The code of an error: its number, and `:` and its name if it is one of those that KDCs and
 /// servers answer most, or with names in any case.
@@ -83,9 +84,9 @@ impl Shown for Code {
 }
 
 /// Returns a view of the METHOD-DATA that octets are, if they are that.
-fn method_data(octets: &[u8]) -> Option<ItemsView<'_>>
+pub(crate) fn method_data(octets: &[u8]) -> Option<ItemsView<'_>>
     requires { length octets.now < 2 ^ 31 }
-    ensures { MatchOption result (method_data_in octets.now ≡ None) (λ items. AreViewed pa_data items.octets.now × (method_data_in octets.now ≡ Some (items_of pa_data items.octets.now))) }
+    ensures { MatchOption result (judged method_data octets.now ≡ None) (λ items. AreViewed pa_data items.octets.now × (judged method_data octets.now ≡ Some (items_of pa_data items.octets.now))) }
 {
     view_whole::<Many<PaData>>(octets)
 }

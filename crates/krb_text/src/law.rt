@@ -1,5 +1,5 @@
 //! Laws of what is printed. Each is the contract of a function that does nothing.
-ghost use Rattle.krb_text.specs.Laws.{CaptureEndIsOneLine, CaptureRefusalIsOneLine, CapturedMessageIsOneLine, CapturedRefusalIsOneLine, CiphersAreNotInCaptures, CiphersAreNotInLines, CiphersAreNotInLinesFrom, CiphersAreNotInRecords, CiphersAreNotInTickets, CountedStreamEndIsOneLine, DatesAreTheCalendars, EscapeIsGraphic, FileNameIsOneLine, FileRefusalIsOneLine, InputRefusalIsOneLine, JoinedIsOneLine, LostIsOneLine, MessageFromIsOneLine, MessageIsOneLine, MessageRefusalIsOneLine, MethodsAreNotInRecords, PasswordIsOneLine, PrincipalTextIsInjective, StreamEndIsOneLine, TicketIsOneLine, UntoldMessageRefusalIsOneLine, UntoldStreamRefusalIsOneLine};
+ghost use Rattle.krb_text.specs.Laws.{CaptureEndIsOneLine, CaptureRefusalIsOneLine, CapturedMessageIsOneLine, CapturedRefusalIsOneLine, CiphersAreNotInCaptures, CiphersAreNotInLines, CiphersAreNotInLinesFrom, CiphersAreNotInRecords, CiphersAreNotInTickets, CountedStreamEndIsOneLine, DatesAreTheCalendars, EscapeIsGraphic, FileNameIsOneLine, FileRefusalIsOneLine, InputRefusalIsOneLine, JoinedIsOneLine, LostIsOneLine, MessageFromIsOneLine, MessageIsOneLine, MessageRefusalIsOneLine, MethodsAreNotInRecords, PasswordIsOneLine, PlainLinesHaveNothingInside, PrincipalTextIsInjective, StreamEndIsOneLine, TicketIsOneLine, UntoldMessageRefusalIsOneLine, UntoldStreamRefusalIsOneLine};
 
 /// Different components or realms have different texts.
 pub fn principal_text_is_injective()
@@ -49,10 +49,16 @@ pub fn dates_are_the_calendars()
     ensures { DatesAreTheCalendars }
 {}
 
+/// A line without the names of numbers is that of the record without what is inside of it.
+pub fn plain_lines_have_nothing_inside()
+    ensures { PlainLinesHaveNothingInside }
+{}
+
 /// What is printed of a message or a Ticket, in each form, with an origin and of a capture too, is as
-/// of the same with every octet 00 of its ciphers, its checksum, its user data and its values of pre-authentication data,
-/// and of the data of an error that does not ask for pre-authentication; and the record of one that
-/// asks is as with other values in its METHOD-DATA.
+/// of the same with every octet 00 of its ciphers, its checksum and its user data, of the ciphers
+/// and checksums inside of its pre-authentication data and of what is not shown of these, and of
+/// the data of an error that neither asks for pre-authentication nor says that it failed; and the
+/// record of one that does is as with such values in its METHOD-DATA.
 pub fn ciphers_are_not_shown()
     ensures record { CiphersAreNotInRecords }
     ensures line { CiphersAreNotInLines }

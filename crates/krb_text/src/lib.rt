@@ -5,7 +5,9 @@
 //! of it, [`Form::NamedLines`] a line in which the numbers of registries have their names, and
 //! [`Form::Json`] an object of JSON. What a record has is said once, whatever the form; each
 //! function appends to one text ([`TextBuffer`]), and its contract says what was appended. A record
-//! may have an origin, which is fields, too: a line has it before the kind, an object after it.
+//! may have an origin, which is fields, too: a line has it before the kind, an object after it. That
+//! of a message may have parts, records of what is in the clear inside of it, which lines without
+//! names leave out.
 //!
 //! The main calls are [`put_message_view`] and [`message_line`] for messages, [`put_message_from`]
 //! for messages of an origin, [`put_ticket`] for Tickets, and [`put_captured_message`] for captures.
@@ -16,6 +18,8 @@
 #![tactic(auto)]
 
 mod capture;
+mod clear;
+mod clear_type;
 mod error;
 mod escape;
 mod extent;
@@ -24,6 +28,7 @@ mod file_name;
 mod flags;
 mod form;
 mod input;
+mod inside;
 mod item;
 mod json;
 mod law;
@@ -33,6 +38,8 @@ mod message_origin;
 mod notes;
 mod number;
 mod origin;
+mod padata;
+mod part;
 mod principal;
 mod refusal;
 mod shown;
@@ -57,7 +64,8 @@ pub use json::put_string;
 pub use krb_msg::{Notes, notes_of};
 pub use law::{
     capture_is_one_line_each, ciphers_are_not_shown, dates_are_the_calendars, end_is_one_line,
-    escape_is_graphic, message_is_one_line, principal_text_is_injective,
+    escape_is_graphic, message_is_one_line, plain_lines_have_nothing_inside,
+    principal_text_is_injective,
 };
 pub use message::{message_line, put_message, put_message_from, put_message_view};
 pub use message_origin::MessageOrigin;

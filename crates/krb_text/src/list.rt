@@ -1,6 +1,6 @@
 //! Lists that are viewed in octets, as records show them.
 
-ghost use Rattle.std.specs.Prelude.{◌≡◌, ◌++◌, [], true, length, map, OnOk, codes};
+ghost use Rattle.std.specs.Prelude.{◌≡◌, ◌≤◌, ◌++◌, [], true, length, map, OnOk, codes};
 ghost use Rattle.std.specs.List.{flat_map};
 ghost use Rattle.krb_msg.specs.Grammar.{int32, pa_data};
 ghost use Rattle.krb_registry.specs.declared.registry.Registry.TheVariants.{EncryptionTypes, PreAuthenticationData};
@@ -205,7 +205,8 @@ pub(crate) fn count_items<'a, T: View<'a>>(items: ItemsView<'a>) -> usize
     requires tags { has_octet_tags T.term ≡ true }
     requires unambiguous { is_unambiguous T.term ≡ true }
     requires viewed { AreViewed T.term items.octets.now }
-    ensures { result ≡ length (items_of T.term items.entry.octets.now) }
+    ensures many { result ≡ length (items_of T.term items.entry.octets.now) }
+    ensures few { result ≤ length items.entry.octets.now }
 {
     let mut count = 0;
     let mut others = items;

@@ -4,13 +4,14 @@ ghost use Rattle.std.specs.Prelude.{◌≡◌, ◌++◌, IfOk, OnOk, codes, stri
 ghost use Rattle.krb_msg.specs.Types.{KdcReqBodyLists, KdcReqLists, KdcRepLists, ApReqLists, KrbSafeLists, KrbCredLists, kdc_req_body_of_view, kdc_req_of_view, kdc_rep_of_view, ap_req_of_view, ap_rep_of_view, krb_safe_of_view, krb_priv_of_view, krb_cred_of_view};
 ghost use Rattle.krb_msg.specs.ViewValues.{MessageLists, message_of_view};
 ghost use Rattle.krb_registry.specs.declared.registry.Registry.TheVariants as registries;
-ghost use Rattle.krb_text.specs.Forms.{closing, field, fields_text};
+ghost use Rattle.krb_text.specs.Forms.{ending, field, fields_text};
 ghost use Rattle.krb_text.specs.Messages.{padata, kdc_req_fields, kdc_rep_fields, ap_req_fields, ap_rep_fields, krb_safe_fields, krb_priv_fields, krb_cred_fields, fields_of, message_record, message_text, message_line, message_line_from, message_origin};
 ghost use Rattle.krb_text.specs.Values.{Flags, Number, Numbers, String as Escaped, Word, count, if_there, principal, sealed};
 
 use crate::error::put_krb_error;
-use crate::field::{put_closing, put_field, put_opening};
+use crate::field::{put_field, put_opening};
 use crate::form::Form;
+use crate::inside::put_ending;
 use crate::message_origin::{MessageOrigin, put_message_opening};
 use crate::text_buffer::TextBuffer;
 use crate::view_field::{
@@ -119,7 +120,11 @@ fn put_kdc_rep(text: &mut TextBuffer, form: Form, rep: &KdcRepView<'_>) -> Resul
     put_sealed_field(text, form, " enc=", ",\"enc", &rep.enc_part)
 }
 
-fn put_ap_req(text: &mut TextBuffer, form: Form, req: &ApReqView<'_>) -> Result<(), AllocError>
+pub(crate) fn put_ap_req(
+    text: &mut TextBuffer,
+    form: Form,
+    req: &ApReqView<'_>,
+) -> Result<(), AllocError>
     requires { ApReqLists req.now }
     ensures { OnOk result (text.new ≡ text.old ++ fields_text form (ap_req_fields (ap_req_of_view req.now))) }
 {
@@ -209,11 +214,11 @@ pub(crate) fn put_rest(
     view: &MessageView<'_>,
 ) -> Result<(), AllocError>
     requires { MessageLists view.now }
-    ensures { OnOk result (text.new ≡ text.old ++ fields_text form (message_record (message_of_view view.now)).fields ++ closing form) }
+    ensures { OnOk result (text.new ≡ text.old ++ fields_text form (message_record (message_of_view view.now)).fields ++ ending form (message_record (message_of_view view.now)).inside) }
 {
     put_fields(text, form, view)?;
     put_field(text, form, " notes=", ",\"notes", &notes_of_view(view))?;
-    put_closing(text, form)
+    put_ending(text, form, view)
 }
 
 /// Appends a message without its line feed.

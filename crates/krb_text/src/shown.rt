@@ -4,9 +4,9 @@ ghost use Rattle.std.specs.Prelude.{◌≡◌, ◌++◌, ℕ, ℤ, pos, codes, O
 ghost use Rattle.std.specs.Fmt.{signed_decimal};
 ghost use Rattle.std.specs.Str.{IsAscii};
 ghost use Rattle.krb_text.specs.Forms.{members, value_text};
-ghost use Rattle.krb_text.specs.Values.{Value, Absent, Number, Quoted, String as Escaped, Word, YesNo, if_there};
+ghost use Rattle.krb_text.specs.Values.{Value, Absent, Hex, Number, Quoted, String as Escaped, Word, YesNo, if_there};
 
-use crate::escape::put_escaped;
+use crate::escape::{put_escaped, put_hex};
 use crate::json::{put_octets_string, put_string};
 use crate::text_buffer::TextBuffer;
 use std::alloc::AllocError;
@@ -129,6 +129,27 @@ impl<'a> Shown for QuotedText<'a> {
     fn put_members(&self, object: &mut TextBuffer, begin: &str) -> Result<(), AllocError> {
         put_begin(object, begin)?;
         put_octets_string(object, self.0)
+    }
+}
+
+/// Octets in hexadecimal, which an object has as a string.
+#[derive(Clone, Copy)]
+pub(crate) struct HexText<'a>(pub(crate) &'a [u8]);
+
+impl<'a> Shown for HexText<'a> {
+    ghost shown = { λ text. Hex text.0.now };
+
+    #[tactic(auto, unfolding(crate::specs::Forms::value_text))]
+    fn put_text(&self, line: &mut TextBuffer, _names: bool) -> Result<(), AllocError> {
+        put_hex(line, self.0)
+    }
+
+    #[tactic(auto, unfolding(crate::specs::Forms::members, crate::specs::Forms::json_value, crate::specs::Forms::names_member))]
+    fn put_members(&self, object: &mut TextBuffer, begin: &str) -> Result<(), AllocError> {
+        put_begin(object, begin)?;
+        object.push_str("\"")?;
+        put_hex(object, self.0)?;
+        object.push_str("\"")
     }
 }
 

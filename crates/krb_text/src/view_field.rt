@@ -10,7 +10,7 @@ ghost use Rattle.krb_msg.specs.Viewed.{AreViewed, OfSome, items_of};
 ghost use Rattle.krb_registry.specs.declared.registry.Registry.TheVariants.{EncryptionTypes as EncryptionTypeNumbers};
 ghost use Rattle.krb_text.specs.Forms.{labelled};
 ghost use Rattle.krb_text.specs.Messages.{padata};
-ghost use Rattle.krb_text.specs.Values.{Absent, Flags, Number, Numbers, Quoted, String as Escaped, Word, address, checksum, client, count, if_there, principal, sealed};
+ghost use Rattle.krb_text.specs.Values.{Absent, Flags, Hex, Number, Numbers, Quoted, String as Escaped, Word, address, checksum, client, count, if_there, principal, sealed};
 
 use crate::field::put_field;
 use crate::flags::FlagBits;
@@ -18,7 +18,7 @@ use crate::form::Form;
 use crate::list::{EncryptionTypes, PaDataTypes, count_items};
 use crate::number::{Address, Digest, Sealed};
 use crate::principal::{Principal, ViewedStrings};
-use crate::shown::{Plain, QuotedText, Shown, Text};
+use crate::shown::{HexText, Plain, QuotedText, Shown, Text};
 use crate::text_buffer::TextBuffer;
 use krb_msg::{
     ChecksumView, EncryptedDataView, FlagsView, HostAddress, HostAddressView, ItemsView,
@@ -427,5 +427,22 @@ pub(crate) fn put_quoted_field(
     match string {
         None => put_absent_field(text, form, label, begin),
         Some(string) => put_field(text, form, label, begin, &QuotedText(string)),
+    }
+}
+
+/// Appends a field of octets in hexadecimal, if they are there.
+#[inline(always)]
+pub(crate) fn put_hex_field(
+    text: &mut TextBuffer,
+    form: Form,
+    label: &str,
+    begin: &str,
+    octets: Option<&[u8]>,
+) -> Result<(), AllocError>
+    ensures { OnOk result (text.new ≡ text.old ++ labelled form label.now begin.now (if_there Hex (option_map (λ octets. octets.now) octets.entry))) }
+{
+    match octets {
+        None => put_absent_field(text, form, label, begin),
+        Some(octets) => put_field(text, form, label, begin, &HexText(octets)),
     }
 }

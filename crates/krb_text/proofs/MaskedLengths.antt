@@ -1,0 +1,2 @@
+-- Masked values have as many octets.
+use Rattle.std.proofs.Common.{◌≡◌, List}

@@ -1,0 +1,2 @@
+-- Masked values have the same parts.
+use Rattle.std.proofs.Common.{◌≡◌, List}

@@ -1,0 +1,90 @@
+-- Parts one after another, as they are appended and counted.
+use Rattle.std.proofs.Common.{◌≡◌, ◌^◌, ◌<◌, Bool, true, false, ℕ, List, [], ◌∷◌, ◌++◌, length, map, Option, Some, None, refl, sym, ◌∙◌, ap, append_assoc, codes}
+use Rattle.std.proofs.lemmas.List.{append-nil}
+use Rattle.std.specs.List.{flat_map}
+use Rattle.krb_msg.specs.Shape.{has_octet_tags}
+use Rattle.krb_msg.specs.Term.{Term, Value}
+use Rattle.krb_msg.specs.Viewed.{IsNotWhole, IsViewOf}
+use Rattle.krb_text.specs.declared.form.Form.{Form}
+use Rattle.krb_text.specs.declared.form.Form.TheVariants as form
+use Rattle.krb_text.specs.Forms.{inside_text, part_text}
+use Rattle.krb_text.specs.Inside.{each_if, one_if}
+use Rattle.krb_text.specs.Judged.{judged}
+use Rattle.krb_text.specs.Text.{joined}
+use Rattle.krb_text.specs.Values.{Part}
+use Rattle.krb_text.specs.inner.Parts.{Tells, parts_after, separator, told_after}
+use Rattle.krb_text.proofs.Judged.{judged_view, not_judged}
+
+-- ---- one after another
+pub parts_append : (f : Form) (told : Bool) (ps qs : List Part) → parts_after f told (ps ++ qs) ≡ parts_after f told ps ++ parts_after f (told_after told ps) qs
+parts_append f told [] qs = refl
+parts_append f told (p ∷ []) qs = rw (append-nil (separator f told ++ part_text f p)) refl
+parts_append f told (p ∷ next ∷ ps) qs =
+    ap (λ rest. (separator f told ++ part_text f p) ++ rest) (parts_append f true (next ∷ ps) qs)
+    ∙ sym (append_assoc (separator f told ++ part_text f p) (parts_after f true (next ∷ ps)) (parts_after f true qs))
+
+pub told_append : (told : Bool) (ps qs : List Part) → told_after told (ps ++ qs) ≡ told_after (told_after told ps) qs
+told_append told [] qs = refl
+told_append told (p ∷ ps) [] = refl
+told_append told (p ∷ ps) (q ∷ qs) = refl
+
+pub tells_none : (f : Form) (told : Bool) (text : List ℕ) → Tells f [] told text told text
+tells_none f told text = record { text = sym (append-nil text); by_now = refl }
+
+pub tells_one : (f : Form) (p : Part) (told : Bool) (old : List ℕ) {new : List ℕ} → new ≡ old ++ separator f told ++ part_text f p → Tells f (p ∷ []) told old true new
+tells_one f p told old put = record { text = rw put (simp (append_assoc, append-nil)); by_now = refl }
+
+pub tells_both : {f : Form} {told_1 told_2 told_3 : Bool} {text_1 text_2 text_3 : List ℕ} (ps qs : List Part) → Tells f ps told_1 text_1 told_2 text_2 → Tells f qs told_2 text_2 told_3 text_3 → Tells f (ps ++ qs) told_1 text_1 told_3 text_3
+tells_both {f} {told_1} ps qs first second = record {
+  text = rw (second.text, first.text, first.by_now, parts_append f told_1 ps qs) (simp append_assoc);
+  by_now = second.by_now ∙ ap (λ told. told_after told qs) first.by_now ∙ sym (told_append told_1 ps qs);
+}
+
+-- ---- of what is viewed
+pub whole_none : (term : Term) (part : Value term → Part) (f : Form) (told : Bool) (octets text : List ℕ) → IsNotWhole term octets → Tells f (one_if part (judged term octets)) told text told text
+whole_none term part f told octets text none = rw (not_judged term octets none) (tells_none f told text)
+
+pub whole_some : (term : Term) (part : Value term → Part) (f : Form) (told : Bool) (octets old : List ℕ) (v : Value term) (p : Part) {new : List ℕ} → has_octet_tags term ≡ true → length octets < 2 ^ 31 → IsViewOf term octets v → part v ≡ p → new ≡ old ++ separator f told ++ part_text f p → Tells f (one_if part (judged term octets)) told old true new
+whole_some term part f told octets old v p tags short seen same put = rw (judged_view term octets v tags short seen, same) (tells_one f p told old put)
+
+pub count_none : (term : Term) (part : Value term → Part) (octets : List ℕ) → IsNotWhole term octets → 0 ≡ length (one_if part (judged term octets))
+count_none term part octets none = rw (not_judged term octets none) refl
+
+pub count_some : (term : Term) (part : Value term → Part) (octets : List ℕ) (v : Value term) → has_octet_tags term ≡ true → length octets < 2 ^ 31 → IsViewOf term octets v → 1 ≡ length (one_if part (judged term octets))
+count_some term part octets v tags short seen = rw (judged_view term octets v tags short seen) refl
+
+-- ---- of items
+-- what is left of the items to be told
+pub record Leaves (f : Form) (parts others : List Part) (old_told : Bool) (old : List ℕ) (told : Bool) (new : List ℕ) : Type 0 where
+  pub text : new ++ parts_after f told others ≡ old ++ parts_after f old_told parts
+  pub by_now : told_after told others ≡ told_after old_told parts
+
+pub leaves_all : (f : Form) (parts : List Part) (told : Bool) (text : List ℕ) → Leaves f parts parts told text told text
+leaves_all f parts told text = record { text = refl; by_now = refl }
+
+-- parts were told, of those that were left
+pub leaves_more : {f : Form} {parts others : List Part} {old_told told told_now : Bool} {old text new : List ℕ} (some rest : List Part) → Leaves f parts others old_told old told text → others ≡ some ++ rest → Tells f some told text told_now new → Leaves f parts rest old_told old told_now new
+leaves_more {f} {parts} {others} {old_told} {told} {told_now} {old} {text} {new} some rest left are tells = record {
+  text = rw (tells.text, tells.by_now) (append_assoc text (parts_after f told some) (parts_after f (told_after told some) rest) ∙ ap (λ more. text ++ more) (sym (parts_append f told some rest)) ∙ ap (λ all. text ++ parts_after f told all) (sym are) ∙ left.text);
+  by_now = ap (λ now. told_after now rest) tells.by_now ∙ sym (told_append told some rest) ∙ ap (told_after told) (sym are) ∙ left.by_now;
+}
+
+-- none is left
+pub leaves_none : {f : Form} {parts others : List Part} {old_told told : Bool} {old text : List ℕ} → Leaves f parts others old_told old told text → others ≡ [] → Tells f parts old_told old told text
+leaves_none {f} {parts} {others} {old_told} {told} {old} {text} left none = record {
+  text = sym (append-nil text) ∙ ap (λ all. text ++ parts_after f told all) (sym none) ∙ left.text;
+  by_now = ap (told_after told) (sym none) ∙ left.by_now;
+}
+
+-- ---- as the text of a record has them
+pub named_parts : (told : Bool) (parts : List Part) → parts_after form.NamedLines told parts ≡ flat_map (λ p. codes " " ++ part_text form.NamedLines p) parts
+named_parts told [] = refl
+named_parts told (p ∷ parts) = ap (λ rest. (codes " " ++ part_text form.NamedLines p) ++ rest) (named_parts true parts)
+
+other_objects : (parts : List Part) → parts_after form.Json true parts ≡ flat_map (λ p. codes "," ++ part_text form.Json p) parts
+other_objects [] = refl
+other_objects (p ∷ parts) = ap (λ rest. (codes "," ++ part_text form.Json p) ++ rest) (other_objects parts)
+
+pub objects : (parts : List Part) → parts_after form.Json false parts ≡ joined [] (codes ",") (part_text form.Json) parts
+objects [] = refl
+objects (p ∷ parts) = ap (λ rest. part_text form.Json p ++ rest) (other_objects parts)

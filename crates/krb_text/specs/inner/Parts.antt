@@ -1,0 +1,29 @@
+-- Parts one after another, as they are appended and counted.
+use Rattle.std.specs.Prelude.{ℕ, ◌≡◌, Bool, true, false, List, [], ◌∷◌, ◌++◌, length, Option, Some, None, codes}
+use Rattle.krb_msg.specs.declared.message.Message.{Message}
+use Rattle.krb_text.specs.declared.form.Form.{Form}
+use Rattle.krb_text.specs.declared.form.Form.TheVariants as form
+use Rattle.krb_text.specs.Forms.{part_text}
+use Rattle.krb_text.specs.Inside.{inside_of}
+use Rattle.krb_text.specs.Values.{Part}
+
+-- what precedes a part, if others were told before it or none was
+abbrev pub separator : Form → Bool → List ℕ
+separator form.Lines told = codes " "
+separator form.NamedLines told = codes " "
+separator form.Json false = []
+separator form.Json true = codes ","
+
+abbrev pub parts_after : Form → Bool → List Part → List ℕ
+parts_after f told [] = []
+parts_after f told (p ∷ ps) = (separator f told ++ part_text f p) ++ parts_after f true ps
+
+-- whether any was told, after these
+abbrev pub told_after : Bool → List Part → Bool
+told_after told [] = told
+told_after told (p ∷ ps) = true
+
+-- parts were appended to a text: what was told before and after, and the text before and after
+pub record Tells (f : Form) (parts : List Part) (old_told : Bool) (old : List ℕ) (told : Bool) (new : List ℕ) : Type 0 where
+  pub text : new ≡ old ++ parts_after f old_told parts
+  pub by_now : told ≡ told_after old_told parts

@@ -1,0 +1,332 @@
+//! What is in the clear in pre-authentication data, and in Tickets, as parts.
+
+ghost use Rattle.std.specs.Prelude.{◌≡◌, ◌++◌, ◌^◌, ◌<◌, codes, length, IfOk, MatchOption, None, OnOk, Some};
+ghost use Rattle.std.specs.Option.{option_map};
+ghost use Rattle.krb_msg.specs.Grammar.{ap_req, encrypted_data};
+ghost use Rattle.krb_msg.specs.Types.{ApReqLists, ap_req_of, ap_req_of_view, ap_req_view_value, encrypted_data_of, encrypted_data_of_view, ticket_of_view};
+ghost use Rattle.krb_msg.specs.Viewed.{OfSome};
+ghost use Rattle.krb_padata.specs.Types.{KrbFastArmorLists, etype_info2_entry_of_view, etype_info_entry_of_view, krb_fast_armor_of, krb_fast_armor_view_value, krb_fast_armored_rep_of_view, krb_fast_armored_req_of_view, pa_for_user_of_view, pa_pac_options_of_view};
+ghost use Rattle.krb_registry.specs.declared.registry.Registry.TheVariants.{EncryptionTypes};
+ghost use Rattle.krb_text.specs.Forms.{field, part_text};
+ghost use Rattle.krb_text.specs.Inside.{ap_req_in, etype_info2_part, etype_info_part, fast_reply_part, fast_request_part, for_user_part, one_if, pac_options_part, pac_request_part, salt_part, sealed_part, tgs_req_part, ticket_part};
+ghost use Rattle.krb_text.specs.Judged.{judged};
+ghost use Rattle.krb_text.specs.Values.{Named, Number, if_there, principal, sealed};
+ghost use Rattle.krb_text.specs.inner.Parts.{Tells, separator};
+
+use crate::field::{put_closing, put_field};
+use crate::form::Form;
+use crate::message::put_ap_req;
+use crate::number::Numbered;
+use crate::part::{Clear, put_part_opening};
+use crate::shown::QuotedText;
+use crate::text_buffer::TextBuffer;
+use crate::view_field::{
+    put_absent_field, put_checksum_field, put_flags_field, put_hex_field, put_principal_field,
+    put_quoted_field, put_sealed_field,
+};
+use krb_msg::{ApReq, ApReqView, EncryptedData, EncryptedDataView, Ticket, TicketView, view_whole};
+use krb_padata::{
+    EtypeInfo2Entry, EtypeInfo2EntryView, EtypeInfoEntry, EtypeInfoEntryView, KrbFastArmorView,
+    KrbFastArmoredRepView, KrbFastArmoredReqView, PaForUser, PaForUserView, PaFxFastReply,
+    PaFxFastRequest, PaPacOptions, PaPacOptionsView,
+};
+use krb_registry::Registry;
+use std::alloc::AllocError;
+
+/// The type of an armor that is an AP-REQ (RFC 6113, 5.4.1.1).
+const AP_REQUEST_ARMOR: i64 = 1;
+
+/// PA-TGS-REQ (RFC 4120, 5.2.7.1): what a line of an AP-REQ has.
+impl<'a> Clear<'a> for ApReq {
+    ghost part = { λ seen. tgs_req_part (ap_req_of_view seen) };
+
+    #[tactic(auto, unfolding(crate::specs::Forms::part_text))]
+    fn put_part(
+        text: &mut TextBuffer,
+        form: Form,
+        told: bool,
+        seen: &ApReqView<'a>,
+    ) -> Result<(), AllocError> {
+        put_part_opening(text, form, told, "PA-TGS-REQ")?;
+        put_ap_req(text, form, seen)?;
+        put_closing(text, form)
+    }
+}
+
+/// An entry of PA-ETYPE-INFO (RFC 4120, 5.2.7.4).
+impl<'a> Clear<'a> for EtypeInfoEntry {
+    ghost part = { λ seen. etype_info_part (etype_info_entry_of_view seen) };
+
+    #[tactic(auto, unfolding(crate::specs::Forms::part_text))]
+    fn put_part(
+        text: &mut TextBuffer,
+        form: Form,
+        told: bool,
+        seen: &EtypeInfoEntryView<'a>,
+    ) -> Result<(), AllocError> {
+        put_part_opening(text, form, told, "PA-ETYPE-INFO")?;
+        put_etype_field(text, form, seen.etype)?;
+        put_quoted_field(text, form, " salt=", ",\"salt", seen.salt)?;
+        put_closing(text, form)
+    }
+}
+
+/// An entry of PA-ETYPE-INFO2 (RFC 4120, 5.2.7.5).
+impl<'a> Clear<'a> for EtypeInfo2Entry {
+    ghost part = { λ seen. etype_info2_part (etype_info2_entry_of_view seen) };
+
+    #[tactic(auto, unfolding(crate::specs::Forms::part_text))]
+    fn put_part(
+        text: &mut TextBuffer,
+        form: Form,
+        told: bool,
+        seen: &EtypeInfo2EntryView<'a>,
+    ) -> Result<(), AllocError> {
+        put_part_opening(text, form, told, "PA-ETYPE-INFO2")?;
+        put_etype_field(text, form, seen.etype)?;
+        put_quoted_field(text, form, " salt=", ",\"salt", seen.salt)?;
+        put_hex_field(text, form, " params=", ",\"params", seen.s2kparams)?;
+        put_closing(text, form)
+    }
+}
+
+/// PA-FOR-USER (MS-SFU, 2.2.1).
+impl<'a> Clear<'a> for PaForUser {
+    ghost part = { λ seen. for_user_part (pa_for_user_of_view seen) };
+
+    #[tactic(auto, unfolding(crate::specs::Forms::part_text))]
+    fn put_part(
+        text: &mut TextBuffer,
+        form: Form,
+        told: bool,
+        seen: &PaForUserView<'a>,
+    ) -> Result<(), AllocError> {
+        let (name, realm) = (&seen.user_name, seen.user_realm);
+        let package = QuotedText(seen.auth_package);
+        put_part_opening(text, form, told, "PA-FOR-USER")?;
+        put_principal_field(text, form, " user=", ",\"user", name, realm)?;
+        put_checksum_field(text, form, " cksum=", ",\"cksum", &seen.cksum)?;
+        put_field(text, form, " package=", ",\"package", &package)?;
+        put_closing(text, form)
+    }
+}
+
+/// PA-FX-FAST of a request (RFC 6113, 5.4.2).
+impl<'a> Clear<'a> for PaFxFastRequest {
+    ghost part = { λ seen. fast_request_part (krb_fast_armored_req_of_view seen) };
+
+    #[tactic(auto, unfolding(crate::specs::Forms::part_text))]
+    fn put_part(
+        text: &mut TextBuffer,
+        form: Form,
+        told: bool,
+        seen: &KrbFastArmoredReqView<'a>,
+    ) -> Result<(), AllocError> {
+        put_part_opening(text, form, told, "PA-FX-FAST")?;
+        put_armor_fields(text, form, &seen.armor)?;
+        put_sealed_field(text, form, " enc=", ",\"enc", &seen.enc_fast_req)?;
+        put_closing(text, form)
+    }
+}
+
+/// PA-FX-FAST of a reply or an error (RFC 6113, 5.4.3).
+impl<'a> Clear<'a> for PaFxFastReply {
+    ghost part = { λ seen. fast_reply_part (krb_fast_armored_rep_of_view seen) };
+
+    #[tactic(auto, unfolding(crate::specs::Forms::part_text))]
+    fn put_part(
+        text: &mut TextBuffer,
+        form: Form,
+        told: bool,
+        seen: &KrbFastArmoredRepView<'a>,
+    ) -> Result<(), AllocError> {
+        put_part_opening(text, form, told, "PA-FX-FAST")?;
+        put_absent_field(text, form, " armor=", ",\"armor")?;
+        put_absent_field(text, form, " server=", ",\"server")?;
+        put_absent_field(text, form, " ticket=", ",\"ticket")?;
+        put_sealed_field(text, form, " enc=", ",\"enc", &seen.enc_fast_rep)?;
+        put_closing(text, form)
+    }
+}
+
+/// PA-PAC-OPTIONS (MS-KILE, 2.2.10).
+impl<'a> Clear<'a> for PaPacOptions {
+    ghost part = { λ seen. pac_options_part (pa_pac_options_of_view seen) };
+
+    #[tactic(auto, unfolding(crate::specs::Forms::part_text))]
+    fn put_part(
+        text: &mut TextBuffer,
+        form: Form,
+        told: bool,
+        seen: &PaPacOptionsView<'a>,
+    ) -> Result<(), AllocError> {
+        let options = Registry::PacOptions;
+        put_part_opening(text, form, told, "PA-PAC-OPTIONS")?;
+        put_flags_field(text, form, " options=", ",\"options", options, &seen.flags)?;
+        put_closing(text, form)
+    }
+}
+
+/// A Ticket (RFC 4120, 5.3).
+impl<'a> Clear<'a> for Ticket {
+    ghost part = { λ seen. ticket_part (ticket_of_view seen) };
+
+    #[tactic(auto, unfolding(crate::specs::Forms::part_text))]
+    fn put_part(
+        text: &mut TextBuffer,
+        form: Form,
+        told: bool,
+        seen: &TicketView<'a>,
+    ) -> Result<(), AllocError> {
+        put_part_opening(text, form, told, "Ticket")?;
+        put_principal_field(text, form, " server=", ",\"server", &seen.sname, seen.realm)?;
+        put_sealed_field(text, form, " ticket=", ",\"ticket", &seen.enc_part)?;
+        put_closing(text, form)
+    }
+}
+
+/// Appends a field of an encryption type.
+fn put_etype_field(text: &mut TextBuffer, form: Form, etype: i64) -> Result<(), AllocError>
+    ensures { OnOk result (text.new ≡ text.old ++ field form (codes "etype") (Named EncryptionTypes etype)) }
+{
+    let shown = Numbered {
+        registry: Registry::EncryptionTypes,
+        number: etype,
+    };
+    put_field(text, form, " etype=", ",\"etype", &shown)
+}
+
+/// Returns a view of the AP-REQ that an armor is, if there is one and it is that.
+fn ap_req_of_armor<'a>(armor: &Option<KrbFastArmorView<'a>>) -> Option<ApReqView<'a>>
+    requires { OfSome KrbFastArmorLists armor.now }
+    ensures { let seen = option_map krb_fast_armor_of (option_map krb_fast_armor_view_value armor.now) in MatchOption result (ap_req_in seen ≡ None) (λ req. ApReqLists req × (ap_req_in seen ≡ Some (ap_req_view_value req))) }
+{
+    match armor {
+        Some(armor) if armor.armor_type == AP_REQUEST_ARMOR => {
+            view_whole::<ApReq>(armor.armor_value)
+        }
+        _ => None,
+    }
+}
+
+/// Appends a field of the type of an armor, if there is one.
+fn put_armor_type_field(
+    text: &mut TextBuffer,
+    form: Form,
+    armor: &Option<KrbFastArmorView<'_>>,
+) -> Result<(), AllocError>
+    ensures { OnOk result (text.new ≡ text.old ++ field form (codes "armor") (if_there (λ a. Number a.armor_type) (option_map krb_fast_armor_of (option_map krb_fast_armor_view_value armor.now)))) }
+{
+    match armor {
+        None => put_absent_field(text, form, " armor=", ",\"armor"),
+        Some(armor) => put_field(text, form, " armor=", ",\"armor", &armor.armor_type),
+    }
+}
+
+/// Appends fields of the server and of the Ticket of an AP-REQ, if there is one.
+fn put_ticket_fields(
+    text: &mut TextBuffer,
+    form: Form,
+    req: &Option<ApReqView<'_>>,
+) -> Result<(), AllocError>
+    requires { OfSome ApReqLists req.now }
+    ensures { let seen = option_map ap_req_view_value req.now in OnOk result (text.new ≡ text.old
+        ++ field form (codes "server") (if_there (λ v. principal (ap_req_of v).ticket.realm (ap_req_of v).ticket.sname) seen)
+        ++ field form (codes "ticket") (if_there (λ v. sealed (ap_req_of v).ticket.enc_part) seen)) }
+{
+    match req {
+        None => {
+            put_absent_field(text, form, " server=", ",\"server")?;
+            put_absent_field(text, form, " ticket=", ",\"ticket")
+        }
+        Some(req) => {
+            let (server, realm) = (&req.ticket.sname, req.ticket.realm);
+            put_principal_field(text, form, " server=", ",\"server", server, realm)?;
+            put_sealed_field(text, form, " ticket=", ",\"ticket", &req.ticket.enc_part)
+        }
+    }
+}
+
+/// Appends the fields of an armor: its type, and the server and the Ticket of the AP-REQ that it
+/// may be.
+fn put_armor_fields(
+    text: &mut TextBuffer,
+    form: Form,
+    armor: &Option<KrbFastArmorView<'_>>,
+) -> Result<(), AllocError>
+    requires { OfSome KrbFastArmorLists armor.now }
+    ensures { let seen = option_map krb_fast_armor_of (option_map krb_fast_armor_view_value armor.now) in OnOk result (text.new ≡ text.old
+        ++ field form (codes "armor") (if_there (λ a. Number a.armor_type) seen)
+        ++ field form (codes "server") (if_there (λ v. principal (ap_req_of v).ticket.realm (ap_req_of v).ticket.sname) (ap_req_in seen))
+        ++ field form (codes "ticket") (if_there (λ v. sealed (ap_req_of v).ticket.enc_part) (ap_req_in seen))) }
+{
+    put_armor_type_field(text, form, armor)?;
+    put_ticket_fields(text, form, &ap_req_of_armor(armor))
+}
+
+/// Appends the part of what is sealed.
+#[tactic(auto, unfolding(crate::specs::Forms::part_text))]
+fn put_sealed_part(
+    text: &mut TextBuffer,
+    form: Form,
+    told: bool,
+    kind: &str,
+    seen: &EncryptedDataView<'_>,
+) -> Result<(), AllocError>
+    ensures { OnOk result (text.new ≡ text.old ++ separator form told ++ part_text form (sealed_part kind.now (encrypted_data_of_view seen.now))) }
+{
+    put_part_opening(text, form, told, kind)?;
+    put_sealed_field(text, form, " enc=", ",\"enc", seen)?;
+    put_closing(text, form)
+}
+
+/// Appends the part of octets that are all of what is sealed, and returns whether any was told by
+/// now: PA-ENC-TIMESTAMP (RFC 4120, 5.2.7.2) and PA-ENCRYPTED-CHALLENGE (RFC 6113, 5.4.6).
+pub(crate) fn put_sealed(
+    text: &mut TextBuffer,
+    form: Form,
+    told: bool,
+    kind: &str,
+    octets: &[u8],
+) -> Result<bool, AllocError>
+    requires { length octets.now < 2 ^ 31 }
+    ensures { IfOk result (λ by_now. Tells form (one_if (λ v. sealed_part kind.now (encrypted_data_of v)) (judged encrypted_data octets.now)) told text.old by_now text.new) }
+{
+    match view_whole::<EncryptedData>(octets) {
+        None => Ok(told),
+        Some(seen) => {
+            put_sealed_part(text, form, told, kind, &seen)?;
+            Ok(true)
+        }
+    }
+}
+
+/// Appends the part of a salt (RFC 4120, 5.2.7.3).
+#[tactic(auto, unfolding(crate::specs::Forms::part_text))]
+pub(crate) fn put_salt(
+    text: &mut TextBuffer,
+    form: Form,
+    told: bool,
+    octets: &[u8],
+) -> Result<(), AllocError>
+    ensures { OnOk result (text.new ≡ text.old ++ separator form told ++ part_text form (salt_part octets.now)) }
+{
+    put_part_opening(text, form, told, "PA-PW-SALT")?;
+    put_field(text, form, " salt=", ",\"salt", &QuotedText(octets))?;
+    put_closing(text, form)
+}
+
+/// Appends the part of a PA-PAC-REQUEST (MS-KILE, 2.2.3).
+#[tactic(auto, unfolding(crate::specs::Forms::part_text))]
+pub(crate) fn put_pac_request(
+    text: &mut TextBuffer,
+    form: Form,
+    told: bool,
+    include: bool,
+) -> Result<(), AllocError>
+    ensures { OnOk result (text.new ≡ text.old ++ separator form told ++ part_text form (pac_request_part include)) }
+{
+    put_part_opening(text, form, told, "PA-PAC-REQUEST")?;
+    put_field(text, form, " pac=", ",\"pac", &include)?;
+    put_closing(text, form)
+}

@@ -1,0 +1,247 @@
+//! What is inside of messages: their parts, after the fields of a record.
+
+ghost use Rattle.std.specs.Prelude.{◌≡◌, ◌+◌, ◌^◌, ◌<◌, ◌≤◌, ◌++◌, ◌||◌, None, Some, false, true, length, map, IfOk, List, MatchOption, OnOk};
+ghost use Rattle.std.specs.Option.{option_map};
+ghost use Rattle.krb_msg.specs.Grammar.{pa_data, ticket};
+ghost use Rattle.krb_msg.specs.Types.{KdcRepLists, KdcReqLists, KrbCredLists, KrbErrorLists, kdc_rep_of_view, kdc_req_of_view, krb_cred_of_view, krb_error_of_view, pa_data_of, ticket_of};
+ghost use Rattle.krb_msg.specs.ViewValues.{MessageLists, message_of_view};
+ghost use Rattle.krb_msg.specs.Viewed.{AreViewed, OfSome, items_of};
+ghost use Rattle.krb_text.specs.Forms.{ending, part_text};
+ghost use Rattle.krb_text.specs.Inside.{each_if, inside_of, kdc_req_parts, krb_error_parts, method_data_if, methods_part, padata_parts, ticket_part};
+ghost use Rattle.krb_text.specs.Judged.{asks_for_preauth, says_preauth_failed};
+ghost use Rattle.krb_text.specs.Values.{Part};
+ghost use Rattle.krb_text.specs.inner.Parts.{Tells, parts_after, separator};
+
+use crate::error::{PREAUTH_REQUIRED, method_data};
+use crate::field::put_closing;
+use crate::form::Form;
+use crate::list::count_items;
+use crate::padata::{count_padata, put_padata};
+use crate::part::{put_each, put_part_opening};
+use crate::text_buffer::TextBuffer;
+use crate::view_field::put_types_field;
+use krb_msg::{ItemsView, KdcRepView, KdcReqView, KrbCredView, KrbErrorView, MessageView, Ticket};
+use std::alloc::AllocError;
+
+/// The code of an error that says that pre-authentication failed (RFC 4120, 7.5.9).
+const PREAUTH_FAILED: i64 = 24;
+
+/// A message that may have parts.
+trait HasParts {
+    /// The parts.
+    ghost parts: { Self → List Part };
+
+    /// What is known of a view.
+    ghost Lists: { Self → Type 0 };
+
+    /// Returns how many parts it has.
+    fn count_parts(&self) -> u64
+        requires { Lists self.now }
+        ensures { result ≡ length (parts self.now) };
+
+    /// Appends the parts.
+    fn put_parts(&self, text: &mut TextBuffer, form: Form) -> Result<(), AllocError>
+        requires { Lists self.now }
+        ensures { OnOk result (text.new ≡ text.old ++ parts_after form false (parts self.now)) };
+}
+
+/// Returns how many parts pre-authentication data have, if they are there.
+fn count_optional_padata(in_request: bool, items: Option<ItemsView<'_>>) -> u64
+    requires { OfSome (λ items. AreViewed pa_data items.octets.now) items }
+    ensures many { result ≡ length (padata_parts in_request (option_map (map pa_data_of) (option_map (λ items. items_of pa_data items.octets.now) items.entry))) }
+    ensures few { result ≤ 2 ^ 62 }
+{
+    match items {
+        None => 0,
+        Some(items) => count_padata(in_request, items),
+    }
+}
+
+/// Appends the parts of pre-authentication data, if they are there, and returns whether any was
+/// told.
+fn put_optional_padata(
+    text: &mut TextBuffer,
+    form: Form,
+    in_request: bool,
+    items: Option<ItemsView<'_>>,
+) -> Result<bool, AllocError>
+    requires { OfSome (λ items. AreViewed pa_data items.octets.now) items }
+    ensures { IfOk result (λ told. Tells form (padata_parts in_request (option_map (map pa_data_of) (option_map (λ items. items_of pa_data items.octets.now) items.entry))) false text.old told text.new) }
+{
+    match items {
+        None => Ok(false),
+        Some(items) => put_padata(text, form, false, in_request, items),
+    }
+}
+
+/// Returns how many Tickets there are.
+fn count_tickets(items: Option<ItemsView<'_>>) -> u64
+    requires { OfSome (λ items. AreViewed ticket items.octets.now) items }
+    ensures many { result ≡ length (each_if ticket_part (option_map (map ticket_of) (option_map (λ items. items_of ticket items.octets.now) items.entry))) }
+    ensures few { result < 2 ^ 31 }
+{
+    match items {
+        None => 0,
+        Some(items) => count_items::<Ticket>(items) as u64,
+    }
+}
+
+/// Appends the parts of Tickets, if there are any.
+fn put_tickets(
+    text: &mut TextBuffer,
+    form: Form,
+    told: bool,
+    items: Option<ItemsView<'_>>,
+) -> Result<bool, AllocError>
+    requires { OfSome (λ items. AreViewed ticket items.octets.now) items }
+    ensures { IfOk result (λ by_now. Tells form (each_if ticket_part (option_map (map ticket_of) (option_map (λ items. items_of ticket items.octets.now) items.entry))) told text.old by_now text.new) }
+{
+    match items {
+        None => Ok(told),
+        Some(items) => put_each::<Ticket>(text, form, told, items),
+    }
+}
+
+impl<'a> HasParts for KdcReqView<'a> {
+    ghost parts = { λ m. kdc_req_parts (kdc_req_of_view m) };
+
+    ghost Lists = { KdcReqLists };
+
+    fn count_parts(&self) -> u64 {
+        count_optional_padata(true, self.padata) + count_tickets(self.body.additional_tickets)
+    }
+
+    fn put_parts(&self, text: &mut TextBuffer, form: Form) -> Result<(), AllocError> {
+        let told = put_optional_padata(text, form, true, self.padata)?;
+        put_tickets(text, form, told, self.body.additional_tickets)?;
+        Ok(())
+    }
+}
+
+impl<'a> HasParts for KdcRepView<'a> {
+    ghost parts = { λ m. padata_parts false (kdc_rep_of_view m).padata };
+
+    ghost Lists = { KdcRepLists };
+
+    fn count_parts(&self) -> u64 {
+        count_optional_padata(false, self.padata)
+    }
+
+    fn put_parts(&self, text: &mut TextBuffer, form: Form) -> Result<(), AllocError> {
+        put_optional_padata(text, form, false, self.padata)?;
+        Ok(())
+    }
+}
+
+impl<'a> HasParts for KrbCredView<'a> {
+    ghost parts = { λ m. map ticket_part (krb_cred_of_view m).tickets };
+
+    ghost Lists = { KrbCredLists };
+
+    fn count_parts(&self) -> u64 {
+        count_items::<Ticket>(self.tickets) as u64
+    }
+
+    fn put_parts(&self, text: &mut TextBuffer, form: Form) -> Result<(), AllocError> {
+        put_each::<Ticket>(text, form, false, self.tickets)?;
+        Ok(())
+    }
+}
+
+/// Returns a view of the METHOD-DATA of an error that asks for pre-authentication or says that it
+/// failed (RFC 4120, 5.9.1), if its data is that.
+fn methods_of<'a>(error: &KrbErrorView<'a>) -> Option<ItemsView<'a>>
+    requires { KrbErrorLists error.now }
+    ensures { let seen = krb_error_of_view error.now in let found = method_data_if (asks_for_preauth seen.error_code || says_preauth_failed seen.error_code) seen.e_data in MatchOption result (found ≡ None) (λ items. AreViewed pa_data items.octets.now × (found ≡ Some (items_of pa_data items.octets.now))) }
+{
+    match (error.error_code, error.e_data) {
+        (PREAUTH_REQUIRED | PREAUTH_FAILED, Some(octets)) => method_data(octets),
+        _ => None,
+    }
+}
+
+/// Appends the part of METHOD-DATA, their types.
+#[tactic(auto, unfolding(crate::specs::Forms::part_text))]
+fn put_methods(text: &mut TextBuffer, form: Form, items: ItemsView<'_>) -> Result<(), AllocError>
+    requires { AreViewed pa_data items.octets.now }
+    ensures { OnOk result (text.new ≡ text.old ++ separator form false ++ part_text form (methods_part (map pa_data_of (items_of pa_data items.entry.octets.now)))) }
+{
+    put_part_opening(text, form, false, "METHOD-DATA")?;
+    put_types_field(text, form, " methods=", ",\"methods", items)?;
+    put_closing(text, form)
+}
+
+impl<'a> HasParts for KrbErrorView<'a> {
+    ghost parts = { λ m. krb_error_parts (krb_error_of_view m) };
+
+    ghost Lists = { KrbErrorLists };
+
+    fn count_parts(&self) -> u64 {
+        let Some(items) = methods_of(self) else {
+            return 0;
+        };
+        let count = count_padata(false, items);
+        if self.error_code == PREAUTH_FAILED {
+            count + 1
+        } else {
+            count
+        }
+    }
+
+    fn put_parts(&self, text: &mut TextBuffer, form: Form) -> Result<(), AllocError> {
+        let Some(items) = methods_of(self) else {
+            return Ok(());
+        };
+        let failed = self.error_code == PREAUTH_FAILED;
+        if failed {
+            put_methods(text, form, items)?;
+        }
+        put_padata(text, form, failed, false, items)?;
+        Ok(())
+    }
+}
+
+/// Appends what follows the fields of a message that may have parts. A line without names has
+/// nothing there.
+#[inline(always)]
+#[tactic(auto, unfolding(crate::specs::Forms::closing, crate::specs::Forms::inside_text))]
+fn put_list<M: HasParts>(text: &mut TextBuffer, form: Form, message: &M) -> Result<(), AllocError>
+    requires { M.Lists message.now }
+    ensures { OnOk result (text.new ≡ text.old ++ ending form (Some (M.parts message.now))) }
+{
+    match form {
+        Form::Lines => Ok(()),
+        Form::NamedLines => {
+            text.push_str(" inside=")?;
+            text.push_number(message.count_parts())?;
+            message.put_parts(text, form)
+        }
+        Form::Json => {
+            text.push_str(",\"inside\":[")?;
+            message.put_parts(text, form)?;
+            text.push_str("]}")
+        }
+    }
+}
+
+/// Appends what follows the fields of the record of a message.
+#[inline(always)]
+pub(crate) fn put_ending(
+    text: &mut TextBuffer,
+    form: Form,
+    view: &MessageView<'_>,
+) -> Result<(), AllocError>
+    requires { MessageLists view.now }
+    ensures { OnOk result (text.new ≡ text.old ++ ending form (inside_of (message_of_view view.now))) }
+{
+    match view {
+        MessageView::AsReq(req) | MessageView::TgsReq(req) => put_list(text, form, req),
+        MessageView::AsRep(rep) | MessageView::TgsRep(rep) => put_list(text, form, rep),
+        MessageView::KrbCred(cred) => put_list(text, form, cred),
+        MessageView::KrbError(error) => put_list(text, form, error),
+        MessageView::ApReq(_)
+        | MessageView::ApRep(_)
+        | MessageView::KrbSafe(_)
+        | MessageView::KrbPriv(_) => put_closing(text, form),
+    }
+}

@@ -1,0 +1,210 @@
+//! What is in the clear in lists of pre-authentication data, as parts that are appended or counted.
+
+ghost use Rattle.std.specs.Prelude.{◌≡◌, ◌+◌, ◌*◌, ◌^◌, ◌<◌, ◌≤◌, ◌++◌, length, map, IfOk, List, MatchOption, ℕ};
+ghost use Rattle.std.specs.List.{flat_map};
+ghost use Rattle.krb_msg.specs.Grammar.{encrypted_data, pa_data};
+ghost use Rattle.krb_msg.specs.Types.{encrypted_data_of, pa_data_of};
+ghost use Rattle.krb_msg.specs.Viewed.{AreViewed, items_of};
+ghost use Rattle.krb_padata.specs.Grammar.{etype_info, etype_info2};
+ghost use Rattle.krb_padata.specs.Types.{etype_info2_entry_of, etype_info_entry_of};
+ghost use Rattle.krb_text.specs.Inside.{clear_parts, each_if, etype_info2_part, etype_info_part, item_parts, one_if, sealed_part};
+ghost use Rattle.krb_text.specs.Judged.{judged};
+ghost use Rattle.krb_text.specs.declared.clear_type.ClearType.TheVariants.{PacRequest};
+ghost use Rattle.krb_text.specs.inner.Parts.{Tells};
+
+use crate::clear::{put_pac_request, put_salt, put_sealed};
+use crate::clear_type::ClearType;
+use crate::form::Form;
+use crate::list::count_items;
+use crate::part::{count_whole, put_each, put_whole};
+use crate::text_buffer::TextBuffer;
+use krb_msg::{ApReq, EncryptedData, ItemsView, PaData, next_item, view_whole};
+use krb_padata::{
+    EtypeInfo, EtypeInfo2, EtypeInfo2Entry, EtypeInfoEntry, PaForUser, PaFxFastReply,
+    PaFxFastRequest, PaPacOptions, view_pac_request,
+};
+use std::alloc::AllocError;
+
+/// Appends the parts of a PA-ETYPE-INFO, and returns whether any was told by now.
+fn put_etype_info(
+    text: &mut TextBuffer,
+    form: Form,
+    told: bool,
+    octets: &[u8],
+) -> Result<bool, AllocError>
+    requires { length octets.now < 2 ^ 31 }
+    ensures { IfOk result (λ by_now. Tells form (each_if (λ v. etype_info_part (etype_info_entry_of v)) (judged etype_info octets.now)) told text.old by_now text.new) }
+{
+    match view_whole::<EtypeInfo>(octets) {
+        None => Ok(told),
+        Some(entries) => put_each::<EtypeInfoEntry>(text, form, told, entries),
+    }
+}
+
+/// Appends the parts of a PA-ETYPE-INFO2, and returns whether any was told by now.
+fn put_etype_info2(
+    text: &mut TextBuffer,
+    form: Form,
+    told: bool,
+    octets: &[u8],
+) -> Result<bool, AllocError>
+    requires { length octets.now < 2 ^ 31 }
+    ensures { IfOk result (λ by_now. Tells form (each_if (λ v. etype_info2_part (etype_info2_entry_of v)) (judged etype_info2 octets.now)) told text.old by_now text.new) }
+{
+    match view_whole::<EtypeInfo2>(octets) {
+        None => Ok(told),
+        Some(entries) => put_each::<EtypeInfo2Entry>(text, form, told, entries),
+    }
+}
+
+/// Appends the parts of a PA-PAC-REQUEST, and returns whether any was told by now.
+fn put_pac_request_of(
+    text: &mut TextBuffer,
+    form: Form,
+    told: bool,
+    octets: &[u8],
+) -> Result<bool, AllocError>
+    ensures { IfOk result (λ by_now. Tells form (clear_parts PacRequest octets.now) told text.old by_now text.new) }
+{
+    match view_pac_request(octets) {
+        None => Ok(told),
+        Some(include) => {
+            put_pac_request(text, form, told, include)?;
+            Ok(true)
+        }
+    }
+}
+
+/// Appends the parts of a value of a type, and returns whether any was told by now.
+fn put_value(
+    text: &mut TextBuffer,
+    form: Form,
+    told: bool,
+    kind: ClearType,
+    octets: &[u8],
+) -> Result<bool, AllocError>
+    requires { length octets.now < 2 ^ 31 }
+    ensures { IfOk result (λ by_now. Tells form (clear_parts kind octets.now) told text.old by_now text.new) }
+{
+    let challenge = "PA-ENCRYPTED-CHALLENGE";
+    match kind {
+        ClearType::TgsReq => put_whole::<ApReq>(text, form, told, octets),
+        ClearType::EncTimestamp => put_sealed(text, form, told, "PA-ENC-TIMESTAMP", octets),
+        ClearType::PwSalt => {
+            put_salt(text, form, told, octets)?;
+            Ok(true)
+        }
+        ClearType::EtypeInfo => put_etype_info(text, form, told, octets),
+        ClearType::EtypeInfo2 => put_etype_info2(text, form, told, octets),
+        ClearType::PacRequest => put_pac_request_of(text, form, told, octets),
+        ClearType::ForUser => put_whole::<PaForUser>(text, form, told, octets),
+        ClearType::FastRequest => put_whole::<PaFxFastRequest>(text, form, told, octets),
+        ClearType::FastReply => put_whole::<PaFxFastReply>(text, form, told, octets),
+        ClearType::EncryptedChallenge => put_sealed(text, form, told, challenge, octets),
+        ClearType::PacOptions => put_whole::<PaPacOptions>(text, form, told, octets),
+        ClearType::Other => Ok(told),
+    }
+}
+
+/// Appends the parts of pre-authentication data, and returns whether any was told by now.
+pub(crate) fn put_padata(
+    text: &mut TextBuffer,
+    form: Form,
+    told: bool,
+    in_request: bool,
+    items: ItemsView<'_>,
+) -> Result<bool, AllocError>
+    requires { AreViewed pa_data items.octets.now }
+    ensures { IfOk result (λ by_now. Tells form (flat_map (item_parts in_request) (map pa_data_of (items_of pa_data items.entry.octets.now))) told text.old by_now text.new) }
+{
+    let mut by_now = told;
+    let mut others = items;
+    'others: while let Some((seen, rest)) = next_item::<PaData>(others) {
+        let kind = ClearType::of(in_request, seen.padata_type);
+        by_now = put_value(text, form, by_now, kind, seen.padata_value)?;
+        others = rest;
+    }
+    Ok(by_now)
+}
+
+/// Returns how many parts octets have that are all of what is sealed, or none.
+fn count_sealed(octets: &[u8]) -> u64
+    requires { length octets.now < 2 ^ 31 }
+    ensures { (kind : List ℕ) → result ≡ length (one_if (λ v. sealed_part kind (encrypted_data_of v)) (judged encrypted_data octets.now)) }
+{
+    match view_whole::<EncryptedData>(octets) {
+        None => 0,
+        Some(_seen) => 1,
+    }
+}
+
+/// Returns how many parts a PA-ETYPE-INFO has.
+fn count_etype_info(octets: &[u8]) -> u64
+    requires { length octets.now < 2 ^ 31 }
+    ensures many { result ≡ length (each_if (λ v. etype_info_part (etype_info_entry_of v)) (judged etype_info octets.now)) }
+    ensures few { result ≤ length octets.now }
+{
+    match view_whole::<EtypeInfo>(octets) {
+        None => 0,
+        Some(entries) => count_items::<EtypeInfoEntry>(entries) as u64,
+    }
+}
+
+/// Returns how many parts a PA-ETYPE-INFO2 has.
+fn count_etype_info2(octets: &[u8]) -> u64
+    requires { length octets.now < 2 ^ 31 }
+    ensures many { result ≡ length (each_if (λ v. etype_info2_part (etype_info2_entry_of v)) (judged etype_info2 octets.now)) }
+    ensures few { result ≤ length octets.now }
+{
+    match view_whole::<EtypeInfo2>(octets) {
+        None => 0,
+        Some(entries) => count_items::<EtypeInfo2Entry>(entries) as u64,
+    }
+}
+
+/// Returns how many parts a PA-PAC-REQUEST has.
+fn count_pac_request(octets: &[u8]) -> u64
+    ensures { result ≡ length (clear_parts PacRequest octets.now) }
+{
+    match view_pac_request(octets) {
+        None => 0,
+        Some(_include) => 1,
+    }
+}
+
+/// Returns how many parts a value of a type has.
+fn count_value(kind: ClearType, octets: &[u8]) -> u64
+    requires { length octets.now < 2 ^ 31 }
+    ensures many { result ≡ length (clear_parts kind octets.now) }
+    ensures few { result ≤ 2 ^ 31 }
+{
+    match kind {
+        ClearType::TgsReq => count_whole::<ApReq>(octets),
+        ClearType::EncTimestamp | ClearType::EncryptedChallenge => count_sealed(octets),
+        ClearType::PwSalt => 1,
+        ClearType::EtypeInfo => count_etype_info(octets),
+        ClearType::EtypeInfo2 => count_etype_info2(octets),
+        ClearType::PacRequest => count_pac_request(octets),
+        ClearType::ForUser => count_whole::<PaForUser>(octets),
+        ClearType::FastRequest => count_whole::<PaFxFastRequest>(octets),
+        ClearType::FastReply => count_whole::<PaFxFastReply>(octets),
+        ClearType::PacOptions => count_whole::<PaPacOptions>(octets),
+        ClearType::Other => 0,
+    }
+}
+
+/// Returns how many parts pre-authentication data have.
+pub(crate) fn count_padata(in_request: bool, items: ItemsView<'_>) -> u64
+    requires { AreViewed pa_data items.octets.now }
+    ensures many { result ≡ length (flat_map (item_parts in_request) (map pa_data_of (items_of pa_data items.entry.octets.now))) }
+    ensures few { result ≤ 2 ^ 62 }
+{
+    let mut count = 0;
+    let mut others = items;
+    'others: while let Some((seen, rest)) = next_item::<PaData>(others) {
+        let kind = ClearType::of(in_request, seen.padata_type);
+        count += count_value(kind, seen.padata_value);
+        others = rest;
+    }
+    count
+}

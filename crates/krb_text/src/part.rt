@@ -1,0 +1,111 @@
+//! Parts: records inside of the record of a message.
+
+ghost use Rattle.std.specs.Prelude.{◌≡◌, ◌+◌, ◌++◌, ◌^◌, ◌<◌, ◌≤◌, true, length, map, IfOk, OnOk};
+ghost use Rattle.krb_msg.specs.Shape.{has_octet_tags, is_unambiguous};
+ghost use Rattle.krb_msg.specs.Term.{Value};
+ghost use Rattle.krb_msg.specs.Viewed.{AreViewed, items_of};
+ghost use Rattle.krb_text.specs.Forms.{opening, part_text};
+ghost use Rattle.krb_text.specs.Inside.{one_if};
+ghost use Rattle.krb_text.specs.Judged.{judged};
+ghost use Rattle.krb_text.specs.Values.{Part};
+ghost use Rattle.krb_text.specs.inner.Parts.{Tells, separator};
+
+use crate::field::put_opening;
+use crate::form::Form;
+use crate::text_buffer::TextBuffer;
+use krb_msg::{ItemsView, View, next_item, view_whole};
+use std::alloc::AllocError;
+
+/// A type each item of which has a part.
+pub(crate) trait Clear<'a>: View<'a> {
+    /// The part of a view of an item.
+    ghost part: { Self.Of → Part };
+
+    /// Appends the part of an item, after what separates it from the parts that were told before.
+    fn put_part(
+        text: &mut TextBuffer,
+        form: Form,
+        told: bool,
+        seen: &Self::Of,
+    ) -> Result<(), AllocError>
+        requires { Self.View.Lists seen.now }
+        ensures { OnOk result (text.new ≡ text.old ++ separator form told ++ part_text form (part seen.now)) };
+}
+
+/// Appends what separates a part from those before it, if any was told, and what precedes its
+/// fields.
+#[inline(always)]
+pub(crate) fn put_part_opening(
+    text: &mut TextBuffer,
+    form: Form,
+    told: bool,
+    kind: &str,
+) -> Result<(), AllocError>
+    ensures { OnOk result (text.new ≡ text.old ++ separator form told ++ opening form kind.now) }
+{
+    match form {
+        Form::Lines | Form::NamedLines => text.push_str(" ")?,
+        Form::Json if told => text.push_str(",")?,
+        Form::Json => (),
+    }
+    put_opening(text, form, kind)
+}
+
+/// Appends the part of octets that are all of one item, and returns whether any was told by now.
+#[inline(always)]
+pub(crate) fn put_whole<'a, T: Clear<'a>>(
+    text: &mut TextBuffer,
+    form: Form,
+    told: bool,
+    octets: &'a [u8],
+) -> Result<bool, AllocError>
+    requires short { length octets.now < 2 ^ 31 }
+    requires tags { has_octet_tags T.View.term ≡ true }
+    requires unambiguous { is_unambiguous T.View.term ≡ true }
+    ensures { (part : Value T.View.term → Part) → ((seen : T.Of) → part (T.View.value seen) ≡ T.part seen) → IfOk result (λ by_now. Tells form (one_if part (judged T.View.term octets.now)) told text.old by_now text.new) }
+{
+    match view_whole::<T>(octets) {
+        None => Ok(told),
+        Some(seen) => {
+            T::put_part(text, form, told, &seen)?;
+            Ok(true)
+        }
+    }
+}
+
+/// Appends the parts of items, and returns whether any was told by now.
+#[inline(always)]
+pub(crate) fn put_each<'a, T: Clear<'a>>(
+    text: &mut TextBuffer,
+    form: Form,
+    told: bool,
+    items: ItemsView<'a>,
+) -> Result<bool, AllocError>
+    requires tags { has_octet_tags T.View.term ≡ true }
+    requires unambiguous { is_unambiguous T.View.term ≡ true }
+    requires viewed { AreViewed T.View.term items.octets.now }
+    ensures { (part : Value T.View.term → Part) → ((seen : T.Of) → part (T.View.value seen) ≡ T.part seen) → IfOk result (λ by_now. Tells form (map part (items_of T.View.term items.entry.octets.now)) told text.old by_now text.new) }
+{
+    let mut by_now = told;
+    let mut others = items;
+    'others: while let Some((seen, rest)) = next_item::<T>(others) {
+        T::put_part(text, form, by_now, &seen)?;
+        by_now = true;
+        others = rest;
+    }
+    Ok(by_now)
+}
+
+/// Returns how many parts octets have that are all of one item, or none.
+#[inline(always)]
+pub(crate) fn count_whole<'a, T: View<'a>>(octets: &'a [u8]) -> u64
+    requires short { length octets.now < 2 ^ 31 }
+    requires tags { has_octet_tags T.term ≡ true }
+    requires unambiguous { is_unambiguous T.term ≡ true }
+    ensures { (part : Value T.term → Part) → result ≡ length (one_if part (judged T.term octets.now)) }
+{
+    match view_whole::<T>(octets) {
+        None => 0,
+        Some(_seen) => 1,
+    }
+}
