@@ -1,0 +1,18 @@
+//! Laws of what inputs spell, each the contract of a function that does nothing.
+
+ghost use Rattle.krb_laws.specs.Spelled.{HexadecimalIsSpelled, HexadecimalIsNoDump, DigitsAreSpelled};
+
+/// Hexadecimal in any case, with blanks anywhere, that does not begin as a dump spells its octets.
+pub fn hexadecimal_is_spelled()
+    ensures { HexadecimalIsSpelled }
+{}
+
+/// Hexadecimal of octets of which the first is not 00 does not begin as a dump.
+pub fn hexadecimal_is_no_dump()
+    ensures { HexadecimalIsNoDump }
+{}
+
+/// The digits of octets, in lower or in upper case, spell the octets.
+pub fn digits_are_spelled()
+    ensures { DigitsAreSpelled }
+{}
