@@ -18,6 +18,7 @@ use Rattle.krb_input.specs.declared.spelling.Spelling.TheVariants as form
 use Rattle.krb_input.proofs.Decoded.{AreRead, is_decoded}
 use Rattle.krb_laws.specs.Spelled.{HexadecimalIsSpelled, HexadecimalIsNoDump, DigitsAreSpelled}
 use Rattle.krb_laws.proofs.Inputs.{spelled_no_dump}
+use Rattle.krb_laws.proofs.Pairs.{digit_no_blank, digit_no_colon, digit_no_x}
 
 -- what is decoded of a text without its blanks is read of it
 pub decoded_read : (text octets : List ℕ) → decode_of (without_blanks text) ≡ Ok octets → AreRead text (digits text) octets
@@ -33,15 +34,15 @@ hexadecimal_is_spelled text octets is other =
     ∙ ap (as_form (length text) form.Hex) are.read
 
 -- ---- how a dump begins
-not_skipped : (first : ℕ) (text : List ℕ) → is_blank first ≡ false → skip_blanks (first ∷ text) ≡ first ∷ text
+pub not_skipped : (first : ℕ) (text : List ℕ) → is_blank first ≡ false → skip_blanks (first ∷ text) ≡ first ∷ text
 not_skipped first text no_blank = ap (λ b. when b (λ _. skip_blanks text) (λ _. first ∷ text)) no_blank
 
-begins_after_zeros : (first : ℕ) (text : List ℕ) → is_blank first ≡ false → is_prefixed (first ∷ text) ≡ false → begins_dump (first ∷ text) ≡ begins_after false (count_zeros (first ∷ text)) (first ∷ text)
+pub begins_after_zeros : (first : ℕ) (text : List ℕ) → is_blank first ≡ false → is_prefixed (first ∷ text) ≡ false → begins_dump (first ∷ text) ≡ begins_after false (count_zeros (first ∷ text)) (first ∷ text)
 begins_after_zeros first text no_blank no_prefix =
     ap (λ t. begins_after (is_prefixed t) (count_zeros (without_prefix t)) (without_prefix t)) (not_skipped first text no_blank)
     ∙ ap (λ p. begins_after p (count_zeros (if p then drop 2 (first ∷ text) else first ∷ text)) (if p then drop 2 (first ∷ text) else first ∷ text)) no_prefix
 
-and_false : (b : Bool) → (b && false) ≡ false
+pub and_false : (b : Bool) → (b && false) ≡ false
 and_false true = refl
 and_false false = refl
 
@@ -56,7 +57,7 @@ one_or_none false = refl
 no_x : (octet : ℕ) → (is_hex_digit octet || is_blank octet) ≡ true → is_x octet ≡ false
 no_x octet is = grind (arith, nat_tests)
 
-no_prefix : (high low : ℕ) (text : List ℕ) → is_x low ≡ false → is_prefixed (high ∷ low ∷ text) ≡ false
+pub no_prefix : (high low : ℕ) (text : List ℕ) → is_x low ≡ false → is_prefixed (high ∷ low ∷ text) ≡ false
 no_prefix high low text is = ap (λ x. high == 0x30 && x) is ∙ and_false (high == 0x30)
 
 begins_with_zero : (reading : Reading) (octets : List ℕ) → prepend (0 ∷ []) reading ≡ Ok octets → begins_with 0x00 octets ≡ true
@@ -109,15 +110,6 @@ hexadecimal_is_no_dump text octets is other =
 abbrev IsDigit : ℕ → Type 0
 IsDigit octet = is_hex_digit octet ≡ true
 
-digit_no_blank : (octet : ℕ) → is_hex_digit octet ≡ true → is_blank octet ≡ false
-digit_no_blank octet is = grind (arith, nat_tests)
-
-digit_no_colon : (octet : ℕ) → is_hex_digit octet ≡ true → (octet == 0x3A) ≡ false
-digit_no_colon octet is = grind (arith, nat_tests)
-
-digit_no_x : (octet : ℕ) → is_hex_digit octet ≡ true → is_x octet ≡ false
-digit_no_x octet is = grind (arith, nat_tests)
-
 digit_begins_nothing : (as_of_od : Bool) (first : ℕ) (text : List ℕ) → is_hex_digit first ≡ true → begins_octets as_of_od (first ∷ text) ≡ false
 digit_begins_nothing as_of_od first text is =
     ap (λ c. if c then begins_blank text && nat_le 2 (count_digits (skip_blanks text)) else is_blank first && (count_digits (skip_blanks text) == 2 || as_of_od)) (digit_no_colon first is)
@@ -133,7 +125,7 @@ digit_after : (as_of_od : Bool) (text : List ℕ) → AllPass is_hex_digit text 
 digit_after as_of_od [] all = refl
 digit_after as_of_od (first ∷ text) all = after_zero as_of_od first text (first == 0x30) (All-head IsDigit first text all) (digit_after as_of_od text (All-tail IsDigit first text all))
 
-digits_unprefixed : (first : ℕ) (text : List ℕ) → AllPass is_hex_digit text → is_prefixed (first ∷ text) ≡ false
+pub digits_unprefixed : (first : ℕ) (text : List ℕ) → AllPass is_hex_digit text → is_prefixed (first ∷ text) ≡ false
 digits_unprefixed first [] all = refl
 digits_unprefixed first (second ∷ text) all = no_prefix first second text (digit_no_x second (All-head IsDigit second text all))
 

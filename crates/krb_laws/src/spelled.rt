@@ -1,6 +1,6 @@
 //! Laws of what inputs spell, each the contract of a function that does nothing.
 
-ghost use Rattle.krb_laws.specs.Spelled.{HexadecimalIsSpelled, HexadecimalIsNoDump, DigitsAreSpelled};
+ghost use Rattle.krb_laws.specs.Spelled.{HexadecimalIsSpelled, HexadecimalIsNoDump, DigitsAreSpelled, DumpsAreSpelled};
 
 /// Hexadecimal in any case, with blanks anywhere, that does not begin as a dump spells its octets.
 pub fn hexadecimal_is_spelled()
@@ -15,4 +15,9 @@ pub fn hexadecimal_is_no_dump()
 /// The digits of octets, in lower or in upper case, spell the octets.
 pub fn digits_are_spelled()
     ensures { DigitsAreSpelled }
+{}
+
+/// A dump of octets spells the octets.
+pub fn dumps_are_spelled()
+    ensures { DumpsAreSpelled }
 {}

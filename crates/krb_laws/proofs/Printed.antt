@@ -1,0 +1,64 @@
+-- Printed characters, and lines of these.
+use Rattle.std.proofs.Common.{ℕ, suc, ◌/◌, ◌%◌, ◌==◌, ◌≡◌, true, false, List, [], ◌∷◌, ◌++◌, length, Some, None, refl, ap, ◌∙◌, arith}
+use Rattle.std.proofs.lemmas.Bool.Decides.{nat_tests}
+use Rattle.std.proofs.lemmas.List.Elements.{All-cons, All-head, All-nil, All-tail}
+use Rattle.std.specs.List.{AllPass}
+use Rattle.base64.specs.Tables.{is_printable}
+use Rattle.hex.specs.Hex.{encode_lower, encode_with}
+use Rattle.krb_der.specs.Octets.{AreOctets}
+use Rattle.krb_input.specs.Characters.{when, is_text}
+use Rattle.krb_input.specs.Octets.{first_no_text}
+use Rattle.krb_input.specs.Dumps.{lines, with_first}
+use Rattle.krb_laws.specs.Written.{spaced}
+use Rattle.krb_laws.proofs.Pairs.{digits_pair, digit_of, digit_printable}
+
+abbrev pub IsPrintable : ℕ → Type 0
+IsPrintable octet = is_printable octet ≡ true
+
+abbrev pub ArePrintable : List ℕ → Type 0
+ArePrintable text = AllPass is_printable text
+
+-- ---- texts
+printable_is_text : (octet : ℕ) → is_printable octet ≡ true → is_text octet ≡ true
+printable_is_text octet is = grind (arith, nat_tests)
+
+text_before : (octet : ℕ) (text : List ℕ) → is_text octet ≡ true → first_no_text text ≡ None → first_no_text (octet ∷ text) ≡ None
+text_before octet text is others = ap (λ b. when b (λ _. first_no_text text) (λ _. Some (suc (length text)))) is ∙ others
+
+-- a line, and a text after it
+pub line_before : (line text : List ℕ) → ArePrintable line → first_no_text text ≡ None → first_no_text (line ++ (0x0A ∷ text)) ≡ None
+line_before [] text are others = others
+line_before (octet ∷ line) text are others =
+    text_before octet (line ++ (0x0A ∷ text)) (printable_is_text octet (All-head IsPrintable octet line are)) (line_before line text (All-tail IsPrintable octet line are) others)
+
+pub printable_text : (text : List ℕ) → ArePrintable text → first_no_text text ≡ None
+printable_text [] are = refl
+printable_text (octet ∷ text) are = text_before octet text (printable_is_text octet (All-head IsPrintable octet text are)) (printable_text text (All-tail IsPrintable octet text are))
+
+-- ---- lines
+printable_no_feed : (octet : ℕ) → is_printable octet ≡ true → (octet == 0x0A) ≡ false
+printable_no_feed octet is = grind (arith, nat_tests)
+
+pub first_line : (line text : List ℕ) → ArePrintable line → lines (line ++ (0x0A ∷ text)) ≡ (line, 0x0A ∷ text) ∷ lines text
+first_line [] text are = refl
+first_line (octet ∷ line) text are =
+    ap (λ b. when b (λ _. ([], octet ∷ (line ++ (0x0A ∷ text))) ∷ lines (line ++ (0x0A ∷ text))) (λ _. with_first octet (lines (line ++ (0x0A ∷ text))))) (printable_no_feed octet (All-head IsPrintable octet line are))
+    ∙ ap (with_first octet) (first_line line text (All-tail IsPrintable octet line are))
+
+-- ---- digits
+pub encoded_printable : (octets : List ℕ) → AreOctets octets → ArePrintable (encode_lower octets)
+unfolding encode_with
+encoded_printable [] are = All-nil IsPrintable
+encoded_printable (octet ∷ octets) are =
+    let pair = digits_pair octet are.0 in
+    All-cons IsPrintable (digit_of (octet / 16)) (digit_of (octet % 16) ∷ encode_lower octets) (digit_printable (digit_of (octet / 16)) pair.high_digit)
+    (All-cons IsPrintable (digit_of (octet % 16)) (encode_lower octets) (digit_printable (digit_of (octet % 16)) pair.low_digit) (encoded_printable octets are.1))
+
+pub spaced_printable : (octets : List ℕ) → AreOctets octets → ArePrintable (spaced octets)
+unfolding encode_with
+spaced_printable [] are = All-nil IsPrintable
+spaced_printable (octet ∷ octets) are =
+    let pair = digits_pair octet are.0 in
+    All-cons IsPrintable 0x20 (digit_of (octet / 16) ∷ digit_of (octet % 16) ∷ spaced octets) refl
+    (All-cons IsPrintable (digit_of (octet / 16)) (digit_of (octet % 16) ∷ spaced octets) (digit_printable (digit_of (octet / 16)) pair.high_digit)
+    (All-cons IsPrintable (digit_of (octet % 16)) (spaced octets) (digit_printable (digit_of (octet % 16)) pair.low_digit) (spaced_printable octets are.1)))
