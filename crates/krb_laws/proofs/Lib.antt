@@ -1,6 +1,10 @@
 pub mod Inputs
-pub mod Hexadecimal
 pub mod Pairs
 pub mod Printed
+pub mod Hexadecimal
 pub mod DumpRows
 pub mod Dumps
+pub mod Octets
+pub mod Characters
+pub mod Base64
+pub mod Base64Alone

@@ -1,12 +1,14 @@
 -- The laws of what inputs spell. Each is the contract of a function of the module `spelled`.
-use Rattle.std.specs.Prelude.{ℕ, ◌≡◌, ◌<◌, ◌≤◌, ◌^◌, Bool, false, List, length, Ok}
+use Rattle.std.specs.Prelude.{ℕ, ◌≡◌, ◌<◌, ◌≤◌, ◌^◌, Bool, true, false, List, ◌∷◌, length, is_some, Ok}
 use Rattle.hex.specs.Hex.{decode_of, encode_lower, encode_upper}
 use Rattle.krb_der.specs.Octets.{AreOctets}
 use Rattle.krb_input.specs.Characters.{begins_with}
 use Rattle.krb_input.specs.Dumps.{begins_dump}
-use Rattle.krb_input.specs.Inputs.{spelled}
+use Rattle.krb_input.specs.Inputs.{is_first, spelled}
+use Rattle.krb_input.specs.Octets.{begin_message, first_no_text, is_marked}
+use Rattle.krb_input.specs.Tokens.{first_unfit}
 use Rattle.krb_input.specs.Laws.{without_blanks}
-use Rattle.krb_laws.specs.Written.{dump_text}
+use Rattle.krb_laws.specs.Written.{base64_text, dump_text}
 use Rattle.krb_input.specs.declared.spelling.Spelling.TheVariants as form
 
 -- ---- hexadecimal
@@ -25,6 +27,15 @@ pub record AreSpelledInDigits (octets : List ℕ) : Type 0 where
 
 abbrev pub DigitsAreSpelled : Type 0
 DigitsAreSpelled = (octets : List ℕ) → AreOctets octets → AreSpelledInDigits octets
+
+-- ---- octets and base64
+-- Octets that begin as a message does, and of which one is no text, spell themselves.
+abbrev pub OctetsAreSpelled : Type 0
+OctetsAreSpelled = (octets : List ℕ) → is_marked octets ≡ false → begin_message octets ≡ true → is_some (first_no_text octets) ≡ true → spelled octets ≡ Ok (form.Octets, octets)
+
+-- The base64 of octets that begin as a message does spells the octets, if it has a character that no hexadecimal has.
+abbrev pub Base64IsSpelled : Type 0
+Base64IsSpelled = (first : ℕ) (octets : List ℕ) → AreOctets (first ∷ octets) → is_first first ≡ true → is_some (first_unfit false (base64_text (first ∷ octets))) ≡ true → spelled (base64_text (first ∷ octets)) ≡ Ok (form.Base64, first ∷ octets)
 
 -- ---- dumps
 -- A dump of octets, so many in a line, spells the octets. Its offsets have eight digits.

@@ -1,6 +1,6 @@
 //! Laws of what inputs spell, each the contract of a function that does nothing.
 
-ghost use Rattle.krb_laws.specs.Spelled.{HexadecimalIsSpelled, HexadecimalIsNoDump, DigitsAreSpelled, DumpsAreSpelled};
+ghost use Rattle.krb_laws.specs.Spelled.{OctetsAreSpelled, Base64IsSpelled, HexadecimalIsSpelled, HexadecimalIsNoDump, DigitsAreSpelled, DumpsAreSpelled};
 
 /// Hexadecimal in any case, with blanks anywhere, that does not begin as a dump spells its octets.
 pub fn hexadecimal_is_spelled()
@@ -15,6 +15,17 @@ pub fn hexadecimal_is_no_dump()
 /// The digits of octets, in lower or in upper case, spell the octets.
 pub fn digits_are_spelled()
     ensures { DigitsAreSpelled }
+{}
+
+/// Octets that begin as a message does, and of which one is no text, spell themselves.
+pub fn octets_are_spelled()
+    ensures { OctetsAreSpelled }
+{}
+
+/// The base64 of octets that begin as a message does spells the octets, if it has a character that
+/// no hexadecimal has.
+pub fn base64_is_spelled()
+    ensures { Base64IsSpelled }
 {}
 
 /// A dump of octets spells the octets.
