@@ -8,3 +8,6 @@ pub mod Octets
 pub mod Characters
 pub mod Base64
 pub mod Base64Alone
+pub mod Nested
+pub mod Unfit
+pub mod Messages

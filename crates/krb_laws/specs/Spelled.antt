@@ -1,13 +1,18 @@
 -- The laws of what inputs spell. Each is the contract of a function of the module `spelled`.
-use Rattle.std.specs.Prelude.{ℕ, ◌≡◌, ◌<◌, ◌≤◌, ◌^◌, Bool, true, false, List, ◌∷◌, length, is_some, Ok}
+use Rattle.std.specs.Prelude.{ℕ, ◌≡◌, ◌<◌, ◌≤◌, ◌^◌, ◌⊎◌, Bool, true, false, List, ◌∷◌, length, is_some, Ok}
 use Rattle.hex.specs.Hex.{decode_of, encode_lower, encode_upper}
 use Rattle.krb_der.specs.Octets.{AreOctets}
+use Rattle.krb_der.specs.declared.profile.Profile.{Profile}
+use Rattle.krb_der.specs.declared.verdict.Verdict.TheVariants.{Whole}
 use Rattle.krb_input.specs.Characters.{begins_with}
 use Rattle.krb_input.specs.Dumps.{begins_dump}
 use Rattle.krb_input.specs.Inputs.{is_first, spelled}
 use Rattle.krb_input.specs.Octets.{begin_message, first_no_text, is_marked}
 use Rattle.krb_input.specs.Tokens.{first_unfit}
 use Rattle.krb_input.specs.Laws.{without_blanks}
+use Rattle.krb_msg.specs.Grammar.{ticket}
+use Rattle.krb_msg.specs.Judgement.{judgement, term_judgement}
+use Rattle.krb_msg.specs.Profiles.{profile_term}
 use Rattle.krb_laws.specs.Written.{base64_text, dump_text}
 use Rattle.krb_input.specs.declared.spelling.Spelling.TheVariants as form
 
@@ -41,3 +46,20 @@ Base64IsSpelled = (first : ℕ) (octets : List ℕ) → AreOctets (first ∷ oct
 -- A dump of octets, so many in a line, spells the octets. Its offsets have eight digits.
 abbrev pub DumpsAreSpelled : Type 0
 DumpsAreSpelled = (has_colon : Bool) (width : ℕ) (octets : List ℕ) → AreOctets octets → 0 < width → 0 < length octets → length octets ≤ 2 ^ 32 → spelled (dump_text has_colon width octets) ≡ Ok (form.Dump, octets)
+
+-- ---- messages and Tickets
+-- octets that are judged whole, as a message of a profile or as a Ticket of it
+abbrev pub AreMessageOrTicket : Profile → List ℕ → Type 0
+AreMessageOrTicket profile octets = (judgement profile (length octets) octets ≡ Whole) ⊎ (term_judgement (profile_term profile false ticket) (length octets) octets ≡ Whole)
+
+-- Octets are spelled by themselves, by their digits, by hexadecimal with blanks anywhere, by their base64 and by their dumps.
+pub record AreSpelledInEachForm (octets : List ℕ) : Type 0 where
+  pub by_themselves : spelled octets ≡ Ok (form.Octets, octets)
+  pub by_digits : AreSpelledInDigits octets
+  pub by_hexadecimal : (text : List ℕ) → decode_of (without_blanks text) ≡ Ok octets → spelled text ≡ Ok (form.Hex, octets)
+  pub by_base64 : spelled (base64_text octets) ≡ Ok (form.Base64, octets)
+  pub by_dump : (has_colon : Bool) (width : ℕ) → 0 < width → spelled (dump_text has_colon width octets) ≡ Ok (form.Dump, octets)
+
+-- Each message and each Ticket is spelled in each form.
+abbrev pub MessagesAreSpelled : Type 0
+MessagesAreSpelled = (profile : Profile) (octets : List ℕ) → AreOctets octets → length octets < 2 ^ 31 → AreMessageOrTicket profile octets → AreSpelledInEachForm octets

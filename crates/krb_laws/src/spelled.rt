@@ -1,6 +1,6 @@
 //! Laws of what inputs spell, each the contract of a function that does nothing.
 
-ghost use Rattle.krb_laws.specs.Spelled.{OctetsAreSpelled, Base64IsSpelled, HexadecimalIsSpelled, HexadecimalIsNoDump, DigitsAreSpelled, DumpsAreSpelled};
+ghost use Rattle.krb_laws.specs.Spelled.{OctetsAreSpelled, Base64IsSpelled, HexadecimalIsSpelled, HexadecimalIsNoDump, DigitsAreSpelled, DumpsAreSpelled, MessagesAreSpelled};
 
 /// Hexadecimal in any case, with blanks anywhere, that does not begin as a dump spells its octets.
 pub fn hexadecimal_is_spelled()
@@ -31,4 +31,10 @@ pub fn base64_is_spelled()
 /// A dump of octets spells the octets.
 pub fn dumps_are_spelled()
     ensures { DumpsAreSpelled }
+{}
+
+/// Each message and each Ticket, in at most 2^31 - 1 octets, is spelled by its octets, by hexadecimal
+/// with blanks anywhere, by its base64 and by its dumps.
+pub fn messages_are_spelled()
+    ensures { MessagesAreSpelled }
 {}
