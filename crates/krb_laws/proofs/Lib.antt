@@ -6,6 +6,7 @@ pub mod DumpRows
 pub mod Dumps
 pub mod Octets
 pub mod Characters
+pub mod Blanks
 pub mod Base64
 pub mod Base64Alone
 pub mod Nested

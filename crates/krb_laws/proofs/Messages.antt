@@ -4,6 +4,7 @@ use Rattle.std.proofs.lemmas.Bool.Decides.{nat_tests}
 use Rattle.krb_der.specs.Octets.{AreOctets}
 use Rattle.krb_input.specs.Characters.{begins_with, is_text}
 use Rattle.krb_input.specs.Inputs.{is_first, spelled}
+use Rattle.krb_input.specs.Laws.{without_blanks}
 use Rattle.krb_input.specs.Octets.{begin_message, begins_with_all, is_tag, ntlm}
 use Rattle.krb_input.specs.declared.spelling.Spelling.TheVariants as form
 use Rattle.krb_laws.specs.Spelled.{MessagesAreSpelled}
@@ -33,10 +34,10 @@ tag_begins : (tag : ℕ) (octets : List ℕ) → is_tag tag ≡ true → begin_m
 tag_begins tag octets is =
     ap (λ b. not (is_text tag) || b || begins_with_all ntlm (tag ∷ octets)) is ∙ or_second (not (is_text tag)) (begins_with_all ntlm (tag ∷ octets))
 
-base64_spelled : (first second third : ℕ) (others : List ℕ) → AreOctets (first ∷ second ∷ third ∷ others) → is_tag first ≡ true → IsHead second third →
-    spelled (base64_text (first ∷ second ∷ third ∷ others)) ≡ Ok (form.Base64, first ∷ second ∷ third ∷ others)
-base64_spelled first second third others are is head =
-    base64_is_spelled first (second ∷ third ∷ others) are (tag_first first is) (headed_unfit first second third others are.1.0 are.1.1.0 head)
+base64_spelled : (text : List ℕ) (first second third : ℕ) (others : List ℕ) → AreOctets (first ∷ second ∷ third ∷ others) → is_tag first ≡ true → IsHead second third → without_blanks text ≡ base64_text (first ∷ second ∷ third ∷ others) →
+    spelled text ≡ Ok (form.Base64, first ∷ second ∷ third ∷ others)
+base64_spelled text first second third others are is head given =
+    base64_is_spelled text first (second ∷ third ∷ others) are (tag_first first is) given (headed_unfit text first second third others are.1.0 are.1.1.0 head given)
 
 some_octets : (octets others : List ℕ) (first : ℕ) → octets ≡ first ∷ others → 0 < length octets
 some_octets octets others first is = omega (arith, ap length is)
@@ -53,8 +54,8 @@ messages_are_spelled profile octets are short is =
         (nested_no_text octets nested);
       by_digits = digits_are_spelled octets are;
       by_hexadecimal = λ text is_read. hexadecimal_is_spelled text octets is_read (hexadecimal_is_no_dump text octets is_read (ap (begins_with 0x00) head.form ∙ tag_no_zero head.first head.is_tag));
-      by_base64 =
-        subst (λ o. spelled (base64_text o) ≡ Ok (form.Base64, o)) (sym head.form)
-        (base64_spelled head.first head.second head.third head.others (subst AreOctets head.form are) head.is_tag head.is_head);
+      by_base64 = λ text given.
+        base64_spelled text head.first head.second head.third head.others (subst AreOctets head.form are) head.is_tag head.is_head (given ∙ ap base64_text head.form)
+        ∙ ap (λ o. Ok (form.Base64, o)) (sym head.form);
       by_dump = λ has_colon width some. dumps_are_spelled has_colon width octets are some (some_octets octets tagged head.first head.form) (omega arith);
     }

@@ -25,15 +25,18 @@ printable_is_text octet is = grind (arith, nat_tests)
 text_before : (octet : ℕ) (text : List ℕ) → is_text octet ≡ true → first_no_text text ≡ None → first_no_text (octet ∷ text) ≡ None
 text_before octet text is others = ap (λ b. when b (λ _. first_no_text text) (λ _. Some (suc (length text)))) is ∙ others
 
+abbrev IsText : ℕ → Type 0
+IsText octet = is_text octet ≡ true
+
+pub all_text : (text : List ℕ) → AllPass is_text text → first_no_text text ≡ None
+all_text [] are = refl
+all_text (octet ∷ text) are = text_before octet text (All-head IsText octet text are) (all_text text (All-tail IsText octet text are))
+
 -- a line, and a text after it
 pub line_before : (line text : List ℕ) → ArePrintable line → first_no_text text ≡ None → first_no_text (line ++ (0x0A ∷ text)) ≡ None
 line_before [] text are others = others
 line_before (octet ∷ line) text are others =
     text_before octet (line ++ (0x0A ∷ text)) (printable_is_text octet (All-head IsPrintable octet line are)) (line_before line text (All-tail IsPrintable octet line are) others)
-
-pub printable_text : (text : List ℕ) → ArePrintable text → first_no_text text ≡ None
-printable_text [] are = refl
-printable_text (octet ∷ text) are = text_before octet text (printable_is_text octet (All-head IsPrintable octet text are)) (printable_text text (All-tail IsPrintable octet text are))
 
 -- ---- lines
 printable_no_feed : (octet : ℕ) → is_printable octet ≡ true → (octet == 0x0A) ≡ false

@@ -1,6 +1,7 @@
 -- Characters of base64 that no hexadecimal has.
-use Rattle.std.proofs.Common.{ℕ, suc, ◌+◌, ◌-◌, ◌*◌, ◌/◌, ◌%◌, ◌==◌, ◌≡◌, ◌<◌, ◌≤◌, ◌&&◌, ◌||◌, ◌⊎◌, inl, inr, not, Bool, true, false, List, ◌∷◌, ◌++◌, length, replicate, Some, refl, sym, subst, ap, arith}
+use Rattle.std.proofs.Common.{ℕ, suc, ◌+◌, ◌-◌, ◌*◌, ◌/◌, ◌%◌, ◌==◌, ◌≡◌, ◌<◌, ◌≤◌, ◌&&◌, ◌||◌, ◌⊎◌, inl, inr, not, Bool, true, false, List, [], ◌∷◌, ◌++◌, length, replicate, Some, refl, sym, subst, ap, ◌∙◌, arith}
 use Rattle.std.proofs.lemmas.Bool.{cases_eq}
+use Rattle.std.specs.List.{list_any}
 use Rattle.std.specs.Option.{is_some}
 use Rattle.base64.specs.Alphabet.{alphabet_symbols}
 use Rattle.base64.specs.Alphabets.{standard}
@@ -8,8 +9,10 @@ use Rattle.base64.specs.Rfc4648.{encode_symbols, padding_len}
 use Rattle.base64.proofs.Tables.{all_below_at}
 use Rattle.hex.specs.Hex.{is_hex_digit}
 use Rattle.krb_input.specs.Characters.{when, is_x}
+use Rattle.krb_input.specs.Laws.{without_blanks}
 use Rattle.krb_input.specs.Tokens.{first_unfit, is_mark}
 use Rattle.krb_laws.specs.Written.{base64_text}
+use Rattle.krb_laws.proofs.Blanks.{some_of}
 use Rattle.krb_laws.proofs.Characters.{symbol}
 use Rattle.krb_laws.proofs.Hexadecimal.{and_false}
 use Rattle.krb_laws.proofs.Nested.{IsHead}
@@ -25,7 +28,7 @@ unfit_parts false true x after_zero is = absurd (cc)
 unfit_parts false false true after_zero is = absurd (cc)
 unfit_parts false false false after_zero is = and_false after_zero
 
-pub unfit_here : (after_zero : Bool) (octet : ℕ) (text : List ℕ) → is_unfit octet ≡ true → is_some (first_unfit after_zero (octet ∷ text)) ≡ true
+unfit_here : (after_zero : Bool) (octet : ℕ) (text : List ℕ) → is_unfit octet ≡ true → is_some (first_unfit after_zero (octet ∷ text)) ≡ true
 unfit_here after_zero octet text is =
     ap (λ b. is_some (when b (λ _. first_unfit (octet == 0x30) text) (λ _. Some (suc (length text))))) (unfit_parts (is_hex_digit octet) (is_mark octet) (is_x octet) after_zero is)
 
@@ -33,8 +36,15 @@ unfit_on : (fits : Bool) (octet : ℕ) (text : List ℕ) → ((after_zero : Bool
 unfit_on true octet text others = others (octet == 0x30)
 unfit_on false octet text others = refl
 
-pub unfit_later : (octet : ℕ) (text : List ℕ) → ((after_zero : Bool) → is_some (first_unfit after_zero text) ≡ true) → (after_zero : Bool) → is_some (first_unfit after_zero (octet ∷ text)) ≡ true
-unfit_later octet text others after_zero = unfit_on (is_hex_digit octet || is_mark octet || after_zero && is_x octet) octet text others
+unfit_by : (octet : ℕ) (text : List ℕ) (unfit : Bool) → is_unfit octet ≡ unfit → (list_any is_unfit text ≡ true → (after_zero : Bool) → is_some (first_unfit after_zero text) ≡ true) → (unfit || list_any is_unfit text) ≡ true →
+    (after_zero : Bool) → is_some (first_unfit after_zero (octet ∷ text)) ≡ true
+unfit_by octet text true is others any after_zero = unfit_here after_zero octet text is
+unfit_by octet text false is others any after_zero = unfit_on (is_hex_digit octet || is_mark octet || after_zero && is_x octet) octet text (others any)
+
+-- a text with such a character
+pub unfit_among : (text : List ℕ) → list_any is_unfit text ≡ true → (after_zero : Bool) → is_some (first_unfit after_zero text) ≡ true
+unfit_among [] any = absurd (cc)
+unfit_among (octet ∷ text) any = unfit_by octet text (is_unfit octet) refl (unfit_among text) any
 
 -- ---- characters
 -- G to T
@@ -52,13 +62,22 @@ head_unfit second third few small (inr long) = inl (unfit_symbol (second % 16 * 
     by_count (inr more) = omega arith
 
 -- ---- base64
-four_unfit : (a b c d : ℕ) (text : List ℕ) → (is_unfit c ≡ true) ⊎ (is_unfit d ≡ true) → is_some (first_unfit false (a ∷ b ∷ c ∷ d ∷ text)) ≡ true
-four_unfit a b c d text (inl third) = unfit_later a (b ∷ c ∷ d ∷ text) (unfit_later b (c ∷ d ∷ text) (λ after_zero. unfit_here after_zero c (d ∷ text) third)) false
-four_unfit a b c d text (inr fourth) = unfit_later a (b ∷ c ∷ d ∷ text) (unfit_later b (c ∷ d ∷ text) (unfit_later c (d ∷ text) (λ after_zero. unfit_here after_zero d text fourth))) false
+or_third : (a b c d e : Bool) → (c ≡ true) ⊎ (d ≡ true) → (a || (b || (c || (d || e)))) ≡ true
+or_third true b c d e one = refl
+or_third false true c d e one = refl
+or_third false false true d e one = refl
+or_third false false false true e one = refl
+or_third false false false false e (inl is) = absurd (cc)
+or_third false false false false e (inr is) = absurd (cc)
 
-pub headed_unfit : (first second third : ℕ) (others : List ℕ) → second < 256 → third < 256 → IsHead second third → is_some (first_unfit false (base64_text (first ∷ second ∷ third ∷ others))) ≡ true
+headed_any : (first second third : ℕ) (others : List ℕ) → second < 256 → third < 256 → IsHead second third → list_any is_unfit (base64_text (first ∷ second ∷ third ∷ others)) ≡ true
 unfolding encode_symbols
-headed_unfit first second third others few small head =
-    four_unfit (symbol (first / 4)) (symbol (first % 4 * 16 + second / 16)) (symbol (second % 16 * 4 + third / 64)) (symbol (third % 64))
-    (encode_symbols (alphabet_symbols standard) others ++ replicate (padding_len (length (first ∷ second ∷ third ∷ others))) 0x3D)
+headed_any first second third others few small head =
+    or_third (is_unfit (symbol (first / 4))) (is_unfit (symbol (first % 4 * 16 + second / 16))) (is_unfit (symbol (second % 16 * 4 + third / 64))) (is_unfit (symbol (third % 64)))
+    (list_any is_unfit (encode_symbols (alphabet_symbols standard) others ++ replicate (padding_len (length (first ∷ second ∷ third ∷ others))) 0x3D))
     (head_unfit second third few small head)
+
+-- so base64 with blanks anywhere is neither digits nor tokens
+pub headed_unfit : (text : List ℕ) (first second third : ℕ) (others : List ℕ) → second < 256 → third < 256 → IsHead second third → without_blanks text ≡ base64_text (first ∷ second ∷ third ∷ others) → is_some (first_unfit false text) ≡ true
+headed_unfit text first second third others few small head given =
+    unfit_among text (some_of is_unfit text (ap (list_any is_unfit) given ∙ headed_any first second third others few small head)) false

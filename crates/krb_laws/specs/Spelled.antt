@@ -38,9 +38,9 @@ DigitsAreSpelled = (octets : List ℕ) → AreOctets octets → AreSpelledInDigi
 abbrev pub OctetsAreSpelled : Type 0
 OctetsAreSpelled = (octets : List ℕ) → is_marked octets ≡ false → begin_message octets ≡ true → is_some (first_no_text octets) ≡ true → spelled octets ≡ Ok (form.Octets, octets)
 
--- The base64 of octets that begin as a message does spells the octets, if it has a character that no hexadecimal has.
+-- The base64 of octets that begin as a message does, with blanks anywhere, spells the octets, if it has a character that no hexadecimal has.
 abbrev pub Base64IsSpelled : Type 0
-Base64IsSpelled = (first : ℕ) (octets : List ℕ) → AreOctets (first ∷ octets) → is_first first ≡ true → is_some (first_unfit false (base64_text (first ∷ octets))) ≡ true → spelled (base64_text (first ∷ octets)) ≡ Ok (form.Base64, first ∷ octets)
+Base64IsSpelled = (text : List ℕ) (first : ℕ) (octets : List ℕ) → AreOctets (first ∷ octets) → is_first first ≡ true → without_blanks text ≡ base64_text (first ∷ octets) → is_some (first_unfit false text) ≡ true → spelled text ≡ Ok (form.Base64, first ∷ octets)
 
 -- ---- dumps
 -- A dump of octets, so many in a line, spells the octets. Its offsets have eight digits.
@@ -52,12 +52,12 @@ DumpsAreSpelled = (has_colon : Bool) (width : ℕ) (octets : List ℕ) → AreOc
 abbrev pub AreMessageOrTicket : Profile → List ℕ → Type 0
 AreMessageOrTicket profile octets = (judgement profile (length octets) octets ≡ Whole) ⊎ (term_judgement (profile_term profile false ticket) (length octets) octets ≡ Whole)
 
--- Octets are spelled by themselves, by their digits, by hexadecimal with blanks anywhere, by their base64 and by their dumps.
+-- Octets are spelled by themselves, by their digits, by hexadecimal and by their base64 with blanks anywhere, and by their dumps.
 pub record AreSpelledInEachForm (octets : List ℕ) : Type 0 where
   pub by_themselves : spelled octets ≡ Ok (form.Octets, octets)
   pub by_digits : AreSpelledInDigits octets
   pub by_hexadecimal : (text : List ℕ) → decode_of (without_blanks text) ≡ Ok octets → spelled text ≡ Ok (form.Hex, octets)
-  pub by_base64 : spelled (base64_text octets) ≡ Ok (form.Base64, octets)
+  pub by_base64 : (text : List ℕ) → without_blanks text ≡ base64_text octets → spelled text ≡ Ok (form.Base64, octets)
   pub by_dump : (has_colon : Bool) (width : ℕ) → 0 < width → spelled (dump_text has_colon width octets) ≡ Ok (form.Dump, octets)
 
 -- Each message and each Ticket is spelled in each form.

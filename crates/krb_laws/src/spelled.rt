@@ -22,8 +22,8 @@ pub fn octets_are_spelled()
     ensures { OctetsAreSpelled }
 {}
 
-/// The base64 of octets that begin as a message does spells the octets, if it has a character that
-/// no hexadecimal has.
+/// The base64 of octets that begin as a message does, with blanks anywhere, spells the octets, if it
+/// has a character that no hexadecimal has.
 pub fn base64_is_spelled()
     ensures { Base64IsSpelled }
 {}
@@ -33,8 +33,8 @@ pub fn dumps_are_spelled()
     ensures { DumpsAreSpelled }
 {}
 
-/// Each message and each Ticket, in at most 2^31 - 1 octets, is spelled by its octets, by hexadecimal
-/// with blanks anywhere, by its base64 and by its dumps.
+/// Each message and each Ticket, in at most 2^31 - 1 octets, is spelled by its octets, by their
+/// digits, by hexadecimal and by their base64 with blanks anywhere, and by their dumps.
 pub fn messages_are_spelled()
     ensures { MessagesAreSpelled }
 {}
