@@ -126,7 +126,7 @@ two_octets last v w x a b text v_few w_few x_few a_is b_is is_none given =
 
 three_octets : (last v w x y a b c : ℕ) (text others octets : List ℕ) → v < 64 → w < 64 → x < 64 → y < 64 → v * 4 + w / 16 ≡ a → w % 16 * 16 + x / 4 ≡ b → x % 4 * 64 + y ≡ c → without_blanks text ≡ symbol v ∷ symbol w ∷ symbol x ∷ symbol y ∷ others →
     ((last : ℕ) (rest : List ℕ) → without_blanks rest ≡ others → base64_from between.0 last rest ≡ Ok octets) → base64_from between.0 last text ≡ Ok (a ∷ b ∷ c ∷ octets)
-three_octets last v w x y a b c text others octets v_few w_few x_few y_few a_is b_is c_is given then =
+three_octets last v w x y a b c text others octets v_few w_few x_few y_few a_is b_is c_is given go_on =
     let two = two_read last v w a text (symbol x ∷ symbol y ∷ others) v_few w_few a_is given in
     let three = third_read (suc (length two.0)) v w x b two.0 (symbol y ∷ others) x_few b_is two.1 in
     let four = fourth_read (suc (length three.0)) v w x y c three.0 others y_few c_is three.1 in

@@ -19,7 +19,6 @@ use Rattle.krb_input.specs.Laws.{without_blanks}
 use Rattle.krb_input.specs.Tokens.{first_unfit, is_mark}
 use Rattle.krb_input.specs.declared.spelling.Spelling.TheVariants as form
 use Rattle.krb_laws.specs.Spelled.{Base64IsSpelled}
-use Rattle.krb_laws.specs.Written.{base64_text}
 use Rattle.krb_laws.proofs.Base64.{base64_read, first_octet_read, high_bits, text_begins}
 use Rattle.krb_laws.proofs.Blanks.{each_or_blank, next}
 use Rattle.krb_laws.proofs.Characters.{AreCharacters, is_character, symbol, text_characters}
