@@ -11,4 +11,5 @@ pub mod Base64
 pub mod Base64Alone
 pub mod Nested
 pub mod Unfit
+pub mod InEachForm
 pub mod Messages

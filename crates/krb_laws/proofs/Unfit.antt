@@ -70,14 +70,13 @@ or_third false false false true e one = refl
 or_third false false false false e (inl is) = absurd (cc)
 or_third false false false false e (inr is) = absurd (cc)
 
-headed_any : (first second third : ℕ) (others : List ℕ) → second < 256 → third < 256 → IsHead second third → list_any is_unfit (base64_text (first ∷ second ∷ third ∷ others)) ≡ true
+pub headed_unfit : (first second third : ℕ) (others : List ℕ) → second < 256 → third < 256 → IsHead second third → list_any is_unfit (base64_text (first ∷ second ∷ third ∷ others)) ≡ true
 unfolding encode_symbols
-headed_any first second third others few small head =
+headed_unfit first second third others few small head =
     or_third (is_unfit (symbol (first / 4))) (is_unfit (symbol (first % 4 * 16 + second / 16))) (is_unfit (symbol (second % 16 * 4 + third / 64))) (is_unfit (symbol (third % 64)))
     (list_any is_unfit (encode_symbols (alphabet_symbols standard) others ++ replicate (padding_len (length (first ∷ second ∷ third ∷ others))) 0x3D))
     (head_unfit second third few small head)
 
 -- so base64 with blanks anywhere is neither digits nor tokens
-pub headed_unfit : (text : List ℕ) (first second third : ℕ) (others : List ℕ) → second < 256 → third < 256 → IsHead second third → without_blanks text ≡ base64_text (first ∷ second ∷ third ∷ others) → is_some (first_unfit false text) ≡ true
-headed_unfit text first second third others few small head given =
-    unfit_among text (some_of is_unfit text (ap (list_any is_unfit) given ∙ headed_any first second third others few small head)) false
+pub unfit_text : (text octets : List ℕ) → without_blanks text ≡ base64_text octets → list_any is_unfit (base64_text octets) ≡ true → is_some (first_unfit false text) ≡ true
+unfit_text text octets given any = unfit_among text (some_of is_unfit text (ap (list_any is_unfit) given ∙ any)) false
