@@ -61,9 +61,9 @@ two_read last v w a text others first second is given =
       two.0,
       two.1,
       one.2
-      ∙ prepend_none (base64_from (kept between.0 v) (suc (length one.0)) one.0)
-      ∙ two.2
-      ∙ ap (λ octet. prepend (octet ∷ []) (base64_from (kept (kept between.0 v) w) (suc (length two.0)) two.0)) is,
+          ∙ prepend_none (base64_from (kept between.0 v) (suc (length one.0)) one.0)
+          ∙ two.2
+          ∙ ap (λ octet. prepend (octet ∷ []) (base64_from (kept (kept between.0 v) w) (suc (length two.0)) two.0)) is,
     )
 
 third_read : (last v w x b : ℕ) (text others : List ℕ) → x < 64 → w % 16 * 16 + x / 4 ≡ b → without_blanks text ≡ symbol x ∷ others →

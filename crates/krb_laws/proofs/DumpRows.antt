@@ -32,8 +32,8 @@ no_end false octet no_bar = no_bar
 group_read : (are_words : Bool) (octet high low : ℕ) (text : List ℕ) → IsPair octet high low → count_digits text ≡ 0 → groups are_words 1 (high ∷ low ∷ text) ≡ prepend (octet ∷ []) (groups are_words 0 text)
 group_read are_words octet high low text pair none =
     let others = λ (_ : Unit {0}).
-        when (ends_groups are_words 1 high) (λ _. Ok []) (λ _.
-        when (begins_wrong are_words 1 (count_digits (high ∷ low ∷ text))) (λ _. Err (suc (length (low ∷ text)))) (λ _. pairs are_words high (low ∷ text))) in
+    when (ends_groups are_words 1 high) (λ _. Ok []) (λ _.
+    when (begins_wrong are_words 1 (count_digits (high ∷ low ∷ text))) (λ _. Err (suc (length (low ∷ text)))) (λ _. pairs are_words high (low ∷ text))) in
     ap (λ b. when b (λ _. when (1 == most_blanks are_words) (λ _. Ok []) (λ _. groups are_words 2 (low ∷ text))) others) (digit_no_blank high pair.high_digit)
     ∙ ap (λ b. when b (λ _. Ok []) (λ _. when (begins_wrong are_words 1 (count_digits (high ∷ low ∷ text))) (λ _. Err (suc (length (low ∷ text)))) (λ _. pairs are_words high (low ∷ text)))) (no_end are_words high (digit_no_bar high pair.high_digit))
     ∙ ap (λ n. when (begins_wrong are_words 1 n) (λ _. Err (suc (length (low ∷ text)))) (λ _. pairs are_words high (low ∷ text))) (count_pair octet high low text pair ∙ ap (λ n. suc (suc n)) none)

@@ -13,3 +13,5 @@ pub mod Nested
 pub mod Unfit
 pub mod InEachForm
 pub mod Messages
+pub mod Opened
+pub mod Tokens

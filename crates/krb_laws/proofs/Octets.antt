@@ -1,5 +1,5 @@
 -- Octets of which one is no text.
-use Rattle.std.proofs.Common.{ℕ, suc, ◌≡◌, ◌&&◌, if◌then◌else◌, not, Bool, true, false, List, [], ◌∷◌, ◌++◌, length, drop, ◌-◌, Option, Some, None, Ok, Err, refl, ap, ◌∙◌}
+use Rattle.std.proofs.Common.{ℕ, suc, ◌-◌, ◌≡◌, ◌&&◌, if◌then◌else◌, not, Bool, true, false, List, [], ◌∷◌, ◌++◌, length, take, drop, Option, Some, None, Ok, Err, refl, subst, ap, ◌∙◌, take-append-drop}
 use Rattle.std.specs.Option.{is_some}
 use Rattle.krb_input.specs.Characters.{when, is_text}
 use Rattle.krb_input.specs.Octets.{begin_message, first_no_text, is_marked}
@@ -33,3 +33,19 @@ no_text_after (octet ∷ before) octets others = no_text_later (before ++ octets
 
 pub no_text_among : (before : List ℕ) (octet : ℕ) (octets : List ℕ) → is_text octet ≡ false → is_some (first_no_text (before ++ (octet ∷ octets))) ≡ true
 no_text_among before octet octets is = no_text_after before (octet ∷ octets) (no_text_first octet octets is)
+
+-- ---- octets among others
+text_on : (octet_is_text : Bool) (before others : List ℕ) → (is_some (first_no_text before) ≡ true → is_some (first_no_text (before ++ others)) ≡ true) → is_some (when octet_is_text (λ _. first_no_text before) (λ _. Some (suc (length before)))) ≡ true →
+    is_some (when octet_is_text (λ _. first_no_text (before ++ others)) (λ _. Some (suc (length (before ++ others))))) ≡ true
+text_on true before others go_on is = go_on is
+text_on false before others go_on is = refl
+
+no_text_before : (before others : List ℕ) → is_some (first_no_text before) ≡ true → is_some (first_no_text (before ++ others)) ≡ true
+no_text_before [] others is = absurd (cc)
+no_text_before (octet ∷ before) others is = text_on (is_text octet) before others (no_text_before before others) is
+
+pub no_text_in_part : (skipped size : ℕ) (octets : List ℕ) → is_some (first_no_text (take size (drop skipped octets))) ≡ true → is_some (first_no_text octets) ≡ true
+no_text_in_part skipped size octets is =
+    let after : List ℕ = drop skipped octets in
+    let in_rest = subst (λ o. is_some (first_no_text o) ≡ true) (take-append-drop size after) (no_text_before (take size after) (drop size after) is) in
+    subst (λ o. is_some (first_no_text o) ≡ true) (take-append-drop skipped octets) (no_text_after (take skipped octets) after in_rest)

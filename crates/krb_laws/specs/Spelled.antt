@@ -1,5 +1,5 @@
 -- The laws of what inputs spell. Each is the contract of a function of the module `spelled`.
-use Rattle.std.specs.Prelude.{ℕ, ◌≡◌, ◌<◌, ◌≤◌, ◌^◌, ◌⊎◌, Bool, true, false, List, ◌∷◌, length, is_some, Ok}
+use Rattle.std.specs.Prelude.{ℕ, ◌≡◌, ◌≢◌, ⊤, ◌<◌, ◌≤◌, ◌^◌, ◌⊎◌, Bool, true, false, List, [], ◌∷◌, length, is_some, Ok}
 use Rattle.hex.specs.Hex.{decode_of, encode_lower, encode_upper}
 use Rattle.krb_der.specs.Octets.{AreOctets}
 use Rattle.krb_der.specs.declared.profile.Profile.{Profile}
@@ -13,6 +13,11 @@ use Rattle.krb_input.specs.Laws.{without_blanks}
 use Rattle.krb_msg.specs.Grammar.{ticket}
 use Rattle.krb_msg.specs.Judgement.{judgement, term_judgement}
 use Rattle.krb_msg.specs.Profiles.{profile_term}
+use Rattle.krb_token.specs.Laws.{IsFrame}
+use Rattle.krb_token.specs.Opened.{Found, Refused, Ticket, message_under, under}
+use Rattle.krb_token.specs.Tokens.{opened}
+use Rattle.krb_token.specs.declared.layer.Layer.{Layer}
+use Rattle.krb_token.specs.declared.layer.Layer.TheVariants.{Frame}
 use Rattle.krb_laws.specs.Written.{base64_text, dump_text}
 use Rattle.krb_input.specs.declared.spelling.Spelling.TheVariants as form
 
@@ -63,3 +68,32 @@ pub record AreSpelledInEachForm (octets : List ℕ) : Type 0 where
 -- Each message and each Ticket is spelled in each form.
 abbrev pub MessagesAreSpelled : Type 0
 MessagesAreSpelled = (profile : Profile) (octets : List ℕ) → AreOctets octets → length octets < 2 ^ 31 → AreMessageOrTicket profile octets → AreSpelledInEachForm octets
+
+-- A message is opened to itself, in no layer, and a Ticket to a Ticket: so by hexadecimal and base64 the same is listed as by the octets.
+abbrev pub MessagesAreOpened : Type 0
+MessagesAreOpened = (profile : Profile) (octets : List ℕ) → AreOctets octets → judgement profile (length octets) octets ≡ Whole → opened octets ≡ message_under [] 0 octets
+
+abbrev pub TicketsAreOpened : Type 0
+TicketsAreOpened = (profile : Profile) (octets : List ℕ) → AreOctets octets → term_judgement (profile_term profile false ticket) (length octets) octets ≡ Whole → opened octets ≡ under [] Ticket
+
+-- ---- tokens and frames
+-- what is found is not refused
+abbrev pub IsFound : Found → Type 0
+IsFound (Refused fault) = ⊥
+IsFound found = ⊤
+
+-- octets that are opened as a token of GSS-API or of SPNEGO, up to what is in it, which need not be a message
+pub record AreToken (octets : List ℕ) : Type 0 where
+  pub layer : Layer
+  pub layers : List Layer
+  pub opens : (opened octets).layers ≡ layer ∷ layers
+  pub no_frame : layer ≢ Frame
+  pub found : IsFound (opened octets).found
+
+-- Each token is spelled in each form.
+abbrev pub TokensAreSpelled : Type 0
+TokensAreSpelled = (octets : List ℕ) → AreOctets octets → length octets ≤ 2 ^ 32 → AreToken octets → AreSpelledInEachForm octets
+
+-- A frame spells itself.
+abbrev pub FramesAreSpelled : Type 0
+FramesAreSpelled = (message octets : List ℕ) → IsFrame message octets → spelled octets ≡ Ok (form.Octets, octets)

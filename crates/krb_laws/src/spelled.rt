@@ -1,6 +1,6 @@
 //! Laws of what inputs spell, each the contract of a function that does nothing.
 
-ghost use Rattle.krb_laws.specs.Spelled.{OctetsAreSpelled, Base64IsSpelled, HexadecimalIsSpelled, HexadecimalIsNoDump, DigitsAreSpelled, DumpsAreSpelled, MessagesAreSpelled};
+ghost use Rattle.krb_laws.specs.Spelled.{OctetsAreSpelled, Base64IsSpelled, HexadecimalIsSpelled, HexadecimalIsNoDump, DigitsAreSpelled, DumpsAreSpelled, MessagesAreSpelled, MessagesAreOpened, TicketsAreOpened, TokensAreSpelled, FramesAreSpelled};
 
 /// Hexadecimal in any case, with blanks anywhere, that does not begin as a dump spells its octets.
 pub fn hexadecimal_is_spelled()
@@ -37,4 +37,25 @@ pub fn dumps_are_spelled()
 /// digits, by hexadecimal and by their base64 with blanks anywhere, and by their dumps.
 pub fn messages_are_spelled()
     ensures { MessagesAreSpelled }
+{}
+
+/// A message is opened to itself, in no layer.
+pub fn messages_are_opened()
+    ensures { MessagesAreOpened }
+{}
+
+/// A Ticket is opened to a Ticket, in no layer.
+pub fn tickets_are_opened()
+    ensures { TicketsAreOpened }
+{}
+
+/// Each token of GSS-API or of SPNEGO that is opened up to what is in it, in at most 2^32 octets, is
+/// spelled as a message is.
+pub fn tokens_are_spelled()
+    ensures { TokensAreSpelled }
+{}
+
+/// A frame spells itself.
+pub fn frames_are_spelled()
+    ensures { FramesAreSpelled }
 {}
