@@ -29,5 +29,5 @@ in_each_form first others are few apart = record {
   by_digits = digits_are_spelled (first ∷ others) are;
   by_hexadecimal = λ text given. hexadecimal_is_spelled text (first ∷ others) given (hexadecimal_is_no_dump text (first ∷ others) given apart.no_zero);
   by_base64 = λ text given. base64_is_spelled text first others are apart.is_first given (unfit_text text (first ∷ others) given apart.unfit);
-  by_dump = λ has_colon width some. dumps_are_spelled has_colon width (first ∷ others) are some (omega arith) few;
+  by_dump = λ layout is. dumps_are_spelled layout (first ∷ others) is are (omega arith) few;
 }

@@ -2,6 +2,7 @@ pub mod Inputs
 pub mod Pairs
 pub mod Printed
 pub mod Hexadecimal
+pub mod Rows
 pub mod DumpRows
 pub mod Dumps
 pub mod Octets

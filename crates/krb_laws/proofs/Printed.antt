@@ -1,7 +1,7 @@
 -- Printed characters, and lines of these.
-use Rattle.std.proofs.Common.{ℕ, suc, ◌/◌, ◌%◌, ◌==◌, ◌≡◌, true, false, List, [], ◌∷◌, ◌++◌, length, Some, None, refl, ap, ◌∙◌, arith}
+use Rattle.std.proofs.Common.{ℕ, suc, ◌/◌, ◌%◌, ◌==◌, ◌≡◌, Bool, true, false, List, [], ◌∷◌, ◌++◌, length, Some, None, refl, ap, ◌∙◌, arith}
 use Rattle.std.proofs.lemmas.Bool.Decides.{nat_tests}
-use Rattle.std.proofs.lemmas.List.Elements.{All-cons, All-head, All-nil, All-tail}
+use Rattle.std.proofs.lemmas.List.Elements.{All-append, All-cons, All-head, All-nil, All-tail}
 use Rattle.std.specs.List.{AllPass}
 use Rattle.base64.specs.Tables.{is_printable}
 use Rattle.hex.specs.Hex.{encode_lower, encode_with}
@@ -9,7 +9,8 @@ use Rattle.krb_der.specs.Octets.{AreOctets}
 use Rattle.krb_input.specs.Characters.{when, is_text}
 use Rattle.krb_input.specs.Octets.{first_no_text}
 use Rattle.krb_input.specs.Dumps.{lines, with_first}
-use Rattle.krb_laws.specs.Written.{spaced}
+use Rattle.krb_laws.specs.Written.{IsBeside, spaced}
+use Rattle.krb_laws.proofs.Rows.{AreGroups}
 use Rattle.krb_laws.proofs.Pairs.{digits_pair, digit_of, digit_printable}
 
 abbrev pub IsPrintable : ℕ → Type 0
@@ -57,11 +58,12 @@ encoded_printable (octet ∷ octets) are =
     All-cons IsPrintable (digit_of (octet / 16)) (digit_of (octet % 16) ∷ encode_lower octets) (digit_printable (digit_of (octet / 16)) pair.high_digit)
     (All-cons IsPrintable (digit_of (octet % 16)) (encode_lower octets) (digit_printable (digit_of (octet % 16)) pair.low_digit) (encoded_printable octets are.1))
 
-pub spaced_printable : (octets : List ℕ) → AreOctets octets → ArePrintable (spaced octets)
-unfolding encode_with
-spaced_printable [] are = All-nil IsPrintable
-spaced_printable (octet ∷ octets) are =
-    let pair = digits_pair octet are.0 in
-    All-cons IsPrintable 0x20 (digit_of (octet / 16) ∷ digit_of (octet % 16) ∷ spaced octets) refl
-    (All-cons IsPrintable (digit_of (octet / 16)) (digit_of (octet % 16) ∷ spaced octets) (digit_printable (digit_of (octet / 16)) pair.high_digit)
-    (All-cons IsPrintable (digit_of (octet % 16)) (spaced octets) (digit_printable (digit_of (octet % 16)) pair.low_digit) (spaced_printable octets are.1)))
+pub beside_printable : (has_colon : Bool) (text : List ℕ) → IsBeside has_colon text → ArePrintable text
+beside_printable has_colon [] is = All-nil IsPrintable
+beside_printable has_colon (octet ∷ []) is = absurd is
+beside_printable has_colon (first ∷ second ∷ text) is = All-cons IsPrintable first (second ∷ text) (ap is_printable is.0) (All-cons IsPrintable second text (ap is_printable is.1) is.2)
+
+pub spaced_printable : (has_colon : Bool) (rows : List (List ℕ)) (after : List ℕ) → AreGroups has_colon rows → ArePrintable after → ArePrintable (spaced rows after)
+spaced_printable has_colon [] after are printable = printable
+spaced_printable has_colon (octets ∷ others) after are printable =
+    All-cons IsPrintable 0x20 (encode_lower octets ++ spaced others after) refl (All-append IsPrintable (encode_lower octets) (spaced others after) (encoded_printable octets are.0) (spaced_printable has_colon others after are.2 printable))

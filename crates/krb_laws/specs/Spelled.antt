@@ -1,5 +1,5 @@
 -- The laws of what inputs spell. Each is the contract of a function of the module `spelled`.
-use Rattle.std.specs.Prelude.{ℕ, ◌≡◌, ◌≢◌, ⊤, ◌<◌, ◌≤◌, ◌^◌, ◌⊎◌, Bool, true, false, List, [], ◌∷◌, length, is_some, Ok}
+use Rattle.std.specs.Prelude.{ℕ, ◌≡◌, ◌≢◌, ⊤, ◌<◌, ◌≤◌, ◌^◌, ◌⊎◌, true, false, List, [], ◌∷◌, length, is_some, Ok}
 use Rattle.hex.specs.Hex.{decode_of, encode_lower, encode_upper}
 use Rattle.krb_der.specs.Octets.{AreOctets}
 use Rattle.krb_der.specs.declared.profile.Profile.{Profile}
@@ -18,7 +18,7 @@ use Rattle.krb_token.specs.Opened.{Found, Refused, Ticket, message_under, under}
 use Rattle.krb_token.specs.Tokens.{opened}
 use Rattle.krb_token.specs.declared.layer.Layer.{Layer}
 use Rattle.krb_token.specs.declared.layer.Layer.TheVariants.{Frame}
-use Rattle.krb_laws.specs.Written.{base64_text, dump_text}
+use Rattle.krb_laws.specs.Written.{IsLayout, Layout, base64_text, dump_text}
 use Rattle.krb_input.specs.declared.spelling.Spelling.TheVariants as form
 
 -- ---- hexadecimal
@@ -26,7 +26,7 @@ use Rattle.krb_input.specs.declared.spelling.Spelling.TheVariants as form
 abbrev pub HexadecimalIsSpelled : Type 0
 HexadecimalIsSpelled = (text octets : List ℕ) → decode_of (without_blanks text) ≡ Ok octets → begins_dump text ≡ false → spelled text ≡ Ok (form.Hex, octets)
 
--- It does not begin as a dump if its first octet is not 00.
+-- Hexadecimal of octets of which the first is not 00 does not begin as a dump.
 abbrev pub HexadecimalIsNoDump : Type 0
 HexadecimalIsNoDump = (text octets : List ℕ) → decode_of (without_blanks text) ≡ Ok octets → begins_with 0x00 octets ≡ false → begins_dump text ≡ false
 
@@ -48,9 +48,9 @@ abbrev pub Base64IsSpelled : Type 0
 Base64IsSpelled = (text : List ℕ) (first : ℕ) (octets : List ℕ) → AreOctets (first ∷ octets) → is_first first ≡ true → without_blanks text ≡ base64_text (first ∷ octets) → is_some (first_unfit false text) ≡ true → spelled text ≡ Ok (form.Base64, first ∷ octets)
 
 -- ---- dumps
--- A dump of octets, so many in a line, spells the octets. Its offsets have eight digits.
+-- A dump of octets spells the octets, whatever stands beside them. Its offsets have eight digits.
 abbrev pub DumpsAreSpelled : Type 0
-DumpsAreSpelled = (has_colon : Bool) (width : ℕ) (octets : List ℕ) → AreOctets octets → 0 < width → 0 < length octets → length octets ≤ 2 ^ 32 → spelled (dump_text has_colon width octets) ≡ Ok (form.Dump, octets)
+DumpsAreSpelled = (layout : Layout) (octets : List ℕ) → IsLayout layout → AreOctets octets → 0 < length octets → length octets ≤ 2 ^ 32 → spelled (dump_text layout octets) ≡ Ok (form.Dump, octets)
 
 -- ---- messages and Tickets
 -- octets that are judged whole, as a message of a profile or as a Ticket of it
@@ -63,7 +63,7 @@ pub record AreSpelledInEachForm (octets : List ℕ) : Type 0 where
   pub by_digits : AreSpelledInDigits octets
   pub by_hexadecimal : (text : List ℕ) → decode_of (without_blanks text) ≡ Ok octets → spelled text ≡ Ok (form.Hex, octets)
   pub by_base64 : (text : List ℕ) → without_blanks text ≡ base64_text octets → spelled text ≡ Ok (form.Base64, octets)
-  pub by_dump : (has_colon : Bool) (width : ℕ) → 0 < width → spelled (dump_text has_colon width octets) ≡ Ok (form.Dump, octets)
+  pub by_dump : (layout : Layout) → IsLayout layout → spelled (dump_text layout octets) ≡ Ok (form.Dump, octets)
 
 -- Each message and each Ticket is spelled in each form.
 abbrev pub MessagesAreSpelled : Type 0
