@@ -18,7 +18,7 @@ use Rattle.krb_token.specs.Opened.{Found, Refused, Ticket, message_under, under}
 use Rattle.krb_token.specs.Tokens.{opened}
 use Rattle.krb_token.specs.declared.layer.Layer.{Layer}
 use Rattle.krb_token.specs.declared.layer.Layer.TheVariants.{Frame}
-use Rattle.krb_laws.specs.Written.{IsLayout, Layout, base64_text, dump_text}
+use Rattle.krb_laws.specs.Written.{IsLayout, Layout, base64_text, dump_text, xxd}
 use Rattle.krb_input.specs.declared.spelling.Spelling.TheVariants as form
 
 -- ---- hexadecimal
@@ -51,6 +51,10 @@ Base64IsSpelled = (text : List ℕ) (first : ℕ) (octets : List ℕ) → AreOct
 -- A dump of octets spells the octets, whatever stands beside them. Its offsets have eight digits.
 abbrev pub DumpsAreSpelled : Type 0
 DumpsAreSpelled = (layout : Layout) (octets : List ℕ) → IsLayout layout → AreOctets octets → 0 < length octets → length octets ≤ 2 ^ 32 → spelled (dump_text layout octets) ≡ Ok (form.Dump, octets)
+
+-- What xxd writes by itself is such a dump.
+abbrev pub XxdIsLayout : Type 0
+XxdIsLayout = IsLayout xxd
 
 -- ---- messages and Tickets
 -- octets that are judged whole, as a message of a profile or as a Ticket of it

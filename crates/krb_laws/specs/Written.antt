@@ -1,5 +1,5 @@
 -- What people write of octets: base64, and dumps.
-use Rattle.std.specs.Prelude.{ℕ, zero, suc, ◌+◌, ◌<◌, ◌≤◌, ◌≡◌, ⊤, Bool, true, false, ◌==◌, ◌||◌, List, [], ◌∷◌, ◌++◌, length, take, drop}
+use Rattle.std.specs.Prelude.{ℕ, zero, suc, ◌+◌, ◌-◌, ◌*◌, ◌/◌, ◌<◌, ◌≤◌, ◌≡◌, ⊤, Bool, true, false, ◌==◌, ◌||◌, if◌then◌else◌, List, [], ◌∷◌, ◌++◌, length, take, drop, replicate, map}
 use Rattle.std.specs.List.{AllPass}
 use Rattle.std.specs.Int.{w32, to_be_bytes}
 use Rattle.base64.specs.Alphabet.{alphabet_symbols}
@@ -70,3 +70,14 @@ pub record IsLayout (layout : Layout) : Type 0 where
   pub some : 0 < layout.width
   pub group : IsGroup layout.has_colon layout.group
   pub beside : (octets : List ℕ) → IsBeside layout.has_colon (layout.beside octets)
+
+-- an octet beside others: itself if it is printable, and else `.`
+abbrev pub shown : ℕ → ℕ
+shown octet = if is_printable octet then octet else 0x2E
+
+-- what xxd writes beside octets: these from a column on, which the digits of sixteen octets in groups of two would reach
+abbrev pub beside_of_xxd : List ℕ → List ℕ
+beside_of_xxd octets = 0x20 ∷ 0x20 ∷ (replicate (40 - (2 * length octets + (length octets + 1) / 2)) 0x20 ++ map shown octets)
+
+abbrev pub xxd : Layout
+xxd = record { has_colon = true; width = 16; group = 2; beside = beside_of_xxd }

@@ -1,6 +1,6 @@
 //! Laws of what inputs spell, each the contract of a function that does nothing.
 
-ghost use Rattle.krb_laws.specs.Spelled.{OctetsAreSpelled, Base64IsSpelled, HexadecimalIsSpelled, HexadecimalIsNoDump, DigitsAreSpelled, DumpsAreSpelled, MessagesAreSpelled, MessagesAreOpened, TicketsAreOpened, TokensAreSpelled, FramesAreSpelled};
+ghost use Rattle.krb_laws.specs.Spelled.{OctetsAreSpelled, Base64IsSpelled, HexadecimalIsSpelled, HexadecimalIsNoDump, DigitsAreSpelled, DumpsAreSpelled, XxdIsLayout, MessagesAreSpelled, MessagesAreOpened, TicketsAreOpened, TokensAreSpelled, FramesAreSpelled};
 
 /// Hexadecimal in any case, with blanks anywhere, that does not begin as a dump spells its octets.
 pub fn hexadecimal_is_spelled()
@@ -28,9 +28,14 @@ pub fn base64_is_spelled()
     ensures { Base64IsSpelled }
 {}
 
-/// A dump of octets spells the octets.
+/// A dump of octets spells the octets, whatever stands beside them.
 pub fn dumps_are_spelled()
     ensures { DumpsAreSpelled }
+{}
+
+/// What `xxd` writes by itself is such a dump.
+pub fn xxd_is_layout()
+    ensures { XxdIsLayout }
 {}
 
 /// Each message and each Ticket, in at most 2^31 - 1 octets, is spelled by its octets, by their
