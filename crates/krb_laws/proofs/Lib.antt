@@ -5,7 +5,7 @@ pub mod Hexadecimal
 pub mod Rows
 pub mod DumpRows
 pub mod Dumps
-pub mod Xxd
+pub mod Layouts
 pub mod Octets
 pub mod Characters
 pub mod Blanks

@@ -9,7 +9,7 @@ use Rattle.krb_der.specs.Octets.{AreOctets}
 use Rattle.krb_input.specs.Characters.{when, is_text}
 use Rattle.krb_input.specs.Octets.{first_no_text}
 use Rattle.krb_input.specs.Dumps.{lines, with_first}
-use Rattle.krb_laws.specs.Written.{IsBeside, spaced}
+use Rattle.krb_laws.specs.Written.{IsBeside, after_blanks, spaced}
 use Rattle.krb_laws.proofs.Rows.{AreGroups}
 use Rattle.krb_laws.proofs.Pairs.{digits_pair, digit_of, digit_printable}
 
@@ -63,7 +63,12 @@ beside_printable has_colon [] is = All-nil IsPrintable
 beside_printable has_colon (octet ∷ []) is = absurd is
 beside_printable has_colon (first ∷ second ∷ text) is = All-cons IsPrintable first (second ∷ text) (ap is_printable is.0) (All-cons IsPrintable second text (ap is_printable is.1) is.2)
 
-pub spaced_printable : (has_colon : Bool) (rows : List (List ℕ)) (after : List ℕ) → AreGroups has_colon rows → ArePrintable after → ArePrintable (spaced rows after)
-spaced_printable has_colon [] after are printable = printable
-spaced_printable has_colon (octets ∷ others) after are printable =
-    All-cons IsPrintable 0x20 (encode_lower octets ++ spaced others after) refl (All-append IsPrintable (encode_lower octets) (spaced others after) (encoded_printable octets are.0) (spaced_printable has_colon others after are.2 printable))
+blanks_printable : (are_two : Bool) (text : List ℕ) → ArePrintable text → ArePrintable (after_blanks are_two text)
+blanks_printable true text are = All-cons IsPrintable 0x20 (0x20 ∷ text) refl (All-cons IsPrintable 0x20 text refl are)
+blanks_printable false text are = All-cons IsPrintable 0x20 text refl are
+
+pub spaced_printable : (has_colon : Bool) (is_wide : ℕ → Bool) (number : ℕ) (rows : List (List ℕ)) (after : List ℕ) → AreGroups has_colon rows → ArePrintable after → ArePrintable (spaced is_wide number rows after)
+spaced_printable has_colon is_wide number [] after are printable = printable
+spaced_printable has_colon is_wide number (octets ∷ others) after are printable =
+    blanks_printable (is_wide number) (encode_lower octets ++ spaced is_wide (suc number) others after)
+    (All-append IsPrintable (encode_lower octets) (spaced is_wide (suc number) others after) (encoded_printable octets are.0) (spaced_printable has_colon is_wide (suc number) others after are.2 printable))

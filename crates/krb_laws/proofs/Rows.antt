@@ -19,12 +19,12 @@ all_of_rows (suc fuel) size (octet ∷ octets) some enough =
 -- ---- lines
 -- rows of octets, none of which is empty, and of which each begins where an offset says
 abbrev pub AreRows : ℕ → List (List ℕ) → Type 0
-AreRows count [] = Unit {0}
+AreRows count [] = count < 2 ^ 32
 AreRows count (octets ∷ others) = AreOctets octets × (0 < length octets) × (count < 2 ^ 32) × AreRows (count + length octets) others
 
-pub rows_are : (fuel size count : ℕ) (octets : List ℕ) → 0 < size → AreOctets octets → count + length octets ≤ 2 ^ 32 → AreRows count (rows_of fuel size octets)
-rows_are fuel size count [] some are few = tt
-rows_are zero size count (octet ∷ octets) some are few = tt
+pub rows_are : (fuel size count : ℕ) (octets : List ℕ) → 0 < size → AreOctets octets → count + length octets < 2 ^ 32 → AreRows count (rows_of fuel size octets)
+rows_are fuel size count [] some are few = omega arith
+rows_are zero size count (octet ∷ octets) some are few = omega arith
 rows_are (suc fuel) size count (octet ∷ octets) some are few =
     let first = length-take size (octet ∷ octets) in
     let rest = length-drop size (octet ∷ octets) in (

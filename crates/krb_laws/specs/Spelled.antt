@@ -1,5 +1,5 @@
 -- The laws of what inputs spell. Each is the contract of a function of the module `spelled`.
-use Rattle.std.specs.Prelude.{ℕ, ◌≡◌, ◌≢◌, ⊤, ◌<◌, ◌≤◌, ◌^◌, ◌⊎◌, true, false, List, [], ◌∷◌, length, is_some, Ok}
+use Rattle.std.specs.Prelude.{ℕ, ◌≡◌, ◌≢◌, ⊤, ◌<◌, ◌^◌, ◌⊎◌, true, false, List, [], ◌∷◌, length, is_some, Ok}
 use Rattle.hex.specs.Hex.{decode_of, encode_lower, encode_upper}
 use Rattle.krb_der.specs.Octets.{AreOctets}
 use Rattle.krb_der.specs.declared.profile.Profile.{Profile}
@@ -18,7 +18,7 @@ use Rattle.krb_token.specs.Opened.{Found, Refused, Ticket, message_under, under}
 use Rattle.krb_token.specs.Tokens.{opened}
 use Rattle.krb_token.specs.declared.layer.Layer.{Layer}
 use Rattle.krb_token.specs.declared.layer.Layer.TheVariants.{Frame}
-use Rattle.krb_laws.specs.Written.{IsLayout, Layout, base64_text, dump_text, xxd}
+use Rattle.krb_laws.specs.Written.{IsLayout, Layout, base64_text, dump_text, hexdump, xxd}
 use Rattle.krb_input.specs.declared.spelling.Spelling.TheVariants as form
 
 -- ---- hexadecimal
@@ -50,11 +50,14 @@ Base64IsSpelled = (text : List ℕ) (first : ℕ) (octets : List ℕ) → AreOct
 -- ---- dumps
 -- A dump of octets spells the octets, whatever stands beside them. Its offsets have eight digits.
 abbrev pub DumpsAreSpelled : Type 0
-DumpsAreSpelled = (layout : Layout) (octets : List ℕ) → IsLayout layout → AreOctets octets → 0 < length octets → length octets ≤ 2 ^ 32 → spelled (dump_text layout octets) ≡ Ok (form.Dump, octets)
+DumpsAreSpelled = (layout : Layout) (octets : List ℕ) → IsLayout layout → AreOctets octets → 0 < length octets → length octets < 2 ^ 32 → spelled (dump_text layout octets) ≡ Ok (form.Dump, octets)
 
--- What xxd writes by itself is such a dump.
+-- What xxd writes by itself is such a dump, and so is what hexdump -C writes, where it leaves out no lines (-v).
 abbrev pub XxdIsLayout : Type 0
 XxdIsLayout = IsLayout xxd
+
+abbrev pub HexdumpIsLayout : Type 0
+HexdumpIsLayout = IsLayout hexdump
 
 -- ---- messages and Tickets
 -- octets that are judged whole, as a message of a profile or as a Ticket of it
@@ -96,7 +99,7 @@ pub record AreToken (octets : List ℕ) : Type 0 where
 
 -- Each token is spelled in each form.
 abbrev pub TokensAreSpelled : Type 0
-TokensAreSpelled = (octets : List ℕ) → AreOctets octets → length octets ≤ 2 ^ 32 → AreToken octets → AreSpelledInEachForm octets
+TokensAreSpelled = (octets : List ℕ) → AreOctets octets → length octets < 2 ^ 32 → AreToken octets → AreSpelledInEachForm octets
 
 -- A frame spells itself.
 abbrev pub FramesAreSpelled : Type 0

@@ -1,6 +1,6 @@
 //! Laws of what inputs spell, each the contract of a function that does nothing.
 
-ghost use Rattle.krb_laws.specs.Spelled.{OctetsAreSpelled, Base64IsSpelled, HexadecimalIsSpelled, HexadecimalIsNoDump, DigitsAreSpelled, DumpsAreSpelled, XxdIsLayout, MessagesAreSpelled, MessagesAreOpened, TicketsAreOpened, TokensAreSpelled, FramesAreSpelled};
+ghost use Rattle.krb_laws.specs.Spelled.{OctetsAreSpelled, Base64IsSpelled, HexadecimalIsSpelled, HexadecimalIsNoDump, DigitsAreSpelled, DumpsAreSpelled, XxdIsLayout, HexdumpIsLayout, MessagesAreSpelled, MessagesAreOpened, TicketsAreOpened, TokensAreSpelled, FramesAreSpelled};
 
 /// Hexadecimal in any case, with blanks anywhere, that does not begin as a dump spells its octets.
 pub fn hexadecimal_is_spelled()
@@ -38,6 +38,11 @@ pub fn xxd_is_layout()
     ensures { XxdIsLayout }
 {}
 
+/// What `hexdump -vC` writes is such a dump.
+pub fn hexdump_is_layout()
+    ensures { HexdumpIsLayout }
+{}
+
 /// Each message and each Ticket, in at most 2^31 - 1 octets, is spelled by its octets, by their
 /// digits, by hexadecimal and by their base64 with blanks anywhere, and by their dumps.
 pub fn messages_are_spelled()
@@ -54,7 +59,7 @@ pub fn tickets_are_opened()
     ensures { TicketsAreOpened }
 {}
 
-/// Each token of GSS-API or of SPNEGO that is opened up to what is in it, in at most 2^32 octets, is
+/// Each token of GSS-API or of SPNEGO that is opened up to what is in it, in at most 2^32 - 1 octets, is
 /// spelled as a message is.
 pub fn tokens_are_spelled()
     ensures { TokensAreSpelled }

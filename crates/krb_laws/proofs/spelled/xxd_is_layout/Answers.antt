@@ -1,4 +1,4 @@
-use Rattle.krb_laws.proofs.Xxd.{xxd_is_layout}
+use Rattle.krb_laws.proofs.Layouts.{xxd_is_layout}
 use Rattle.krb_laws.proofs.spelled.xxd_is_layout.Goals as goal
 
 pub returns : goal.returns
