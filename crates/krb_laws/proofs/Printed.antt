@@ -1,0 +1,74 @@
+-- Printed characters, and lines of these.
+use Rattle.std.proofs.Common.{ℕ, suc, ◌/◌, ◌%◌, ◌==◌, ◌≡◌, Bool, true, false, List, [], ◌∷◌, ◌++◌, length, Some, None, refl, ap, ◌∙◌, arith}
+use Rattle.std.proofs.lemmas.Bool.Decides.{nat_tests}
+use Rattle.std.proofs.lemmas.List.Elements.{All-append, All-cons, All-head, All-nil, All-tail}
+use Rattle.std.specs.List.{AllPass}
+use Rattle.base64.specs.Tables.{is_printable}
+use Rattle.hex.specs.Hex.{encode_lower, encode_with}
+use Rattle.krb_der.specs.Octets.{AreOctets}
+use Rattle.krb_input.specs.Characters.{when, is_text}
+use Rattle.krb_input.specs.Octets.{first_no_text}
+use Rattle.krb_input.specs.Dumps.{lines, with_first}
+use Rattle.krb_laws.specs.Written.{IsBeside, after_blanks, spaced}
+use Rattle.krb_laws.proofs.Rows.{AreGroups}
+use Rattle.krb_laws.proofs.Pairs.{digits_pair, digit_of, digit_printable}
+
+abbrev pub IsPrintable : ℕ → Type 0
+IsPrintable octet = is_printable octet ≡ true
+
+abbrev pub ArePrintable : List ℕ → Type 0
+ArePrintable text = AllPass is_printable text
+
+-- ---- texts
+printable_is_text : (octet : ℕ) → is_printable octet ≡ true → is_text octet ≡ true
+printable_is_text octet is = grind (arith, nat_tests)
+
+text_before : (octet : ℕ) (text : List ℕ) → is_text octet ≡ true → first_no_text text ≡ None → first_no_text (octet ∷ text) ≡ None
+text_before octet text is others = ap (λ b. when b (λ _. first_no_text text) (λ _. Some (suc (length text)))) is ∙ others
+
+abbrev IsText : ℕ → Type 0
+IsText octet = is_text octet ≡ true
+
+pub all_text : (text : List ℕ) → AllPass is_text text → first_no_text text ≡ None
+all_text [] are = refl
+all_text (octet ∷ text) are = text_before octet text (All-head IsText octet text are) (all_text text (All-tail IsText octet text are))
+
+-- a line, and a text after it
+pub line_before : (line text : List ℕ) → ArePrintable line → first_no_text text ≡ None → first_no_text (line ++ (0x0A ∷ text)) ≡ None
+line_before [] text are others = others
+line_before (octet ∷ line) text are others =
+    text_before octet (line ++ (0x0A ∷ text)) (printable_is_text octet (All-head IsPrintable octet line are)) (line_before line text (All-tail IsPrintable octet line are) others)
+
+-- ---- lines
+printable_no_feed : (octet : ℕ) → is_printable octet ≡ true → (octet == 0x0A) ≡ false
+printable_no_feed octet is = grind (arith, nat_tests)
+
+pub first_line : (line text : List ℕ) → ArePrintable line → lines (line ++ (0x0A ∷ text)) ≡ (line, 0x0A ∷ text) ∷ lines text
+first_line [] text are = refl
+first_line (octet ∷ line) text are =
+    ap (λ b. when b (λ _. ([], octet ∷ (line ++ (0x0A ∷ text))) ∷ lines (line ++ (0x0A ∷ text))) (λ _. with_first octet (lines (line ++ (0x0A ∷ text))))) (printable_no_feed octet (All-head IsPrintable octet line are))
+    ∙ ap (with_first octet) (first_line line text (All-tail IsPrintable octet line are))
+
+-- ---- digits
+pub encoded_printable : (octets : List ℕ) → AreOctets octets → ArePrintable (encode_lower octets)
+unfolding encode_with
+encoded_printable [] are = All-nil IsPrintable
+encoded_printable (octet ∷ octets) are =
+    let pair = digits_pair octet are.0 in
+    All-cons IsPrintable (digit_of (octet / 16)) (digit_of (octet % 16) ∷ encode_lower octets) (digit_printable (digit_of (octet / 16)) pair.high_digit)
+    (All-cons IsPrintable (digit_of (octet % 16)) (encode_lower octets) (digit_printable (digit_of (octet % 16)) pair.low_digit) (encoded_printable octets are.1))
+
+pub beside_printable : (has_colon : Bool) (text : List ℕ) → IsBeside has_colon text → ArePrintable text
+beside_printable has_colon [] is = All-nil IsPrintable
+beside_printable has_colon (octet ∷ []) is = absurd is
+beside_printable has_colon (first ∷ second ∷ text) is = All-cons IsPrintable first (second ∷ text) (ap is_printable is.0) (All-cons IsPrintable second text (ap is_printable is.1) is.2)
+
+blanks_printable : (are_two : Bool) (text : List ℕ) → ArePrintable text → ArePrintable (after_blanks are_two text)
+blanks_printable true text are = All-cons IsPrintable 0x20 (0x20 ∷ text) refl (All-cons IsPrintable 0x20 text refl are)
+blanks_printable false text are = All-cons IsPrintable 0x20 text refl are
+
+pub spaced_printable : (has_colon : Bool) (is_wide : ℕ → Bool) (number : ℕ) (rows : List (List ℕ)) (after : List ℕ) → AreGroups has_colon rows → ArePrintable after → ArePrintable (spaced is_wide number rows after)
+spaced_printable has_colon is_wide number [] after are printable = printable
+spaced_printable has_colon is_wide number (octets ∷ others) after are printable =
+    blanks_printable (is_wide number) (encode_lower octets ++ spaced is_wide (suc number) others after)
+    (All-append IsPrintable (encode_lower octets) (spaced is_wide (suc number) others after) (encoded_printable octets are.0) (spaced_printable has_colon is_wide (suc number) others after are.2 printable))

@@ -1,0 +1,5 @@
+use Rattle.krb_laws.proofs.Tokens.{tokens_are_spelled}
+use Rattle.krb_laws.proofs.spelled.tokens_are_spelled.Goals as goal
+
+pub returns : goal.returns
+returns c = tokens_are_spelled

@@ -1,0 +1,4 @@
+//! Laws over several libraries: what inputs spell.
+#![tactic(auto)]
+
+pub mod spelled;
