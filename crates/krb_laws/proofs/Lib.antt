@@ -4,3 +4,4 @@ pub mod TokenFields
 pub mod TokenGss
 pub mod TokenOpened
 pub mod TokenTickets
+pub mod TokenMessages

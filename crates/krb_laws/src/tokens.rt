@@ -1,5 +1,5 @@
-//! The laws of what octets are opened to, for each that a message may lie in. Each is the contract of
-//! a function that does nothing.
+//! The laws of what octets are opened to. Each is the contract of a function that does nothing.
+ghost use Rattle.krb_laws.specs.Alone.{MessagesStandAlone, TicketsStandAlone};
 ghost use Rattle.krb_laws.specs.Opened.{MessagesAreOpened, TicketsAreOpened};
 
 /// Octets are opened to a message under layers just if it lies in them under these layers: by
@@ -12,4 +12,14 @@ pub fn messages_are_opened()
 /// Octets are opened to a Ticket just if they begin with its tag, and then under no layer.
 pub fn tickets_are_opened()
     ensures { TicketsAreOpened }
+{}
+
+/// The octets of a message of RFC 4120 are opened to it, under no layer.
+pub fn messages_stand_alone()
+    ensures { MessagesStandAlone }
+{}
+
+/// The octets of a Ticket are opened to a Ticket, under no layer.
+pub fn tickets_stand_alone()
+    ensures { TicketsStandAlone }
 {}

@@ -32,7 +32,7 @@ pub(crate) struct Field {
 
 /// A token of SPNEGO.
 #[derive(Clone, Copy)]
-pub(crate) enum NegToken {
+pub enum NegToken {
     /// NegTokenInit, the first one, or NegTokenInit2, as a server sends it.
     Init,
     /// NegTokenResp.

@@ -11,7 +11,7 @@ use krb_der::{Refusal, Why, last_or_zero};
 
 /// A type that holds no other.
 #[derive(Clone, Copy, PartialEq, Eq, Debug)]
-pub(crate) enum Simple {
+pub enum Simple {
     /// An OBJECT IDENTIFIER.
     Identifier,
     /// A GeneralString.
