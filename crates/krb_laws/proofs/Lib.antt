@@ -4,4 +4,3 @@ pub mod TokenFields
 pub mod TokenGss
 pub mod TokenOpened
 pub mod TokenTickets
-pub mod TokenMessages

@@ -17,7 +17,7 @@ use Rattle.krb_token.specs.Gss.{identified, is_kerberos, negotiation, kerberos_o
 use Rattle.krb_token.specs.Items.{Item, entered}
 use Rattle.krb_token.specs.Opened.{Part, Message, Ticket, Ntlm, Opened, and_then, opened_by, under, message_under, refused_in, refused_bare}
 use Rattle.krb_token.specs.Spnego.{neg_read, neg_fields, neg_tag, neg_path, spnego, fields_read}
-use Rattle.krb_laws.specs.Opened.{IsItem, AreFields, IsGssOf, IsGssToken, IsNegToken, IsBare, IsTokenUnder, IsNegUnder, DoNotBegin, beginnings, IsMessageUnder, MessagesAreOpened}
+use Rattle.krb_laws.specs.Opened.{IsItem, AreFields, IsGssOf, IsGssToken, IsNegToken, IsBare, IsTokenUnder, IsNegUnder, DoNotBegin, beginnings, IsMessageUnder, LayersAreOpened}
 use Rattle.krb_token.specs.Tokens.{frame_of_length, frame_opened, is_ntlm, is_message_tag, gss_in_spnego, token_in, neg_opened, spnego_opened, spnego_in_gss, mechanism_opened, gss_opened, whole, opened}
 use Rattle.krb_token.specs.declared.fields.NegToken.{NegToken}
 use Rattle.krb_token.specs.declared.fields.NegToken.TheVariants as neg
@@ -296,5 +296,5 @@ message_back (first ∷ octets) wanted message a e =
           ]
     ]
 
-pub messages_are_opened : MessagesAreOpened
-messages_are_opened octets layers message a small = (message_back octets layers message a, message_form octets layers message (omega arith))
+pub layers_are_opened : LayersAreOpened
+layers_are_opened octets layers message a small = (message_back octets layers message a, message_form octets layers message (omega arith))

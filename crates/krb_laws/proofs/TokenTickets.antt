@@ -9,7 +9,7 @@ use Rattle.krb_token.specs.Gss.{identified, is_kerberos, negotiation, message_ta
 use Rattle.krb_token.specs.Items.{Item}
 use Rattle.krb_token.specs.Opened.{Part, Fault, Message, Ticket, Ntlm, Opened, opened_by, under, message_under}
 use Rattle.krb_token.specs.Spnego.{neg_read, neg_path}
-use Rattle.krb_laws.specs.Opened.{TicketsAreOpened}
+use Rattle.krb_laws.specs.Opened.{TicketTagsAreOpened}
 use Rattle.krb_token.specs.Tokens.{frame_of_length, frame_opened, is_ntlm, is_message_tag, gss_in_spnego, token_in, neg_opened, spnego_opened, spnego_in_gss, mechanism_opened, gss_opened, whole, opened}
 use Rattle.krb_token.specs.declared.fields.NegToken.{NegToken}
 use Rattle.krb_token.specs.declared.fields.NegToken.TheVariants as neg
@@ -116,5 +116,5 @@ ticket_back (first ∷ octets) layers e =
           ]
     ]
 
-pub tickets_are_opened : TicketsAreOpened
-tickets_are_opened octets layers = (ticket_back octets layers, ticket_form octets layers)
+pub ticket_tags_are_opened : TicketTagsAreOpened
+ticket_tags_are_opened octets layers = (ticket_back octets layers, ticket_form octets layers)

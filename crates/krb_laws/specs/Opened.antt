@@ -161,9 +161,9 @@ IsMessageUnder (Spnego ∷ layers) all message = (neg : NegToken) × IsNegUnder 
 IsMessageUnder layers all message = ⊥
 
 -- Octets are opened to a message under layers just if it lies in them under these.
-abbrev pub MessagesAreOpened : Type 0
-MessagesAreOpened = (octets : List ℕ) (layers : List Layer) (message : Part) → AreOctets octets → length octets < 2 ^ 31 → (opened octets ≡ under layers (Message message)) ↔ IsMessageUnder layers (whole octets) message
+abbrev pub LayersAreOpened : Type 0
+LayersAreOpened = (octets : List ℕ) (layers : List Layer) (message : Part) → AreOctets octets → length octets < 2 ^ 31 → (opened octets ≡ under layers (Message message)) ↔ IsMessageUnder layers (whole octets) message
 
 -- Octets are opened to a Ticket just if they begin with its tag, `[APPLICATION 1]` (RFC 4120, 5.3), and then under no layer.
-abbrev pub TicketsAreOpened : Type 0
-TicketsAreOpened = (octets : List ℕ) (layers : List Layer) → (opened octets ≡ under layers Ticket) ↔ ((layers ≡ []) × ((rest : List ℕ) × (octets ≡ 0x61 ∷ rest)))
+abbrev pub TicketTagsAreOpened : Type 0
+TicketTagsAreOpened = (octets : List ℕ) (layers : List Layer) → (opened octets ≡ under layers Ticket) ↔ ((layers ≡ []) × ((rest : List ℕ) × (octets ≡ 0x61 ∷ rest)))
