@@ -17,3 +17,9 @@ pub mod InEachForm
 pub mod Messages
 pub mod Opened
 pub mod Tokens
+pub mod TokenContents
+pub mod TokenItems
+pub mod TokenFields
+pub mod TokenGss
+pub mod TokenOpened
+pub mod TokenTickets

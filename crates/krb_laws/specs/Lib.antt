@@ -1,3 +1,4 @@
 pub mod Written
 pub mod Spelled
 pub mod Examples
+pub mod Opened
