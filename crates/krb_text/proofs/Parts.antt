@@ -1,5 +1,5 @@
 -- Parts one after another, as they are appended and counted.
-use Rattle.std.proofs.Common.{◌≡◌, ◌^◌, ◌<◌, Bool, true, false, ℕ, List, [], ◌∷◌, ◌++◌, length, map, Option, Some, None, refl, sym, ◌∙◌, ap, append_assoc, codes}
+use Rattle.std.proofs.Common.{◌≡◌, ◌^◌, ◌<◌, Bool, true, false, ℕ, List, [], ◌∷◌, ◌++◌, length, map, Option, Some, None, refl, sym, ◌∙◌, ap, append_assoc, codes, decimal}
 use Rattle.std.proofs.lemmas.List.{append-nil}
 use Rattle.std.specs.List.{flat_map}
 use Rattle.krb_msg.specs.Shape.{has_octet_tags}
@@ -40,6 +40,13 @@ tells_both {f} {told_1} ps qs first second = record {
   by_now = second.by_now ∙ ap (λ told. told_after told qs) first.by_now ∙ sym (told_append told_1 ps qs);
 }
 
+-- ---- of what may be there
+pub told_none : {A : Type 0} (part : A → Part) (found : Option A) (f : Form) (told : Bool) (text : List ℕ) → found ≡ None → Tells f (one_if part found) told text told text
+told_none part found f told text none = rw none (tells_none f told text)
+
+pub told_some : {A : Type 0} (part : A → Part) (found : Option A) (f : Form) (told : Bool) (old : List ℕ) (v : A) {new : List ℕ} → found ≡ Some v → new ≡ old ++ separator f told ++ part_text f (part v) → Tells f (one_if part found) told old true new
+told_some part found f told old v some put = rw some (tells_one f (part v) told old put)
+
 -- ---- of what is viewed
 pub whole_none : (term : Term) (part : Value term → Part) (f : Form) (told : Bool) (octets text : List ℕ) → IsNotWhole term octets → Tells f (one_if part (judged term octets)) told text told text
 whole_none term part f told octets text none = rw (not_judged term octets none) (tells_none f told text)
@@ -78,13 +85,24 @@ leaves_none {f} {parts} {others} {old_told} {told} {old} {text} left none = reco
 
 -- ---- as the text of a record has them
 pub named_parts : (told : Bool) (parts : List Part) → parts_after form.NamedLines told parts ≡ flat_map (λ p. codes " " ++ part_text form.NamedLines p) parts
+unfolding separator
 named_parts told [] = refl
 named_parts told (p ∷ parts) = ap (λ rest. (codes " " ++ part_text form.NamedLines p) ++ rest) (named_parts true parts)
 
 other_objects : (parts : List Part) → parts_after form.Json true parts ≡ flat_map (λ p. codes "," ++ part_text form.Json p) parts
+unfolding separator
 other_objects [] = refl
 other_objects (p ∷ parts) = ap (λ rest. (codes "," ++ part_text form.Json p) ++ rest) (other_objects parts)
 
 pub objects : (parts : List Part) → parts_after form.Json false parts ≡ joined [] (codes ",") (part_text form.Json) parts
+unfolding separator
 objects [] = refl
 objects (p ∷ parts) = ap (λ rest. part_text form.Json p ++ rest) (other_objects parts)
+
+pub named_inside : (old : List ℕ) {l₁ l₂ l₃ : List ℕ} (parts : List Part) → l₁ ≡ old ++ codes " inside=" → l₂ ≡ l₁ ++ decimal (length parts) → l₃ ≡ l₂ ++ parts_after form.NamedLines false parts → l₃ ≡ old ++ (inside_text form.NamedLines parts ++ [])
+unfolding inside_text
+named_inside old parts h₁ h₂ h₃ = rw (h₃, h₂, h₁, named_parts false parts) (simp (append_assoc, append-nil))
+
+pub object_inside : (old : List ℕ) {l₁ l₂ l₃ : List ℕ} (parts : List Part) → l₁ ≡ old ++ codes ",\"inside\":[" → l₂ ≡ l₁ ++ parts_after form.Json false parts → l₃ ≡ l₂ ++ codes "]}" → l₃ ≡ old ++ (inside_text form.Json parts ++ codes "}")
+unfolding inside_text
+object_inside old parts h₁ h₂ h₃ = rw (h₃, h₂, h₁, objects parts) (simp append_assoc)

@@ -17,14 +17,14 @@ use crate::field::{put_closing, put_field};
 use crate::form::Form;
 use crate::message::put_ap_req;
 use crate::number::Numbered;
-use crate::part::{Clear, put_part_opening};
+use crate::part::{Clear, put_part_opening, view_judged};
 use crate::shown::QuotedText;
 use crate::text_buffer::TextBuffer;
 use crate::view_field::{
     put_absent_field, put_checksum_field, put_flags_field, put_hex_field, put_principal_field,
     put_quoted_field, put_sealed_field,
 };
-use krb_msg::{ApReq, ApReqView, EncryptedData, EncryptedDataView, Ticket, TicketView, view_whole};
+use krb_msg::{ApReq, ApReqView, EncryptedData, EncryptedDataView, Ticket, TicketView};
 use krb_padata::{
     EtypeInfo2Entry, EtypeInfo2EntryView, EtypeInfoEntry, EtypeInfoEntryView, KrbFastArmorView,
     KrbFastArmoredRepView, KrbFastArmoredReqView, PaForUser, PaForUserView, PaFxFastReply,
@@ -203,7 +203,7 @@ fn ap_req_of_armor<'a>(armor: &Option<KrbFastArmorView<'a>>) -> Option<ApReqView
 {
     match armor {
         Some(armor) if armor.armor_type == AP_REQUEST_ARMOR => {
-            view_whole::<ApReq>(armor.armor_value)
+            view_judged::<ApReq>(armor.armor_value)
         }
         _ => None,
     }
@@ -292,7 +292,7 @@ pub(crate) fn put_sealed(
     requires { length octets.now < 2 ^ 31 }
     ensures { IfOk result (λ by_now. Tells form (one_if (λ v. sealed_part kind.now (encrypted_data_of v)) (judged encrypted_data octets.now)) told text.old by_now text.new) }
 {
-    match view_whole::<EncryptedData>(octets) {
+    match view_judged::<EncryptedData>(octets) {
         None => Ok(told),
         Some(seen) => {
             put_sealed_part(text, form, told, kind, &seen)?;

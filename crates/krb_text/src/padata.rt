@@ -16,9 +16,9 @@ use crate::clear::{put_pac_request, put_salt, put_sealed};
 use crate::clear_type::ClearType;
 use crate::form::Form;
 use crate::list::count_items;
-use crate::part::{count_whole, put_each, put_whole};
+use crate::part::{count_whole, put_each, put_whole, view_judged};
 use crate::text_buffer::TextBuffer;
-use krb_msg::{ApReq, EncryptedData, ItemsView, PaData, next_item, view_whole};
+use krb_msg::{ApReq, EncryptedData, ItemsView, PaData, next_item};
 use krb_padata::{
     EtypeInfo, EtypeInfo2, EtypeInfo2Entry, EtypeInfoEntry, PaForUser, PaFxFastReply,
     PaFxFastRequest, PaPacOptions, view_pac_request,
@@ -35,7 +35,7 @@ fn put_etype_info(
     requires { length octets.now < 2 ^ 31 }
     ensures { IfOk result (λ by_now. Tells form (each_if (λ v. etype_info_part (etype_info_entry_of v)) (judged etype_info octets.now)) told text.old by_now text.new) }
 {
-    match view_whole::<EtypeInfo>(octets) {
+    match view_judged::<EtypeInfo>(octets) {
         None => Ok(told),
         Some(entries) => put_each::<EtypeInfoEntry>(text, form, told, entries),
     }
@@ -51,7 +51,7 @@ fn put_etype_info2(
     requires { length octets.now < 2 ^ 31 }
     ensures { IfOk result (λ by_now. Tells form (each_if (λ v. etype_info2_part (etype_info2_entry_of v)) (judged etype_info2 octets.now)) told text.old by_now text.new) }
 {
-    match view_whole::<EtypeInfo2>(octets) {
+    match view_judged::<EtypeInfo2>(octets) {
         None => Ok(told),
         Some(entries) => put_each::<EtypeInfo2Entry>(text, form, told, entries),
     }
@@ -132,7 +132,7 @@ fn count_sealed(octets: &[u8]) -> u64
     requires { length octets.now < 2 ^ 31 }
     ensures { (kind : List ℕ) → result ≡ length (one_if (λ v. sealed_part kind (encrypted_data_of v)) (judged encrypted_data octets.now)) }
 {
-    match view_whole::<EncryptedData>(octets) {
+    match view_judged::<EncryptedData>(octets) {
         None => 0,
         Some(_seen) => 1,
     }
@@ -142,9 +142,9 @@ fn count_sealed(octets: &[u8]) -> u64
 fn count_etype_info(octets: &[u8]) -> u64
     requires { length octets.now < 2 ^ 31 }
     ensures many { result ≡ length (each_if (λ v. etype_info_part (etype_info_entry_of v)) (judged etype_info octets.now)) }
-    ensures few { result ≤ length octets.now }
+    ensures few { result < 2 ^ 31 }
 {
-    match view_whole::<EtypeInfo>(octets) {
+    match view_judged::<EtypeInfo>(octets) {
         None => 0,
         Some(entries) => count_items::<EtypeInfoEntry>(entries) as u64,
     }
@@ -154,9 +154,9 @@ fn count_etype_info(octets: &[u8]) -> u64
 fn count_etype_info2(octets: &[u8]) -> u64
     requires { length octets.now < 2 ^ 31 }
     ensures many { result ≡ length (each_if (λ v. etype_info2_part (etype_info2_entry_of v)) (judged etype_info2 octets.now)) }
-    ensures few { result ≤ length octets.now }
+    ensures few { result < 2 ^ 31 }
 {
-    match view_whole::<EtypeInfo2>(octets) {
+    match view_judged::<EtypeInfo2>(octets) {
         None => 0,
         Some(entries) => count_items::<EtypeInfo2Entry>(entries) as u64,
     }

@@ -8,7 +8,7 @@ use Rattle.krb_text.specs.Inside.{inside_of}
 use Rattle.krb_text.specs.Values.{Part}
 
 -- what precedes a part, if others were told before it or none was
-abbrev pub separator : Form → Bool → List ℕ
+unfoldable pub separator : Form → Bool → List ℕ
 separator form.Lines told = codes " "
 separator form.NamedLines told = codes " "
 separator form.Json false = []
