@@ -7,6 +7,7 @@ use Rattle.krb_msg.specs.declared.message.Message.{Message}
 use Rattle.krb_text.specs.declared.form.Form.{Form}
 use Rattle.krb_text.specs.declared.form.Form.TheVariants as form
 use Rattle.krb_text.specs.Forms.{field, fields_text, inside_text, record_line, record_text}
+use Rattle.krb_text.specs.Inside.{inside_of}
 use Rattle.krb_text.specs.Messages.{fields_of, message_record, notes}
 use Rattle.krb_text.specs.Values.{Field, Part, Printed, the}
 
@@ -24,6 +25,10 @@ message_kind m = refl
 pub message_fields : (form : Form) (m : Message) → fields_text form (message_record m).fields ≡ fields_text form (fields_of m) ++ field form (codes "notes") (notes (notes_of m))
 unfolding message_record
 message_fields form m = rw (fields_text_append form (fields_of m) (the (codes "notes") (notes (notes_of m)) ∷ [])) (simp (append_assoc, append-nil))
+
+pub message_inside : (m : Message) → (message_record m).inside ≡ inside_of m
+unfolding message_record
+message_inside m = refl
 
 -- a line without names
 pub nothing_inside : (r : Printed) → record_line form.Lines r ≡ record_line form.Lines (record r { inside = None })

@@ -140,11 +140,11 @@ abbrev an_error : List ℕ
 an_error = hex (codes "7E4F304D A003020105 A10302011E A411180F32303030303130313030303030305A A503020100 A603020119 A9031B0141 AA0E300CA003020102A10530031B0168 AC0F040D 300B3009A103020102A2020400")
 
 named_error : text_of NamedLines an_error ≡ codes "KRB-ERROR code=25:KDC_ERR_PREAUTH_REQUIRED client=- server=h@A ctime=- cusec=- stime=20000101000000Z susec=0 text=- data=13 methods=[2:PA-ENC-TIMESTAMP] notes=[] inside=0"
-unfolding digits principal_text closing labelled opening inside_text record_text value_text message_record rows name_in name_of
+unfolding digits principal_text closing labelled opening inside_text part_text judged type_of_number record_text value_text message_record rows name_in name_of
 named_error = refl
 
 error_object : text_of Json an_error ≡ codes "{\"kind\":\"KRB-ERROR\",\"code\":25,\"code_name\":\"KDC_ERR_PREAUTH_REQUIRED\",\"client\":null,\"server\":{\"text\":\"h@A\",\"type\":2,\"type_name\":\"NT-SRV-INST\",\"components\":[\"h\"],\"realm\":\"A\"},\"ctime\":null,\"cusec\":null,\"stime\":\"20000101000000Z\",\"susec\":0,\"text\":null,\"data\":13,\"methods\":[2],\"methods_names\":[\"PA-ENC-TIMESTAMP\"],\"notes\":[],\"notes_names\":[],\"inside\":[]}"
-unfolding digits principal_text closing labelled opening inside_text part_text judged record_text members json_value names_member message_record rows name_in name_of
+unfolding digits principal_text closing labelled opening inside_text part_text judged type_of_number record_text members json_value names_member message_record rows name_in name_of
 error_object = refl
 
 -- ---- what is inside

@@ -1,13 +1,13 @@
 //! What is in the clear in lists of pre-authentication data, as parts that are appended or counted.
 
-ghost use Rattle.std.specs.Prelude.{◌≡◌, ◌+◌, ◌*◌, ◌^◌, ◌<◌, ◌≤◌, ◌++◌, length, map, IfOk, List, MatchOption, ℕ};
+ghost use Rattle.std.specs.Prelude.{◌≡◌, ◌+◌, ◌*◌, ◌^◌, ◌<◌, ◌≤◌, ◌++◌, length, map, IfOk, MatchOption};
 ghost use Rattle.std.specs.List.{flat_map};
-ghost use Rattle.krb_msg.specs.Grammar.{encrypted_data, pa_data};
-ghost use Rattle.krb_msg.specs.Types.{encrypted_data_of, pa_data_of};
+ghost use Rattle.krb_msg.specs.Grammar.{pa_data};
+ghost use Rattle.krb_msg.specs.Types.{pa_data_of};
 ghost use Rattle.krb_msg.specs.Viewed.{AreViewed, items_of};
 ghost use Rattle.krb_padata.specs.Grammar.{etype_info, etype_info2};
 ghost use Rattle.krb_padata.specs.Types.{etype_info2_entry_of, etype_info_entry_of};
-ghost use Rattle.krb_text.specs.Inside.{clear_parts, each_if, etype_info2_part, etype_info_part, item_parts, one_if, sealed_part};
+ghost use Rattle.krb_text.specs.Inside.{clear_parts, each_if, etype_info2_part, etype_info_part, item_parts};
 ghost use Rattle.krb_text.specs.Judged.{judged};
 ghost use Rattle.krb_text.specs.declared.clear_type.ClearType.TheVariants.{PacRequest};
 ghost use Rattle.krb_text.specs.inner.Parts.{Tells};
@@ -127,17 +127,6 @@ pub(crate) fn put_padata(
     Ok(by_now)
 }
 
-/// Returns how many parts octets have that are all of what is sealed, or none.
-fn count_sealed(octets: &[u8]) -> u64
-    requires { length octets.now < 2 ^ 31 }
-    ensures { (kind : List ℕ) → result ≡ length (one_if (λ v. sealed_part kind (encrypted_data_of v)) (judged encrypted_data octets.now)) }
-{
-    match view_judged::<EncryptedData>(octets) {
-        None => 0,
-        Some(_seen) => 1,
-    }
-}
-
 /// Returns how many parts a PA-ETYPE-INFO has.
 fn count_etype_info(octets: &[u8]) -> u64
     requires { length octets.now < 2 ^ 31 }
@@ -180,7 +169,9 @@ fn count_value(kind: ClearType, octets: &[u8]) -> u64
 {
     match kind {
         ClearType::TgsReq => count_whole::<ApReq>(octets),
-        ClearType::EncTimestamp | ClearType::EncryptedChallenge => count_sealed(octets),
+        ClearType::EncTimestamp | ClearType::EncryptedChallenge => {
+            count_whole::<EncryptedData>(octets)
+        }
         ClearType::PwSalt => 1,
         ClearType::EtypeInfo => count_etype_info(octets),
         ClearType::EtypeInfo2 => count_etype_info2(octets),

@@ -114,7 +114,8 @@ pub(crate) fn count_whole<'a, T: View<'a>>(octets: &'a [u8]) -> u64
     requires short { length octets.now < 2 ^ 31 }
     requires tags { has_octet_tags T.term ≡ true }
     requires unambiguous { is_unambiguous T.term ≡ true }
-    ensures { (part : Value T.term → Part) → result ≡ length (one_if part (judged T.term octets.now)) }
+    ensures many { (part : Value T.term → Part) → result ≡ length (one_if part (judged T.term octets.now)) }
+    ensures few { result ≤ 1 }
 {
     match view_whole::<T>(octets) {
         None => 0,

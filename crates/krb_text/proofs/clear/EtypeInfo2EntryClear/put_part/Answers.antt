@@ -1,0 +1,8 @@
+use Rattle.std.proofs.lemmas.Result.{on_ok_weaker}
+use Rattle.krb_text.specs.Forms.{part_text}
+use Rattle.krb_text.proofs.Appended.{part_of_three}
+use Rattle.krb_text.proofs.clear.EtypeInfo2EntryClear.put_part.Goals as goal
+
+pub returns : goal.returns
+unfolding part_text
+returns c = on_ok_weaker c.put_closing.result (part_of_three _ _ _ _ _ _ _ c.in_ok-put_part_opening.ensures c.in_ok-put_etype_field.ensures c.in_ok-put_quoted_field.ensures c.in_ok-put_hex_field.ensures) c.put_closing.ensures
