@@ -41,6 +41,10 @@ replace_zeros old = record { many = length-zeros (length old); octets = λ a. Ar
 pub replace_same : (old : List ℕ) → Replace old old
 replace_same old = record { many = refl; octets = λ a. a }
 
+pub some_same : {A : Type 0} (P : A → A → Type 0) → ((a : A) → P a a) → (v : Option A) → SomeAlike P v v
+some_same P each None = tt
+some_same P each (Some a) = each a
+
 mutual
   pub same : (term : Term) (v : Value term) → Alike term v v
   same (Integer low high) v = refl
@@ -56,11 +60,7 @@ mutual
   all_same : (fields : Fields) (v : Values fields) → AllAlike fields v v
   all_same End v = tt
   all_same (Required term fields) v = (same term v.0, all_same fields v.1)
-  all_same (Optional term fields) v = (some_same term v.0, all_same fields v.1)
-
-  pub some_same : (term : Term) (v : Option (Value term)) → SomeAlike (Alike term) v v
-  some_same term None = tt
-  some_same term (Some v) = same term v
+  all_same (Optional term fields) v = (some_same (Alike term) (same term) v.0, all_same fields v.1)
 
 -- ---- they have as many octets
 pub same_item : (tag : ℕ) (one other : List ℕ) → length one ≡ length other → length (item tag one) ≡ length (item tag other)
@@ -68,6 +68,12 @@ same_item tag one other e = length-item tag one ∙ ap item_length e ∙ sym (le
 
 same_both : (a b c d : List ℕ) → length a ≡ length c → length b ≡ length d → length (a ++ b) ≡ length (c ++ d)
 same_both a b c d e f = length-append a b ∙ ap₂ (λ (m n : ℕ). m + n) e f ∙ sym (length-append c d)
+
+some_as_many : {A : Type 0} (P : A → A → Type 0) (octets : A → List ℕ) → ((a b : A) → P a b → length (octets a) ≡ length (octets b)) → (v w : Option A) → SomeAlike P v w → length (octets_of_option octets v) ≡ length (octets_of_option octets w)
+some_as_many P octets each None None a = refl
+some_as_many P octets each (Some v) (Some w) a = each v w a
+some_as_many P octets each None (Some w) a = absurd a
+some_as_many P octets each (Some v) None a = absurd a
 
 mutual
   pub as_many : (term : Term) (v w : Value term) → Alike term v w → length (der term v) ≡ length (der term w)
@@ -86,15 +92,14 @@ mutual
   all_as_many (Required term fields) v w a =
       same_both (der term v.0) (der_of_fields fields v.1) (der term w.0) (der_of_fields fields w.1) (as_many term v.0 w.0 a.0) (all_as_many fields v.1 w.1 a.1)
   all_as_many (Optional term fields) v w a =
-      same_both (octets_of_option (der term) v.0) (der_of_fields fields v.1) (octets_of_option (der term) w.0) (der_of_fields fields w.1) (some_as_many term v.0 w.0 a.0) (all_as_many fields v.1 w.1 a.1)
-
-  some_as_many : (term : Term) (v w : Option (Value term)) → SomeAlike (Alike term) v w → length (octets_of_option (der term) v) ≡ length (octets_of_option (der term) w)
-  some_as_many term None None a = refl
-  some_as_many term (Some v) (Some w) a = as_many term v w a
-  some_as_many term None (Some w) a = absurd a
-  some_as_many term (Some v) None a = absurd a
+      same_both (octets_of_option (der term) v.0) (der_of_fields fields v.1) (octets_of_option (der term) w.0) (der_of_fields fields w.1) (some_as_many (Alike term) (der term) (as_many term) v.0 w.0 a.0) (all_as_many fields v.1 w.1 a.1)
 
 -- ---- one fits as the other does
+some_fit_as : {A : Type 0} (P : A → A → Type 0) (F : A → Type 0) → ((a b : A) → P a b → F b → F a) → (v w : Option A) → SomeAlike P v w → IfPresent F w → IfPresent F v
+some_fit_as P F each None w a fit = tt
+some_fit_as P F each (Some v) (Some w) a fit = each v w a fit
+some_fit_as P F each (Some v) None a fit = absurd a
+
 mutual
   pub fits_as : (term : Term) (v w : Value term) → Alike term v w → Fits term w → Fits term v
   fits_as (Integer low high) v w a fits = subst (Fits (Integer low high)) (sym a) fits
@@ -110,9 +115,4 @@ mutual
   all_fit_as : (fields : Fields) (v w : Values fields) → AllAlike fields v w → AllFit fields w → AllFit fields v
   all_fit_as End v w a fit = tt
   all_fit_as (Required term fields) v w a fit = (fits_as term v.0 w.0 a.0 fit.0, all_fit_as fields v.1 w.1 a.1 fit.1)
-  all_fit_as (Optional term fields) v w a fit = (some_fit_as term v.0 w.0 a.0 fit.0, all_fit_as fields v.1 w.1 a.1 fit.1)
-
-  some_fit_as : (term : Term) (v w : Option (Value term)) → SomeAlike (Alike term) v w → IfPresent (Fits term) w → IfPresent (Fits term) v
-  some_fit_as term None w a fit = tt
-  some_fit_as term (Some v) (Some w) a fit = fits_as term v w a fit
-  some_fit_as term (Some v) None a fit = absurd a
+  all_fit_as (Optional term fields) v w a fit = (some_fit_as (Alike term) (Fits term) (fits_as term) v.0 w.0 a.0 fit.0, all_fit_as fields v.1 w.1 a.1 fit.1)

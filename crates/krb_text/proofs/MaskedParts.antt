@@ -68,7 +68,7 @@ module _ (term : Term) (mask : Value term → Value term) (u : is_unambiguous te
 
 -- ---- the masks
 sealed_alike : (v : Value encrypted_data) → Alike encrypted_data (masked_sealed_value v) v
-sealed_alike v = (refl, (some_same _ v.1.0, (replace_zeros v.1.1.0, tt)))
+sealed_alike v = (refl, (some_same _ (λ n. refl) v.1.0, (replace_zeros v.1.1.0, tt)))
 
 checksum_alike : (v : Value checksum) → Alike checksum (masked_checksum_value v) v
 checksum_alike v = (refl, (replace_zeros v.1.0, tt))

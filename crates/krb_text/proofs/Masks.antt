@@ -1,5 +1,5 @@
 -- What is sealed, opaque or a checksum has no part in what is printed of a message.
-use Rattle.std.proofs.Common.{◌≡◌, ℕ, ℤ, Bool, true, false, ◌||◌, Option, Some, None, List, [], ◌∷◌, ◌++◌, length, map, codes, refl, ap, ap₂}
+use Rattle.std.proofs.Common.{◌≡◌, ℕ, ℤ, Bool, true, false, ◌||◌, Option, Some, None, List, [], ◌∷◌, ◌++◌, length, map, codes, refl, ap, ap₂, ◌∙◌}
 use Rattle.std.proofs.lemmas.List.{length-map}
 use Rattle.std.specs.List.{list_any}
 use Rattle.std.specs.Option.{option_map}
@@ -89,7 +89,7 @@ methods-same : (asks failed : Bool) (code : ℤ) (octets : Option (List ℕ)) �
 methods-same true failed code octets e = refl
 methods-same false true code octets e = refl
 methods-same false false code None e = refl
-methods-same false false code (Some octets) e = rw (e, e) refl
+methods-same false false code (Some octets) e = rw e refl
 
 krb_error-same : (m : KrbError) → krb_error_fields (masked_krb_error m) ≡ krb_error_fields m
 krb_error-same m =

@@ -1,14 +1,16 @@
 -- Parts one after another, as they are appended and counted.
-use Rattle.std.proofs.Common.{◌≡◌, ◌^◌, ◌<◌, Bool, true, false, ℕ, List, [], ◌∷◌, ◌++◌, length, map, Option, Some, None, refl, sym, ◌∙◌, ap, append_assoc, codes, decimal}
+use Rattle.std.proofs.Common.{◌≡◌, ◌+◌, ◌^◌, ◌<◌, Bool, true, false, ℕ, List, [], ◌∷◌, ◌++◌, length, map, Option, Some, None, refl, sym, ◌∙◌, ap, append_assoc, arith, codes, decimal, length-append}
 use Rattle.std.proofs.lemmas.List.{append-nil}
 use Rattle.std.specs.List.{flat_map}
+use Rattle.krb_msg.specs.Grammar.{pa_data}
 use Rattle.krb_msg.specs.Shape.{has_octet_tags}
 use Rattle.krb_msg.specs.Term.{Term, Value}
+use Rattle.krb_msg.specs.Types.{pa_data_of}
 use Rattle.krb_msg.specs.Viewed.{IsNotWhole, IsViewOf}
 use Rattle.krb_text.specs.declared.form.Form.{Form}
 use Rattle.krb_text.specs.declared.form.Form.TheVariants as form
 use Rattle.krb_text.specs.Forms.{inside_text, part_text}
-use Rattle.krb_text.specs.Inside.{each_if, one_if}
+use Rattle.krb_text.specs.Inside.{item_parts, one_if}
 use Rattle.krb_text.specs.Judged.{judged}
 use Rattle.krb_text.specs.Text.{joined}
 use Rattle.krb_text.specs.Values.{Part}
@@ -82,6 +84,14 @@ leaves_none {f} {parts} {others} {old_told} {told} {old} {text} left none = reco
   text = sym (append-nil text) ∙ ap (λ all. text ++ parts_after f told all) (sym none) ∙ left.text;
   by_now = ap (told_after told) (sym none) ∙ left.by_now;
 }
+
+-- the parts of an item were counted, and those of the others are left
+pub counted_more : (in_request : Bool) {count more total : ℕ} {items others : List (Value pa_data)} {v : Value pa_data} → items ≡ v ∷ others → count + length (flat_map (item_parts in_request) (map pa_data_of items)) ≡ total → more ≡ length (item_parts in_request (pa_data_of v))
+    → count + more + length (flat_map (item_parts in_request) (map pa_data_of others)) ≡ total
+counted_more in_request {count} {more} {total} {items} {others} {v} are sum many =
+    let all : length (flat_map (item_parts in_request) (map pa_data_of items)) ≡ length (item_parts in_request (pa_data_of v)) + length (flat_map (item_parts in_request) (map pa_data_of others)) =
+    ap (λ items. length (flat_map (item_parts in_request) (map pa_data_of items))) are ∙ length-append (item_parts in_request (pa_data_of v)) (flat_map (item_parts in_request) (map pa_data_of others)) in
+    omega (arith, all, sum, many)
 
 -- ---- as the text of a record has them
 pub named_parts : (told : Bool) (parts : List Part) → parts_after form.NamedLines told parts ≡ flat_map (λ p. codes " " ++ part_text form.NamedLines p) parts

@@ -169,9 +169,7 @@ fn count_value(kind: ClearType, octets: &[u8]) -> u64
 {
     match kind {
         ClearType::TgsReq => count_whole::<ApReq>(octets),
-        ClearType::EncTimestamp | ClearType::EncryptedChallenge => {
-            count_whole::<EncryptedData>(octets)
-        }
+        ClearType::EncTimestamp => count_whole::<EncryptedData>(octets),
         ClearType::PwSalt => 1,
         ClearType::EtypeInfo => count_etype_info(octets),
         ClearType::EtypeInfo2 => count_etype_info2(octets),
@@ -179,6 +177,7 @@ fn count_value(kind: ClearType, octets: &[u8]) -> u64
         ClearType::ForUser => count_whole::<PaForUser>(octets),
         ClearType::FastRequest => count_whole::<PaFxFastRequest>(octets),
         ClearType::FastReply => count_whole::<PaFxFastReply>(octets),
+        ClearType::EncryptedChallenge => count_whole::<EncryptedData>(octets),
         ClearType::PacOptions => count_whole::<PaPacOptions>(octets),
         ClearType::Other => 0,
     }
