@@ -6,7 +6,7 @@ use Rattle.krb_der.specs.Octets.{AreOctets}
 use Rattle.krb_file.specs.Fields.{zeros}
 use Rattle.krb_file.proofs.Zeros.{AreOctets-zeros, length-zeros}
 use Rattle.krb_msg.specs.Der.{IsDer}
-use Rattle.krb_msg.specs.Grammar.{ap_req, checksum, encrypted_data, ticket}
+use Rattle.krb_msg.specs.Grammar.{ap_req, checksum, encrypted_data, principal_name, ticket}
 use Rattle.krb_msg.specs.Shape.{has_octet_tags, is_unambiguous}
 use Rattle.krb_msg.specs.Term.{Term, Value, der, tag_of}
 use Rattle.krb_msg.specs.Types.{ap_req_of, encrypted_data_of}
@@ -74,13 +74,13 @@ checksum_alike : (v : Value checksum) → Alike checksum (masked_checksum_value 
 checksum_alike v = (refl, (replace_zeros v.1.0, tt))
 
 ticket_alike : (v : Value ticket) → Alike ticket (masked_ticket_value v) v
-ticket_alike v = (refl, (refl, (same _ v.1.1.0, (sealed_alike v.1.1.1.0, tt))))
+ticket_alike v = (refl, (refl, (same principal_name v.1.1.0, (sealed_alike v.1.1.1.0, tt))))
 
 ap_req_alike : (v : Value ap_req) → Alike ap_req (masked_ap_req_value v) v
 ap_req_alike v = (refl, (refl, (refl, (ticket_alike v.1.1.1.0, (sealed_alike v.1.1.1.1.0, tt)))))
 
 for_user_alike : (v : Value pa_for_user) → Alike pa_for_user (masked_for_user v) v
-for_user_alike v = (same _ v.0, (refl, (checksum_alike v.1.1.0, (refl, tt))))
+for_user_alike v = (same principal_name v.0, (refl, (checksum_alike v.1.1.0, (refl, tt))))
 
 pub ap_req_masked : (octets : List ℕ) → IsMasked ap_req masked_ap_req_value octets
 ap_req_masked = is_masked ap_req masked_ap_req_value refl refl (λ e. absurd cc) ap_req_alike

@@ -86,9 +86,9 @@ leaves_none {f} {parts} {others} {old_told} {told} {old} {text} left none = reco
 }
 
 -- the parts of an item were counted, and those of the others are left
-pub counted_more : (in_request : Bool) {count more total : ℕ} {items others : List (Value pa_data)} {v : Value pa_data} → items ≡ v ∷ others → count + length (flat_map (item_parts in_request) (map pa_data_of items)) ≡ total → more ≡ length (item_parts in_request (pa_data_of v))
+pub counted_more : (in_request : Bool) (count : ℕ) {more total : ℕ} {items others : List (Value pa_data)} {v : Value pa_data} → items ≡ v ∷ others → count + length (flat_map (item_parts in_request) (map pa_data_of items)) ≡ total → more ≡ length (item_parts in_request (pa_data_of v))
     → count + more + length (flat_map (item_parts in_request) (map pa_data_of others)) ≡ total
-counted_more in_request {count} {more} {total} {items} {others} {v} are sum many =
+counted_more in_request count {more} {total} {items} {others} {v} are sum many =
     let all : length (flat_map (item_parts in_request) (map pa_data_of items)) ≡ length (item_parts in_request (pa_data_of v)) + length (flat_map (item_parts in_request) (map pa_data_of others)) =
     ap (λ items. length (flat_map (item_parts in_request) (map pa_data_of items))) are ∙ length-append (item_parts in_request (pa_data_of v)) (flat_map (item_parts in_request) (map pa_data_of others)) in
     omega (arith, all, sum, many)

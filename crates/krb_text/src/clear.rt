@@ -65,7 +65,7 @@ impl<'a> Clear<'a> for EtypeInfoEntry {
         seen: &EtypeInfoEntryView<'a>,
     ) -> Result<(), AllocError> {
         put_part_opening(text, form, told, "PA-ETYPE-INFO")?;
-        put_etype_field(text, form, seen.etype)?;
+        put_etype_field(text, form, &seen.etype)?;
         put_quoted_field(text, form, " salt=", ",\"salt", seen.salt)?;
         put_closing(text, form)
     }
@@ -83,7 +83,7 @@ impl<'a> Clear<'a> for EtypeInfo2Entry {
         seen: &EtypeInfo2EntryView<'a>,
     ) -> Result<(), AllocError> {
         put_part_opening(text, form, told, "PA-ETYPE-INFO2")?;
-        put_etype_field(text, form, seen.etype)?;
+        put_etype_field(text, form, &seen.etype)?;
         put_quoted_field(text, form, " salt=", ",\"salt", seen.salt)?;
         put_hex_field(text, form, " params=", ",\"params", seen.s2kparams)?;
         put_closing(text, form)
@@ -186,12 +186,12 @@ impl<'a> Clear<'a> for Ticket {
 }
 
 /// Appends a field of an encryption type.
-fn put_etype_field(text: &mut TextBuffer, form: Form, etype: i64) -> Result<(), AllocError>
-    ensures { OnOk result (text.new ≡ text.old ++ field form (codes "etype") (Named EncryptionTypes etype)) }
+fn put_etype_field(text: &mut TextBuffer, form: Form, etype: &i64) -> Result<(), AllocError>
+    ensures { OnOk result (text.new ≡ text.old ++ field form (codes "etype") (Named EncryptionTypes etype.now)) }
 {
     let shown = Numbered {
         registry: Registry::EncryptionTypes,
-        number: etype,
+        number: *etype,
     };
     put_field(text, form, " etype=", ",\"etype", &shown)
 }

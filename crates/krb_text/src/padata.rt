@@ -120,7 +120,7 @@ pub(crate) fn put_padata(
     let mut by_now = told;
     let mut others = items;
     'others: while let Some((seen, rest)) = next_item::<PaData>(others) {
-        let kind = ClearType::of(in_request, seen.padata_type);
+        let kind = ClearType::of(in_request, &seen);
         by_now = put_value(text, form, by_now, kind, seen.padata_value)?;
         others = rest;
     }
@@ -192,7 +192,7 @@ pub(crate) fn count_padata(in_request: bool, items: ItemsView<'_>) -> u64
     let mut count = 0;
     let mut others = items;
     'others: while let Some((seen, rest)) = next_item::<PaData>(others) {
-        let kind = ClearType::of(in_request, seen.padata_type);
+        let kind = ClearType::of(in_request, &seen);
         count += count_value(kind, seen.padata_value);
         others = rest;
     }
