@@ -1,8 +1,7 @@
 -- What is masked inside of pre-authentication data has no part in what is told of it.
-use Rattle.std.proofs.Common.{◌≡◌, ℕ, zero, suc, ◌<◌, ◌^◌, Bool, true, false, Option, Some, None, List, [], ◌∷◌, ◌++◌, length, map, refl, sym, ◌∙◌, ap, ap₂, subst, arith}
+use Rattle.std.proofs.Common.{◌≡◌, ℕ, zero, suc, ◌<◌, ◌^◌, Bool, true, false, Option, Some, None, List, [], ◌∷◌, ◌++◌, length, map, refl, sym, ◌∙◌, ap, ap₂, arith}
 use Rattle.std.specs.List.{flat_map}
 use Rattle.std.specs.Option.{option_map}
-use Rattle.krb_der.specs.Octets.{AreOctets}
 use Rattle.krb_file.specs.Fields.{zeros}
 use Rattle.krb_file.proofs.Zeros.{AreOctets-zeros, length-zeros}
 use Rattle.krb_msg.specs.Der.{IsDer}
@@ -11,9 +10,8 @@ use Rattle.krb_msg.specs.Shape.{has_octet_tags, is_unambiguous}
 use Rattle.krb_msg.specs.Term.{Term, Value, der, tag_of}
 use Rattle.krb_msg.specs.Types.{ap_req_of, encrypted_data_of}
 use Rattle.krb_msg.specs.ValueOfDer.{first_or_zero}
-use Rattle.krb_msg.specs.Viewed.{IsNotWhole}
 use Rattle.krb_msg.specs.declared.pa_data.PaData.{PaData}
-use Rattle.krb_msg.specs.inner.Values.{contents, der_is}
+use Rattle.krb_msg.specs.inner.Values.{der_is}
 use Rattle.krb_msg.proofs.Encoded.{AreOctets-der}
 use Rattle.krb_msg.proofs.Grammars.{whole_is_value}
 use Rattle.krb_padata.specs.Grammar.{etype_info, etype_info2, krb_fast_armor, pa_for_user, pa_fx_fast_reply, pa_fx_fast_request, pa_pac_options}
@@ -21,7 +19,7 @@ use Rattle.krb_padata.specs.PacRequest.{pac_request_in}
 use Rattle.krb_padata.specs.Types.{krb_fast_armor_of, krb_fast_armored_rep_of, krb_fast_armored_req_of, pa_for_user_of}
 use Rattle.krb_text.specs.Inside.{ap_req_if, ap_req_in, clear_parts, clear_type, each_if, fast_reply_part, fast_request_part, for_user_part, is_ap_req_armor, item_parts, one_if, sealed_part, tgs_req_part}
 use Rattle.krb_text.specs.Judged.{judged}
-use Rattle.krb_text.specs.Masks.{der_or_zeros, masked_ap_req_value, masked_armor, masked_armor_if, masked_as, masked_checksum_value, masked_clear, masked_fast_reply, masked_fast_request, masked_for_user, masked_item, masked_sealed_value, masked_ticket_value, octets_or_zeros}
+use Rattle.krb_text.specs.Masks.{masked_ap_req_value, masked_armor, masked_armor_if, masked_as, masked_checksum_value, masked_clear, masked_fast_reply, masked_fast_request, masked_for_user, masked_item, masked_sealed_value, masked_ticket_value, octets_or_zeros}
 use Rattle.krb_text.specs.Values.{Number, Part, if_there, principal, sealed}
 use Rattle.krb_text.specs.declared.clear_type.ClearType.{ClearType}
 use Rattle.krb_text.specs.declared.clear_type.ClearType.TheVariants as types

@@ -2,7 +2,7 @@
 
 ghost use Rattle.std.specs.Prelude.{◌≡◌, ◌++◌, ◌^◌, ◌<◌, codes, length, IfOk, MatchOption, None, OnOk, Some};
 ghost use Rattle.std.specs.Option.{option_map};
-ghost use Rattle.krb_msg.specs.Grammar.{ap_req, encrypted_data};
+ghost use Rattle.krb_msg.specs.Grammar.{encrypted_data};
 ghost use Rattle.krb_msg.specs.Types.{ApReqLists, ap_req_of, ap_req_of_view, ap_req_view_value, encrypted_data_of, encrypted_data_of_view, ticket_of_view};
 ghost use Rattle.krb_msg.specs.Viewed.{OfSome};
 ghost use Rattle.krb_padata.specs.Types.{KrbFastArmorLists, etype_info2_entry_of_view, etype_info_entry_of_view, krb_fast_armor_of, krb_fast_armor_view_value, krb_fast_armored_rep_of_view, krb_fast_armored_req_of_view, pa_for_user_of_view, pa_pac_options_of_view};

@@ -1,6 +1,6 @@
 //! What is in the clear in lists of pre-authentication data, as parts that are appended or counted.
 
-ghost use Rattle.std.specs.Prelude.{◌≡◌, ◌+◌, ◌*◌, ◌^◌, ◌<◌, ◌≤◌, ◌++◌, length, map, IfOk, MatchOption};
+ghost use Rattle.std.specs.Prelude.{◌≡◌, ◌^◌, ◌<◌, ◌≤◌, length, map, IfOk};
 ghost use Rattle.std.specs.List.{flat_map};
 ghost use Rattle.krb_msg.specs.Grammar.{pa_data};
 ghost use Rattle.krb_msg.specs.Types.{pa_data_of};

@@ -76,7 +76,7 @@ pub(crate) fn put_whole<'a, T: Clear<'a>>(
     requires unambiguous { is_unambiguous T.View.term ≡ true }
     ensures { (part : Value T.View.term → Part) → ((seen : T.Of) → part (T.View.value seen) ≡ T.part seen) → IfOk result (λ by_now. Tells form (one_if part (judged T.View.term octets.now)) told text.old by_now text.new) }
 {
-    match view_whole::<T>(octets) {
+    match view_judged::<T>(octets) {
         None => Ok(told),
         Some(seen) => {
             T::put_part(text, form, told, &seen)?;
@@ -117,7 +117,7 @@ pub(crate) fn count_whole<'a, T: View<'a>>(octets: &'a [u8]) -> u64
     ensures many { (part : Value T.term → Part) → result ≡ length (one_if part (judged T.term octets.now)) }
     ensures few { result ≤ 1 }
 {
-    match view_whole::<T>(octets) {
+    match view_judged::<T>(octets) {
         None => 0,
         Some(_seen) => 1,
     }

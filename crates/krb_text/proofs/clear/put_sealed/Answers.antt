@@ -1,4 +1,3 @@
-use Rattle.std.proofs.Common.{ap, sym}
 use Rattle.krb_text.proofs.Parts.{told_none, told_some}
 use Rattle.krb_text.proofs.clear.put_sealed.Goals as goal
 
