@@ -2,7 +2,7 @@
 
 use krb_registry::Registry::{
     AddressTypes, ApOptions, ChecksumTypes, EncryptionTypes, ErrorCodes, KdcOptions, NameTypes,
-    Notes, PreAuthenticationData, TicketFlags,
+    Notes, PacOptions, PreAuthenticationData, TicketFlags,
 };
 use krb_registry::{Registry, name_of, rows};
 
@@ -34,6 +34,8 @@ const NAMES: [(Registry, i64, Option<&str>); 38] = [
     (KdcOptions, 31, Some("validate")),
     (ApOptions, 2, Some("mutual-required")),
     (ApOptions, 3, None),
+    (PacOptions, 3, Some("resource-based-constrained-delegation")),
+    (PacOptions, 4, None),
     (TicketFlags, 9, Some("initial")),
     (TicketFlags, 14, None),
     (TicketFlags, 16, Some("anonymous")),

@@ -36,3 +36,13 @@ pub four_lists : (old : List ℕ) {l₁ l₂ l₃ l₄ l₅ l₆ : List ℕ} (fo
     l₆ ≡ old ++ (opening ++ fields_text form (a ++ b ++ c ++ d) ++ closing)
 four_lists old form opening closing a b c d h₁ h₂ h₃ h₄ h₅ h₆ =
     rw (h₆, h₅, h₄, h₃, h₂, h₁, fields_text_append form (a ++ b ++ c) d, fields_text_append form (a ++ b) c, fields_text_append form a b) (simp append_assoc)
+
+-- a part of one field, of two and of three
+pub part_of_one : (old : List ℕ) {l₁ l₂ l₃ : List ℕ} (separator opening a closing : List ℕ) → l₁ ≡ old ++ separator ++ opening → l₂ ≡ l₁ ++ a → l₃ ≡ l₂ ++ closing → l₃ ≡ old ++ separator ++ (opening ++ (a ++ []) ++ closing)
+part_of_one old separator opening a closing h₁ h₂ h₃ = rw (h₃, h₂, h₁) (simp (append_assoc, append-nil))
+
+pub part_of_two : (old : List ℕ) {l₁ l₂ l₃ l₄ : List ℕ} (separator opening a b closing : List ℕ) → l₁ ≡ old ++ separator ++ opening → l₂ ≡ l₁ ++ a → l₃ ≡ l₂ ++ b → l₄ ≡ l₃ ++ closing → l₄ ≡ old ++ separator ++ (opening ++ (a ++ (b ++ [])) ++ closing)
+part_of_two old separator opening a b closing h₁ h₂ h₃ h₄ = rw (h₄, h₃, h₂, h₁) (simp (append_assoc, append-nil))
+
+pub part_of_three : (old : List ℕ) {l₁ l₂ l₃ l₄ l₅ : List ℕ} (separator opening a b c closing : List ℕ) → l₁ ≡ old ++ separator ++ opening → l₂ ≡ l₁ ++ a → l₃ ≡ l₂ ++ b → l₄ ≡ l₃ ++ c → l₅ ≡ l₄ ++ closing → l₅ ≡ old ++ separator ++ (opening ++ (a ++ (b ++ (c ++ []))) ++ closing)
+part_of_three old separator opening a b c closing h₁ h₂ h₃ h₄ h₅ = rw (h₅, h₄, h₃, h₂, h₁) (simp (append_assoc, append-nil))

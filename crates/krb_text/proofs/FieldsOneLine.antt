@@ -18,7 +18,7 @@ use Rattle.krb_msg.specs.declared.krb_error.KrbError.{KrbError}
 use Rattle.krb_text.specs.Judged.{methods_in}
 use Rattle.krb_text.specs.Messages.{padata, methods, kdc_req_fields, kdc_rep_fields, ap_req_fields, krb_safe_fields, krb_error_fields}
 use Rattle.krb_text.specs.Text.{AllAreOctets}
-use Rattle.krb_text.specs.Values.{Value, Number, Quoted, Word, the, if_there, count, sealed, principal, client, address}
+use Rattle.krb_text.specs.Values.{Value, Number, Quoted, Word, if_there, count, sealed, principal, client, address}
 use Rattle.krb_text.proofs.Printable.{time}
 use Rattle.krb_text.proofs.EachForm.{IsShown, AreShown}
 

@@ -6,16 +6,16 @@ use Rattle.krb_der.specs.Octets.{AreOctets}
 use Rattle.krb_msg.specs.Grammar.{ap_req, encrypted_data, kdc_req_body, method_data, pa_data, sequence_of, ticket}
 use Rattle.krb_msg.specs.Shape.{is_unambiguous}
 use Rattle.krb_msg.specs.Term.{Term, Value, Fits, IfPresent}
-use Rattle.krb_msg.specs.Types.{ap_req_of, encrypted_data_of, kdc_req_body_value, pa_data_of, pa_data_value, ticket_value}
+use Rattle.krb_msg.specs.Types.{ap_req_of, kdc_req_body_value, pa_data_of, pa_data_value, ticket_value}
 use Rattle.krb_msg.specs.declared.kdc_req.KdcReq.{KdcReq}
 use Rattle.krb_msg.specs.declared.krb_error.KrbError.{KrbError}
 use Rattle.krb_msg.specs.declared.pa_data.PaData.{PaData}
 use Rattle.krb_msg.specs.declared.ticket.Ticket.{Ticket}
-use Rattle.krb_padata.specs.Grammar.{etype_info, etype_info2, etype_info2_entry, etype_info_entry, pa_for_user, pa_fx_fast_reply, pa_fx_fast_request, pa_pac_options}
+use Rattle.krb_padata.specs.Grammar.{etype_info2_entry, etype_info_entry, pa_for_user, pa_fx_fast_reply, pa_fx_fast_request, pa_pac_options}
 use Rattle.krb_padata.specs.PacRequest.{pac_request_in}
-use Rattle.krb_padata.specs.Types.{etype_info2_entry_of, etype_info_entry_of, krb_fast_armored_rep_of, krb_fast_armored_req_of, pa_for_user_of, pa_pac_options_of}
+use Rattle.krb_padata.specs.Types.{etype_info2_entry_of, etype_info_entry_of, krb_fast_armored_req_of, pa_for_user_of}
 use Rattle.krb_padata.specs.declared.krb_fast_armor.KrbFastArmor.{KrbFastArmor}
-use Rattle.krb_text.specs.Inside.{ap_req_if, ap_req_in, clear_parts, clear_type, each_if, etype_info2_part, etype_info_part, fast_reply_part, fast_request_part, for_user_part, is_ap_req_armor, item_parts, kdc_req_parts, krb_error_parts, method_data_if, method_parts, methods_part, one_if, pac_options_part, pac_request_part, padata_parts, salt_part, sealed_part, tgs_req_part, ticket_part, types_if}
+use Rattle.krb_text.specs.Inside.{ap_req_if, ap_req_in, clear_parts, clear_type, each_if, etype_info2_part, etype_info_part, fast_request_part, for_user_part, is_ap_req_armor, item_parts, kdc_req_parts, krb_error_parts, method_data_if, method_parts, one_if, pac_request_part, padata_parts, tgs_req_part, ticket_part, types_if}
 use Rattle.krb_text.specs.Judged.{asks_for_preauth, judged, says_preauth_failed}
 use Rattle.krb_text.specs.Values.{Hex, Number, Part, Quoted, if_there, principal, sealed}
 use Rattle.krb_text.specs.declared.clear_type.ClearType.{ClearType}

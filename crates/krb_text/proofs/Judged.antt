@@ -2,6 +2,7 @@
 use Rattle.std.proofs.Common.{◌≡◌, ℕ, ◌^◌, ◌<◌, ◌&&◌, nat_lt, Bool, true, false, List, [], ◌∷◌, length, Option, Some, None, refl, sym, ◌∙◌, ap, ap₂, subst, arith}
 use Rattle.std.proofs.lemmas.Bool.{and_parts, lt-ltb, ltb-true}
 use Rattle.std.specs.List.{list_all}
+use Rattle.std.specs.Option.{MatchOption}
 use Rattle.krb_der.specs.Octets.{AreOctets}
 use Rattle.krb_der.specs.declared.verdict.Verdict.{Verdict}
 use Rattle.krb_der.specs.declared.verdict.Verdict.TheVariants as verdict
@@ -93,3 +94,8 @@ judged_view term octets value tags short seen =
 pub judged_der : (term : Term) (value : Value term) → is_unambiguous term ≡ true → has_octet_tags term ≡ true → Fits term value → length (der term value) < 2 ^ 31 → judged term (der term value) ≡ Some value
 judged_der term value u tags fits short =
     judged_whole term (der term value) value (AreOctets-der term tags value fits (omega (arith, short))) short (value_is_whole term value u fits short) (value_of_der_is_value term value u (omega (arith, short)))
+
+-- what holds of an option, and what follows of it
+pub match_as : {A : Type 0} (found : Option A) {none other_none : Type 0} {some other_some : A → Type 0} → (none → other_none) → ((a : A) → some a → other_some a) → MatchOption found none some → MatchOption found other_none other_some
+match_as None n s m = n m
+match_as (Some a) n s m = s a m

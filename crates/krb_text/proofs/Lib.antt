@@ -17,7 +17,6 @@ pub mod Flows
 pub mod EachForm
 pub mod Appended
 pub mod Judged
-pub mod Methods
 pub mod Parts
 pub mod Records
 pub mod EndOneLine
@@ -25,7 +24,7 @@ pub mod FieldsOneLine
 pub mod InsideOneLine
 pub mod MessageOneLine
 pub mod CaptureOneLine
-pub mod MaskedLengths
+pub mod Alike
 pub mod MaskedParts
 pub mod Masks
 pub mod MethodMasks

@@ -1,5 +1,5 @@
 -- What is sealed, opaque or a checksum has no part in what is printed of a message.
-use Rattle.std.proofs.Common.{◌≡◌, ℕ, ℤ, Bool, true, false, ◌||◌, Option, Some, None, List, [], ◌∷◌, ◌++◌, length, map, codes, refl, ap, ap₂}
+use Rattle.std.proofs.Common.{◌≡◌, ℕ, ℤ, Bool, true, false, ◌||◌, Option, Some, None, List, [], ◌∷◌, ◌++◌, length, map, codes, refl, ap, ap₂, ◌∙◌}
 use Rattle.std.proofs.lemmas.List.{length-map}
 use Rattle.std.specs.List.{list_any}
 use Rattle.std.specs.Option.{option_map}
@@ -27,9 +27,12 @@ use Rattle.krb_text.specs.declared.form.Form.{Form}
 use Rattle.krb_text.specs.declared.origin.Origin.{Origin}
 use Rattle.krb_text.specs.Captures.{captured_line, captured_message_line}
 use Rattle.krb_text.specs.Forms.{record_line}
-use Rattle.krb_text.specs.Messages.{padata, notes, asks_for_preauth, methods, kdc_req_fields, kdc_rep_fields, ap_req_fields, ap_rep_fields, krb_safe_fields, krb_priv_fields, krb_cred_fields, krb_error_fields, message_record, message_line, message_line_from, ticket_line, ticket_record}
-use Rattle.krb_text.specs.Values.{Field, Printed, the, printed, with_origin, if_there, count, sealed}
-use Rattle.krb_text.specs.Masks.{masked_sealed, masked_item, masked_ticket, masked_req_body, masked_data, masked_kdc_req, masked_kdc_rep, masked_ap_req, masked_ap_rep, masked_krb_safe, masked_krb_priv, masked_krb_cred, masked_krb_error, masked}
+use Rattle.krb_text.specs.Inside.{each_if, inside_of, kdc_req_parts, krb_error_parts, method_data_if, method_parts, padata_parts, ticket_part}
+use Rattle.krb_text.specs.Judged.{asks_for_preauth, says_preauth_failed}
+use Rattle.krb_text.specs.Messages.{padata, notes, methods, kdc_req_fields, kdc_rep_fields, ap_req_fields, ap_rep_fields, krb_safe_fields, krb_priv_fields, krb_cred_fields, krb_error_fields, message_record, message_line, message_line_from, ticket_line, ticket_record}
+use Rattle.krb_text.specs.Values.{Field, Part, Printed, the, printed, with_inside, with_origin, if_there, count, sealed}
+use Rattle.krb_text.specs.Masks.{masked_sealed, masked_item, masked_ticket, masked_req_body, masked_kdc_req, masked_kdc_rep, masked_ap_req, masked_ap_rep, masked_krb_safe, masked_krb_priv, masked_krb_cred, masked_krb_error, masked, opaque_unless}
+use Rattle.krb_text.proofs.MaskedParts.{items_same}
 
 -- ---- the values of fields
 pub sealed-same : (e : EncryptedData) → sealed (masked_sealed e) ≡ sealed e
@@ -39,13 +42,13 @@ some_sealed-same : (e : Option EncryptedData) → if_there sealed (option_map ma
 some_sealed-same None = refl
 some_sealed-same (Some e) = sealed-same e
 
-types-same : (items : List PaData) → map (λ item. item.padata_type) (map masked_item items) ≡ map (λ item. item.padata_type) items
-types-same [] = refl
-types-same (item ∷ items) = ap (λ (types : List ℤ). item.padata_type ∷ types) (types-same items)
+types-same : (in_request : Bool) (items : List PaData) → map (λ item. item.padata_type) (map (masked_item in_request) items) ≡ map (λ item. item.padata_type) items
+types-same in_request [] = refl
+types-same in_request (item ∷ items) = ap (λ (types : List ℤ). item.padata_type ∷ types) (types-same in_request items)
 
-padata-same : (items : Option (List PaData)) → if_there padata (option_map (map masked_item) items) ≡ if_there padata items
-padata-same None = refl
-padata-same (Some items) = rw (types-same items) refl
+padata-same : (in_request : Bool) (items : Option (List PaData)) → if_there padata (option_map (map (masked_item in_request)) items) ≡ if_there padata items
+padata-same in_request None = refl
+padata-same in_request (Some items) = rw (types-same in_request items) refl
 
 tickets-same : (tickets : List Ticket) → count (map masked_ticket tickets) ≡ count tickets
 tickets-same tickets = rw (length-map tickets masked_ticket) refl
@@ -56,10 +59,10 @@ some_tickets-same (Some tickets) = tickets-same tickets
 
 -- ---- the fields of messages
 kdc_req-same : (m : KdcReq) → kdc_req_fields (masked_kdc_req m) ≡ kdc_req_fields m
-kdc_req-same m = rw (padata-same m.padata, some_sealed-same m.body.enc_authorization_data, some_tickets-same m.body.additional_tickets) refl
+kdc_req-same m = rw (padata-same true m.padata, some_sealed-same m.body.enc_authorization_data, some_tickets-same m.body.additional_tickets) refl
 
 kdc_rep-same : (m : KdcRep) → kdc_rep_fields (masked_kdc_rep m) ≡ kdc_rep_fields m
-kdc_rep-same m = rw (padata-same m.padata, length-zeros (length m.ticket.enc_part.cipher), length-zeros (length m.enc_part.cipher)) refl
+kdc_rep-same m = rw (padata-same false m.padata, length-zeros (length m.ticket.enc_part.cipher), length-zeros (length m.enc_part.cipher)) refl
 
 ap_req-same : (m : ApReq) → ap_req_fields (masked_ap_req m) ≡ ap_req_fields m
 ap_req-same m = rw (length-zeros (length m.ticket.enc_part.cipher), length-zeros (length m.authenticator.cipher)) refl
@@ -76,19 +79,21 @@ krb_safe-same m = rw (length-zeros (length m.body.user_data), length-zeros (leng
 krb_cred-same : (m : KrbCred) → krb_cred_fields (masked_krb_cred m) ≡ krb_cred_fields m
 krb_cred-same m = rw (length-map m.tickets masked_ticket, length-zeros (length m.enc_part.cipher)) refl
 
--- the data of an error, whether it asks for pre-authentication or not
-data-same : (asks : Bool) (code : ℤ) (octets : Option (List ℕ)) → asks_for_preauth code ≡ asks → if_there count (masked_data code octets) ≡ if_there count octets
-data-same true code octets e = rw e refl
-data-same false code None e = rw e refl
-data-same false code (Some octets) e = rw (e, length-zeros (length octets)) refl
+-- the data of an error, whether it asks for pre-authentication, says that it failed, or neither
+data-same : (shown : Bool) (octets : Option (List ℕ)) → if_there count (opaque_unless shown octets) ≡ if_there count octets
+data-same true octets = refl
+data-same false None = refl
+data-same false (Some octets) = rw (length-zeros (length octets)) refl
 
-methods-same : (asks : Bool) (code : ℤ) (octets : Option (List ℕ)) → asks_for_preauth code ≡ asks → methods code (masked_data code octets) ≡ methods code octets
-methods-same true code octets e = rw e refl
-methods-same false code None e = rw e refl
-methods-same false code (Some octets) e = rw (e, e) refl
+methods-same : (asks failed : Bool) (code : ℤ) (octets : Option (List ℕ)) → asks_for_preauth code ≡ asks → methods code (opaque_unless (asks || failed) octets) ≡ methods code octets
+methods-same true failed code octets e = refl
+methods-same false true code octets e = refl
+methods-same false false code None e = refl
+methods-same false false code (Some octets) e = rw e refl
 
 krb_error-same : (m : KrbError) → krb_error_fields (masked_krb_error m) ≡ krb_error_fields m
-krb_error-same m = rw (data-same (asks_for_preauth m.error_code) m.error_code m.e_data refl, methods-same (asks_for_preauth m.error_code) m.error_code m.e_data refl) refl
+krb_error-same m =
+    rw (data-same (asks_for_preauth m.error_code || says_preauth_failed m.error_code) m.e_data, methods-same (asks_for_preauth m.error_code) (says_preauth_failed m.error_code) m.error_code m.e_data refl) refl
 
 -- ---- the notes
 any-same : {A B : Type 0} (test : B → Bool) (value : A → B) (mask : A → A) → ((x : A) → test (value (mask x)) ≡ test (value x)) → (xs : List A) → list_any test (map value (map mask xs)) ≡ list_any test (map value xs)
@@ -135,33 +140,33 @@ kdc_req_body-has note b = go b.enc_authorization_data b.additional_tickets
     go None (Some tickets) = rw (items-same note ticket ticket_value masked_ticket (ticket-same note) tickets) refl
     go (Some e) (Some tickets) = rw (items-same note ticket ticket_value masked_ticket (ticket-same note) tickets) refl
 
-item-same : (note : Note) (item : PaData) → has note pa_data (pa_data_value (masked_item item)) ≡ has note pa_data (pa_data_value item)
-item-same note item = refl
+item-same : (note : Note) (in_request : Bool) (item : PaData) → has note pa_data (pa_data_value (masked_item in_request item)) ≡ has note pa_data (pa_data_value item)
+item-same note in_request item = refl
 
 kdc_req-has : (note : Note) (number : ℕ) (m : KdcReq) → has note (kdc_req number) (kdc_req_value number (masked_kdc_req m)) ≡ has note (kdc_req number) (kdc_req_value number m)
 kdc_req-has note number m = go m.padata
   where
     go : (items : Option (List PaData)) → has note (kdc_req number) (kdc_req_value number (masked_kdc_req (req_with m items))) ≡ has note (kdc_req number) (kdc_req_value number (req_with m items))
     go None = rw (kdc_req_body-has note m.body) refl
-    go (Some items) = rw (items-same note pa_data pa_data_value masked_item (item-same note) items, kdc_req_body-has note m.body) refl
+    go (Some items) = rw (items-same note pa_data pa_data_value (masked_item true) (item-same note true) items, kdc_req_body-has note m.body) refl
 
 kdc_rep-has : (note : Note) (number : ℕ) (m : KdcRep) → has note (kdc_rep number) (kdc_rep_value number (masked_kdc_rep m)) ≡ has note (kdc_rep number) (kdc_rep_value number m)
 kdc_rep-has note number m = go m.padata
   where
     go : (items : Option (List PaData)) → has note (kdc_rep number) (kdc_rep_value number (masked_kdc_rep (rep_with m items))) ≡ has note (kdc_rep number) (kdc_rep_value number (rep_with m items))
     go None = refl
-    go (Some items) = rw (items-same note pa_data pa_data_value masked_item (item-same note) items) refl
+    go (Some items) = rw (items-same note pa_data pa_data_value (masked_item false) (item-same note false) items) refl
 
 krb_cred-has : (note : Note) (m : KrbCred) → has note krb_cred (krb_cred_value (masked_krb_cred m)) ≡ has note krb_cred (krb_cred_value m)
 krb_cred-has note m = rw (any-same (has note ticket) ticket_value masked_ticket (ticket-same note) m.tickets) refl
 
 krb_error-has : (note : Note) (m : KrbError) → has note krb_error (krb_error_value (masked_krb_error m)) ≡ has note krb_error (krb_error_value m)
-krb_error-has note m = go (asks_for_preauth m.error_code) m.e_data refl
+krb_error-has note m = go (asks_for_preauth m.error_code || says_preauth_failed m.error_code) m.e_data
   where
-    go : (asks : Bool) (octets : Option (List ℕ)) → asks_for_preauth m.error_code ≡ asks → has note krb_error (krb_error_value (masked_krb_error (error_with m octets))) ≡ has note krb_error (krb_error_value (error_with m octets))
-    go true octets e = rw e refl
-    go false None e = rw e refl
-    go false (Some octets) e = rw e refl
+    go : (shown : Bool) (octets : Option (List ℕ)) → has note krb_error (krb_error_value (error_with m (opaque_unless shown octets))) ≡ has note krb_error (krb_error_value (error_with m octets))
+    go true octets = refl
+    go false None = refl
+    go false (Some octets) = refl
 
 message-has : (note : Note) (m : Message) → message_has note (masked m) ≡ message_has note m
 message-has note (message.AsReq m) = kdc_req-has note 10 m
@@ -178,9 +183,51 @@ message-has note (message.KrbError m) = krb_error-has note m
 notes-same : (m : Message) → notes_of (masked m) ≡ notes_of m
 notes-same m = rw (message-has HighOctet m, message-has FewFlags m, message-has Negative m, message-has EmptyList m) refl
 
+-- ---- what is inside
+padata-inside : (in_request : Bool) (items : Option (List PaData)) → padata_parts in_request (option_map (map (masked_item in_request)) items) ≡ padata_parts in_request items
+padata-inside in_request None = refl
+padata-inside in_request (Some items) = items_same in_request items
+
+ticket-inside : (t : Ticket) → ticket_part (masked_ticket t) ≡ ticket_part t
+ticket-inside t = rw (length-zeros (length t.enc_part.cipher)) refl
+
+tickets-inside : (tickets : List Ticket) → map ticket_part (map masked_ticket tickets) ≡ map ticket_part tickets
+tickets-inside [] = refl
+tickets-inside (t ∷ tickets) = ap₂ (λ (p : Part) (ps : List Part). p ∷ ps) (ticket-inside t) (tickets-inside tickets)
+
+some_tickets-inside : (tickets : Option (List Ticket)) → each_if ticket_part (option_map (map masked_ticket) tickets) ≡ each_if ticket_part tickets
+some_tickets-inside None = refl
+some_tickets-inside (Some tickets) = tickets-inside tickets
+
+kdc_req-inside : (m : KdcReq) → kdc_req_parts (masked_kdc_req m) ≡ kdc_req_parts m
+kdc_req-inside m = ap₂ (λ (a b : List Part). a ++ b) (padata-inside true m.padata) (some_tickets-inside m.body.additional_tickets)
+
+methods-inside : (shown : Bool) (octets : Option (List ℕ)) → method_data_if shown (opaque_unless shown octets) ≡ method_data_if shown octets
+methods-inside true octets = refl
+methods-inside false None = refl
+methods-inside false (Some octets) = refl
+
+krb_error-inside : (m : KrbError) → krb_error_parts (masked_krb_error m) ≡ krb_error_parts m
+krb_error-inside m = ap (method_parts (says_preauth_failed m.error_code)) (methods-inside (asks_for_preauth m.error_code || says_preauth_failed m.error_code) m.e_data)
+
+inside-same : (m : Message) → inside_of (masked m) ≡ inside_of m
+inside-same (message.AsReq m) = ap Some (kdc_req-inside m)
+inside-same (message.AsRep m) = ap Some (padata-inside false m.padata)
+inside-same (message.TgsReq m) = ap Some (kdc_req-inside m)
+inside-same (message.TgsRep m) = ap Some (padata-inside false m.padata)
+inside-same (message.ApReq m) = refl
+inside-same (message.ApRep m) = refl
+inside-same (message.KrbSafe m) = refl
+inside-same (message.KrbPriv m) = refl
+inside-same (message.KrbCred m) = ap Some (tickets-inside m.tickets)
+inside-same (message.KrbError m) = ap Some (krb_error-inside m)
+
 -- ---- records
-made : (kind : List ℕ) (fields others : List Field) (m : Message) → fields ≡ others → printed kind (fields ++ the (codes "notes") (notes (notes_of (masked m))) ∷ []) ≡ printed kind (others ++ the (codes "notes") (notes (notes_of m)) ∷ [])
-made kind fields others m same = ap₂ (λ (f : List Field) (n : Notes). printed kind (f ++ the (codes "notes") (notes n) ∷ [])) same (notes-same m)
+made : (kind : List ℕ) (fields others : List Field) (m : Message) → fields ≡ others
+    → with_inside (inside_of (masked m)) (printed kind (fields ++ the (codes "notes") (notes (notes_of (masked m))) ∷ [])) ≡ with_inside (inside_of m) (printed kind (others ++ the (codes "notes") (notes (notes_of m)) ∷ []))
+made kind fields others m same =
+    ap₂ (λ (f : List Field) (n : Notes). with_inside (inside_of (masked m)) (printed kind (f ++ the (codes "notes") (notes n) ∷ []))) same (notes-same m)
+    ∙ ap (λ (inside : Option (List Part)). with_inside inside (printed kind (others ++ the (codes "notes") (notes (notes_of m)) ∷ []))) (inside-same m)
 
 pub record-same : (m : Message) → message_record (masked m) ≡ message_record m
 unfolding message_record

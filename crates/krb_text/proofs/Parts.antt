@@ -1,19 +1,17 @@
 -- Parts one after another, as they are appended and counted.
-use Rattle.std.proofs.Common.{◌≡◌, ◌^◌, ◌<◌, Bool, true, false, ℕ, List, [], ◌∷◌, ◌++◌, length, map, Option, Some, None, refl, sym, ◌∙◌, ap, append_assoc, codes}
+use Rattle.std.proofs.Common.{◌≡◌, ◌+◌, Bool, true, false, ℕ, List, [], ◌∷◌, ◌++◌, length, map, Option, Some, None, refl, sym, ◌∙◌, ap, append_assoc, arith, codes, decimal, length-append}
 use Rattle.std.proofs.lemmas.List.{append-nil}
 use Rattle.std.specs.List.{flat_map}
-use Rattle.krb_msg.specs.Shape.{has_octet_tags}
-use Rattle.krb_msg.specs.Term.{Term, Value}
-use Rattle.krb_msg.specs.Viewed.{IsNotWhole, IsViewOf}
+use Rattle.krb_msg.specs.Grammar.{pa_data}
+use Rattle.krb_msg.specs.Term.{Value}
+use Rattle.krb_msg.specs.Types.{pa_data_of}
 use Rattle.krb_text.specs.declared.form.Form.{Form}
 use Rattle.krb_text.specs.declared.form.Form.TheVariants as form
 use Rattle.krb_text.specs.Forms.{inside_text, part_text}
-use Rattle.krb_text.specs.Inside.{each_if, one_if}
-use Rattle.krb_text.specs.Judged.{judged}
+use Rattle.krb_text.specs.Inside.{item_parts, one_if}
 use Rattle.krb_text.specs.Text.{joined}
 use Rattle.krb_text.specs.Values.{Part}
 use Rattle.krb_text.specs.inner.Parts.{Tells, parts_after, separator, told_after}
-use Rattle.krb_text.proofs.Judged.{judged_view, not_judged}
 
 -- ---- one after another
 pub parts_append : (f : Form) (told : Bool) (ps qs : List Part) → parts_after f told (ps ++ qs) ≡ parts_after f told ps ++ parts_after f (told_after told ps) qs
@@ -40,27 +38,24 @@ tells_both {f} {told_1} ps qs first second = record {
   by_now = second.by_now ∙ ap (λ told. told_after told qs) first.by_now ∙ sym (told_append told_1 ps qs);
 }
 
--- ---- of what is viewed
-pub whole_none : (term : Term) (part : Value term → Part) (f : Form) (told : Bool) (octets text : List ℕ) → IsNotWhole term octets → Tells f (one_if part (judged term octets)) told text told text
-whole_none term part f told octets text none = rw (not_judged term octets none) (tells_none f told text)
+-- ---- of what may be there
+pub told_none : {A : Type 0} (part : A → Part) (found : Option A) (f : Form) (told : Bool) (text : List ℕ) → found ≡ None → Tells f (one_if part found) told text told text
+told_none part found f told text none = rw none (tells_none f told text)
 
-pub whole_some : (term : Term) (part : Value term → Part) (f : Form) (told : Bool) (octets old : List ℕ) (v : Value term) (p : Part) {new : List ℕ} → has_octet_tags term ≡ true → length octets < 2 ^ 31 → IsViewOf term octets v → part v ≡ p → new ≡ old ++ separator f told ++ part_text f p → Tells f (one_if part (judged term octets)) told old true new
-whole_some term part f told octets old v p tags short seen same put = rw (judged_view term octets v tags short seen, same) (tells_one f p told old put)
+pub told_some : {A : Type 0} (part : A → Part) (found : Option A) (f : Form) (told : Bool) (old : List ℕ) (v : A) {new : List ℕ} → found ≡ Some v → new ≡ old ++ separator f told ++ part_text f (part v) → Tells f (one_if part found) told old true new
+told_some part found f told old v some put = rw some (tells_one f (part v) told old put)
 
-pub count_none : (term : Term) (part : Value term → Part) (octets : List ℕ) → IsNotWhole term octets → 0 ≡ length (one_if part (judged term octets))
-count_none term part octets none = rw (not_judged term octets none) refl
+pub counted_none : {A : Type 0} (part : A → Part) (found : Option A) → found ≡ None → 0 ≡ length (one_if part found)
+counted_none part found none = rw none refl
 
-pub count_some : (term : Term) (part : Value term → Part) (octets : List ℕ) (v : Value term) → has_octet_tags term ≡ true → length octets < 2 ^ 31 → IsViewOf term octets v → 1 ≡ length (one_if part (judged term octets))
-count_some term part octets v tags short seen = rw (judged_view term octets v tags short seen) refl
+pub counted_some : {A : Type 0} (part : A → Part) (found : Option A) (v : A) → found ≡ Some v → 1 ≡ length (one_if part found)
+counted_some part found v some = rw some refl
 
 -- ---- of items
 -- what is left of the items to be told
 pub record Leaves (f : Form) (parts others : List Part) (old_told : Bool) (old : List ℕ) (told : Bool) (new : List ℕ) : Type 0 where
   pub text : new ++ parts_after f told others ≡ old ++ parts_after f old_told parts
   pub by_now : told_after told others ≡ told_after old_told parts
-
-pub leaves_all : (f : Form) (parts : List Part) (told : Bool) (text : List ℕ) → Leaves f parts parts told text told text
-leaves_all f parts told text = record { text = refl; by_now = refl }
 
 -- parts were told, of those that were left
 pub leaves_more : {f : Form} {parts others : List Part} {old_told told told_now : Bool} {old text new : List ℕ} (some rest : List Part) → Leaves f parts others old_told old told text → others ≡ some ++ rest → Tells f some told text told_now new → Leaves f parts rest old_told old told_now new
@@ -76,15 +71,34 @@ leaves_none {f} {parts} {others} {old_told} {told} {old} {text} left none = reco
   by_now = ap (told_after told) (sym none) ∙ left.by_now;
 }
 
+-- the parts of an item were counted, and those of the others are left
+pub counted_more : (in_request : Bool) (count : ℕ) {more total : ℕ} {items others : List (Value pa_data)} {v : Value pa_data} → items ≡ v ∷ others → count + length (flat_map (item_parts in_request) (map pa_data_of items)) ≡ total → more ≡ length (item_parts in_request (pa_data_of v))
+    → count + more + length (flat_map (item_parts in_request) (map pa_data_of others)) ≡ total
+counted_more in_request count {more} {total} {items} {others} {v} are sum many =
+    let all : length (flat_map (item_parts in_request) (map pa_data_of items)) ≡ length (item_parts in_request (pa_data_of v)) + length (flat_map (item_parts in_request) (map pa_data_of others)) =
+    ap (λ items. length (flat_map (item_parts in_request) (map pa_data_of items))) are ∙ length-append (item_parts in_request (pa_data_of v)) (flat_map (item_parts in_request) (map pa_data_of others)) in
+    omega (arith, all, sum, many)
+
 -- ---- as the text of a record has them
 pub named_parts : (told : Bool) (parts : List Part) → parts_after form.NamedLines told parts ≡ flat_map (λ p. codes " " ++ part_text form.NamedLines p) parts
+unfolding separator
 named_parts told [] = refl
 named_parts told (p ∷ parts) = ap (λ rest. (codes " " ++ part_text form.NamedLines p) ++ rest) (named_parts true parts)
 
 other_objects : (parts : List Part) → parts_after form.Json true parts ≡ flat_map (λ p. codes "," ++ part_text form.Json p) parts
+unfolding separator
 other_objects [] = refl
 other_objects (p ∷ parts) = ap (λ rest. (codes "," ++ part_text form.Json p) ++ rest) (other_objects parts)
 
 pub objects : (parts : List Part) → parts_after form.Json false parts ≡ joined [] (codes ",") (part_text form.Json) parts
+unfolding separator
 objects [] = refl
 objects (p ∷ parts) = ap (λ rest. part_text form.Json p ++ rest) (other_objects parts)
+
+pub named_inside : (old : List ℕ) {l₁ l₂ l₃ : List ℕ} (parts : List Part) → l₁ ≡ old ++ codes " inside=" → l₂ ≡ l₁ ++ decimal (length parts) → l₃ ≡ l₂ ++ parts_after form.NamedLines false parts → l₃ ≡ old ++ (inside_text form.NamedLines parts ++ [])
+unfolding inside_text
+named_inside old parts h₁ h₂ h₃ = rw (h₃, h₂, h₁, named_parts false parts) (simp (append_assoc, append-nil))
+
+pub object_inside : (old : List ℕ) {l₁ l₂ l₃ : List ℕ} (parts : List Part) → l₁ ≡ old ++ codes ",\"inside\":[" → l₂ ≡ l₁ ++ parts_after form.Json false parts → l₃ ≡ l₂ ++ codes "]}" → l₃ ≡ old ++ (inside_text form.Json parts ++ codes "}")
+unfolding inside_text
+object_inside old parts h₁ h₂ h₃ = rw (h₃, h₂, h₁, objects parts) (simp append_assoc)

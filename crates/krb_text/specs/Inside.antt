@@ -7,9 +7,7 @@ use Rattle.krb_msg.specs.Term.{Value}
 use Rattle.krb_msg.specs.Types.{ap_req_of, encrypted_data_of, pa_data_of}
 use Rattle.krb_msg.specs.declared.ap_req.ApReq.{ApReq}
 use Rattle.krb_msg.specs.declared.encrypted_data.EncryptedData.{EncryptedData}
-use Rattle.krb_msg.specs.declared.kdc_rep.KdcRep.{KdcRep}
 use Rattle.krb_msg.specs.declared.kdc_req.KdcReq.{KdcReq}
-use Rattle.krb_msg.specs.declared.krb_cred.KrbCred.{KrbCred}
 use Rattle.krb_msg.specs.declared.krb_error.KrbError.{KrbError}
 use Rattle.krb_msg.specs.declared.message.Message.{Message}
 use Rattle.krb_msg.specs.declared.message.Message.TheVariants as message

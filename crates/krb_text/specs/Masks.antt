@@ -1,5 +1,5 @@
 -- Messages without what is sealed or opaque: each octet of ciphers, of checksums and of user data is 00, also inside of pre-authentication data, and so is each octet of other pre-authentication data and of the data of errors.
-use Rattle.std.specs.Prelude.{ℕ, ℤ, ◌||◌, Bool, true, false, List, length, map, Option, Some, None, if◌then◌else◌}
+use Rattle.std.specs.Prelude.{ℕ, ℤ, ◌||◌, Bool, true, false, List, length, map, Option, Some, None}
 use Rattle.std.specs.Option.{option_map}
 use Rattle.krb_file.specs.Fields.{zeros}
 use Rattle.krb_msg.specs.declared.ap_rep.ApRep.{ApRep}
@@ -132,8 +132,12 @@ abbrev pub masked_krb_cred : KrbCred → KrbCred
 masked_krb_cred m = record m { tickets = map masked_ticket m.tickets; enc_part = masked_sealed m.enc_part }
 
 -- the data of an error are opaque unless it asks for pre-authentication or says that it failed
+abbrev pub opaque_unless : Bool → Option (List ℕ) → Option (List ℕ)
+opaque_unless true octets = octets
+opaque_unless false octets = option_map (λ some. zeros (length some)) octets
+
 abbrev pub masked_data : ℤ → Option (List ℕ) → Option (List ℕ)
-masked_data code octets = if asks_for_preauth code || says_preauth_failed code then octets else option_map (λ some. zeros (length some)) octets
+masked_data code octets = opaque_unless (asks_for_preauth code || says_preauth_failed code) octets
 
 abbrev pub masked_krb_error : KrbError → KrbError
 masked_krb_error m = record m { e_data = masked_data m.error_code m.e_data }

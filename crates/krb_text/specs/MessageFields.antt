@@ -1,5 +1,5 @@
 -- The fields of messages, as the table of lines in docs/FORMATS.md has them, but the notes.
-use Rattle.std.specs.Prelude.{ℕ, ℤ, pos, List, [], ◌∷◌, length, map, Option, codes}
+use Rattle.std.specs.Prelude.{ℕ, ℤ, pos, List, [], ◌∷◌, map, Option, codes}
 use Rattle.std.specs.List.{filter}
 use Rattle.krb_msg.specs.Notes.{notes_have}
 use Rattle.krb_msg.specs.declared.notes.Notes.{Notes}

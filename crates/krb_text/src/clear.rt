@@ -2,7 +2,7 @@
 
 ghost use Rattle.std.specs.Prelude.{◌≡◌, ◌++◌, ◌^◌, ◌<◌, codes, length, IfOk, MatchOption, None, OnOk, Some};
 ghost use Rattle.std.specs.Option.{option_map};
-ghost use Rattle.krb_msg.specs.Grammar.{ap_req, encrypted_data};
+ghost use Rattle.krb_msg.specs.Grammar.{encrypted_data};
 ghost use Rattle.krb_msg.specs.Types.{ApReqLists, ap_req_of, ap_req_of_view, ap_req_view_value, encrypted_data_of, encrypted_data_of_view, ticket_of_view};
 ghost use Rattle.krb_msg.specs.Viewed.{OfSome};
 ghost use Rattle.krb_padata.specs.Types.{KrbFastArmorLists, etype_info2_entry_of_view, etype_info_entry_of_view, krb_fast_armor_of, krb_fast_armor_view_value, krb_fast_armored_rep_of_view, krb_fast_armored_req_of_view, pa_for_user_of_view, pa_pac_options_of_view};
@@ -17,14 +17,14 @@ use crate::field::{put_closing, put_field};
 use crate::form::Form;
 use crate::message::put_ap_req;
 use crate::number::Numbered;
-use crate::part::{Clear, put_part_opening};
+use crate::part::{Clear, put_part_opening, view_judged};
 use crate::shown::QuotedText;
 use crate::text_buffer::TextBuffer;
 use crate::view_field::{
     put_absent_field, put_checksum_field, put_flags_field, put_hex_field, put_principal_field,
     put_quoted_field, put_sealed_field,
 };
-use krb_msg::{ApReq, ApReqView, EncryptedData, EncryptedDataView, Ticket, TicketView, view_whole};
+use krb_msg::{ApReq, ApReqView, EncryptedData, EncryptedDataView, Ticket, TicketView};
 use krb_padata::{
     EtypeInfo2Entry, EtypeInfo2EntryView, EtypeInfoEntry, EtypeInfoEntryView, KrbFastArmorView,
     KrbFastArmoredRepView, KrbFastArmoredReqView, PaForUser, PaForUserView, PaFxFastReply,
@@ -65,7 +65,7 @@ impl<'a> Clear<'a> for EtypeInfoEntry {
         seen: &EtypeInfoEntryView<'a>,
     ) -> Result<(), AllocError> {
         put_part_opening(text, form, told, "PA-ETYPE-INFO")?;
-        put_etype_field(text, form, seen.etype)?;
+        put_etype_field(text, form, &seen.etype)?;
         put_quoted_field(text, form, " salt=", ",\"salt", seen.salt)?;
         put_closing(text, form)
     }
@@ -83,7 +83,7 @@ impl<'a> Clear<'a> for EtypeInfo2Entry {
         seen: &EtypeInfo2EntryView<'a>,
     ) -> Result<(), AllocError> {
         put_part_opening(text, form, told, "PA-ETYPE-INFO2")?;
-        put_etype_field(text, form, seen.etype)?;
+        put_etype_field(text, form, &seen.etype)?;
         put_quoted_field(text, form, " salt=", ",\"salt", seen.salt)?;
         put_hex_field(text, form, " params=", ",\"params", seen.s2kparams)?;
         put_closing(text, form)
@@ -186,12 +186,12 @@ impl<'a> Clear<'a> for Ticket {
 }
 
 /// Appends a field of an encryption type.
-fn put_etype_field(text: &mut TextBuffer, form: Form, etype: i64) -> Result<(), AllocError>
-    ensures { OnOk result (text.new ≡ text.old ++ field form (codes "etype") (Named EncryptionTypes etype)) }
+fn put_etype_field(text: &mut TextBuffer, form: Form, etype: &i64) -> Result<(), AllocError>
+    ensures { OnOk result (text.new ≡ text.old ++ field form (codes "etype") (Named EncryptionTypes etype.now)) }
 {
     let shown = Numbered {
         registry: Registry::EncryptionTypes,
-        number: etype,
+        number: *etype,
     };
     put_field(text, form, " etype=", ",\"etype", &shown)
 }
@@ -203,7 +203,7 @@ fn ap_req_of_armor<'a>(armor: &Option<KrbFastArmorView<'a>>) -> Option<ApReqView
 {
     match armor {
         Some(armor) if armor.armor_type == AP_REQUEST_ARMOR => {
-            view_whole::<ApReq>(armor.armor_value)
+            view_judged::<ApReq>(armor.armor_value)
         }
         _ => None,
     }
@@ -292,7 +292,7 @@ pub(crate) fn put_sealed(
     requires { length octets.now < 2 ^ 31 }
     ensures { IfOk result (λ by_now. Tells form (one_if (λ v. sealed_part kind.now (encrypted_data_of v)) (judged encrypted_data octets.now)) told text.old by_now text.new) }
 {
-    match view_whole::<EncryptedData>(octets) {
+    match view_judged::<EncryptedData>(octets) {
         None => Ok(told),
         Some(seen) => {
             put_sealed_part(text, form, told, kind, &seen)?;

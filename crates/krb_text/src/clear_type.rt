@@ -3,6 +3,8 @@
 ghost use Rattle.std.specs.Prelude.{◌≡◌};
 ghost use Rattle.krb_text.specs.Inside.{clear_type};
 
+use krb_msg::PaDataView;
+
 /// What a value of pre-authentication data is, as far as something of it is in the clear (RFC 4120,
 /// 7.5.2; RFC 6113, 5.4; MS-SFU, 2.2.1; MS-KILE, 2.2.3 and 2.2.10).
 #[derive(Clone, Copy)]
@@ -34,12 +36,12 @@ pub(crate) enum ClearType {
 }
 
 impl ClearType {
-    /// Returns what the number of a type says in a request, or in a reply or an error.
+    /// Returns what an item is by its type, in a request, or in a reply or an error.
     #[tactic(auto, unfolding(crate::specs::Inside::type_of_number))]
-    pub(crate) fn of(in_request: bool, number: i64) -> ClearType
-        ensures { result ≡ clear_type in_request number }
+    pub(crate) fn of(in_request: bool, item: &PaDataView<'_>) -> ClearType
+        ensures { result ≡ clear_type in_request item.now.padata_type }
     {
-        match number {
+        match item.padata_type {
             1 => ClearType::TgsReq,
             2 => ClearType::EncTimestamp,
             3 => ClearType::PwSalt,

@@ -14,6 +14,7 @@ use crate::field::put_field;
 use crate::form::Form;
 use crate::item::{put_name_member, put_named};
 use crate::list::PaDataTypes;
+use crate::part::view_judged;
 use crate::shown::{Shown, put_begin};
 use crate::text_buffer::TextBuffer;
 use crate::view_field::{
@@ -22,7 +23,7 @@ use crate::view_field::{
     put_time_field,
 };
 use krb_der::Many;
-use krb_msg::{ItemsView, KrbErrorView, PaData, view_whole};
+use krb_msg::{ItemsView, KrbErrorView, PaData};
 use krb_registry::Registry;
 use std::alloc::AllocError;
 
@@ -88,7 +89,7 @@ pub(crate) fn method_data(octets: &[u8]) -> Option<ItemsView<'_>>
     requires { length octets.now < 2 ^ 31 }
     ensures { MatchOption result (judged method_data octets.now ≡ None) (λ items. AreViewed pa_data items.octets.now × (judged method_data octets.now ≡ Some (items_of pa_data items.octets.now))) }
 {
-    view_whole::<Many<PaData>>(octets)
+    view_judged::<Many<PaData>>(octets)
 }
 
 /// Returns a view of the METHOD-DATA of an error that asks for pre-authentication, if its data is

@@ -86,8 +86,21 @@ fn count_tickets(items: Option<ItemsView<'_>>) -> u64
     }
 }
 
-/// Appends the parts of Tickets, if there are any.
+/// Appends the parts of Tickets, and returns whether any was told by now.
 fn put_tickets(
+    text: &mut TextBuffer,
+    form: Form,
+    told: bool,
+    items: ItemsView<'_>,
+) -> Result<bool, AllocError>
+    requires { AreViewed ticket items.octets.now }
+    ensures { IfOk result (λ by_now. Tells form (map ticket_part (map ticket_of (items_of ticket items.entry.octets.now))) told text.old by_now text.new) }
+{
+    put_each::<Ticket>(text, form, told, items)
+}
+
+/// Appends the parts of Tickets, if there are any, and returns whether any was told by now.
+fn put_optional_tickets(
     text: &mut TextBuffer,
     form: Form,
     told: bool,
@@ -98,7 +111,7 @@ fn put_tickets(
 {
     match items {
         None => Ok(told),
-        Some(items) => put_each::<Ticket>(text, form, told, items),
+        Some(items) => put_tickets(text, form, told, items),
     }
 }
 
@@ -113,7 +126,7 @@ impl<'a> HasParts for KdcReqView<'a> {
 
     fn put_parts(&self, text: &mut TextBuffer, form: Form) -> Result<(), AllocError> {
         let told = put_optional_padata(text, form, true, self.padata)?;
-        put_tickets(text, form, told, self.body.additional_tickets)?;
+        put_optional_tickets(text, form, told, self.body.additional_tickets)?;
         Ok(())
     }
 }
@@ -143,9 +156,17 @@ impl<'a> HasParts for KrbCredView<'a> {
     }
 
     fn put_parts(&self, text: &mut TextBuffer, form: Form) -> Result<(), AllocError> {
-        put_each::<Ticket>(text, form, false, self.tickets)?;
+        put_tickets(text, form, false, self.tickets)?;
         Ok(())
     }
+}
+
+/// Returns whether an error asks for pre-authentication or says that it failed, so that its data
+/// are METHOD-DATA.
+fn has_methods(code: i64) -> bool
+    ensures { result ≡ (asks_for_preauth code || says_preauth_failed code) }
+{
+    code == PREAUTH_REQUIRED || code == PREAUTH_FAILED
 }
 
 /// Returns a view of the METHOD-DATA of an error that asks for pre-authentication or says that it
@@ -154,8 +175,8 @@ fn methods_of<'a>(error: &KrbErrorView<'a>) -> Option<ItemsView<'a>>
     requires { KrbErrorLists error.now }
     ensures { let seen = krb_error_of_view error.now in let found = method_data_if (asks_for_preauth seen.error_code || says_preauth_failed seen.error_code) seen.e_data in MatchOption result (found ≡ None) (λ items. AreViewed pa_data items.octets.now × (found ≡ Some (items_of pa_data items.octets.now))) }
 {
-    match (error.error_code, error.e_data) {
-        (PREAUTH_REQUIRED | PREAUTH_FAILED, Some(octets)) => method_data(octets),
+    match error.e_data {
+        Some(octets) if has_methods(error.error_code) => method_data(octets),
         _ => None,
     }
 }

@@ -1,13 +1,13 @@
 //! What is in the clear in lists of pre-authentication data, as parts that are appended or counted.
 
-ghost use Rattle.std.specs.Prelude.{◌≡◌, ◌+◌, ◌*◌, ◌^◌, ◌<◌, ◌≤◌, ◌++◌, length, map, IfOk, List, MatchOption, ℕ};
+ghost use Rattle.std.specs.Prelude.{◌≡◌, ◌^◌, ◌<◌, ◌≤◌, length, map, IfOk};
 ghost use Rattle.std.specs.List.{flat_map};
-ghost use Rattle.krb_msg.specs.Grammar.{encrypted_data, pa_data};
-ghost use Rattle.krb_msg.specs.Types.{encrypted_data_of, pa_data_of};
+ghost use Rattle.krb_msg.specs.Grammar.{pa_data};
+ghost use Rattle.krb_msg.specs.Types.{pa_data_of};
 ghost use Rattle.krb_msg.specs.Viewed.{AreViewed, items_of};
 ghost use Rattle.krb_padata.specs.Grammar.{etype_info, etype_info2};
 ghost use Rattle.krb_padata.specs.Types.{etype_info2_entry_of, etype_info_entry_of};
-ghost use Rattle.krb_text.specs.Inside.{clear_parts, each_if, etype_info2_part, etype_info_part, item_parts, one_if, sealed_part};
+ghost use Rattle.krb_text.specs.Inside.{clear_parts, each_if, etype_info2_part, etype_info_part, item_parts};
 ghost use Rattle.krb_text.specs.Judged.{judged};
 ghost use Rattle.krb_text.specs.declared.clear_type.ClearType.TheVariants.{PacRequest};
 ghost use Rattle.krb_text.specs.inner.Parts.{Tells};
@@ -16,9 +16,9 @@ use crate::clear::{put_pac_request, put_salt, put_sealed};
 use crate::clear_type::ClearType;
 use crate::form::Form;
 use crate::list::count_items;
-use crate::part::{count_whole, put_each, put_whole};
+use crate::part::{count_whole, put_each, put_whole, view_judged};
 use crate::text_buffer::TextBuffer;
-use krb_msg::{ApReq, EncryptedData, ItemsView, PaData, next_item, view_whole};
+use krb_msg::{ApReq, EncryptedData, ItemsView, PaData, next_item};
 use krb_padata::{
     EtypeInfo, EtypeInfo2, EtypeInfo2Entry, EtypeInfoEntry, PaForUser, PaFxFastReply,
     PaFxFastRequest, PaPacOptions, view_pac_request,
@@ -35,7 +35,7 @@ fn put_etype_info(
     requires { length octets.now < 2 ^ 31 }
     ensures { IfOk result (λ by_now. Tells form (each_if (λ v. etype_info_part (etype_info_entry_of v)) (judged etype_info octets.now)) told text.old by_now text.new) }
 {
-    match view_whole::<EtypeInfo>(octets) {
+    match view_judged::<EtypeInfo>(octets) {
         None => Ok(told),
         Some(entries) => put_each::<EtypeInfoEntry>(text, form, told, entries),
     }
@@ -51,7 +51,7 @@ fn put_etype_info2(
     requires { length octets.now < 2 ^ 31 }
     ensures { IfOk result (λ by_now. Tells form (each_if (λ v. etype_info2_part (etype_info2_entry_of v)) (judged etype_info2 octets.now)) told text.old by_now text.new) }
 {
-    match view_whole::<EtypeInfo2>(octets) {
+    match view_judged::<EtypeInfo2>(octets) {
         None => Ok(told),
         Some(entries) => put_each::<EtypeInfo2Entry>(text, form, told, entries),
     }
@@ -120,31 +120,20 @@ pub(crate) fn put_padata(
     let mut by_now = told;
     let mut others = items;
     'others: while let Some((seen, rest)) = next_item::<PaData>(others) {
-        let kind = ClearType::of(in_request, seen.padata_type);
+        let kind = ClearType::of(in_request, &seen);
         by_now = put_value(text, form, by_now, kind, seen.padata_value)?;
         others = rest;
     }
     Ok(by_now)
 }
 
-/// Returns how many parts octets have that are all of what is sealed, or none.
-fn count_sealed(octets: &[u8]) -> u64
-    requires { length octets.now < 2 ^ 31 }
-    ensures { (kind : List ℕ) → result ≡ length (one_if (λ v. sealed_part kind (encrypted_data_of v)) (judged encrypted_data octets.now)) }
-{
-    match view_whole::<EncryptedData>(octets) {
-        None => 0,
-        Some(_seen) => 1,
-    }
-}
-
 /// Returns how many parts a PA-ETYPE-INFO has.
 fn count_etype_info(octets: &[u8]) -> u64
     requires { length octets.now < 2 ^ 31 }
     ensures many { result ≡ length (each_if (λ v. etype_info_part (etype_info_entry_of v)) (judged etype_info octets.now)) }
-    ensures few { result ≤ length octets.now }
+    ensures few { result < 2 ^ 31 }
 {
-    match view_whole::<EtypeInfo>(octets) {
+    match view_judged::<EtypeInfo>(octets) {
         None => 0,
         Some(entries) => count_items::<EtypeInfoEntry>(entries) as u64,
     }
@@ -154,9 +143,9 @@ fn count_etype_info(octets: &[u8]) -> u64
 fn count_etype_info2(octets: &[u8]) -> u64
     requires { length octets.now < 2 ^ 31 }
     ensures many { result ≡ length (each_if (λ v. etype_info2_part (etype_info2_entry_of v)) (judged etype_info2 octets.now)) }
-    ensures few { result ≤ length octets.now }
+    ensures few { result < 2 ^ 31 }
 {
-    match view_whole::<EtypeInfo2>(octets) {
+    match view_judged::<EtypeInfo2>(octets) {
         None => 0,
         Some(entries) => count_items::<EtypeInfo2Entry>(entries) as u64,
     }
@@ -180,7 +169,7 @@ fn count_value(kind: ClearType, octets: &[u8]) -> u64
 {
     match kind {
         ClearType::TgsReq => count_whole::<ApReq>(octets),
-        ClearType::EncTimestamp | ClearType::EncryptedChallenge => count_sealed(octets),
+        ClearType::EncTimestamp => count_whole::<EncryptedData>(octets),
         ClearType::PwSalt => 1,
         ClearType::EtypeInfo => count_etype_info(octets),
         ClearType::EtypeInfo2 => count_etype_info2(octets),
@@ -188,6 +177,7 @@ fn count_value(kind: ClearType, octets: &[u8]) -> u64
         ClearType::ForUser => count_whole::<PaForUser>(octets),
         ClearType::FastRequest => count_whole::<PaFxFastRequest>(octets),
         ClearType::FastReply => count_whole::<PaFxFastReply>(octets),
+        ClearType::EncryptedChallenge => count_whole::<EncryptedData>(octets),
         ClearType::PacOptions => count_whole::<PaPacOptions>(octets),
         ClearType::Other => 0,
     }
@@ -202,7 +192,7 @@ pub(crate) fn count_padata(in_request: bool, items: ItemsView<'_>) -> u64
     let mut count = 0;
     let mut others = items;
     'others: while let Some((seen, rest)) = next_item::<PaData>(others) {
-        let kind = ClearType::of(in_request, seen.padata_type);
+        let kind = ClearType::of(in_request, &seen);
         count += count_value(kind, seen.padata_value);
         others = rest;
     }

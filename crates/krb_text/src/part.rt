@@ -1,6 +1,6 @@
 //! Parts: records inside of the record of a message.
 
-ghost use Rattle.std.specs.Prelude.{◌≡◌, ◌+◌, ◌++◌, ◌^◌, ◌<◌, ◌≤◌, true, length, map, IfOk, OnOk};
+ghost use Rattle.std.specs.Prelude.{◌≡◌, ◌+◌, ◌++◌, ◌^◌, ◌<◌, ◌≤◌, true, length, map, IfOk, MatchOption, None, OnOk, Some};
 ghost use Rattle.krb_msg.specs.Shape.{has_octet_tags, is_unambiguous};
 ghost use Rattle.krb_msg.specs.Term.{Value};
 ghost use Rattle.krb_msg.specs.Viewed.{AreViewed, items_of};
@@ -32,9 +32,21 @@ pub(crate) trait Clear<'a>: View<'a> {
         ensures { OnOk result (text.new ≡ text.old ++ separator form told ++ part_text form (part seen.now)) };
 }
 
+/// Returns a view of the item that octets are all of, if they are judged to be one.
+#[inline(always)]
+pub(crate) fn view_judged<'a, T: View<'a>>(octets: &'a [u8]) -> Option<T::Of>
+    requires short { length octets.now < 2 ^ 31 }
+    requires tags { has_octet_tags T.term ≡ true }
+    requires unambiguous { is_unambiguous T.term ≡ true }
+    ensures { MatchOption result (judged T.term octets.now ≡ None) (λ seen. (judged T.term octets.now ≡ Some (T.value seen)) × T.Lists seen) }
+{
+    view_whole::<T>(octets)
+}
+
 /// Appends what separates a part from those before it, if any was told, and what precedes its
 /// fields.
 #[inline(always)]
+#[tactic(auto, unfolding(crate::specs::inner::Parts::separator))]
 pub(crate) fn put_part_opening(
     text: &mut TextBuffer,
     form: Form,
@@ -64,7 +76,7 @@ pub(crate) fn put_whole<'a, T: Clear<'a>>(
     requires unambiguous { is_unambiguous T.View.term ≡ true }
     ensures { (part : Value T.View.term → Part) → ((seen : T.Of) → part (T.View.value seen) ≡ T.part seen) → IfOk result (λ by_now. Tells form (one_if part (judged T.View.term octets.now)) told text.old by_now text.new) }
 {
-    match view_whole::<T>(octets) {
+    match view_judged::<T>(octets) {
         None => Ok(told),
         Some(seen) => {
             T::put_part(text, form, told, &seen)?;
@@ -102,9 +114,10 @@ pub(crate) fn count_whole<'a, T: View<'a>>(octets: &'a [u8]) -> u64
     requires short { length octets.now < 2 ^ 31 }
     requires tags { has_octet_tags T.term ≡ true }
     requires unambiguous { is_unambiguous T.term ≡ true }
-    ensures { (part : Value T.term → Part) → result ≡ length (one_if part (judged T.term octets.now)) }
+    ensures many { (part : Value T.term → Part) → result ≡ length (one_if part (judged T.term octets.now)) }
+    ensures few { result ≤ 1 }
 {
-    match view_whole::<T>(octets) {
+    match view_judged::<T>(octets) {
         None => 0,
         Some(_seen) => 1,
     }

@@ -1,14 +1,12 @@
 -- Parts one after another, as they are appended and counted.
-use Rattle.std.specs.Prelude.{ℕ, ◌≡◌, Bool, true, false, List, [], ◌∷◌, ◌++◌, length, Option, Some, None, codes}
-use Rattle.krb_msg.specs.declared.message.Message.{Message}
+use Rattle.std.specs.Prelude.{ℕ, ◌≡◌, Bool, true, false, List, [], ◌∷◌, ◌++◌, codes}
 use Rattle.krb_text.specs.declared.form.Form.{Form}
 use Rattle.krb_text.specs.declared.form.Form.TheVariants as form
 use Rattle.krb_text.specs.Forms.{part_text}
-use Rattle.krb_text.specs.Inside.{inside_of}
 use Rattle.krb_text.specs.Values.{Part}
 
 -- what precedes a part, if others were told before it or none was
-abbrev pub separator : Form → Bool → List ℕ
+unfoldable pub separator : Form → Bool → List ℕ
 separator form.Lines told = codes " "
 separator form.NamedLines told = codes " "
 separator form.Json false = []

@@ -1,2 +1,0 @@
--- Masked values have as many octets.
-use Rattle.std.proofs.Common.{◌≡◌, List}

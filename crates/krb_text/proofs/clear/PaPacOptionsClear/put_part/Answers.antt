@@ -1,0 +1,14 @@
+use Rattle.std.proofs.Common.{codes}
+use Rattle.std.proofs.lemmas.Result.{on_ok_weaker}
+use Rattle.krb_text.specs.Forms.{closing, opening, part_text}
+use Rattle.krb_text.specs.inner.Parts.{separator}
+use Rattle.krb_text.proofs.Appended.{part_of_one}
+use Rattle.krb_text.proofs.clear.PaPacOptionsClear.put_part.Goals as goal
+
+pub returns : goal.returns
+unfolding part_text
+returns c =
+    on_ok_weaker
+    c.put_closing.result
+    (part_of_one c.args.text.now (separator c.args.form c.args.told) (opening c.args.form (codes "PA-PAC-OPTIONS")) _ (closing c.args.form) c.in_ok-put_part_opening.ensures c.in_ok-put_flags_field.ensures)
+    c.put_closing.ensures

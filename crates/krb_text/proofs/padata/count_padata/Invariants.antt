@@ -1,0 +1,17 @@
+use Rattle.std.proofs.Common.{◌≡◌, ◌+◌, ◌*◌, ◌≤◌, length, map}
+use Rattle.std.specs.List.{flat_map}
+use Rattle.krb_msg.specs.Grammar.{pa_data}
+use Rattle.krb_msg.specs.Types.{pa_data_of}
+use Rattle.krb_msg.specs.Viewed.{AreViewed, items_of}
+use Rattle.krb_text.specs.Inside.{item_parts}
+use Rattle.krb_text.proofs.padata.count_padata.Given as goal
+
+-- the parts so far, and those of the items that are left; each item has an octet or more, and fewer parts than there may be octets
+abbrev pub invariant-others : goal.invariant-others
+invariant-others l =
+    AreViewed pa_data l.others.octets.now
+    × (l.count + length (flat_map (item_parts l.in_request) (map pa_data_of (items_of pa_data l.others.octets.now))) ≡ length (flat_map (item_parts l.in_request) (map pa_data_of (items_of pa_data l.initial.others.octets.now))))
+    × (l.count + 2147483648 * length l.others.octets.now ≤ 2147483648 * length l.initial.others.octets.now)
+
+abbrev pub decreases-others : goal.decreases-others
+decreases-others l = length l.others.octets.now
