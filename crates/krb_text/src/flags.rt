@@ -135,7 +135,7 @@ fn has_unnamed(registry: Registry, octets: &[u8]) -> bool
     let mut k = 0u64;
     let mut others = octets;
     'others: while let Some((octet, rest)) = others.split_first() {
-        if *octet & nameless(registry, k) != 0 {
+        if *octet != 0 && *octet & nameless(registry, k) != 0 {
             return true;
         }
         k += 1;
