@@ -1,6 +1,6 @@
 -- Base64 that is read by no rule before its own.
-use Rattle.std.proofs.Common.{ℕ, suc, ◌+◌, ◌-◌, ◌*◌, ◌/◌, ◌%◌, ◌==◌, ◌≡◌, ◌<◌, ◌&&◌, ◌||◌, not, if◌then◌else◌, Bool, true, false, List, [], ◌∷◌, length, drop, Option, Some, None, Ok, Err, refl, sym, subst, ap, ◌∙◌, arith, codes}
-use Rattle.std.proofs.lemmas.Bool.{and_parts, eqb-true, not-true}
+use Rattle.std.proofs.Common.{ℕ, suc, ◌+◌, ◌-◌, ◌*◌, ◌/◌, ◌%◌, ◌==◌, ◌≡◌, ◌<◌, ◌&&◌, ◌||◌, not, if◌then◌else◌, Bool, true, false, List, [], ◌∷◌, length, Option, Some, None, Ok, Err, refl, sym, subst, ap, ◌∙◌, arith, codes}
+use Rattle.std.proofs.lemmas.Bool.{and_parts, eqb-true, not-true, or_parts}
 use Rattle.std.proofs.lemmas.Bool.Decides.{nat_tests}
 use Rattle.std.proofs.lemmas.List.Elements.{All-head, All-tail, All-weaker}
 use Rattle.std.specs.List.{AllPass}
@@ -11,7 +11,7 @@ use Rattle.krb_input.specs.Base64.{base64, first_octet}
 use Rattle.krb_input.specs.Braces.{after_first}
 use Rattle.krb_input.specs.Characters.{when, begins_with, is_blank, is_text, is_x}
 use Rattle.krb_input.specs.Digits.{are_digits, digits}
-use Rattle.krb_input.specs.Dumps.{begins_after, begins_dump, count_zeros, is_prefixed, without_prefix}
+use Rattle.krb_input.specs.Dumps.{begins_after, begins_dump, count_zeros, is_prefixed}
 use Rattle.krb_input.specs.Escapes.{escapes, has_escape}
 use Rattle.krb_input.specs.Headers.{after_arrow, after_field, after_name, after_scheme_name, after_space, after_word, is_space, lower_case, or_other, token_of, value_or_all}
 use Rattle.krb_input.specs.Inputs.{as_form, is_first, is_first_of, spelled_in_braces, spelled_in_field, spelled_in_tokens}
@@ -22,6 +22,7 @@ use Rattle.krb_laws.specs.Spelled.{Base64IsSpelled}
 use Rattle.krb_laws.proofs.Base64.{base64_read, first_octet_read, high_bits, text_begins}
 use Rattle.krb_laws.proofs.Blanks.{each_or_blank, next}
 use Rattle.krb_laws.proofs.Characters.{AreCharacters, is_character, symbol, text_characters}
+use Rattle.krb_laws.proofs.Hexadecimal.{begins_at, begins_unprefixed}
 use Rattle.krb_laws.proofs.Inputs.{spelled_no_dump}
 use Rattle.krb_laws.proofs.Printed.{all_text}
 
@@ -101,10 +102,6 @@ no_name text are =
 no_field : (text : List ℕ) → AreSpaced text → after_field (after_arrow text) ≡ text
 no_field text are = ap after_field (no_arrow_first text are) ∙ ap (λ o. value_or_all o text) (no_name text are)
 
-or_parts : (a b : Bool) → (a || b) ≡ false → (a ≡ false) × (b ≡ false)
-or_parts true b is = absurd (cc)
-or_parts false b is = (refl, is)
-
 -- the first character of a message's first octet, which is neither 0 nor the first letter of a scheme
 abbrev is_apart : ℕ → Bool
 is_apart octet = not (symbol (octet / 4) == 0x30) && not (lower_case (symbol (octet / 4)) == 0x6E) && not (lower_case (symbol (octet / 4)) == 0x6B)
@@ -172,11 +169,6 @@ no_digits : (text : List ℕ) (all : Bool) → are_digits text ≡ all → is_so
 no_digits text false is some = is
 no_digits text true is some = let none = digits_fit false text is in absurd (cc)
 
-begins_no_dump : (first : ℕ) (text : List ℕ) → (first == 0x30) ≡ false → is_prefixed (first ∷ text) ≡ false → begins_after (is_prefixed (first ∷ text)) (count_zeros (without_prefix (first ∷ text))) (without_prefix (first ∷ text)) ≡ false
-begins_no_dump first text no_zero no_prefix =
-    ap (λ p. begins_after p (count_zeros (if p then drop 2 (first ∷ text) else first ∷ text)) (if p then drop 2 (first ∷ text) else first ∷ text)) no_prefix
-    ∙ ap (λ b. begins_after false (when b (λ _. suc (count_zeros text)) (λ _. 0)) (first ∷ text)) no_zero
-
 unprefixed : (first : ℕ) (text : List ℕ) → (first == 0x30) ≡ false → is_prefixed (first ∷ text) ≡ false
 unprefixed first [] no_zero = refl
 unprefixed first (second ∷ text) no_zero = ap (λ b. b && is_x second) no_zero
@@ -184,8 +176,9 @@ unprefixed first (second ∷ text) no_zero = ap (λ b. b && is_x second) no_zero
 no_dump : (text others : List ℕ) (first : ℕ) → without_blanks text ≡ first ∷ others → (first == 0x30) ≡ false → begins_dump text ≡ false
 no_dump text others first given no_zero =
     let found = next text first others given in
-    ap (λ t. begins_after (is_prefixed t) (count_zeros (without_prefix t)) (without_prefix t)) found.skipped
-    ∙ begins_no_dump first found.rest no_zero (unprefixed first found.rest no_zero)
+    ap begins_at found.skipped
+    ∙ begins_unprefixed first found.rest (unprefixed first found.rest no_zero)
+    ∙ ap (λ b. begins_after false (when b (λ _. suc (count_zeros found.rest)) (λ _. 0)) (first ∷ found.rest)) no_zero
 
 -- ---- base64
 by_unfit : (size : ℕ) (text octets : List ℕ) (unfit : Option ℕ) → is_some unfit ≡ true → is_first_of (first_octet text) ≡ true → base64 text ≡ Ok octets → spelled_in_tokens size unfit text ≡ Ok (form.Base64, octets)

@@ -1,5 +1,6 @@
 -- Texts as they are without their blanks.
 use Rattle.std.proofs.Common.{ℕ, ◌≡◌, ◌||◌, if◌then◌else◌, not, Bool, true, false, List, [], ◌∷◌, refl, sym, subst, ap, ◌∙◌}
+use Rattle.std.proofs.lemmas.Bool.{or_right}
 use Rattle.std.proofs.lemmas.List.Elements.{All-cons, All-head, All-nil, All-tail}
 use Rattle.std.specs.List.{AllPass, list_any}
 use Rattle.krb_input.specs.Characters.{when, is_blank, skip_blanks}
@@ -36,10 +37,6 @@ none [] given = refl
 none (octet ∷ text) given = none_by octet text (is_blank octet) refl (none text) given
 
 -- ---- what each octet is
-or_true : (b : Bool) → (b || true) ≡ true
-or_true true = refl
-or_true false = refl
-
 or_later : (b before after : Bool) → (before ≡ true → after ≡ true) → (b || before) ≡ true → (b || after) ≡ true
 or_later true before after follows is = refl
 or_later false before after follows is = follows is
@@ -53,7 +50,7 @@ module _ (test : ℕ → Bool) where
 
   each_by : (octet : ℕ) (text : List ℕ) (blank : Bool) → is_blank octet ≡ blank → (AllPass test (without_blanks text) → AllPass (λ o. test o || is_blank o) text) → AllPass test (without_blanks (octet ∷ text)) → AllPass (λ o. test o || is_blank o) (octet ∷ text)
   each_by octet text true is others are =
-      All-cons IsOrBlank octet text (ap (λ b. test octet || b) is ∙ or_true (test octet)) (others (subst (AllPass test) (unblanked octet text true is) are))
+      All-cons IsOrBlank octet text (or_right (test octet) (is_blank octet) is) (others (subst (AllPass test) (unblanked octet text true is) are))
   each_by octet text false is others are =
       let whole = subst (AllPass test) (unblanked octet text false is) are in
       All-cons IsOrBlank octet text (ap (λ b. b || is_blank octet) (All-head (λ o. test o ≡ true) octet (without_blanks text) whole)) (others (All-tail (λ o. test o ≡ true) octet (without_blanks text) whole))
@@ -64,7 +61,7 @@ module _ (test : ℕ → Bool) where
   each_or_blank (octet ∷ text) are = each_by octet text (is_blank octet) refl (each_or_blank text) are
 
   some_by : (octet : ℕ) (text : List ℕ) (blank : Bool) → is_blank octet ≡ blank → (list_any test (without_blanks text) ≡ true → list_any test text ≡ true) → list_any test (without_blanks (octet ∷ text)) ≡ true → list_any test (octet ∷ text) ≡ true
-  some_by octet text true is others any = ap (λ b. test octet || b) (others (sym (ap (list_any test) (unblanked octet text true is)) ∙ any)) ∙ or_true (test octet)
+  some_by octet text true is others any = or_right (test octet) (list_any test text) (others (sym (ap (list_any test) (unblanked octet text true is)) ∙ any))
   some_by octet text false is others any =
       or_later (test octet) (list_any test (without_blanks text)) (list_any test text) others (sym (ap (list_any test) (unblanked octet text false is)) ∙ any)
 

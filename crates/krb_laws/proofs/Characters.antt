@@ -8,7 +8,6 @@ use Rattle.std.specs.Option.{is_some}
 use Rattle.base64.specs.Alphabet.{alphabet_symbols}
 use Rattle.base64.specs.Alphabets.{standard}
 use Rattle.base64.specs.Rfc4648.{encode_group, encode_one, encode_symbols, encode_two, padding_len}
-use Rattle.base64.specs.Tables.{is_printable}
 use Rattle.base64.proofs.Tables.{all_below_at}
 use Rattle.krb_der.specs.Octets.{AreOctets}
 use Rattle.krb_input.specs.Base64.{character_value}
@@ -39,9 +38,6 @@ IsCharacter octet = is_character octet ≡ true
 
 abbrev pub AreCharacters : List ℕ → Type 0
 AreCharacters text = AllPass is_character text
-
-pub character_printable : (octet : ℕ) → is_character octet ≡ true → is_printable octet ≡ true
-character_printable octet is = grind (arith, nat_tests)
 
 pub character_no_blank : (octet : ℕ) → is_character octet ≡ true → is_blank octet ≡ false
 character_no_blank octet is = grind (arith, nat_tests)

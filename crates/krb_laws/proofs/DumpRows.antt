@@ -1,6 +1,6 @@
 -- A line of a dump is read as the octets that it is written of.
 use Rattle.std.proofs.Common.{ℕ, zero, suc, ◌*◌, ◌/◌, ◌%◌, ◌^◌, ◌==◌, ◌≡◌, ◌<◌, ◌≤◌, ◌&&◌, ◌||◌, not, if◌then◌else◌, Bool, true, false, List, [], ◌∷◌, ◌++◌, length, take, drop, Some, None, Ok, Err, refl, sym, ap, ◌∙◌, arith}
-use Rattle.std.proofs.lemmas.Bool.{eq-eqb}
+use Rattle.std.proofs.lemmas.Bool.{and_right, eq-eqb, not_from_true}
 use Rattle.std.proofs.lemmas.Bool.Decides.{nat_tests}
 use Rattle.std.specs.Int.{w32, to_be_bytes}
 use Rattle.hex.specs.Hex.{encode_lower, encode_with, is_hex_digit, lower_digits}
@@ -11,7 +11,7 @@ use Rattle.krb_input.specs.Readings.{prepend, then_octet}
 use Rattle.krb_input.specs.Dumps.{after_digits, after_offset_read, begins_wrong, blanks_or_groups, ends_groups, first_group, groups, is_bar, is_group, is_number, is_offset, line, line_begun, line_of, most_blanks, offset_read, pairs}
 use Rattle.krb_input.proofs.Prepends.{prepend_none, prepend_twice}
 use Rattle.krb_laws.specs.Written.{IsBeside, IsGroup, IsLayout, Layout, after_blanks, begins_column, colon_if, dump_line, rows_of, spaced}
-use Rattle.krb_laws.proofs.Hexadecimal.{and_false, no_prefix, not_skipped}
+use Rattle.krb_laws.proofs.Hexadecimal.{no_prefix, not_skipped}
 use Rattle.krb_laws.proofs.Pairs.{IsPair, count_encoded, digit_no_bar, digit_no_blank, digit_no_x, digit_of, digits_pair, number_encoded}
 use Rattle.krb_laws.proofs.Rows.{AreGroups, all_of, all_of_rows, group_some, groups_are}
 
@@ -79,8 +79,8 @@ blanks_first false false text narrow = refl
 -- the first two digits of a group, and two others
 group_begun : (are_words : Bool) (blanks octet high low : ℕ) (text : List ℕ) → IsPair octet high low → is_group are_words (count_digits (high ∷ low ∷ text)) ≡ true → groups are_words blanks (high ∷ low ∷ text) ≡ prepend (octet ∷ []) (groups are_words 0 text)
 group_begun are_words blanks octet high low text pair fits =
-    let ends = ap (λ b. not (blanks == 0) && not are_words && b) (digit_no_bar high pair.high_digit) ∙ and_false (not (blanks == 0) && not are_words) in
-    let wrong = ap (λ b. not (blanks == 0) && not b) fits ∙ and_false (not (blanks == 0)) in
+    let ends = and_right (not (blanks == 0) && not are_words) (is_bar high) (digit_no_bar high pair.high_digit) in
+    let wrong = and_right (not (blanks == 0)) (not (is_group are_words (count_digits (high ∷ low ∷ text)))) (not_from_true (is_group are_words (count_digits (high ∷ low ∷ text))) fits) in
     ap (λ b. when b (λ _. when (blanks == most_blanks are_words) (λ _. Ok []) (λ _. groups are_words (suc blanks) (low ∷ text)))
     (λ _. when (ends_groups are_words blanks high) (λ _. Ok []) (λ _.
     when (begins_wrong are_words blanks (count_digits (high ∷ low ∷ text))) (λ _. Err (suc (length (low ∷ text)))) (λ _. pairs are_words high (low ∷ text))))) (digit_no_blank high pair.high_digit)

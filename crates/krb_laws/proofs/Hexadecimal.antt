@@ -1,6 +1,6 @@
 -- Hexadecimal that does not begin as a dump.
 use Rattle.std.proofs.Common.{ℕ, zero, suc, ◌==◌, ◌≡◌, ◌<◌, ◌&&◌, ◌||◌, nat_le, not, if◌then◌else◌, Bool, true, false, List, [], ◌∷◌, length, drop, Ok, Err, refl, sym, subst, ap, ◌∙◌, arith}
-use Rattle.std.proofs.lemmas.Bool.{and_parts, eqb-true}
+use Rattle.std.proofs.lemmas.Bool.{and_parts, and_right, eqb-true}
 use Rattle.std.proofs.lemmas.List.Elements.{All-head, All-tail}
 use Rattle.std.specs.List.{AllPass}
 use Rattle.std.proofs.lemmas.Bool.Decides.{nat_tests}
@@ -21,7 +21,7 @@ use Rattle.krb_laws.proofs.Inputs.{spelled_no_dump}
 use Rattle.krb_laws.proofs.Pairs.{digit_no_blank, digit_no_colon, digit_no_x}
 
 -- what is decoded of a text without its blanks is read of it
-pub decoded_read : (text octets : List ℕ) → decode_of (without_blanks text) ≡ Ok octets → AreRead text (digits text) octets
+decoded_read : (text octets : List ℕ) → decode_of (without_blanks text) ≡ Ok octets → AreRead text (digits text) octets
 decoded_read text octets is =
     let even = (decode_of-ok (without_blanks text) octets is).0 in
     (is_decoded text).whole 0 octets (sym (decode_of-even (without_blanks text) even) ∙ is)
@@ -37,14 +37,15 @@ hexadecimal_is_spelled text octets is other =
 pub not_skipped : (first : ℕ) (text : List ℕ) → is_blank first ≡ false → skip_blanks (first ∷ text) ≡ first ∷ text
 not_skipped first text no_blank = ap (λ b. when b (λ _. skip_blanks text) (λ _. first ∷ text)) no_blank
 
-pub begins_after_zeros : (first : ℕ) (text : List ℕ) → is_blank first ≡ false → is_prefixed (first ∷ text) ≡ false → begins_dump (first ∷ text) ≡ begins_after false (count_zeros (first ∷ text)) (first ∷ text)
-begins_after_zeros first text no_blank no_prefix =
-    ap (λ t. begins_after (is_prefixed t) (count_zeros (without_prefix t)) (without_prefix t)) (not_skipped first text no_blank)
-    ∙ ap (λ p. begins_after p (count_zeros (if p then drop 2 (first ∷ text) else first ∷ text)) (if p then drop 2 (first ∷ text) else first ∷ text)) no_prefix
+-- whether a text that begins with no blank begins as a dump
+abbrev pub begins_at : List ℕ → Bool
+begins_at text = begins_after (is_prefixed text) (count_zeros (without_prefix text)) (without_prefix text)
 
-pub and_false : (b : Bool) → (b && false) ≡ false
-and_false true = refl
-and_false false = refl
+pub begins_unprefixed : (first : ℕ) (text : List ℕ) → is_prefixed (first ∷ text) ≡ false → begins_at (first ∷ text) ≡ begins_after false (count_zeros (first ∷ text)) (first ∷ text)
+begins_unprefixed first text unprefixed = ap (λ p. begins_after p (count_zeros (if p then drop 2 (first ∷ text) else first ∷ text)) (if p then drop 2 (first ∷ text) else first ∷ text)) unprefixed
+
+begins_after_zeros : (first : ℕ) (text : List ℕ) → is_blank first ≡ false → is_prefixed (first ∷ text) ≡ false → begins_dump (first ∷ text) ≡ begins_after false (count_zeros (first ∷ text)) (first ∷ text)
+begins_after_zeros first text no_blank unprefixed = ap begins_at (not_skipped first text no_blank) ∙ begins_unprefixed first text unprefixed
 
 -- ---- a first octet that is not 00
 too_few : (zeros : ℕ) (text : List ℕ) → nat_le 4 zeros ≡ false → begins_after false zeros text ≡ false
@@ -58,7 +59,7 @@ no_x : (octet : ℕ) → (is_hex_digit octet || is_blank octet) ≡ true → is_
 no_x octet is = grind (arith, nat_tests)
 
 pub no_prefix : (high low : ℕ) (text : List ℕ) → is_x low ≡ false → is_prefixed (high ∷ low ∷ text) ≡ false
-no_prefix high low text is = ap (λ x. high == 0x30 && x) is ∙ and_false (high == 0x30)
+no_prefix high low text is = and_right (high == 0x30) (is_x low) is
 
 begins_with_zero : (reading : Reading) (octets : List ℕ) → prepend (0 ∷ []) reading ≡ Ok octets → begins_with 0x00 octets ≡ true
 begins_with_zero (Ok others) octets is = let same : 0 ∷ others ≡ octets = cc in ap (begins_with 0x00) (sym same)
@@ -125,7 +126,7 @@ digit_after : (as_of_od : Bool) (text : List ℕ) → AllPass is_hex_digit text 
 digit_after as_of_od [] all = refl
 digit_after as_of_od (first ∷ text) all = after_zero as_of_od first text (first == 0x30) (All-head IsDigit first text all) (digit_after as_of_od text (All-tail IsDigit first text all))
 
-pub digits_unprefixed : (first : ℕ) (text : List ℕ) → AllPass is_hex_digit text → is_prefixed (first ∷ text) ≡ false
+digits_unprefixed : (first : ℕ) (text : List ℕ) → AllPass is_hex_digit text → is_prefixed (first ∷ text) ≡ false
 digits_unprefixed first [] all = refl
 digits_unprefixed first (second ∷ text) all = no_prefix first second text (digit_no_x second (All-head IsDigit second text all))
 
@@ -133,8 +134,7 @@ digits_no_dump : (text : List ℕ) → AllPass is_hex_digit text → begins_dump
 digits_no_dump [] all = refl
 digits_no_dump (first ∷ text) all =
     begins_after_zeros first text (digit_no_blank first (All-head IsDigit first text all)) (digits_unprefixed first text (All-tail IsDigit first text all))
-    ∙ ap (λ b. is_offset_long (count_zeros (first ∷ text)) && b) (digit_after (count_zeros (first ∷ text) == 7 && true) (first ∷ text) all)
-    ∙ and_false (is_offset_long (count_zeros (first ∷ text)))
+    ∙ and_right (is_offset_long (count_zeros (first ∷ text))) (begins_octets (count_zeros (first ∷ text) == 7 && true) (drop (count_zeros (first ∷ text)) (first ∷ text))) (digit_after (count_zeros (first ∷ text) == 7 && true) (first ∷ text) all)
 
 digits_unblanked : (text : List ℕ) → AllPass is_hex_digit text → without_blanks text ≡ text
 digits_unblanked [] all = refl
@@ -151,7 +151,7 @@ each_byte : (octet : ℕ) (octets : List ℕ) → octet < 256 → IsBytes octets
 each_byte octet octets first others zero = first
 each_byte octet octets first others (suc i) = others i
 
-pub bytes_of : (octets : List ℕ) → AreOctets octets → IsBytes octets
+bytes_of : (octets : List ℕ) → AreOctets octets → IsBytes octets
 bytes_of [] are = λ i. omega arith
 bytes_of (octet ∷ octets) are = each_byte octet octets are.0 (bytes_of octets are.1)
 

@@ -14,11 +14,11 @@ no_mark (first ∷ []) is = refl
 no_mark (first ∷ second ∷ []) is = refl
 no_mark (first ∷ second ∷ third ∷ text) is = ap (λ begins. begins && (second == 0xBB) && (third == 0xBF)) is
 
-pub without_no_mark : (input : List ℕ) → begins_with 0xEF input ≡ false → without_mark input ≡ input
+without_no_mark : (input : List ℕ) → begins_with 0xEF input ≡ false → without_mark input ≡ input
 without_no_mark input is = ap (λ marked. if marked then drop 3 input else input) (no_mark input is)
 
 -- EF is no text
-pub text_unmarked : (text : List ℕ) → first_no_text text ≡ None → begins_with 0xEF text ≡ false
+text_unmarked : (text : List ℕ) → first_no_text text ≡ None → begins_with 0xEF text ≡ false
 text_unmarked [] none = refl
 text_unmarked (first ∷ text) none = by_first (first == 0xEF) refl
   where
@@ -30,7 +30,7 @@ text_unmarked (first ∷ text) none = by_first (first == 0xEF) refl
         absurd (cc)
 
 -- ---- texts
-pub spelled_text : (text : List ℕ) → first_no_text text ≡ None → spelled text ≡ spelled_in_text (length text) text
+spelled_text : (text : List ℕ) → first_no_text text ≡ None → spelled text ≡ spelled_in_text (length text) text
 unfolding spelled
 spelled_text text none =
     ap (λ t. spelled_by (first_no_text t) text) (without_no_mark text (text_unmarked text none))

@@ -1,5 +1,6 @@
 -- Each message and each Ticket is spelled in each form.
-use Rattle.std.proofs.Common.{ℕ, ◌==◌, ◌≡◌, ◌||◌, not, Bool, true, false, List, ◌∷◌, length, refl, sym, subst, ap, ◌∙◌, arith}
+use Rattle.std.proofs.Common.{ℕ, ◌==◌, ◌≡◌, ◌||◌, not, true, false, List, ◌∷◌, length, sym, subst, ap, arith}
+use Rattle.std.proofs.lemmas.Bool.{or_left, or_right}
 use Rattle.std.proofs.lemmas.Bool.Decides.{nat_tests}
 use Rattle.std.specs.Option.{is_some}
 use Rattle.krb_der.specs.Octets.{AreOctets}
@@ -21,13 +22,8 @@ tag_no_mark tag is = grind (arith, nat_tests)
 tag_first : (tag : ℕ) → is_tag tag ≡ true → is_first tag ≡ true
 tag_first tag is = ap (λ b. b || tag == 0x00 || tag == 0xA0 || tag == 0xA1 || tag == 0x4E) is
 
-or_second : (a c : Bool) → (a || true || c) ≡ true
-or_second true c = refl
-or_second false c = refl
-
 tag_begins : (tag : ℕ) (octets : List ℕ) → is_tag tag ≡ true → begin_message (tag ∷ octets) ≡ true
-tag_begins tag octets is =
-    ap (λ b. not (is_text tag) || b || begins_with_all ntlm (tag ∷ octets)) is ∙ or_second (not (is_text tag)) (begins_with_all ntlm (tag ∷ octets))
+tag_begins tag octets is = or_left (not (is_text tag) || is_tag tag) (begins_with_all ntlm (tag ∷ octets)) (or_right (not (is_text tag)) (is_tag tag) is)
 
 -- ---- messages and Tickets
 headed_apart : (first second third : ℕ) (others : List ℕ) → AreOctets (first ∷ second ∷ third ∷ others) → is_tag first ≡ true → IsHead second third → is_some (first_no_text (first ∷ second ∷ third ∷ others)) ≡ true → AreApart first (second ∷ third ∷ others)

@@ -22,6 +22,7 @@ use Rattle.krb_msg.proofs.Lengths.{long_length}
 use Rattle.krb_laws.proofs.Octets.{no_text_after, no_text_among}
 use Rattle.krb_laws.specs.Spelled.{AreMessageOrTicket}
 
+-- an item of APPLICATION with at least a number, which has a SEQUENCE of which the first field is [index]
 pub record IsNested (least : ℕ) (octets : List ℕ) : Type 0 where
   pub number : ℕ
   pub index : ℕ
@@ -63,7 +64,7 @@ message_nested profile octets are is =
     let one = whole_is_one_of (messages profile) (length octets) octets are (omega arith) is in
     subst (IsNested 10) (sym one.is_der.form) (nested_der 10 one.term (one_nests one.term (messages profile) (all_nest profile) one.one_of) one.is_der.value)
 
-pub ticket_nested : (profile : Profile) (octets : List ℕ) → AreOctets octets → term_judgement (profile_term profile false ticket) (length octets) octets ≡ Whole → IsNested 1 octets
+ticket_nested : (profile : Profile) (octets : List ℕ) → AreOctets octets → term_judgement (profile_term profile false ticket) (length octets) octets ≡ Whole → IsNested 1 octets
 ticket_nested profile octets are is =
     let one = whole_is_value (profile_term profile false ticket) octets are is in
     subst (IsNested 1) (sym one.form) (nested_der 1 (profile_term profile false ticket) (ticket_nests profile) one.value)
@@ -79,6 +80,7 @@ whole_nested profile octets are (inr is) = ticket_nested profile octets are is
 abbrev pub IsHead : (second third : ℕ) → Type 0
 IsHead second third = (third ≡ 0x30) ⊎ ((128 < second) × (second ≤ 132) × (second ≡ 129 → 128 ≤ third))
 
+-- octets that begin as such an item: with a tag, a length, and what follows that
 pub record Headed (octets : List ℕ) : Type 0 where
   pub first : ℕ
   pub second : ℕ

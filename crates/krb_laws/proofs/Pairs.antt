@@ -60,7 +60,7 @@ digits_pair octet small =
 count_digit : (first : ℕ) (text : List ℕ) → is_hex_digit first ≡ true → count_digits (first ∷ text) ≡ suc (count_digits text)
 count_digit first text is = ap (λ b. when b (λ _. suc (count_digits text)) (λ _. 0)) is
 
-pub count_pair : (octet high low : ℕ) (text : List ℕ) → IsPair octet high low → count_digits (high ∷ low ∷ text) ≡ suc (suc (count_digits text))
+count_pair : (octet high low : ℕ) (text : List ℕ) → IsPair octet high low → count_digits (high ∷ low ∷ text) ≡ suc (suc (count_digits text))
 count_pair octet high low text is = count_digit high (low ∷ text) is.high_digit ∙ ap suc (count_digit low text is.low_digit)
 
 pub count_encoded : (octets text : List ℕ) → AreOctets octets → count_digits text ≡ 0 → count_digits (encode_lower octets ++ text) ≡ length (encode_lower octets)

@@ -1,6 +1,6 @@
 -- Characters of base64 that no hexadecimal has.
 use Rattle.std.proofs.Common.{ℕ, suc, ◌+◌, ◌-◌, ◌*◌, ◌/◌, ◌%◌, ◌==◌, ◌≡◌, ◌<◌, ◌≤◌, ◌&&◌, ◌||◌, ◌⊎◌, inl, inr, not, Bool, true, false, List, [], ◌∷◌, ◌++◌, length, replicate, Some, refl, sym, subst, ap, ◌∙◌, arith}
-use Rattle.std.proofs.lemmas.Bool.{cases_eq}
+use Rattle.std.proofs.lemmas.Bool.{and_right, cases_eq}
 use Rattle.std.specs.List.{list_any}
 use Rattle.std.specs.Option.{is_some}
 use Rattle.base64.specs.Alphabet.{alphabet_symbols}
@@ -14,7 +14,6 @@ use Rattle.krb_input.specs.Tokens.{first_unfit, is_mark}
 use Rattle.krb_laws.specs.Written.{base64_text}
 use Rattle.krb_laws.proofs.Blanks.{some_of}
 use Rattle.krb_laws.proofs.Characters.{symbol}
-use Rattle.krb_laws.proofs.Hexadecimal.{and_false}
 use Rattle.krb_laws.proofs.Nested.{IsHead}
 
 -- whether a character is no digit, no mark and no x
@@ -26,7 +25,7 @@ unfit_parts : (digit mark x after_zero : Bool) → not (digit || mark || x) ≡ 
 unfit_parts true mark x after_zero is = absurd (cc)
 unfit_parts false true x after_zero is = absurd (cc)
 unfit_parts false false true after_zero is = absurd (cc)
-unfit_parts false false false after_zero is = and_false after_zero
+unfit_parts false false false after_zero is = and_right after_zero false refl
 
 unfit_here : (after_zero : Bool) (octet : ℕ) (text : List ℕ) → is_unfit octet ≡ true → is_some (first_unfit after_zero (octet ∷ text)) ≡ true
 unfit_here after_zero octet text is =
@@ -42,7 +41,7 @@ unfit_by octet text true is others any after_zero = unfit_here after_zero octet 
 unfit_by octet text false is others any after_zero = unfit_on (is_hex_digit octet || is_mark octet || after_zero && is_x octet) octet text (others any)
 
 -- a text with such a character
-pub unfit_among : (text : List ℕ) → list_any is_unfit text ≡ true → (after_zero : Bool) → is_some (first_unfit after_zero text) ≡ true
+unfit_among : (text : List ℕ) → list_any is_unfit text ≡ true → (after_zero : Bool) → is_some (first_unfit after_zero text) ≡ true
 unfit_among [] any = absurd (cc)
 unfit_among (octet ∷ text) any = unfit_by octet text (is_unfit octet) refl (unfit_among text) any
 
