@@ -230,14 +230,15 @@ class Reader:
         names = [self.take()]
         while self.take(",", "FROM") == ",":
             names.append(self.take())
-        other = self.others.get(self.take()) or self.refuse("there is no such module")
-        self.take(";")
+        module = self.take()
+        other = self.others.get(module) or self.refuse(f"there is no module {module} to import from")
         for name in names:
             if name not in BASICS and name not in other.named:
-                self.refuse(f"there is no type {name} in {other.name}")
+                self.refuse(f"there is no type {name} in {module}")
             self.imported.add(name)
             if name not in BASICS:
                 self.named[name] = other.named[name]
+        self.take(";")
 
     def module(self):
         self.comments()
@@ -351,6 +352,8 @@ class Reader:
         made = self.field([])
         self.comments()
         self.take("}")
+        if made.optional or not isinstance(made.type, Sequence):
+            self.refuse(f"{name} is no choice of one SEQUENCE")
         return Tagged(made.type, name, made.index, about)
 
     def choice(self):

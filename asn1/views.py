@@ -1,9 +1,9 @@
 """krb_padata/src: a file for each type, with its struct, its view and the description of its fields, and what is of it."""
 
-from model import owned
-from module import Sequence
+from model import is_plain, owned
+from module import Refused, Sequence
 from structs import BASIC, INHERITED, halves, in_one_step, layout_type, structs, term_name, view_impl
-from text import brought, by, doc, fill
+from text import brought, doc, fill
 
 DESCRIBED = "End FlagsView ItemsView Optional Required Sequence Tagged View view_items"
 
@@ -50,11 +50,9 @@ def of_type(module, it):
 
 
 def view_file(module, it):
+    if not is_plain(it):
+        raise Refused(f"{module.home.path}: {it.name} has more fields, or others, than a view here is made of")
     parts = [structs(it, "Drop"), layout(it), view_impl(it, "Layout", *in_one_step(it)), *of_type(module, it)]
     body = "\n".join(parts)
     code = "\n".join(line for line in body.splitlines() if not line.lstrip().startswith("//"))
-    return f"//! {it.name}. {wrote(module)}.\n\n{ghost_uses(it, code)}\n{uses(module, it, code)}\n{body}"
-
-
-def wrote(module):
-    return by(f"`{module.home.path}`").replace("asn1/generate", "`asn1/generate`", 1)
+    return f"//! {it.name}. `asn1/generate` wrote this from `{module.home.path}`.\n\n{ghost_uses(it, code)}\n{uses(module, it, code)}\n{body}"

@@ -103,7 +103,8 @@ uint32_t krbls_path(uint32_t profile, size_t n, const uint8_t *octets, size_t oc
 /* Listings, each what the command of its name prints of these octets, with its status: 0 if all is well, or 1 if
  * something is refused or, of a capture, lost or unread. Lines are of ASCII, and each ends with a line feed. */
 
-/* One message: its line, or that of its refusal. The command reads the same octets in hexadecimal. */
+/* One message, or a Ticket, by itself, after four octets of its length, or in a token of GSS-API or SPNEGO: its line, or
+ * that of the refusal. The octets are never read as text, though the command reads text. */
 uint32_t krbls_message(uint32_t form, uint32_t profile, const uint8_t *octets, size_t octets_size, uint8_t *text,
                        size_t room, size_t *size);
 

@@ -162,7 +162,7 @@ def frame(octets, strict=False, limit=0):
 
 def listing(command, octets, form=LINES, strict=False, limit=0, going_on=False, now=0, port=0):
     """What `krbls COMMAND` prints of octets, and its status: 0, or 1 if something is refused, lost or unread. The command
-    is message (whose octets are not in hexadecimal here), stream, keytab, ccache or capture, the form one of LINES,
+    is message (whose octets are not read as text here), stream, keytab, ccache or capture, the form one of LINES,
     NAMED_LINES and JSON, and the others are the options of the commands that have them; 0 is as without the option."""
     octets, form, strict = bytes(octets), _FORMS[form], int(strict)
     _in_range("limit", limit, 2**31 - 1)
@@ -194,7 +194,7 @@ def _without_names(members):
 
 
 def message(octets, names=True, strict=False):
-    """The record of a message, or of its refusal, as a dict. Numbers have their names beside them unless names is False."""
+    """The record of a message, of a Ticket or of what is in a token, or of its refusal, as a dict. Numbers have their names beside them unless names is False."""
     (record,) = _dicts("message", octets, names, strict=strict)
     return record
 

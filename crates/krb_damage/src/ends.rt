@@ -3,7 +3,8 @@
 use crate::fakes::{Narrow, Slow};
 use krb_der::Profile;
 use krb_tool::{
-    Form, Limit, RunEnd, RunFault, run_ccache, run_keytab, run_message_in, run_stream_in,
+    Form, Limit, RunEnd, RunFault, run_ccache, run_keytab, run_lines_in, run_message_in,
+    run_stream_in,
 };
 use std::alloc::Global;
 use std::io::{Read, Write};
@@ -13,6 +14,7 @@ use std::io::{Read, Write};
 pub(crate) enum Run {
     Stream(Profile),
     Message(Profile),
+    Lines(Profile),
     Keytab,
     Ccache,
 }
@@ -29,6 +31,7 @@ impl Run {
                 run_stream_in(alloc, Form::Lines, profile, reader, writer, Limit::DEFAULT)
             }
             Run::Message(profile) => run_message_in(alloc, Form::Lines, profile, reader, writer),
+            Run::Lines(profile) => run_lines_in(alloc, Form::Lines, profile, reader, writer),
             Run::Keytab => run_keytab(alloc, reader, writer),
             Run::Ccache => run_ccache(alloc, reader, writer, Some(946688399)),
         }

@@ -4,6 +4,7 @@ mod calls;
 mod captures;
 mod conversions;
 mod decoders;
+mod lines;
 mod octets;
 mod readers;
 

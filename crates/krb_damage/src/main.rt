@@ -8,9 +8,9 @@
 //! several readers, has to have the same records or the same fault. Each is also listed from
 //! readers that fail at the first read, at the second, and so on, and to writers that fail, or
 //! accept nothing, at each write in turn: then a prefix of the lines has to be written. A message
-//! is listed as a stream and as its digits. The line of each counts the prefixes that are whole,
-//! the changes, those after which it is still a message or a file, and the reads and the writes
-//! that failed.
+//! is listed as a stream, as its digits, and as a line of these. The line of each counts the
+//! prefixes that are whole, the changes, those after which it is still a message or a file, and the
+//! reads and the writes that failed.
 //!
 //! A file of more than 256 octets is not changed: it has to be written as it was read, also from
 //! readers of two parts, whatever the first part is.
@@ -146,6 +146,7 @@ fn tried_message(alloc: Global, profile: Profile, message: &[u8], digits: &str) 
     frame.extend_from_slice(&length.to_be_bytes()).ok()?;
     frame.extend_from_slice(message).ok()?;
     let failed = failures(alloc, Run::Message(profile), digits.as_bytes(), NONE_FAILED)?;
+    let failed = failures(alloc, Run::Lines(profile), digits.as_bytes(), failed)?;
     let failed = failures(alloc, Run::Stream(profile), frame.as_slice(), failed)?;
     tried(alloc, Subject::Frame(profile), frame.as_mut_slice(), failed)
 }

@@ -16,8 +16,11 @@ use krb_json::{LineFault, Scratch, put_text, read_line, unsealed_path};
 use krb_judge::{ParseFault, judge, parse, read_ticket};
 use krb_keytab::{Next, Record, Records};
 use krb_list::{Form, TextBuffer, message_line, principal_text};
-use krb_msg::{ApRep, EncodeFault, EncryptedData, Kind, Message, PrincipalName, encode};
+use krb_msg::{
+    ApRep, EncodeFault, EncryptedData, Kind, Message, PrincipalName, encode, next_item, view_whole,
+};
 use krb_packet::{Packet, Packets};
+use krb_padata::{EtypeInfo2, EtypeInfo2Entry, view_pac_request};
 use krb_registry::{Registry, name_of};
 use krb_scan::Scanner;
 use krb_tool::{DecodeEnd, EncodeEnd, run_decode, run_encode, run_keytab, status};
@@ -66,6 +69,16 @@ fn may_go_on(present: &[u8]) -> bool {
 fn ticket_etype(octets: &[u8]) -> Result<i64, Refusal> {
     let ticket = read_ticket(octets)?;
     Ok(ticket.enc_part.etype)
+}
+
+/// Returns the salt for the first encryption type of an ETYPE-INFO2, if it has one.
+fn first_salt(info: &[u8]) -> Option<&[u8]> {
+    if info.len() > 65536 {
+        return None;
+    }
+    let entries = view_whole::<EtypeInfo2>(info)?;
+    let (entry, _) = next_item::<EtypeInfo2Entry>(entries)?;
+    entry.salt
 }
 
 /// Returns the JSON of a message, and nothing if some of it is not encrypted.
@@ -322,6 +335,13 @@ fn is_keytab_command(alloc: Global, words: &[Vec<u8>]) -> Result<bool, WordsFaul
 const STREAM: &[u8] =
     b"\x00\x00\x00\x01\x01\x00\x00\x00\x1F\x6F\x1D\x30\x1B\xA0\x03\x02\x01\x05\xA1\x03\x02\x01\x0F\xA2\x0F\x30\x0D\xA0\x03\x02\x01\x12\xA2\x06\x04\x04\x01\x02\x03\x04";
 
+/// An ETYPE-INFO2 that Samba sent: encryption type 18, a salt, and 4096 iterations.
+const ETYPE_INFO2: &[u8] =
+    b"\x30\x1F\x30\x1D\xA0\x03\x02\x01\x12\xA1\x0E\x1B\x0CAD.TESTalice\xA2\x06\x04\x04\x00\x00\x10\x00";
+
+/// A PA-PAC-REQUEST that asks for a PAC.
+const PAC_REQUEST: &[u8] = b"\x30\x05\xA0\x03\x01\x01\xFF";
+
 /// A keytab that holds a hole of two octets.
 const KEYTAB: &[u8] = b"\x05\x02\xFF\xFF\xFF\xFE\x00\x00";
 
@@ -355,6 +375,16 @@ fn show_messages(rt: &HostRuntime) -> Result<()> {
     }
     println!(rt; "{}", user_text(alloc, "u/v", "A")?)?;
     println!(rt; "18 is {}", etype_name(18))?;
+    Ok(())
+}
+
+/// Shows what is done with pre-authentication data.
+fn show_padata(rt: &HostRuntime) -> Result<()> {
+    if let Some(salt) = first_salt(ETYPE_INFO2) {
+        println!(rt; "salt: {}", str::from_utf8(salt)?)?;
+    }
+    let asks = view_pac_request(PAC_REQUEST) == Some(true);
+    println!(rt; "asks for a PAC: {asks}")?;
     Ok(())
 }
 
@@ -414,6 +444,7 @@ fn main(rt: HostRuntime) -> Result<()> {
     let is_keytab = is_keytab_command(rt.alloc(), words.as_slice());
     println!(rt; "keytab: {}", matches!(is_keytab, Ok(true)))?;
     show_messages(&rt)?;
+    show_padata(&rt)?;
     show_stream(&rt)?;
     show_files(&rt)
 }

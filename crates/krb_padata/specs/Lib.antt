@@ -1,3 +1,4 @@
 pub mod Grammar
 pub mod Types
 pub mod PacRequest
+pub mod Examples

@@ -1,6 +1,6 @@
 //! PA-PAC-REQUEST (MS-KILE, 2.2.3).
 
-ghost use Rattle.std.specs.Prelude.{◌≡◌, ⊥, Bool, MatchOption};
+ghost use Rattle.std.specs.Prelude.{◌≡◌, Bool, MatchOption};
 ghost use Rattle.krb_padata.specs.PacRequest.{pac_request, pac_request_in};
 
 /// Returns whether a PAC is asked for, if octets are a PA-PAC-REQUEST.

@@ -48,6 +48,8 @@ mod packet_blocks;
 #[cfg(test)]
 mod packet_fragments;
 #[cfg(test)]
+mod padata;
+#[cfg(test)]
 mod places;
 #[cfg(test)]
 mod registry;

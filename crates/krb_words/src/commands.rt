@@ -61,7 +61,7 @@ fn now_option<'a>(alloc: Global) -> Arg<'a>
         alloc,
         "now",
         "WHEN",
-        "Shows what has expired by then: now, a date, or seconds since 1970",
+        "Shows what expired by now, a date or seconds since 1970",
     )
 }
 

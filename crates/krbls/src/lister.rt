@@ -267,11 +267,11 @@ fn octets_name(source: &Source) -> &[u8]
 }
 
 /// Returns how many octets of a source are awaited before it is listed: those by which its command
-/// is chosen, or else those that come first, so that a live source is listed as it comes.
+/// or a hint is chosen. A stream is listed as it comes, since it may be live.
 fn octets_awaited(job: &Job) -> usize {
     match job {
-        Job::List(_) => 16,
-        _ => 1,
+        Job::Stream(..) | Job::Decode(..) | Job::Encode(..) => 1,
+        _ => 16,
     }
 }
 

@@ -4,13 +4,14 @@ use super::Outcome;
 use super::captures::{CUT, FRAGMENTS, OUT_OF_ORDER, goes_on, lists, puts_together};
 use super::conversions::Conversion;
 use super::decoders::{fed_twice, reserved_answers, reserved_feeds, reserves, stepped_over};
+use super::lines::lists_lines;
 use super::octets::{AP_REP, CACHE, KEYTAB, KRB_ERROR, METHOD_DATA, TICKET, message_of};
 use super::readers::{credentials, records, upgrades};
 use krb_ccache::{Ccache, CcacheFault, TicketState, ticket_of};
 use krb_der::{Memory, Profile, Refusal, Why};
 use krb_file::FileFault;
 use krb_frame::{Decoder, Framed, Limit, Status, frame};
-use krb_input::{InputFault, read_input};
+use krb_input::{Hint, InputFault, SourceKind, read_input};
 use krb_judge::{ParseFault, parse, parse_method_data, parse_ticket};
 use krb_keytab::{Keytab, KeytabFault, Record, Stop};
 use krb_list::{
@@ -44,6 +45,7 @@ pub(super) enum Text {
     Cache,
     CacheEnd,
     Credential,
+    Hint(Hint),
 }
 
 /// A call that returns octets.
@@ -81,6 +83,7 @@ pub(super) enum Call {
     Encode(Encoding),
     Text(Text, &'static str),
     Convert(Conversion),
+    Lines,
     Upgrade,
     Records,
     Credentials,
@@ -90,7 +93,7 @@ pub(super) enum Call {
 }
 
 /// Each call with its name, and with what it has to return.
-pub(super) const CALLS: [(&str, Call); 58] = [
+pub(super) const CALLS: [(&str, Call); 63] = [
     ("feed", Call::Feed(1)),
     ("feed", Call::Feed(7)),
     ("feed", Call::Feed(100)),
@@ -160,6 +163,7 @@ pub(super) const CALLS: [(&str, Call); 58] = [
         "run_encode_unframed",
         Call::Convert(Conversion::EncodeUnframed),
     ),
+    ("run_lines_in", Call::Lines),
     ("read_input", Call::Read(Reading::Input(AP_REP))),
     ("read_input", Call::Read(Reading::Input(b"6f 1d"))),
     (
@@ -171,6 +175,31 @@ pub(super) const CALLS: [(&str, Call); 58] = [
     ("read_input", Call::Read(Reading::Input(b"6f:1d"))),
     ("read_input", Call::Read(Reading::Input(b"Negotiate bx0="))),
     ("krb_input::read_line", Call::Read(Reading::Line(b"bx0="))),
+    (
+        "Hint::text",
+        Call::Text(
+            Text::Hint(Hint::Gzip),
+            "this is a gzip file: zcat x | krbls capture -",
+        ),
+    ),
+    (
+        "Hint::text",
+        Call::Text(Text::Hint(Hint::Keytab), "this is a keytab: krbls keytab x"),
+    ),
+    (
+        "Hint::text",
+        Call::Text(
+            Text::Hint(Hint::Snoop),
+            "this is a snoop capture: editcap -F pcap x - | krbls capture -",
+        ),
+    ),
+    (
+        "Hint::text",
+        Call::Text(
+            Text::Hint(Hint::Pem),
+            "this is PEM, which holds certificates or keys and no Kerberos",
+        ),
+    ),
     ("krb_keytab::read", Call::Read(Reading::Keytab)),
     ("krb_keytab::write", Call::Encode(Encoding::Keytab)),
     (
@@ -286,6 +315,7 @@ impl Text {
                 credential,
                 None,
             ),
+            (Text::Hint(hint), ..) => Ok(hint.text(alloc, Some(SourceKind::Capture), "x")?),
             _ => Ok(String::new(alloc)),
         }
     }
@@ -376,6 +406,7 @@ impl Call {
             }
             Call::Text(text, wanted) => Ok(text.make(alloc, given)?.as_str() == wanted),
             Call::Convert(conversion) => conversion.make(alloc),
+            Call::Lines => lists_lines(alloc),
             _ => Ok(false),
         }
     }

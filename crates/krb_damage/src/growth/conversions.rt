@@ -40,8 +40,8 @@ const CLEAR: &[u8] =
 
 /// A writer that accepts octets that it knows, and no others. It allocates nothing.
 #[derive(Drop)]
-struct Known {
-    rest: &'static [u8],
+pub(super) struct Known {
+    pub(super) rest: &'static [u8],
 }
 
 impl Write for Known {
@@ -61,7 +61,7 @@ impl Write for Known {
 }
 
 /// Returns whether a run ended so and wrote all that it has to write.
-fn is_written<E: PartialEq + Drop>(
+pub(super) fn is_written<E: PartialEq + Drop>(
     outcome: Result<E, RunFault>,
     wanted: E,
     writer: &Known,
