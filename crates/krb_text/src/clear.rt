@@ -17,18 +17,17 @@ use crate::field::{put_closing, put_field};
 use crate::form::Form;
 use crate::message::put_ap_req;
 use crate::number::Numbered;
-use crate::part::{Clear, put_part_opening, view_judged};
+use crate::part::{Clear, PartPlace, put_part_opening, view_judged};
 use crate::shown::QuotedText;
 use crate::text_buffer::TextBuffer;
 use crate::view_field::{
     put_absent_field, put_checksum_field, put_flags_field, put_hex_field, put_principal_field,
     put_quoted_field, put_sealed_field,
 };
-use krb_msg::{ApReq, ApReqView, EncryptedData, EncryptedDataView, Ticket, TicketView};
+use krb_msg::{ApReq, ApReqView, EncryptedData, EncryptedDataView, Ticket};
 use krb_padata::{
-    EtypeInfo2Entry, EtypeInfo2EntryView, EtypeInfoEntry, EtypeInfoEntryView, KrbFastArmorView,
-    KrbFastArmoredRepView, KrbFastArmoredReqView, PaForUser, PaForUserView, PaFxFastReply,
-    PaFxFastRequest, PaPacOptions, PaPacOptionsView,
+    EtypeInfo2Entry, EtypeInfoEntry, KrbFastArmorView, PaForUser, PaFxFastReply, PaFxFastRequest,
+    PaPacOptions,
 };
 use krb_registry::Registry;
 use std::alloc::AllocError;
@@ -41,15 +40,10 @@ impl<'a> Clear<'a> for ApReq {
     ghost part = { λ seen. tgs_req_part (ap_req_of_view seen) };
 
     #[tactic(auto, unfolding(crate::specs::Forms::part_text))]
-    fn put_part(
-        text: &mut TextBuffer,
-        form: Form,
-        told: bool,
-        seen: &ApReqView<'a>,
-    ) -> Result<(), AllocError> {
-        put_part_opening(text, form, told, "PA-TGS-REQ")?;
-        put_ap_req(text, form, seen)?;
-        put_closing(text, form)
+    fn put_part(text: &mut TextBuffer, at: PartPlace, seen: &Self::Of) -> Result<(), AllocError> {
+        put_part_opening(text, at, "PA-TGS-REQ")?;
+        put_ap_req(text, at.form, seen)?;
+        put_closing(text, at.form)
     }
 }
 
@@ -58,16 +52,11 @@ impl<'a> Clear<'a> for EtypeInfoEntry {
     ghost part = { λ seen. etype_info_part (etype_info_entry_of_view seen) };
 
     #[tactic(auto, unfolding(crate::specs::Forms::part_text))]
-    fn put_part(
-        text: &mut TextBuffer,
-        form: Form,
-        told: bool,
-        seen: &EtypeInfoEntryView<'a>,
-    ) -> Result<(), AllocError> {
-        put_part_opening(text, form, told, "PA-ETYPE-INFO")?;
-        put_etype_field(text, form, &seen.etype)?;
-        put_quoted_field(text, form, " salt=", ",\"salt", seen.salt)?;
-        put_closing(text, form)
+    fn put_part(text: &mut TextBuffer, at: PartPlace, seen: &Self::Of) -> Result<(), AllocError> {
+        put_part_opening(text, at, "PA-ETYPE-INFO")?;
+        put_etype_field(text, at.form, &seen.etype)?;
+        put_quoted_field(text, at.form, " salt=", ",\"salt", seen.salt)?;
+        put_closing(text, at.form)
     }
 }
 
@@ -76,17 +65,12 @@ impl<'a> Clear<'a> for EtypeInfo2Entry {
     ghost part = { λ seen. etype_info2_part (etype_info2_entry_of_view seen) };
 
     #[tactic(auto, unfolding(crate::specs::Forms::part_text))]
-    fn put_part(
-        text: &mut TextBuffer,
-        form: Form,
-        told: bool,
-        seen: &EtypeInfo2EntryView<'a>,
-    ) -> Result<(), AllocError> {
-        put_part_opening(text, form, told, "PA-ETYPE-INFO2")?;
-        put_etype_field(text, form, &seen.etype)?;
-        put_quoted_field(text, form, " salt=", ",\"salt", seen.salt)?;
-        put_hex_field(text, form, " params=", ",\"params", seen.s2kparams)?;
-        put_closing(text, form)
+    fn put_part(text: &mut TextBuffer, at: PartPlace, seen: &Self::Of) -> Result<(), AllocError> {
+        put_part_opening(text, at, "PA-ETYPE-INFO2")?;
+        put_etype_field(text, at.form, &seen.etype)?;
+        put_quoted_field(text, at.form, " salt=", ",\"salt", seen.salt)?;
+        put_hex_field(text, at.form, " params=", ",\"params", seen.s2kparams)?;
+        put_closing(text, at.form)
     }
 }
 
@@ -95,19 +79,14 @@ impl<'a> Clear<'a> for PaForUser {
     ghost part = { λ seen. for_user_part (pa_for_user_of_view seen) };
 
     #[tactic(auto, unfolding(crate::specs::Forms::part_text))]
-    fn put_part(
-        text: &mut TextBuffer,
-        form: Form,
-        told: bool,
-        seen: &PaForUserView<'a>,
-    ) -> Result<(), AllocError> {
+    fn put_part(text: &mut TextBuffer, at: PartPlace, seen: &Self::Of) -> Result<(), AllocError> {
         let (name, realm) = (&seen.user_name, seen.user_realm);
         let package = QuotedText(seen.auth_package);
-        put_part_opening(text, form, told, "PA-FOR-USER")?;
-        put_principal_field(text, form, " user=", ",\"user", name, realm)?;
-        put_checksum_field(text, form, " cksum=", ",\"cksum", &seen.cksum)?;
-        put_field(text, form, " package=", ",\"package", &package)?;
-        put_closing(text, form)
+        put_part_opening(text, at, "PA-FOR-USER")?;
+        put_principal_field(text, at.form, " user=", ",\"user", name, realm)?;
+        put_checksum_field(text, at.form, " cksum=", ",\"cksum", &seen.cksum)?;
+        put_field(text, at.form, " package=", ",\"package", &package)?;
+        put_closing(text, at.form)
     }
 }
 
@@ -116,16 +95,11 @@ impl<'a> Clear<'a> for PaFxFastRequest {
     ghost part = { λ seen. fast_request_part (krb_fast_armored_req_of_view seen) };
 
     #[tactic(auto, unfolding(crate::specs::Forms::part_text))]
-    fn put_part(
-        text: &mut TextBuffer,
-        form: Form,
-        told: bool,
-        seen: &KrbFastArmoredReqView<'a>,
-    ) -> Result<(), AllocError> {
-        put_part_opening(text, form, told, "PA-FX-FAST")?;
-        put_armor_fields(text, form, &seen.armor)?;
-        put_sealed_field(text, form, " enc=", ",\"enc", &seen.enc_fast_req)?;
-        put_closing(text, form)
+    fn put_part(text: &mut TextBuffer, at: PartPlace, seen: &Self::Of) -> Result<(), AllocError> {
+        put_part_opening(text, at, "PA-FX-FAST")?;
+        put_armor_fields(text, at.form, &seen.armor)?;
+        put_sealed_field(text, at.form, " enc=", ",\"enc", &seen.enc_fast_req)?;
+        put_closing(text, at.form)
     }
 }
 
@@ -134,18 +108,13 @@ impl<'a> Clear<'a> for PaFxFastReply {
     ghost part = { λ seen. fast_reply_part (krb_fast_armored_rep_of_view seen) };
 
     #[tactic(auto, unfolding(crate::specs::Forms::part_text))]
-    fn put_part(
-        text: &mut TextBuffer,
-        form: Form,
-        told: bool,
-        seen: &KrbFastArmoredRepView<'a>,
-    ) -> Result<(), AllocError> {
-        put_part_opening(text, form, told, "PA-FX-FAST")?;
-        put_absent_field(text, form, " armor=", ",\"armor")?;
-        put_absent_field(text, form, " server=", ",\"server")?;
-        put_absent_field(text, form, " ticket=", ",\"ticket")?;
-        put_sealed_field(text, form, " enc=", ",\"enc", &seen.enc_fast_rep)?;
-        put_closing(text, form)
+    fn put_part(text: &mut TextBuffer, at: PartPlace, seen: &Self::Of) -> Result<(), AllocError> {
+        put_part_opening(text, at, "PA-FX-FAST")?;
+        put_absent_field(text, at.form, " armor=", ",\"armor")?;
+        put_absent_field(text, at.form, " server=", ",\"server")?;
+        put_absent_field(text, at.form, " ticket=", ",\"ticket")?;
+        put_sealed_field(text, at.form, " enc=", ",\"enc", &seen.enc_fast_rep)?;
+        put_closing(text, at.form)
     }
 }
 
@@ -154,16 +123,11 @@ impl<'a> Clear<'a> for PaPacOptions {
     ghost part = { λ seen. pac_options_part (pa_pac_options_of_view seen) };
 
     #[tactic(auto, unfolding(crate::specs::Forms::part_text))]
-    fn put_part(
-        text: &mut TextBuffer,
-        form: Form,
-        told: bool,
-        seen: &PaPacOptionsView<'a>,
-    ) -> Result<(), AllocError> {
-        let options = Registry::PacOptions;
-        put_part_opening(text, form, told, "PA-PAC-OPTIONS")?;
-        put_flags_field(text, form, " options=", ",\"options", options, &seen.flags)?;
-        put_closing(text, form)
+    fn put_part(text: &mut TextBuffer, at: PartPlace, seen: &Self::Of) -> Result<(), AllocError> {
+        let (options, flags) = (Registry::PacOptions, &seen.flags);
+        put_part_opening(text, at, "PA-PAC-OPTIONS")?;
+        put_flags_field(text, at.form, " options=", ",\"options", options, flags)?;
+        put_closing(text, at.form)
     }
 }
 
@@ -172,16 +136,12 @@ impl<'a> Clear<'a> for Ticket {
     ghost part = { λ seen. ticket_part (ticket_of_view seen) };
 
     #[tactic(auto, unfolding(crate::specs::Forms::part_text))]
-    fn put_part(
-        text: &mut TextBuffer,
-        form: Form,
-        told: bool,
-        seen: &TicketView<'a>,
-    ) -> Result<(), AllocError> {
-        put_part_opening(text, form, told, "Ticket")?;
-        put_principal_field(text, form, " server=", ",\"server", &seen.sname, seen.realm)?;
-        put_sealed_field(text, form, " ticket=", ",\"ticket", &seen.enc_part)?;
-        put_closing(text, form)
+    fn put_part(text: &mut TextBuffer, at: PartPlace, seen: &Self::Of) -> Result<(), AllocError> {
+        let (server, realm) = (&seen.sname, seen.realm);
+        put_part_opening(text, at, "Ticket")?;
+        put_principal_field(text, at.form, " server=", ",\"server", server, realm)?;
+        put_sealed_field(text, at.form, " ticket=", ",\"ticket", &seen.enc_part)?;
+        put_closing(text, at.form)
     }
 }
 
@@ -268,34 +228,32 @@ fn put_armor_fields(
 #[tactic(auto, unfolding(crate::specs::Forms::part_text))]
 fn put_sealed_part(
     text: &mut TextBuffer,
-    form: Form,
-    told: bool,
+    at: PartPlace,
     kind: &str,
     seen: &EncryptedDataView<'_>,
 ) -> Result<(), AllocError>
-    ensures { OnOk result (text.new ≡ text.old ++ separator form told ++ part_text form (sealed_part kind.now (encrypted_data_of_view seen.now))) }
+    ensures { OnOk result (text.new ≡ text.old ++ separator at.form at.told ++ part_text at.form (sealed_part kind.now (encrypted_data_of_view seen.now))) }
 {
-    put_part_opening(text, form, told, kind)?;
-    put_sealed_field(text, form, " enc=", ",\"enc", seen)?;
-    put_closing(text, form)
+    put_part_opening(text, at, kind)?;
+    put_sealed_field(text, at.form, " enc=", ",\"enc", seen)?;
+    put_closing(text, at.form)
 }
 
 /// Appends the part of octets that are all of what is sealed, and returns whether any was told by
 /// now: PA-ENC-TIMESTAMP (RFC 4120, 5.2.7.2) and PA-ENCRYPTED-CHALLENGE (RFC 6113, 5.4.6).
 pub(crate) fn put_sealed(
     text: &mut TextBuffer,
-    form: Form,
-    told: bool,
+    at: PartPlace,
     kind: &str,
     octets: &[u8],
 ) -> Result<bool, AllocError>
     requires { length octets.now < 2 ^ 31 }
-    ensures { IfOk result (λ by_now. Tells form (one_if (λ v. sealed_part kind.now (encrypted_data_of v)) (judged encrypted_data octets.now)) told text.old by_now text.new) }
+    ensures { IfOk result (λ by_now. Tells at.form (one_if (λ v. sealed_part kind.now (encrypted_data_of v)) (judged encrypted_data octets.now)) at.told text.old by_now text.new) }
 {
     match view_judged::<EncryptedData>(octets) {
-        None => Ok(told),
+        None => Ok(at.told),
         Some(seen) => {
-            put_sealed_part(text, form, told, kind, &seen)?;
+            put_sealed_part(text, at, kind, &seen)?;
             Ok(true)
         }
     }
@@ -305,28 +263,26 @@ pub(crate) fn put_sealed(
 #[tactic(auto, unfolding(crate::specs::Forms::part_text))]
 pub(crate) fn put_salt(
     text: &mut TextBuffer,
-    form: Form,
-    told: bool,
+    at: PartPlace,
     octets: &[u8],
 ) -> Result<(), AllocError>
-    ensures { OnOk result (text.new ≡ text.old ++ separator form told ++ part_text form (salt_part octets.now)) }
+    ensures { OnOk result (text.new ≡ text.old ++ separator at.form at.told ++ part_text at.form (salt_part octets.now)) }
 {
-    put_part_opening(text, form, told, "PA-PW-SALT")?;
-    put_field(text, form, " salt=", ",\"salt", &QuotedText(octets))?;
-    put_closing(text, form)
+    put_part_opening(text, at, "PA-PW-SALT")?;
+    put_field(text, at.form, " salt=", ",\"salt", &QuotedText(octets))?;
+    put_closing(text, at.form)
 }
 
 /// Appends the part of a PA-PAC-REQUEST (MS-KILE, 2.2.3).
 #[tactic(auto, unfolding(crate::specs::Forms::part_text))]
 pub(crate) fn put_pac_request(
     text: &mut TextBuffer,
-    form: Form,
-    told: bool,
+    at: PartPlace,
     include: bool,
 ) -> Result<(), AllocError>
-    ensures { OnOk result (text.new ≡ text.old ++ separator form told ++ part_text form (pac_request_part include)) }
+    ensures { OnOk result (text.new ≡ text.old ++ separator at.form at.told ++ part_text at.form (pac_request_part include)) }
 {
-    put_part_opening(text, form, told, "PA-PAC-REQUEST")?;
-    put_field(text, form, " pac=", ",\"pac", &include)?;
-    put_closing(text, form)
+    put_part_opening(text, at, "PA-PAC-REQUEST")?;
+    put_field(text, at.form, " pac=", ",\"pac", &include)?;
+    put_closing(text, at.form)
 }

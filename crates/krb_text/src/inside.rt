@@ -17,7 +17,7 @@ use crate::field::put_closing;
 use crate::form::Form;
 use crate::list::count_items;
 use crate::padata::{count_padata, put_padata};
-use crate::part::{put_each, put_part_opening};
+use crate::part::{PartPlace, put_each, put_part_opening};
 use crate::text_buffer::TextBuffer;
 use crate::view_field::put_types_field;
 use krb_msg::{ItemsView, KdcRepView, KdcReqView, KrbCredView, KrbErrorView, MessageView, Ticket};
@@ -89,29 +89,27 @@ fn count_tickets(items: Option<ItemsView<'_>>) -> u64
 /// Appends the parts of Tickets, and returns whether any was told by now.
 fn put_tickets(
     text: &mut TextBuffer,
-    form: Form,
-    told: bool,
+    at: PartPlace,
     items: ItemsView<'_>,
 ) -> Result<bool, AllocError>
     requires { AreViewed ticket items.octets.now }
-    ensures { IfOk result (λ by_now. Tells form (map ticket_part (map ticket_of (items_of ticket items.entry.octets.now))) told text.old by_now text.new) }
+    ensures { IfOk result (λ by_now. Tells at.form (map ticket_part (map ticket_of (items_of ticket items.entry.octets.now))) at.told text.old by_now text.new) }
 {
-    put_each::<Ticket>(text, form, told, items)
+    put_each::<Ticket>(text, at, items)
 }
 
 /// Appends the parts of Tickets, if there are any, and returns whether any was told by now.
 fn put_optional_tickets(
     text: &mut TextBuffer,
-    form: Form,
-    told: bool,
+    at: PartPlace,
     items: Option<ItemsView<'_>>,
 ) -> Result<bool, AllocError>
     requires { OfSome (λ items. AreViewed ticket items.octets.now) items }
-    ensures { IfOk result (λ by_now. Tells form (each_if ticket_part (option_map (map ticket_of) (option_map (λ items. items_of ticket items.octets.now) items.entry))) told text.old by_now text.new) }
+    ensures { IfOk result (λ by_now. Tells at.form (each_if ticket_part (option_map (map ticket_of) (option_map (λ items. items_of ticket items.octets.now) items.entry))) at.told text.old by_now text.new) }
 {
     match items {
-        None => Ok(told),
-        Some(items) => put_tickets(text, form, told, items),
+        None => Ok(at.told),
+        Some(items) => put_tickets(text, at, items),
     }
 }
 
@@ -126,7 +124,7 @@ impl<'a> HasParts for KdcReqView<'a> {
 
     fn put_parts(&self, text: &mut TextBuffer, form: Form) -> Result<(), AllocError> {
         let told = put_optional_padata(text, form, true, self.padata)?;
-        put_optional_tickets(text, form, told, self.body.additional_tickets)?;
+        put_optional_tickets(text, PartPlace { form, told }, self.body.additional_tickets)?;
         Ok(())
     }
 }
@@ -156,7 +154,7 @@ impl<'a> HasParts for KrbCredView<'a> {
     }
 
     fn put_parts(&self, text: &mut TextBuffer, form: Form) -> Result<(), AllocError> {
-        put_tickets(text, form, false, self.tickets)?;
+        put_tickets(text, PartPlace { form, told: false }, self.tickets)?;
         Ok(())
     }
 }
@@ -187,7 +185,7 @@ fn put_methods(text: &mut TextBuffer, form: Form, items: ItemsView<'_>) -> Resul
     requires { AreViewed pa_data items.octets.now }
     ensures { OnOk result (text.new ≡ text.old ++ separator form false ++ part_text form (methods_part (map pa_data_of (items_of pa_data items.entry.octets.now)))) }
 {
-    put_part_opening(text, form, false, "METHOD-DATA")?;
+    put_part_opening(text, PartPlace { form, told: false }, "METHOD-DATA")?;
     put_types_field(text, form, " methods=", ",\"methods", items)?;
     put_closing(text, form)
 }

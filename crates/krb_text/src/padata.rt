@@ -16,7 +16,7 @@ use crate::clear::{put_pac_request, put_salt, put_sealed};
 use crate::clear_type::ClearType;
 use crate::form::Form;
 use crate::list::count_items;
-use crate::part::{count_whole, put_each, put_whole, view_judged};
+use crate::part::{PartPlace, count_whole, put_each, put_whole, view_judged};
 use crate::text_buffer::TextBuffer;
 use krb_msg::{ApReq, EncryptedData, ItemsView, PaData, next_item};
 use krb_padata::{
@@ -26,50 +26,39 @@ use krb_padata::{
 use std::alloc::AllocError;
 
 /// Appends the parts of a PA-ETYPE-INFO, and returns whether any was told by now.
-fn put_etype_info(
-    text: &mut TextBuffer,
-    form: Form,
-    told: bool,
-    octets: &[u8],
-) -> Result<bool, AllocError>
+fn put_etype_info(text: &mut TextBuffer, at: PartPlace, octets: &[u8]) -> Result<bool, AllocError>
     requires { length octets.now < 2 ^ 31 }
-    ensures { IfOk result (λ by_now. Tells form (each_if (λ v. etype_info_part (etype_info_entry_of v)) (judged etype_info octets.now)) told text.old by_now text.new) }
+    ensures { IfOk result (λ by_now. Tells at.form (each_if (λ v. etype_info_part (etype_info_entry_of v)) (judged etype_info octets.now)) at.told text.old by_now text.new) }
 {
     match view_judged::<EtypeInfo>(octets) {
-        None => Ok(told),
-        Some(entries) => put_each::<EtypeInfoEntry>(text, form, told, entries),
+        None => Ok(at.told),
+        Some(entries) => put_each::<EtypeInfoEntry>(text, at, entries),
     }
 }
 
 /// Appends the parts of a PA-ETYPE-INFO2, and returns whether any was told by now.
-fn put_etype_info2(
-    text: &mut TextBuffer,
-    form: Form,
-    told: bool,
-    octets: &[u8],
-) -> Result<bool, AllocError>
+fn put_etype_info2(text: &mut TextBuffer, at: PartPlace, octets: &[u8]) -> Result<bool, AllocError>
     requires { length octets.now < 2 ^ 31 }
-    ensures { IfOk result (λ by_now. Tells form (each_if (λ v. etype_info2_part (etype_info2_entry_of v)) (judged etype_info2 octets.now)) told text.old by_now text.new) }
+    ensures { IfOk result (λ by_now. Tells at.form (each_if (λ v. etype_info2_part (etype_info2_entry_of v)) (judged etype_info2 octets.now)) at.told text.old by_now text.new) }
 {
     match view_judged::<EtypeInfo2>(octets) {
-        None => Ok(told),
-        Some(entries) => put_each::<EtypeInfo2Entry>(text, form, told, entries),
+        None => Ok(at.told),
+        Some(entries) => put_each::<EtypeInfo2Entry>(text, at, entries),
     }
 }
 
 /// Appends the parts of a PA-PAC-REQUEST, and returns whether any was told by now.
 fn put_pac_request_of(
     text: &mut TextBuffer,
-    form: Form,
-    told: bool,
+    at: PartPlace,
     octets: &[u8],
 ) -> Result<bool, AllocError>
-    ensures { IfOk result (λ by_now. Tells form (clear_parts PacRequest octets.now) told text.old by_now text.new) }
+    ensures { IfOk result (λ by_now. Tells at.form (clear_parts PacRequest octets.now) at.told text.old by_now text.new) }
 {
     match view_pac_request(octets) {
-        None => Ok(told),
+        None => Ok(at.told),
         Some(include) => {
-            put_pac_request(text, form, told, include)?;
+            put_pac_request(text, at, include)?;
             Ok(true)
         }
     }
@@ -86,22 +75,23 @@ fn put_value(
     requires { length octets.now < 2 ^ 31 }
     ensures { IfOk result (λ by_now. Tells form (clear_parts kind octets.now) told text.old by_now text.new) }
 {
+    let at = PartPlace { form, told };
     let challenge = "PA-ENCRYPTED-CHALLENGE";
     match kind {
-        ClearType::TgsReq => put_whole::<ApReq>(text, form, told, octets),
-        ClearType::EncTimestamp => put_sealed(text, form, told, "PA-ENC-TIMESTAMP", octets),
+        ClearType::TgsReq => put_whole::<ApReq>(text, at, octets),
+        ClearType::EncTimestamp => put_sealed(text, at, "PA-ENC-TIMESTAMP", octets),
         ClearType::PwSalt => {
-            put_salt(text, form, told, octets)?;
+            put_salt(text, at, octets)?;
             Ok(true)
         }
-        ClearType::EtypeInfo => put_etype_info(text, form, told, octets),
-        ClearType::EtypeInfo2 => put_etype_info2(text, form, told, octets),
-        ClearType::PacRequest => put_pac_request_of(text, form, told, octets),
-        ClearType::ForUser => put_whole::<PaForUser>(text, form, told, octets),
-        ClearType::FastRequest => put_whole::<PaFxFastRequest>(text, form, told, octets),
-        ClearType::FastReply => put_whole::<PaFxFastReply>(text, form, told, octets),
-        ClearType::EncryptedChallenge => put_sealed(text, form, told, challenge, octets),
-        ClearType::PacOptions => put_whole::<PaPacOptions>(text, form, told, octets),
+        ClearType::EtypeInfo => put_etype_info(text, at, octets),
+        ClearType::EtypeInfo2 => put_etype_info2(text, at, octets),
+        ClearType::PacRequest => put_pac_request_of(text, at, octets),
+        ClearType::ForUser => put_whole::<PaForUser>(text, at, octets),
+        ClearType::FastRequest => put_whole::<PaFxFastRequest>(text, at, octets),
+        ClearType::FastReply => put_whole::<PaFxFastReply>(text, at, octets),
+        ClearType::EncryptedChallenge => put_sealed(text, at, challenge, octets),
+        ClearType::PacOptions => put_whole::<PaPacOptions>(text, at, octets),
         ClearType::Other => Ok(told),
     }
 }

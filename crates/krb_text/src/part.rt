@@ -16,20 +16,24 @@ use crate::text_buffer::TextBuffer;
 use krb_msg::{ItemsView, View, next_item, view_whole};
 use std::alloc::AllocError;
 
+/// Where a part is appended.
+#[derive(Clone, Copy)]
+pub(crate) struct PartPlace {
+    /// The form of the record.
+    pub(crate) form: Form,
+    /// Whether a part was told before it.
+    pub(crate) told: bool,
+}
+
 /// A type each item of which has a part.
 pub(crate) trait Clear<'a>: View<'a> {
     /// The part of a view of an item.
     ghost part: { Self.Of → Part };
 
     /// Appends the part of an item, after what separates it from the parts that were told before.
-    fn put_part(
-        text: &mut TextBuffer,
-        form: Form,
-        told: bool,
-        seen: &Self::Of,
-    ) -> Result<(), AllocError>
+    fn put_part(text: &mut TextBuffer, at: PartPlace, seen: &Self::Of) -> Result<(), AllocError>
         requires { Self.View.Lists seen.now }
-        ensures { OnOk result (text.new ≡ text.old ++ separator form told ++ part_text form (part seen.now)) };
+        ensures { OnOk result (text.new ≡ text.old ++ separator at.form at.told ++ part_text at.form (part seen.now)) };
 }
 
 /// Returns a view of the item that octets are all of, if they are judged to be one.
@@ -49,37 +53,36 @@ pub(crate) fn view_judged<'a, T: View<'a>>(octets: &'a [u8]) -> Option<T::Of>
 #[tactic(auto, unfolding(crate::specs::inner::Parts::separator))]
 pub(crate) fn put_part_opening(
     text: &mut TextBuffer,
-    form: Form,
-    told: bool,
+    at: PartPlace,
     kind: &str,
 ) -> Result<(), AllocError>
-    ensures { OnOk result (text.new ≡ text.old ++ separator form told ++ opening form kind.now) }
+    ensures { OnOk result (text.new ≡ text.old ++ separator at.form at.told ++ opening at.form kind.now) }
 {
-    match form {
+    match at.form {
         Form::Lines | Form::NamedLines => text.push_str(" ")?,
-        Form::Json if told => text.push_str(",")?,
+        Form::Json if at.told => text.push_str(",")?,
         Form::Json => (),
     }
-    put_opening(text, form, kind)
+    put_opening(text, at.form, kind)
 }
 
 /// Appends the part of octets that are all of one item, and returns whether any was told by now.
 #[inline(always)]
 pub(crate) fn put_whole<'a, T: Clear<'a>>(
     text: &mut TextBuffer,
-    form: Form,
-    told: bool,
+    at: PartPlace,
     octets: &'a [u8],
 ) -> Result<bool, AllocError>
     requires short { length octets.now < 2 ^ 31 }
     requires tags { has_octet_tags T.View.term ≡ true }
     requires unambiguous { is_unambiguous T.View.term ≡ true }
-    ensures { (part : Value T.View.term → Part) → ((seen : T.Of) → part (T.View.value seen) ≡ T.part seen) → IfOk result (λ by_now. Tells form (one_if part (judged T.View.term octets.now)) told text.old by_now text.new) }
+    ensures { (part : Value T.View.term → Part) → ((seen : T.Of) → part (T.View.value seen) ≡ T.part seen) → IfOk result (λ by_now. Tells at.form (one_if part (judged T.View.term octets.now)) at.told text.old by_now text.new) }
 {
+    let told = at.told;
     match view_judged::<T>(octets) {
         None => Ok(told),
         Some(seen) => {
-            T::put_part(text, form, told, &seen)?;
+            T::put_part(text, at, &seen)?;
             Ok(true)
         }
     }
@@ -89,19 +92,19 @@ pub(crate) fn put_whole<'a, T: Clear<'a>>(
 #[inline(always)]
 pub(crate) fn put_each<'a, T: Clear<'a>>(
     text: &mut TextBuffer,
-    form: Form,
-    told: bool,
+    at: PartPlace,
     items: ItemsView<'a>,
 ) -> Result<bool, AllocError>
     requires tags { has_octet_tags T.View.term ≡ true }
     requires unambiguous { is_unambiguous T.View.term ≡ true }
     requires viewed { AreViewed T.View.term items.octets.now }
-    ensures { (part : Value T.View.term → Part) → ((seen : T.Of) → part (T.View.value seen) ≡ T.part seen) → IfOk result (λ by_now. Tells form (map part (items_of T.View.term items.entry.octets.now)) told text.old by_now text.new) }
+    ensures { (part : Value T.View.term → Part) → ((seen : T.Of) → part (T.View.value seen) ≡ T.part seen) → IfOk result (λ by_now. Tells at.form (map part (items_of T.View.term items.entry.octets.now)) at.told text.old by_now text.new) }
 {
+    let PartPlace { form, told } = at;
     let mut by_now = told;
     let mut others = items;
     'others: while let Some((seen, rest)) = next_item::<T>(others) {
-        T::put_part(text, form, by_now, &seen)?;
+        T::put_part(text, PartPlace { form, told: by_now }, &seen)?;
         by_now = true;
         others = rest;
     }

@@ -10,5 +10,5 @@ unfolding part_text
 returns c =
     on_ok_weaker
     c.put_closing.result
-    (part_of_two c.args.text.now (separator c.args.form c.args.told) (opening c.args.form (codes "PA-ETYPE-INFO")) _ _ (closing c.args.form) c.in_ok-put_part_opening.ensures c.in_ok-put_etype_field.ensures c.in_ok-put_quoted_field.ensures)
+    (part_of_two c.args.text.now (separator c.args.at.form c.args.at.told) (opening c.args.at.form (codes "PA-ETYPE-INFO")) _ _ (closing c.args.at.form) c.in_ok-put_part_opening.ensures c.in_ok-put_etype_field.ensures c.in_ok-put_quoted_field.ensures)
     c.put_closing.ensures
