@@ -31,7 +31,7 @@ use Rattle.krb_list.specs.Configs.{config_value, is_shown}
 use Rattle.krb_list.specs.Ccaches.{offset_value, cache_record, state, ticket_server, ticketed_record, config_record, state_record, credential_record, cache_end}
 use Rattle.krb_text.proofs.EachForm.{IsShown}
 use Rattle.krb_text.proofs.EndOneLine.{one_line}
-use Rattle.krb_text.proofs.MessageOneLine.{always}
+use Rattle.krb_text.proofs.FieldsOneLine.{always}
 use Rattle.krb_text.proofs.Printable.{word}
 use Rattle.krb_text.proofs.Times.{moment}
 
