@@ -1,1 +1,3 @@
 pub mod Spelled
+pub mod Json
+pub mod JsonLaws

@@ -1,4 +1,5 @@
 //! Laws over several libraries: what inputs spell.
 #![tactic(auto)]
 
+pub mod objects;
 pub mod spelled;
