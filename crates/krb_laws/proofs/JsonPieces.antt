@@ -214,9 +214,9 @@ pub eleven : (a x b y c z d u e v f : List ℕ) → a ++ (x ++ (b ++ (y ++ (c ++
 eleven a x b y c z d u e v f = simp append_assoc refl
 
 -- ---- the whole text
-pub document_is : {text : List ℕ} {j : Json} (levels : ℕ) → levels ≤ max_depth → IsText text j levels → document text ≡ Some j
+pub printed_is : {text : List ℕ} {j : Json} {levels : ℕ} → IsText text j levels → print (json_tokens j) ≡ text
 unfolding print_from
-document_is {text} {j} levels le h = ap document (sym printed) ∙ document-print j h.numbers (omega (arith, h.shallow, le))
-  where
-    printed : print (json_tokens j) ≡ text
-    printed = ap (print_from false) (sym (append-nil (json_tokens j))) ∙ h.prints false [] ∙ append-nil text
+printed_is {text} {j} h = ap (print_from false) (sym (append-nil (json_tokens j))) ∙ h.prints false [] ∙ append-nil text
+
+pub document_is : {text : List ℕ} {j : Json} (levels : ℕ) → levels ≤ max_depth → IsText text j levels → document text ≡ Some j
+document_is {text} {j} levels le h = ap document (sym (printed_is h)) ∙ document-print j h.numbers (omega (arith, h.shallow, le))

@@ -50,7 +50,7 @@ module _ {rest : List ℕ} {levels : ℕ} {ms : Members} where
   first_plain key value e h k apart =
       subst (λ t. IsText (123 ∷ 34 ∷ (key ++ 34 ∷ 58 ∷ 34 ∷ t)) (object (member key (string value) ms)) (1 + levels)) (append_assoc value (34 ∷ []) rest) (first key e (a_plain value h) k apart)
 
-every : {A : Type 0} (values : List A) → AllByRecursion (λ (a : A). Unit {0}) values
+pub every : {A : Type 0} (values : List A) → AllByRecursion (λ (a : A). Unit {0}) values
 every [] = tt
 every (a ∷ values) = (tt, every values)
 
@@ -69,7 +69,7 @@ a_name registry n = nullable json_string string IsAbove (λ name h. a_string nam
 some_octets : {levels : ℕ} (octets : List ℕ) → IsText (octets_string octets) (octets_of octets) levels
 some_octets octets = a_string (flat_map shown_octet octets) (above_shown octets)
 
-printable : {levels : ℕ} (text : List ℕ) → IsPrintable text → IsText (json_string text) (string text) levels
+pub printable : {levels : ℕ} (text : List ℕ) → IsPrintable text → IsText (json_string text) (string text) levels
 printable text h = a_string text (all-so (λ c. (32 ≤ c) × (c ≤ 126)) (λ c. 32 ≤ c) (λ c h. h.0) text h)
 
 -- ---- objects

@@ -4,3 +4,4 @@ pub mod JsonPieces
 pub mod JsonStrings
 pub mod JsonNames
 pub mod JsonValues
+pub mod JsonRecords
