@@ -5,3 +5,5 @@ pub mod JsonStrings
 pub mod JsonNames
 pub mod JsonValues
 pub mod JsonRecords
+pub mod JsonSizes
+pub mod JsonShown
