@@ -7,3 +7,4 @@ pub mod JsonValues
 pub mod JsonRecords
 pub mod JsonSizes
 pub mod JsonShown
+pub mod JsonNumbers
