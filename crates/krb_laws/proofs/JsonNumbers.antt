@@ -6,11 +6,11 @@ use Rattle.krb_der.specs.Octets.{AreOctets}
 use Rattle.krb_der.specs.declared.profile.Profile.TheVariants as profiles
 use Rattle.krb_der.specs.declared.verdict.Verdict.{Verdict}
 use Rattle.krb_der.specs.declared.verdict.Verdict.TheVariants as verdict
-use Rattle.krb_msg.specs.Grammar.{ap_req, as_rep, as_req, checksum as checksum_term, encrypted_data, host_address, kdc_req_body, krb_cred, krb_error, krb_safe, method_data, octet_string, pa_data, principal_name, sequence_of, ticket}
+use Rattle.krb_msg.specs.Grammar.{ap_req, checksum as checksum_term, encrypted_data, host_address, kdc_req_body, krb_cred, krb_error, krb_safe, method_data, octet_string, pa_data, principal_name, sequence_of, ticket}
 use Rattle.krb_msg.specs.Judgement.{term_judgement}
 use Rattle.krb_msg.specs.Notes.{notes_have}
 use Rattle.krb_msg.specs.Term.{Fits, IfPresent, Value, der}
-use Rattle.krb_msg.specs.Types.{ap_req_value, checksum_value, encrypted_data_value, host_address_value, kdc_rep_value, kdc_req_value, krb_cred_value, krb_error_value, krb_safe_value, pa_data_of, pa_data_value, principal_name_value, ticket_value}
+use Rattle.krb_msg.specs.Types.{ap_req_value, checksum_value, encrypted_data_value, host_address_value, kdc_req_body_value, krb_cred_value, krb_error_value, krb_safe_value, pa_data_of, pa_data_value, principal_name_value, ticket_value}
 use Rattle.krb_msg.specs.ValueOfDer.{value_of_der}
 use Rattle.krb_msg.specs.declared.ap_req.ApReq.{ApReq}
 use Rattle.krb_msg.specs.declared.checksum.Checksum.{Checksum}
@@ -129,8 +129,8 @@ its_methods code None a short = tt
 its_methods code (Some octets) a short = asked (asks_for_preauth code) octets a short
 
 -- ---- messages
-pub kdc_req : (m : KdcReq) → IsBrief as_req (kdc_req_value 10 m) → AreCounted (kdc_req_fields m)
-kdc_req m (version, (type, (items, ((options, (cname, (realm, (sname, (from, (till, (rtime, (nonce, (etype, (addresses, (authdata, (tickets, none)))))))))))), rest)))) = (
+pub kdc_req : (m : KdcReq) → IfPresent (IsBrief (sequence_of pa_data)) (option_map (map pa_data_value) m.padata) → IsBrief kdc_req_body (kdc_req_body_value m.body) → AreCounted (kdc_req_fields m)
+kdc_req m items (options, (cname, (realm, (sname, (from, (till, (rtime, (nonce, (etype, (addresses, (authdata, (tickets, none)))))))))))) = (
   tt,
   (
     its_name m.body.realm m.body.cname cname,
@@ -171,8 +171,8 @@ kdc_req m (version, (type, (items, ((options, (cname, (realm, (sname, (from, (ti
   ),
 )
 
-pub kdc_rep : (m : KdcRep) → IsBrief as_rep (kdc_rep_value 11 m) → AreCounted (kdc_rep_fields m)
-kdc_rep m (version, (type, (items, (crealm, (cname, (its_ticket, (enc_part, rest))))))) =
+pub kdc_rep : (m : KdcRep) → IfPresent (IsBrief (sequence_of pa_data)) (option_map (map pa_data_value) m.padata) → IsBrief principal_name (principal_name_value m.cname) → IsBrief ticket (ticket_value m.ticket) → IsBrief encrypted_data (encrypted_data_value m.enc_part) → AreCounted (kdc_rep_fields m)
+kdc_rep m items cname its_ticket enc_part =
     (cname.0, (its_ticket.1.1.0.0, (its_padata m.padata items, (its_sealed m.ticket.enc_part its_ticket.1.1.1.0, (its_sealed m.enc_part enc_part, tt)))))
 
 pub of_ap_req : (m : ApReq) → IsBrief ap_req (ap_req_value m) → AreCounted (ap_req_fields m)

@@ -8,3 +8,4 @@ pub mod JsonRecords
 pub mod JsonSizes
 pub mod JsonShown
 pub mod JsonNumbers
+pub mod JsonMessages

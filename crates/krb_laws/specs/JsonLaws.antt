@@ -7,11 +7,35 @@ use Rattle.json.specs.Json.{Json, document}
 use Rattle.json.specs.Print.{print}
 use Rattle.json.specs.Strict.{HasUniqueKeys}
 use Rattle.json.specs.Tree.{json_tokens}
+use Rattle.krb_der.specs.declared.profile.Profile.TheVariants as profiles
+use Rattle.krb_der.specs.declared.verdict.Refusal.{Refusal}
+use Rattle.krb_der.specs.declared.why.Why.{Why}
+use Rattle.krb_file.specs.declared.fault.FileWhy.{FileWhy}
+use Rattle.krb_input.specs.declared.spelling.Spelling.{Spelling}
+use Rattle.krb_msg.specs.Grammar.{ticket}
+use Rattle.krb_msg.specs.Stream.{End, Boundary, Within, Refused}
+use Rattle.krb_msg.specs.Term.{Fits, der}
+use Rattle.krb_msg.specs.Types.{ticket_value}
+use Rattle.krb_msg.specs.Views.{IsInProfile}
+use Rattle.krb_msg.specs.declared.message.Message.{Message}
+use Rattle.krb_msg.specs.declared.ticket.Ticket.{Ticket}
 use Rattle.krb_packet.specs.declared.contents.Endpoint.{Endpoint}
+use Rattle.krb_text.specs.Captures.{capture_refused_record, count_fields, lost_record, origin_fields, password_record}
+use Rattle.krb_text.specs.Files.{file_record}
 use Rattle.krb_text.specs.Forms.{record_text}
+use Rattle.krb_text.specs.Inputs.{input_refused_record}
+use Rattle.krb_text.specs.Laws.{OriginIsInRange}
+use Rattle.krb_text.specs.Messages.{message_origin, message_record, ticket_record}
+use Rattle.krb_text.specs.Refusals.{extent_in, file_refused_record, message_refused_record, path_in, refusal_record}
+use Rattle.krb_text.specs.Streams.{counted_end_record, end_record, refused_frame}
 use Rattle.krb_text.specs.Text.{IsPrintable}
-use Rattle.krb_text.specs.Values.{Value, Number, Named, Numbers, ErrorCode, Reason, Word, Flags, Sealed, Principal, Address, Digest, Offset, RefusedTicket, Flow, Field, Printed}
-use Rattle.krb_text.specs.declared.form.Form.TheVariants.{Json as AsJson}
+use Rattle.krb_text.specs.Values.{Value, Number, Named, Numbers, ErrorCode, Reason, Word, Flags, Sealed, Principal, Address, Digest, Offset, RefusedTicket, Flow, Field, Printed, printed, with_origin}
+use Rattle.krb_text.specs.declared.capture.CaptureCounts.{CaptureCounts}
+use Rattle.krb_text.specs.declared.extent.Extent.{Extent}
+use Rattle.krb_text.specs.declared.form.Form.TheVariants as forms
+use Rattle.krb_text.specs.declared.input.InputFault.{InputFault}
+use Rattle.krb_text.specs.declared.origin.Origin.{Origin}
+use Rattle.krb_token.specs.declared.layer.Layer.{Layer}
 use Rattle.krb_laws.specs.Json.{json_of}
 
 -- A text is a value of JSON (RFC 8259), as it is printed without blanks, and no object in it has a name twice.
@@ -65,6 +89,66 @@ pub record FitsJson (r : Printed) : Type 0 where
   pub apart : are_different (codes "kind" ∷ flat_map (λ f. member_names f.name) (r.origin ++ r.fields)) ≡ true
   pub values : AllByRecursion (λ (f : Field). ValueFits f.value) (r.origin ++ r.fields)
 
--- The text of such a record is its object.
+-- the text of a record is its object
+abbrev pub PrintsJson : Printed → Type 0
+PrintsJson r = IsJson (record_text forms.Json r) (json_of r)
+
+-- The text of each record that fits is its object.
 abbrev pub RecordsAreJson : Type 0
-RecordsAreJson = (r : Printed) → FitsJson r → IsJson (record_text AsJson r) (json_of r)
+RecordsAreJson = (r : Printed) → FitsJson r → PrintsJson r
+
+-- ---- the records that are printed
+-- the number of a line
+abbrev pub IsLine : Option ℕ → Type 0
+IsLine line = IfSome line (λ n. n < 2 ^ 63)
+
+-- of a message, with an origin too, and of a Ticket
+pub record MessagesAreJson : Type 0 where
+  pub message : (m : Message) → IsInProfile profiles.Lenient m → PrintsJson (message_record m)
+  pub from : (line : Option ℕ) (layers : List Layer) (m : Message) → IsLine line → IsInProfile profiles.Lenient m → PrintsJson (with_origin (message_origin line layers) (message_record m))
+  pub ticket : (line : Option ℕ) (layers : List Layer) (t : Ticket) → IsLine line → Fits ticket (ticket_value t) → length (der ticket (ticket_value t)) < 2 ^ 31 → PrintsJson (with_origin (message_origin line layers) (ticket_record t))
+
+-- the place of octets and their number
+pub record IsExtent (extent : Extent) : Type 0 where
+  pub at : extent.at < 2 ^ 63
+  pub length : IfSome extent.length (λ n. n < 2 ^ 63)
+
+abbrev pub IsEnd : End → Type 0
+IsEnd Boundary = Unit {0}
+IsEnd (Within present) = present < 2 ^ 63
+IsEnd (Refused place reason) = place < 2 ^ 63
+
+-- of a refused file, message or input, of the end of a stream, and of the name of a file
+pub record EndsAreJson : Type 0 where
+  pub file : (place : ℕ) (reason : FileWhy) (path : Option (List ℕ)) (extent : Extent) → place < 2 ^ 63 → IsExtent extent → PrintsJson (file_refused_record forms.Json place reason path extent)
+  pub message : (line : Option ℕ) (layers : List Layer) (refusal : Refusal) (path : Option (List ℕ)) (extent : Extent) (spelling : Spelling) → IsLine line → refusal.place < 2 ^ 63 → IsExtent extent → PrintsJson (with_origin (message_origin line layers) (message_refused_record forms.Json refusal path extent spelling))
+  pub untold_message : (refusal : Refusal) (path : Option (List ℕ)) → refusal.place < 2 ^ 63 → PrintsJson (refusal_record refusal (path_in forms.Json path))
+  pub input : (line : Option ℕ) (layers : List Layer) (fault : InputFault) (place : Option ℕ) (extent : Extent) (spelling : Option Spelling) → IsLine line → IfSome place (λ n. n < 2 ^ 63) → IsExtent extent → PrintsJson (with_origin (message_origin line layers) (input_refused_record forms.Json fault place extent spelling))
+  pub stream : (messages : ℕ) (end : End) (path : Option (List ℕ)) (extent : Extent) → messages < 2 ^ 63 → IsEnd end → IsExtent extent → PrintsJson (end_record forms.Json messages end path extent)
+  pub untold_stream : (messages place : ℕ) (reason : Why) (path : Option (List ℕ)) → messages < 2 ^ 63 → place < 2 ^ 63 → PrintsJson (refused_frame messages place reason (path_in forms.Json path))
+  pub counted_stream : (messages refused : ℕ) → messages < 2 ^ 63 → refused < 2 ^ 63 → PrintsJson (counted_end_record messages refused)
+  pub name : (name : List ℕ) → PrintsJson (file_record name)
+
+-- the origin of a record of a capture: its numbers and addresses are as their types have them
+pub record IsFlowOrigin (origin : Origin) : Type 0 where
+  pub in_range : OriginIsInRange origin
+  pub packet : origin.packet < 2 ^ 63
+  pub source : origin.source.port < 2 ^ 16
+  pub target : origin.target.port < 2 ^ 16
+
+pub record AreCounts (counts : CaptureCounts) : Type 0 where
+  pub packets : counts.packets < 2 ^ 63
+  pub messages : counts.messages < 2 ^ 63
+  pub refused : counts.refused < 2 ^ 63
+  pub lost : counts.lost < 2 ^ 63
+  pub unread : counts.unread < 2 ^ 63
+
+-- of what is found in a capture, and of its end or its refusal
+pub record CapturesAreJson : Type 0 where
+  pub message : (origin : Origin) (m : Message) → IsFlowOrigin origin → IsInProfile profiles.Lenient m → PrintsJson (with_origin (origin_fields origin) (message_record m))
+  pub refusal : (origin : Origin) (refusal : Refusal) (path : Option (List ℕ)) (extent : Extent) → IsFlowOrigin origin → refusal.place < 2 ^ 63 → IsExtent extent → PrintsJson (with_origin (origin_fields origin) (refusal_record refusal (path_in forms.Json path ++ extent_in forms.Json extent)))
+  pub joined : (origin : Origin) → IsFlowOrigin origin → PrintsJson (with_origin (origin_fields origin) (printed (codes "joined") []))
+  pub lost : (origin : Origin) (place octets : ℕ) (path : Option (List ℕ)) → IsFlowOrigin origin → place < 2 ^ 63 → octets < 2 ^ 63 → PrintsJson (with_origin (origin_fields origin) (lost_record forms.Json place octets path))
+  pub password : (origin : Origin) (version ap rest : ℕ) → IsFlowOrigin origin → version < 2 ^ 16 → ap < 2 ^ 16 → rest < 2 ^ 63 → PrintsJson (with_origin (origin_fields origin) (password_record version ap rest))
+  pub end : (counts : CaptureCounts) → AreCounts counts → PrintsJson (printed (codes "end") (count_fields counts))
+  pub file : (counts : CaptureCounts) (place : ℕ) (reason : FileWhy) (path : Option (List ℕ)) (extent : Extent) → AreCounts counts → place < 2 ^ 63 → IsExtent extent → PrintsJson (capture_refused_record forms.Json counts place reason path extent)
