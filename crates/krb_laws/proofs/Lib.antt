@@ -9,3 +9,4 @@ pub mod JsonSizes
 pub mod JsonShown
 pub mod JsonNumbers
 pub mod JsonMessages
+pub mod JsonEnds
