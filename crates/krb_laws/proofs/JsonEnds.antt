@@ -1,9 +1,7 @@
 -- What is printed of refusals, of ends and of captures is JSON.
-use Rattle.std.proofs.Common.{◌≡◌, ℕ, pos, ◌^◌, ◌<◌, ◌≤◌, nat_le, true, false, List, [], ◌∷◌, ◌++◌, Option, Some, None, IfSome, codes, refl, arith}
+use Rattle.std.proofs.Common.{◌≡◌, ℕ, pos, ◌^◌, ◌<◌, nat_le, true, false, List, [], ◌∷◌, ◌++◌, Option, Some, None, IfSome, codes, refl, arith}
 use Rattle.std.proofs.lemmas.Bool.{leb-true}
-use Rattle.std.specs.List.{AllByRecursion}
 use Rattle.krb_der.specs.Reasons.{reason_number, reason_name}
-use Rattle.krb_der.specs.declared.profile.Profile.TheVariants as profiles
 use Rattle.krb_der.specs.declared.verdict.Refusal.{Refusal}
 use Rattle.krb_der.specs.declared.why.Why.{Why}
 use Rattle.krb_der.specs.declared.why.Why.TheVariants as whys
@@ -14,14 +12,12 @@ use Rattle.krb_input.specs.Spellings.{spelling_name}
 use Rattle.krb_input.specs.declared.spelling.Spelling.{Spelling}
 use Rattle.krb_input.specs.declared.spelling.Spelling.TheVariants as spellings
 use Rattle.krb_msg.specs.Stream.{End, Boundary, Within, Refused}
-use Rattle.krb_msg.specs.Views.{IsInProfile}
-use Rattle.krb_msg.specs.declared.message.Message.{Message}
 use Rattle.krb_packet.specs.declared.packet.Time.{Time}
 use Rattle.krb_text.specs.Captures.{capture_refused_record, count_fields, lost_record, origin_fields, password_record}
 use Rattle.krb_text.specs.Files.{file_record}
 use Rattle.krb_text.specs.Inputs.{input_refused_record, input_word}
-use Rattle.krb_text.specs.Messages.{message_origin, message_record}
-use Rattle.krb_text.specs.Refusals.{extent_in, file_refused_record, message_refused_record, path_in, refusal_record, spelling_in}
+use Rattle.krb_text.specs.Messages.{message_origin}
+use Rattle.krb_text.specs.Refusals.{extent_in, file_refused_record, message_refused_record, path_in, refusal_record}
 use Rattle.krb_text.specs.Streams.{counted_end_record, end_record, refused_frame, refused_record}
 use Rattle.krb_text.specs.Text.{IsPrintable}
 use Rattle.krb_text.specs.Time.{instant_text}
@@ -38,8 +34,8 @@ use Rattle.krb_text.proofs.Times.{instant}
 use Rattle.krb_token.specs.declared.layer.Layer.{Layer}
 use Rattle.krb_laws.specs.JsonLaws.{AreCounts, CapturesAreJson, EndsAreJson, IsEnd, IsExtent, IsFlowOrigin, IsLine, PrintsJson, ValueFits}
 use Rattle.krb_laws.proofs.JsonMessages.{its_origin, message_from}
-use Rattle.krb_laws.proofs.JsonRecords.{record_is_json}
-use Rattle.krb_laws.proofs.JsonShown.{FitsFrom, IsOrigin, ValuesFit, from_origin, no_origin}
+use Rattle.krb_laws.proofs.JsonRecords.{ValuesFit, record_is_json}
+use Rattle.krb_laws.proofs.JsonShown.{FitsFrom, IsOrigin, from_origin, no_origin}
 use Rattle.krb_laws.proofs.JsonValues.{small_reason}
 
 from : (origin : List Field) (kind : List ℕ) (fields : List Field) → IsOrigin origin → FitsFrom kind fields → PrintsJson (with_origin origin (printed kind fields))

@@ -1,23 +1,22 @@
 -- What is printed of messages and of Tickets is JSON.
-use Rattle.std.proofs.Common.{◌≡◌, ℕ, pos, ◌^◌, ◌<◌, true, false, List, [], ◌∷◌, ◌++◌, length, Option, Some, None, codes, refl, arith}
-use Rattle.std.specs.List.{AllByRecursion}
+use Rattle.std.proofs.Common.{◌≡◌, ℕ, ◌^◌, ◌<◌, true, false, List, [], ◌∷◌, ◌++◌, length, Option, Some, None, codes, refl}
 use Rattle.krb_der.specs.declared.profile.Profile.TheVariants as profiles
-use Rattle.krb_msg.specs.Grammar.{ap_req, as_rep, as_req, krb_cred, krb_error, krb_safe, ticket}
+use Rattle.krb_msg.specs.Grammar.{ticket}
 use Rattle.krb_msg.specs.Notes.{notes_of, notes_of_ticket}
 use Rattle.krb_msg.specs.Term.{Fits, der}
-use Rattle.krb_msg.specs.Types.{ap_req_value, kdc_rep_value, kdc_req_value, krb_cred_value, krb_error_value, krb_safe_value, ticket_value}
+use Rattle.krb_msg.specs.Types.{ticket_value}
 use Rattle.krb_msg.specs.Views.{IsInProfile, kind_name, kind_of, kind_term, message_value}
 use Rattle.krb_msg.specs.declared.message.Message.{Message}
 use Rattle.krb_msg.specs.declared.message.Message.TheVariants as message
 use Rattle.krb_msg.specs.declared.ticket.Ticket.{Ticket}
 use Rattle.krb_text.specs.Messages.{fields_of, message_origin, message_record, notes, ticket_record}
-use Rattle.krb_text.specs.Values.{Field, the, printed, with_origin}
+use Rattle.krb_text.specs.Values.{Field, the, with_origin}
 use Rattle.krb_text.proofs.MessageOneLine.{record_is_plain}
 use Rattle.krb_token.specs.declared.layer.Layer.{Layer}
-use Rattle.krb_laws.specs.JsonLaws.{IsLine, MessagesAreJson, PrintsJson, is_plain}
+use Rattle.krb_laws.specs.JsonLaws.{IsLine, MessagesAreJson, PrintsJson}
 use Rattle.krb_laws.proofs.JsonNumbers.{cred, error, its_notes, its_sealed, kdc_rep, kdc_req, of_ap_req, safe}
-use Rattle.krb_laws.proofs.JsonRecords.{record_is_json}
-use Rattle.krb_laws.proofs.JsonShown.{AreCounted, FitsFrom, IsOrigin, ValuesFit, fields_fit, from_origin, no_origin}
+use Rattle.krb_laws.proofs.JsonRecords.{ValuesFit, record_is_json}
+use Rattle.krb_laws.proofs.JsonShown.{AreCounted, FitsFrom, IsOrigin, fields_fit, from_origin, no_origin}
 use Rattle.krb_laws.proofs.JsonSizes.{IsBrief, brief, is_narrow}
 
 -- ---- where messages come from

@@ -1,15 +1,14 @@
 -- The numbers and sizes in what is printed of messages are small.
-use Rattle.std.proofs.Common.{◌≡◌, ℕ, suc, ℤ, pos, ◌+◌, ◌*◌, ◌^◌, ◌<◌, ◌≤◌, Bool, true, false, cond, List, [], ◌∷◌, ◌++◌, length, map, Option, Some, None, IfSome, if◌then◌else◌, codes, refl, sym, ◌∙◌, ap, subst, arith}
+use Rattle.std.proofs.Common.{◌≡◌, ℕ, suc, ℤ, pos, ◌^◌, ◌<◌, Bool, true, false, cond, List, [], ◌∷◌, length, map, Option, Some, None, IfSome, if◌then◌else◌, refl, sym, ◌∙◌, ap, subst, arith}
 use Rattle.std.specs.List.{AllByRecursion, filter}
 use Rattle.std.specs.Option.{option_map}
 use Rattle.krb_der.specs.Octets.{AreOctets}
-use Rattle.krb_der.specs.declared.profile.Profile.TheVariants as profiles
 use Rattle.krb_der.specs.declared.verdict.Verdict.{Verdict}
 use Rattle.krb_der.specs.declared.verdict.Verdict.TheVariants as verdict
 use Rattle.krb_msg.specs.Grammar.{ap_req, checksum as checksum_term, encrypted_data, host_address, kdc_req_body, krb_cred, krb_error, krb_safe, method_data, octet_string, pa_data, principal_name, sequence_of, ticket}
 use Rattle.krb_msg.specs.Judgement.{term_judgement}
 use Rattle.krb_msg.specs.Notes.{notes_have}
-use Rattle.krb_msg.specs.Term.{Fits, IfPresent, Value, der}
+use Rattle.krb_msg.specs.Term.{IfPresent, Value, der}
 use Rattle.krb_msg.specs.Types.{ap_req_value, checksum_value, encrypted_data_value, host_address_value, kdc_req_body_value, krb_cred_value, krb_error_value, krb_safe_value, pa_data_of, pa_data_value, principal_name_value, ticket_value}
 use Rattle.krb_msg.specs.ValueOfDer.{value_of_der}
 use Rattle.krb_msg.specs.declared.ap_req.ApReq.{ApReq}
@@ -24,10 +23,9 @@ use Rattle.krb_msg.specs.declared.krb_safe.KrbSafe.{KrbSafe}
 use Rattle.krb_msg.specs.declared.notes.Notes.{Notes}
 use Rattle.krb_msg.specs.declared.pa_data.PaData.{PaData}
 use Rattle.krb_msg.specs.declared.principal_name.PrincipalName.{PrincipalName}
-use Rattle.krb_msg.specs.declared.ticket.Ticket.{Ticket}
 use Rattle.krb_msg.proofs.Grammars.{whole_is_value}
 use Rattle.krb_msg.proofs.ValueOfDer.{value_of_der_is_value}
-use Rattle.krb_text.specs.Messages.{ap_req_fields, asks_for_preauth, items_if, kdc_rep_fields, kdc_req_fields, krb_cred_fields, krb_error_fields, krb_safe_fields, method_data_in, methods, methods_in, notes, padata}
+use Rattle.krb_text.specs.Messages.{ap_req_fields, asks_for_preauth, items_if, kdc_rep_fields, kdc_req_fields, krb_cred_fields, krb_error_fields, krb_safe_fields, method_data_in, methods, notes, padata}
 use Rattle.krb_text.specs.Values.{Value as Shown, Number, Quoted, Word, address, checksum, client, count, if_there, principal, sealed}
 use Rattle.krb_laws.specs.JsonLaws.{IsSmall}
 use Rattle.krb_laws.proofs.JsonShown.{AreCounted, IsCounted}

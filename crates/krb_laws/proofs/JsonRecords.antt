@@ -1,16 +1,15 @@
 -- The text of a record is that of its object.
-use Rattle.std.proofs.Common.{◌≡◌, ℕ, ◌+◌, ◌≤◌, Bool, true, false, List, [], ◌∷◌, ◌++◌, codes, refl, sym, ◌∙◌, ap, subst, append_assoc, append-nil, arith}
+use Rattle.std.proofs.Common.{◌≡◌, ℕ, Bool, true, List, [], ◌∷◌, ◌++◌, codes, refl, sym, ◌∙◌, ap, subst, append_assoc, append-nil, arith}
 use Rattle.std.specs.Prelude.{◌≢◌}
 use Rattle.std.proofs.lemmas.Bool.{and_parts}
 use Rattle.std.specs.List.{AllByRecursion, flat_map, list_all}
 use Rattle.json.specs.Json.{Json, Members, member, null}
 use Rattle.json.specs.Strict.{keys, AreDistinct}
-use Rattle.krb_registry.specs.declared.registry.Registry.{Registry}
 use Rattle.krb_registry.specs.declared.registry.Registry.TheVariants as registries
-use Rattle.krb_text.specs.Forms.{closing, fields_text, heading, json_string, json_value, labelled, members, name_string, names_member, opening, opening_from, origin_text, record_text}
-use Rattle.krb_text.specs.Values.{Value, Absent, NoTicket, Number, Named, Numbers, ErrorCode, Reason, NoReason, String, Quoted, FileName, Word, Flags, TicketFlags, Sealed, Principal, Address, Digest, YesNo, Offset, RefusedTicket, Flow, Layers, Field, Printed}
+use Rattle.krb_text.specs.Forms.{closing, fields_text, heading, json_value, labelled, members, name_string, names_member, opening, opening_from, record_text}
+use Rattle.krb_text.specs.Values.{Value, Named, Numbers, ErrorCode, Reason, NoReason, Field, Printed}
 use Rattle.krb_text.specs.declared.form.Form.TheVariants as form
-use Rattle.krb_laws.specs.Json.{field_members, json_of, json_of_value, members_of, name_json, names_of_value}
+use Rattle.krb_laws.specs.Json.{field_members, json_of, members_of, name_json, names_of_value}
 use Rattle.krb_laws.specs.JsonLaws.{FitsJson, IsJson, ValueFits, are_different, is_plain, member_names}
 use Rattle.krb_laws.proofs.JsonNames.{AllOthers, distinct_cons, distinct_none, others}
 use Rattle.krb_laws.proofs.JsonPieces.{AreMembers, IsPlain, IsText, a_list, a_null, a_plain, an_object, as_text, document_is, no_more_members, one_more_member, printed_is}
@@ -43,10 +42,10 @@ module _ (name : List ℕ) (plain : IsPlain name) where
 member_then : (name value names fields end : List ℕ) → 44 ∷ 34 ∷ (name ++ 34 ∷ 58 ∷ (value ++ (names ++ (fields ++ end)))) ≡ (44 ∷ 34 ∷ name) ++ (34 ∷ 58 ∷ []) ++ value ++ names ++ fields ++ end
 member_then name value names fields end = simp append_assoc refl
 
-abbrev names_are_plain : List Field → Bool
+abbrev pub names_are_plain : List Field → Bool
 names_are_plain fields = list_all (λ (f : Field). is_plain f.name) fields
 
-abbrev ValuesFit : List Field → Type 0
+abbrev pub ValuesFit : List Field → Type 0
 ValuesFit fields = AllByRecursion (λ (f : Field). ValueFits f.value) fields
 
 all_fields : (fields : List Field) → names_are_plain fields ≡ true → ValuesFit fields → AreMembers (fields_text form.Json fields ++ codes "}") (members_of (flat_map field_members fields)) 2

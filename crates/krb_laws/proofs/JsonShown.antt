@@ -1,13 +1,13 @@
 -- Records whose values are shown, and whose numbers are small, fit JSON; from any origin.
-use Rattle.std.proofs.Common.{◌≡◌, ℕ, ℤ, pos, ◌+◌, ◌*◌, ◌^◌, ◌<◌, ◌≤◌, ◌&&◌, not, Bool, true, false, cond, List, [], ◌∷◌, ◌++◌, length, Option, Some, None, IfSome, codes, refl, sym, ◌∙◌, ap, subst, append_assoc, arith}
+use Rattle.std.proofs.Common.{◌≡◌, ℕ, ◌*◌, ◌^◌, ◌<◌, not, Bool, true, false, cond, List, [], ◌∷◌, ◌++◌, length, IfSome, codes, refl, ◌∙◌, ap}
 use Rattle.std.proofs.lemmas.Bool.{and_parts, and_from}
 use Rattle.std.proofs.lemmas.Grind.{flat_map-append}
 use Rattle.std.specs.List.{AllByRecursion, flat_map, list_all}
 use Rattle.std.specs.Str.{bytes_eq}
-use Rattle.krb_text.specs.Forms.{record_text}
-use Rattle.krb_text.specs.Values.{Value, Absent, NoTicket, Number, Named, Numbers, ErrorCode, Reason, NoReason, String, Quoted, FileName, Word, Flags, TicketFlags, Sealed, Principal, Address, Digest, YesNo, Offset, RefusedTicket, Flow, Layers, Field, Printed, printed, with_origin, if_there}
+use Rattle.krb_text.specs.Values.{Value, Absent, NoTicket, Number, Named, Numbers, ErrorCode, Reason, NoReason, String, Quoted, FileName, Word, Flags, TicketFlags, Sealed, Principal, Address, Digest, YesNo, Offset, RefusedTicket, Flow, Layers, Field, printed, with_origin}
 use Rattle.krb_text.proofs.EachForm.{AreShown, IsShown}
 use Rattle.krb_laws.specs.JsonLaws.{FitsJson, IsSmall, ValueFits, are_different, is_plain, member_names}
+use Rattle.krb_laws.proofs.JsonRecords.{ValuesFit, names_are_plain}
 use Rattle.krb_laws.proofs.JsonStrings.{all-append}
 
 -- ---- the numbers of values
@@ -55,9 +55,6 @@ fits (Layers layers) s h = tt
 abbrev pub AreCounted : List Field → Type 0
 AreCounted fields = AllByRecursion (λ (f : Field). IsCounted f.value) fields
 
-abbrev pub ValuesFit : List Field → Type 0
-ValuesFit fields = AllByRecursion (λ (f : Field). ValueFits f.value) fields
-
 pub fields_fit : (fields : List Field) → AreShown fields → AreCounted fields → ValuesFit fields
 fields_fit [] s h = tt
 fields_fit (first ∷ rest) s h = (fits first.value s.0 h.0, fields_fit rest s.1 h.1)
@@ -87,9 +84,6 @@ different-picked (false ∷ keeps) (name ∷ names) e = different-picked keeps n
 -- ---- origins
 abbrev pub names_of : List Field → List (List ℕ)
 names_of fields = flat_map (λ (f : Field). member_names f.name) fields
-
-abbrev pub names_are_plain : List Field → Bool
-names_are_plain fields = list_all (λ (f : Field). is_plain f.name) fields
 
 -- the names that an origin may have, and those of a record's members
 abbrev pub origin_names : List (List ℕ)

@@ -1,10 +1,11 @@
 -- The numbers of a value that fits and has fewer than 2^31 octets, and the lengths of its parts, are small.
-use Rattle.std.proofs.Common.{◌≡◌, ℕ, ℤ, pos, negsuc, unsigned_abs, ◌+◌, ◌^◌, ◌<◌, ◌≤◌, ◌≤ℤ◌, ◌&&◌, Bool, true, false, List, [], ◌∷◌, ◌++◌, length, length-append, Option, Some, None, arith}
+use Rattle.std.proofs.Common.{◌≡◌, ℕ, ℤ, pos, negsuc, ◌+◌, ◌^◌, ◌<◌, ◌≤◌, ◌≤ℤ◌, ◌&&◌, Bool, true, List, [], ◌∷◌, length, length-append, Option, Some, None, arith}
 use Rattle.std.specs.Prelude.{int_le}
 use Rattle.std.proofs.lemmas.Bool.{and_parts}
 use Rattle.std.proofs.lemmas.Int.{ints}
 use Rattle.std.specs.List.{AllByRecursion, flat_map}
-use Rattle.krb_der.specs.Octets.{integer_octets, item, length_octets, octets_of_option}
+use Rattle.krb_der.specs.Octets.{item, length_octets, octets_of_option}
+use Rattle.krb_msg.proofs.Accepts.{length-der}
 use Rattle.krb_msg.proofs.Integers.{int_le-true}
 use Rattle.krb_msg.specs.Term.{Term, Fields, Integer, Text, Octets, Time, Bits, Sequence, SequenceOf, Tagged, Application, End, Required, Optional, Value, Values, Fits, AllFit, IfPresent, der, der_of_fields}
 use Rattle.krb_laws.specs.JsonLaws.{IsSmall}
@@ -49,20 +50,9 @@ abbrev mutual
 item-longer : (tag : ℕ) (contents : List ℕ) → length contents < length (item tag contents)
 item-longer tag contents = omega (arith, length-append (length_octets (length contents)) contents)
 
-der-some : (term : Term) (value : Value term) → 0 < length (der term value)
-der-some (Integer low high) value = omega (arith, item-longer 0x02 (integer_octets value))
-der-some (Text greatest) octets = omega (arith, item-longer 0x1B octets)
-der-some Octets octets = omega (arith, item-longer 0x04 octets)
-der-some Time octets = omega (arith, item-longer 0x18 octets)
-der-some (Bits least) bits = omega (arith, item-longer 0x03 (bits.0 ∷ bits.1))
-der-some (Sequence fields) values = omega (arith, item-longer 0x30 (der_of_fields fields values))
-der-some (SequenceOf empty term) values = omega (arith, item-longer 0x30 (flat_map (der term) values))
-der-some (Tagged index term) value = omega (arith, item-longer (0xA0 + index) (der term value))
-der-some (Application number term) value = omega (arith, item-longer (0x60 + number) (der term value))
-
 as-many : (term : Term) (values : List (Value term)) → length values ≤ length (flat_map (der term) values)
 as-many term [] = omega arith
-as-many term (v ∷ values) = omega (arith, length-append (der term v) (flat_map (der term) values), der-some term v, as-many term values)
+as-many term (v ∷ values) = omega (arith, length-append (der term v) (flat_map (der term) values), length-der term v, as-many term values)
 
 -- ---- numbers
 small : (low high value : ℤ) → (int_le (negsuc 9223372036854775806) low && int_le high (pos 9223372036854775807)) ≡ true → low ≤ℤ value → value ≤ℤ high → IsSmall value

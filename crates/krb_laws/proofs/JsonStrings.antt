@@ -1,5 +1,5 @@
 -- Strings of JSON: which texts are as they are in one, and what the text of a string is.
-use Rattle.std.proofs.Common.{◌≡◌, ℕ, ℤ, zero, suc, ◌+◌, ◌/◌, ◌%◌, ◌^◌, ◌<◌, ◌≤◌, ◌≢◌, ◌==◌, ◌&&◌, ◌||◌, nat_le, not, ◌⊎◌, inl, inr, Bool, true, false, cond, List, [], ◌∷◌, ◌++◌, map, drop, get_or, Option, Some, None, codes, decimal, refl, sym, ◌∙◌, ap, ap₂, subst, arith, if◌then◌else◌}
+use Rattle.std.proofs.Common.{◌≡◌, ℕ, ℤ, zero, suc, ◌/◌, ◌%◌, ◌^◌, ◌<◌, ◌≤◌, ◌==◌, ◌&&◌, ◌||◌, nat_le, not, ◌⊎◌, inl, inr, Bool, true, false, cond, List, [], ◌∷◌, ◌++◌, map, drop, get_or, Option, Some, None, codes, decimal, refl, sym, ◌∙◌, ap₂, subst, arith, if◌then◌else◌}
 use Rattle.std.proofs.lemmas.Bool.{and_parts, cases_eq, ne_eqb}
 use Rattle.std.proofs.lemmas.Bool.Decides.{nat_tests}
 use Rattle.std.proofs.NetLemmas.Alphabet.{IsHexOrColon, All-hex_groups_text}
@@ -10,18 +10,18 @@ use Rattle.std.specs.Net.Addr.{IsIpv4Addr, IsIpv6Addr, MatchIp, ipv4_octets, ipv
 use Rattle.std.specs.Net.Text.{ip_text, ipv4_text, ipv6_text, hex_groups_text}
 use Rattle.std.specs.declared.net.ip_addr.IpAddr.{IpAddr}
 use Rattle.std.specs.declared.net.ip_addr.IpAddr.TheVariants as addresses
-use Rattle.json.specs.Json.{Json, string, null}
-use Rattle.json.specs.Print.{escape_byte, quoted}
+use Rattle.json.specs.Json.{string}
+use Rattle.json.specs.Print.{escape_byte}
 use Rattle.json.proofs.Printed.Strings.{escape_byte_plain}
 use Rattle.krb_msg.specs.Term.{IfPresent}
 use Rattle.krb_registry.specs.Laws.{is_plain as is_plain_in_rows}
 use Rattle.krb_registry.specs.Rows.{name_of, rows}
 use Rattle.krb_registry.specs.declared.registry.Registry.{Registry}
 use Rattle.krb_registry.proofs.Names.{all_plain, each_octet, name_is_plain, plain_octet}
-use Rattle.krb_text.specs.Forms.{json_character, json_string, is_set, set_names, shown_octet}
+use Rattle.krb_text.specs.Forms.{json_character, json_string, set_names, shown_octet}
 use Rattle.krb_text.specs.Text.{escape, escape_octet, hex, is_plain as is_plain_in_lines, joined, principal_text, two_hex}
 use Rattle.krb_laws.specs.JsonLaws.{is_plain}
-use Rattle.krb_laws.proofs.JsonPieces.{IsText, IsPlain, a_plain, a_quoted}
+use Rattle.krb_laws.proofs.JsonPieces.{IsText, IsPlain, a_quoted}
 
 -- ---- characters that need no escape, and those that need at most a `\`
 abbrev pub IsPlainOne : ℕ → Type 0

@@ -1,11 +1,10 @@
 -- The text of a value is that of its JSON.
-use Rattle.std.proofs.Common.{◌≡◌, ℕ, ℤ, ◌+◌, ◌-◌, ◌*◌, ◌^◌, ◌<◌, ◌≤◌, nat_le, Bool, true, false, List, [], ◌∷◌, ◌++◌, length, Option, Some, None, IfSome, codes, decimal, refl, sym, subst, append_assoc, arith}
+use Rattle.std.proofs.Common.{◌≡◌, ℕ, ℤ, ◌+◌, ◌-◌, ◌*◌, ◌^◌, ◌<◌, ◌≤◌, nat_le, Bool, true, false, List, [], ◌∷◌, ◌++◌, length, Option, Some, None, IfSome, codes, decimal, refl, subst, append_assoc, arith}
 use Rattle.std.proofs.lemmas.Bool.{leb-true}
 use Rattle.std.specs.Fmt.{signed_decimal}
 use Rattle.std.specs.List.{AllByRecursion, flat_map}
-use Rattle.std.specs.Net.Addr.{IsIpv4Addr, IsIpv6Addr, MatchIp}
 use Rattle.std.specs.Net.Text.{ip_text}
-use Rattle.json.specs.Json.{Json, Members, no_members, member, object, string}
+use Rattle.json.specs.Json.{Json, Members, member, object, string}
 use Rattle.json.specs.Strict.{keys}
 use Rattle.krb_der.specs.Reasons.{reason_number, reason_name}
 use Rattle.krb_der.specs.declared.verdict.Refusal.{Refusal}
@@ -25,7 +24,7 @@ use Rattle.krb_text.specs.declared.origin.Transport.TheVariants as transports
 use Rattle.krb_token.specs.Layers.{layer_name}
 use Rattle.krb_token.specs.declared.layer.Layer.{Layer}
 use Rattle.krb_token.specs.declared.layer.Layer.TheVariants as layers
-use Rattle.krb_laws.specs.Json.{address_json, count_of, digest_json, endpoint_json, flags_json, if_known, json_of_value, list_of, name_json, number_of, octets_of, offset_json, principal_json, refused_json, sealed_json}
+use Rattle.krb_laws.specs.Json.{address_json, digest_json, endpoint_json, flags_json, if_known, json_of_value, list_of, name_json, number_of, octets_of, offset_json, principal_json, refused_json, sealed_json}
 use Rattle.krb_laws.specs.JsonLaws.{IsEndpoint, IsSmall, ValueFits, are_different, is_plain}
 use Rattle.krb_laws.proofs.JsonNames.{distinct}
 use Rattle.krb_laws.proofs.JsonPieces.{AreMembers, IsPlain, IsText, a_false, a_list, a_null, a_number, a_plain, a_signed, a_true, an_object, as_text, deeper, eleven, five, nine, no_more_members, one_more_member, seven}

@@ -91,11 +91,14 @@ offset_json seconds microseconds = object_of ((codes "seconds", number_of second
 
 abbrev pub refused_json : Refusal → Json
 refused_json refusal =
-    object_of ((codes "refused", object_of (
-        (codes "place", count_of refusal.place)
-        ∷ (codes "why", count_of (reason_number refusal.why))
-        ∷ (codes "why_name", string (reason_name refusal.why))
-        ∷ []))
+    object_of ((
+      codes "refused",
+      object_of (
+          (codes "place", count_of refusal.place)
+          ∷ (codes "why", count_of (reason_number refusal.why))
+          ∷ (codes "why_name", string (reason_name refusal.why))
+          ∷ []),
+    )
     ∷ [])
 
 abbrev pub endpoint_json : Endpoint → Json
