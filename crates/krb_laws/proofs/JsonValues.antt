@@ -18,7 +18,7 @@ use Rattle.krb_registry.specs.declared.registry.Registry.TheVariants as registri
 use Rattle.krb_text.specs.Flows.{transport_name, endpoint_object, flow_object}
 use Rattle.krb_text.specs.Forms.{address_object, digest_object, flags_object, four_octets, json_string, json_value, name_string, octets_string, offset_object, or_null, principal_object, refused_object, sealed_object, set_names, shown_octet, true_or_false}
 use Rattle.krb_text.specs.Text.{IsPrintable, hex, principal_text, list_text}
-use Rattle.krb_text.specs.Values.{Value, Absent, NoTicket, Number, Named, Numbers, ErrorCode, Reason, NoReason, String, Quoted, FileName, Word, Flags, TicketFlags, Sealed, Principal, Address, Digest, YesNo, Offset, RefusedTicket, Flow, Layers}
+use Rattle.krb_text.specs.Values.{Value, Absent, NoTicket, Number, Named, Numbers, ErrorCode, Reason, NoReason, String, Quoted, FileName, Word, Hex, Flags, TicketFlags, Sealed, Principal, Address, Digest, YesNo, Offset, RefusedTicket, Flow, Layers}
 use Rattle.krb_text.specs.declared.origin.Transport.{Transport}
 use Rattle.krb_text.specs.declared.origin.Transport.TheVariants as transports
 use Rattle.krb_token.specs.Layers.{layer_name}
@@ -221,6 +221,7 @@ value_text (String octets) h = some_octets octets
 value_text (Quoted octets) h = some_octets octets
 value_text (FileName octets) h = some_octets octets
 value_text (Word text) h = printable text h
+value_text (Hex octets) h = a_plain (hex octets) (plain_hex octets)
 value_text (Flags registry bits) h = some_flags registry bits h
 value_text (TicketFlags flags) h = some_flags registries.TicketFlags (0, four_octets flags) (omega arith)
 value_text (Sealed etype kvno size) h = more (some_sealed etype kvno size h.0 h.1 h.2)

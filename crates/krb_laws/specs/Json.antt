@@ -14,7 +14,7 @@ use Rattle.krb_registry.specs.declared.registry.Registry.TheVariants as registri
 use Rattle.krb_text.specs.Flows.{transport_name}
 use Rattle.krb_text.specs.Forms.{four_octets, set_names, shown_octet}
 use Rattle.krb_text.specs.Text.{hex, principal_text}
-use Rattle.krb_text.specs.Values.{Value, Absent, NoTicket, Number, Named, Numbers, ErrorCode, Reason, NoReason, String, Quoted, FileName, Word, Flags, TicketFlags, Sealed, Principal, Address, Digest, YesNo, Offset, RefusedTicket, Flow, Layers, Field, Printed}
+use Rattle.krb_text.specs.Values.{Value, Absent, NoTicket, Number, Named, Numbers, ErrorCode, Reason, NoReason, String, Quoted, FileName, Word, Hex, Flags, TicketFlags, Sealed, Principal, Address, Digest, YesNo, Offset, RefusedTicket, Flow, Layers, Field, Part, Printed}
 use Rattle.krb_token.specs.Layers.{layer_name}
 
 -- ---- values of JSON
@@ -118,6 +118,7 @@ json_of_value (String octets) = octets_of octets
 json_of_value (Quoted octets) = octets_of octets
 json_of_value (FileName octets) = octets_of octets
 json_of_value (Word text) = string text
+json_of_value (Hex octets) = string (hex octets)
 json_of_value (Flags registry bits) = flags_json registry bits
 json_of_value (TicketFlags flags) = flags_json registries.TicketFlags (0, four_octets flags)
 json_of_value (Sealed etype kvno size) = sealed_json etype kvno size
@@ -144,6 +145,14 @@ names_of_value name value = []
 abbrev pub field_members : Field → List (List ℕ × Json)
 field_members f = (f.name, json_of_value f.value) ∷ names_of_value f.name f.value
 
--- its kind, where it comes from, and its fields
+-- a record inside of another: its kind and its fields
+abbrev pub part_json : Part → Json
+part_json p = object_of ((codes "kind", string p.kind) ∷ flat_map field_members p.fields)
+
+abbrev pub inside_members : Option (List Part) → List (List ℕ × Json)
+inside_members None = []
+inside_members (Some parts) = (codes "inside", list_of part_json parts) ∷ []
+
+-- its kind, where it comes from, its fields, and what is inside
 unfoldable pub json_of : Printed → Json
-json_of r = object_of ((codes "kind", string r.kind) ∷ flat_map field_members (r.origin ++ r.fields))
+json_of r = object_of ((codes "kind", string r.kind) ∷ (flat_map field_members (r.origin ++ r.fields) ++ inside_members r.inside))

@@ -1,5 +1,5 @@
 -- The laws of what is printed in the form Json. Each is the contract of a function of the module `objects`.
-use Rattle.std.specs.Prelude.{ℕ, ℤ, ◌≡◌, ◌<◌, ◌*◌, ◌^◌, ◌==◌, ◌&&◌, ◌||◌, nat_le, not, unsigned_abs, Bool, true, List, [], ◌∷◌, ◌++◌, length, Option, Some, IfSome, codes}
+use Rattle.std.specs.Prelude.{ℕ, ℤ, ◌≡◌, ◌<◌, ◌*◌, ◌^◌, ◌==◌, ◌&&◌, ◌||◌, nat_le, not, unsigned_abs, Bool, true, List, [], ◌∷◌, ◌++◌, length, Option, Some, None, IfSome, codes}
 use Rattle.std.specs.List.{AllByRecursion, flat_map, list_all}
 use Rattle.std.specs.Net.Addr.{IsIpv4Addr, IsIpv6Addr, MatchIp}
 use Rattle.std.specs.Str.{bytes_eq}
@@ -29,7 +29,7 @@ use Rattle.krb_text.specs.Messages.{message_origin, message_record, ticket_recor
 use Rattle.krb_text.specs.Refusals.{extent_in, file_refused_record, message_refused_record, path_in, refusal_record}
 use Rattle.krb_text.specs.Streams.{counted_end_record, end_record, refused_frame}
 use Rattle.krb_text.specs.Text.{IsPrintable}
-use Rattle.krb_text.specs.Values.{Value, Number, Named, Numbers, ErrorCode, Reason, Word, Flags, Sealed, Principal, Address, Digest, Offset, RefusedTicket, Flow, Field, Printed, printed, with_origin}
+use Rattle.krb_text.specs.Values.{Value, Number, Named, Numbers, ErrorCode, Reason, Word, Flags, Sealed, Principal, Address, Digest, Offset, RefusedTicket, Flow, Field, Part, Printed, printed, with_origin}
 use Rattle.krb_text.specs.declared.capture.CaptureCounts.{CaptureCounts}
 use Rattle.krb_text.specs.declared.extent.Extent.{Extent}
 use Rattle.krb_text.specs.declared.form.Form.TheVariants as forms
@@ -82,12 +82,25 @@ ValueFits (RefusedTicket refusal) = refusal.place < 2 ^ 64
 ValueFits (Flow transport source target) = IsEndpoint source × IsEndpoint target
 ValueFits value = Unit {0}
 
--- The kind and the names of a record are plain, no two members of it may have one name, and its values fit.
+-- The kind and the names of a record inside of another are plain, no two members of it may have one name, and its values fit.
+pub record PartFits (p : Part) : Type 0 where
+  pub kind : is_plain p.kind ≡ true
+  pub names : list_all (λ (f : Field). is_plain f.name) p.fields ≡ true
+  pub apart : are_different (codes "kind" ∷ flat_map (λ f. member_names f.name) p.fields) ≡ true
+  pub values : AllByRecursion (λ (f : Field). ValueFits f.value) p.fields
+
+-- the name of the member of what is inside
+abbrev pub inside_name : Option (List Part) → List (List ℕ)
+inside_name None = []
+inside_name (Some parts) = codes "inside" ∷ []
+
+-- So it is of a record, and what is inside fits.
 pub record FitsJson (r : Printed) : Type 0 where
   pub kind : is_plain r.kind ≡ true
   pub names : list_all (λ (f : Field). is_plain f.name) (r.origin ++ r.fields) ≡ true
-  pub apart : are_different (codes "kind" ∷ flat_map (λ f. member_names f.name) (r.origin ++ r.fields)) ≡ true
+  pub apart : are_different (codes "kind" ∷ (flat_map (λ f. member_names f.name) (r.origin ++ r.fields) ++ inside_name r.inside)) ≡ true
   pub values : AllByRecursion (λ (f : Field). ValueFits f.value) (r.origin ++ r.fields)
+  pub inside : IfSome r.inside (AllByRecursion PartFits)
 
 -- the text of a record is its object
 abbrev pub PrintsJson : Printed → Type 0
