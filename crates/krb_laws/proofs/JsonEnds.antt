@@ -38,10 +38,10 @@ use Rattle.krb_laws.proofs.JsonRecords.{ValuesFit, record_is_json}
 use Rattle.krb_laws.proofs.JsonShown.{FitsFrom, IsOrigin, from_origin, no_origin}
 use Rattle.krb_laws.proofs.JsonValues.{small_reason}
 
-from : (origin : List Field) (kind : List ℕ) (fields : List Field) → IsOrigin origin → FitsFrom kind fields → PrintsJson (with_origin origin (printed kind fields))
-from origin kind fields o r = record_is_json (with_origin origin (printed kind fields)) (from_origin origin kind fields o r)
+from : (origin : List Field) (kind : List ℕ) (fields : List Field) → IsOrigin origin → FitsFrom kind fields None → PrintsJson (with_origin origin (printed kind fields))
+from origin kind fields o r = record_is_json (with_origin origin (printed kind fields)) (from_origin origin kind fields None o r)
 
-alone : (kind : List ℕ) (fields : List Field) → FitsFrom kind fields → PrintsJson (printed kind fields)
+alone : (kind : List ℕ) (fields : List Field) → FitsFrom kind fields None → PrintsJson (printed kind fields)
 alone kind fields r = from [] kind fields no_origin r
 
 -- ---- what is told of a refusal
@@ -85,17 +85,17 @@ its_file_reason why = (omega (arith, leb-true (file_reason_number why) 255 (smal
 file_refused : (place : ℕ) (reason : FileWhy) (path : Option (List ℕ)) (extent : Extent) → place < 2 ^ 63 → IsExtent extent → PrintsJson (file_refused_record forms.Json place reason path extent)
 file_refused place reason path extent h e =
     alone (codes "refused") (file_refused_record forms.Json place reason path extent).fields
-    (record { kind_plain = refl; plain = refl; apart = refl; values = (h, (its_file_reason reason, its_extent path extent e)) })
+    (record { kind_plain = refl; plain = refl; apart = refl; values = (h, (its_file_reason reason, its_extent path extent e)); parts = tt })
 
 message_refused : (line : Option ℕ) (layers : List Layer) (refusal : Refusal) (path : Option (List ℕ)) (extent : Extent) (s : Spelling) → IsLine line → refusal.place < 2 ^ 63 → IsExtent extent → PrintsJson (with_origin (message_origin line layers) (message_refused_record forms.Json refusal path extent s))
 message_refused line layers refusal path extent s l h e =
     from (message_origin line layers) (codes "refused") (message_refused_record forms.Json refusal path extent s).fields (its_origin line layers l)
-    (record { kind_plain = refl; plain = refl; apart = refl; values = (h, (its_reason refusal.why, (its_path path, (e.at, (optional_number extent.length e.length, ((spelled s).all, tt)))))) })
+    (record { kind_plain = refl; plain = refl; apart = refl; values = (h, (its_reason refusal.why, (its_path path, (e.at, (optional_number extent.length e.length, ((spelled s).all, tt)))))); parts = tt })
 
 untold_message : (refusal : Refusal) (path : Option (List ℕ)) → refusal.place < 2 ^ 63 → PrintsJson (refusal_record refusal (path_in forms.Json path))
 untold_message refusal path h =
     alone (codes "refused") (refusal_record refusal (path_in forms.Json path)).fields
-    (record { kind_plain = refl; plain = refl; apart = refl; values = (h, (its_reason refusal.why, (its_path path, tt))) })
+    (record { kind_plain = refl; plain = refl; apart = refl; values = (h, (its_reason refusal.why, (its_path path, tt))); parts = tt })
 
 worded : (fault : InputFault) → Prints (input_word fault)
 worded faults.Length = word _ refl
@@ -105,31 +105,31 @@ worded faults.Ntlm = word _ refl
 input_refused : (line : Option ℕ) (layers : List Layer) (fault : InputFault) (place : Option ℕ) (extent : Extent) (s : Option Spelling) → IsLine line → IfSome place (λ n. n < 2 ^ 63) → IsExtent extent → PrintsJson (with_origin (message_origin line layers) (input_refused_record forms.Json fault place extent s))
 input_refused line layers fault place extent s l h e =
     from (message_origin line layers) (codes "refused") (input_refused_record forms.Json fault place extent s).fields (its_origin line layers l)
-    (record { kind_plain = refl; plain = refl; apart = refl; values = ((worded fault).all, (optional_number place h, (tt, (tt, (e.at, (optional_number extent.length e.length, (optional_spelling s, tt))))))) })
+    (record { kind_plain = refl; plain = refl; apart = refl; values = ((worded fault).all, (optional_number place h, (tt, (tt, (e.at, (optional_number extent.length e.length, (optional_spelling s, tt))))))); parts = tt })
 
 -- ---- streams
 frame_refused : (messages place : ℕ) (reason : Why) (path : Option (List ℕ)) (extent : Extent) → messages < 2 ^ 63 → place < 2 ^ 63 → IsExtent extent → PrintsJson (refused_record forms.Json messages place reason path extent)
 frame_refused messages place reason path extent m h e =
     alone (codes "refused") (refused_record forms.Json messages place reason path extent).fields
-    (record { kind_plain = refl; plain = refl; apart = refl; values = (m, (h, (its_reason reason, its_extent path extent e))) })
+    (record { kind_plain = refl; plain = refl; apart = refl; values = (m, (h, (its_reason reason, its_extent path extent e))); parts = tt })
 
 untold_stream : (messages place : ℕ) (reason : Why) (path : Option (List ℕ)) → messages < 2 ^ 63 → place < 2 ^ 63 → PrintsJson (refused_frame messages place reason (path_in forms.Json path))
 untold_stream messages place reason path m h =
     alone (codes "refused") (refused_frame messages place reason (path_in forms.Json path)).fields
-    (record { kind_plain = refl; plain = refl; apart = refl; values = (m, (h, (its_reason reason, (its_path path, tt)))) })
+    (record { kind_plain = refl; plain = refl; apart = refl; values = (m, (h, (its_reason reason, (its_path path, tt)))); parts = tt })
 
 end_of_stream : (messages : ℕ) (end : End) (path : Option (List ℕ)) (extent : Extent) → messages < 2 ^ 63 → IsEnd end → IsExtent extent → PrintsJson (end_record forms.Json messages end path extent)
 end_of_stream messages Boundary path extent m h e =
-    alone (codes "end") (end_record forms.Json messages Boundary path extent).fields (record { kind_plain = refl; plain = refl; apart = refl; values = (m, tt) })
+    alone (codes "end") (end_record forms.Json messages Boundary path extent).fields (record { kind_plain = refl; plain = refl; apart = refl; values = (m, tt); parts = tt })
 end_of_stream messages (Within present) path extent m h e = frame_refused messages present whys.Truncated path extent m h e
 end_of_stream messages (Refused place reason) path extent m h e = frame_refused messages place reason path extent m h e
 
 counted_stream : (messages refused : ℕ) → messages < 2 ^ 63 → refused < 2 ^ 63 → PrintsJson (counted_end_record messages refused)
 counted_stream messages refused m r =
-    alone (codes "end") (counted_end_record messages refused).fields (record { kind_plain = refl; plain = refl; apart = refl; values = (m, (r, tt)) })
+    alone (codes "end") (counted_end_record messages refused).fields (record { kind_plain = refl; plain = refl; apart = refl; values = (m, (r, tt)); parts = tt })
 
 file_name : (name : List ℕ) → PrintsJson (file_record name)
-file_name name = alone (codes "file") (file_record name).fields (record { kind_plain = refl; plain = refl; apart = refl; values = (tt, tt) })
+file_name name = alone (codes "file") (file_record name).fields (record { kind_plain = refl; plain = refl; apart = refl; values = (tt, tt); parts = tt })
 
 pub ends_are_json : EndsAreJson
 ends_are_json = record {
@@ -156,36 +156,36 @@ flow_origin origin h = record {
   values = (h.packet, (its_time origin.time h.in_range.time, (((h.in_range.source, omega (arith, h.source)), (h.in_range.target, omega (arith, h.target))), tt)));
 }
 
-captured : (origin : Origin) (kind : List ℕ) (fields : List Field) → IsFlowOrigin origin → FitsFrom kind fields → PrintsJson (with_origin (origin_fields origin) (printed kind fields))
+captured : (origin : Origin) (kind : List ℕ) (fields : List Field) → IsFlowOrigin origin → FitsFrom kind fields None → PrintsJson (with_origin (origin_fields origin) (printed kind fields))
 captured origin kind fields o r = from (origin_fields origin) kind fields (flow_origin origin o) r
 
 captured_refusal : (origin : Origin) (refusal : Refusal) (path : Option (List ℕ)) (extent : Extent) → IsFlowOrigin origin → refusal.place < 2 ^ 63 → IsExtent extent → PrintsJson (with_origin (origin_fields origin) (refusal_record refusal (path_in forms.Json path ++ extent_in forms.Json extent)))
 captured_refusal origin refusal path extent o h e =
     captured origin (codes "refused") (refusal_record refusal (path_in forms.Json path ++ extent_in forms.Json extent)).fields o
-    (record { kind_plain = refl; plain = refl; apart = refl; values = (h, (its_reason refusal.why, its_extent path extent e)) })
+    (record { kind_plain = refl; plain = refl; apart = refl; values = (h, (its_reason refusal.why, its_extent path extent e)); parts = tt })
 
 joined : (origin : Origin) → IsFlowOrigin origin → PrintsJson (with_origin (origin_fields origin) (printed (codes "joined") []))
-joined origin o = captured origin (codes "joined") [] o (record { kind_plain = refl; plain = refl; apart = refl; values = tt })
+joined origin o = captured origin (codes "joined") [] o (record { kind_plain = refl; plain = refl; apart = refl; values = tt; parts = tt })
 
 lost : (origin : Origin) (place octets : ℕ) (path : Option (List ℕ)) → IsFlowOrigin origin → place < 2 ^ 63 → octets < 2 ^ 63 → PrintsJson (with_origin (origin_fields origin) (lost_record forms.Json place octets path))
 lost origin place octets path o h k =
     captured origin (codes "lost") (lost_record forms.Json place octets path).fields o
-    (record { kind_plain = refl; plain = refl; apart = refl; values = (h, (k, (its_path path, tt))) })
+    (record { kind_plain = refl; plain = refl; apart = refl; values = (h, (k, (its_path path, tt))); parts = tt })
 
 password : (origin : Origin) (version ap rest : ℕ) → IsFlowOrigin origin → version < 2 ^ 16 → ap < 2 ^ 16 → rest < 2 ^ 63 → PrintsJson (with_origin (origin_fields origin) (password_record version ap rest))
 password origin version ap rest o v a r =
     captured origin (codes "KPASSWD") (password_record version ap rest).fields o
-    (record { kind_plain = refl; plain = refl; apart = refl; values = (omega (arith, v), (omega (arith, a), (r, tt))) })
+    (record { kind_plain = refl; plain = refl; apart = refl; values = (omega (arith, v), (omega (arith, a), (r, tt))); parts = tt })
 
 capture_end : (counts : CaptureCounts) → AreCounts counts → PrintsJson (printed (codes "end") (count_fields counts))
 capture_end counts h =
     alone (codes "end") (count_fields counts)
-    (record { kind_plain = refl; plain = refl; apart = refl; values = (h.packets, (h.messages, (h.refused, (h.lost, (h.unread, tt))))) })
+    (record { kind_plain = refl; plain = refl; apart = refl; values = (h.packets, (h.messages, (h.refused, (h.lost, (h.unread, tt))))); parts = tt })
 
 capture_refused : (counts : CaptureCounts) (place : ℕ) (reason : FileWhy) (path : Option (List ℕ)) (extent : Extent) → AreCounts counts → place < 2 ^ 63 → IsExtent extent → PrintsJson (capture_refused_record forms.Json counts place reason path extent)
 capture_refused counts place reason path extent h p e =
     alone (codes "refused") (capture_refused_record forms.Json counts place reason path extent).fields
-    (record { kind_plain = refl; plain = refl; apart = refl; values = (h.packets, (h.messages, (h.refused, (h.lost, (h.unread, (p, (its_file_reason reason, its_extent path extent e))))))) })
+    (record { kind_plain = refl; plain = refl; apart = refl; values = (h.packets, (h.messages, (h.refused, (h.lost, (h.unread, (p, (its_file_reason reason, its_extent path extent e))))))); parts = tt })
 
 pub captures_are_json : CapturesAreJson
 captures_are_json = record {

@@ -1,16 +1,12 @@
 -- The numbers and sizes in what is printed of messages are small.
-use Rattle.std.proofs.Common.{◌≡◌, ℕ, suc, ℤ, pos, ◌^◌, ◌<◌, Bool, true, false, cond, List, [], ◌∷◌, length, map, Option, Some, None, IfSome, if◌then◌else◌, refl, sym, ◌∙◌, ap, subst, arith}
+use Rattle.std.proofs.Common.{◌≡◌, ℕ, suc, ℤ, pos, ◌^◌, ◌<◌, Bool, true, false, cond, List, [], ◌∷◌, length, map, Option, Some, None, IfSome, if◌then◌else◌, refl, ap, arith}
 use Rattle.std.specs.List.{AllByRecursion, filter}
 use Rattle.std.specs.Option.{option_map}
-use Rattle.krb_der.specs.Octets.{AreOctets}
-use Rattle.krb_der.specs.declared.verdict.Verdict.{Verdict}
-use Rattle.krb_der.specs.declared.verdict.Verdict.TheVariants as verdict
-use Rattle.krb_msg.specs.Grammar.{ap_req, checksum as checksum_term, encrypted_data, host_address, kdc_req_body, krb_cred, krb_error, krb_safe, method_data, octet_string, pa_data, principal_name, sequence_of, ticket}
-use Rattle.krb_msg.specs.Judgement.{term_judgement}
+use Rattle.krb_msg.specs.Grammar.{checksum as checksum_term, encrypted_data, host_address, kdc_req_body, kerberos_flags, krb_cred, krb_error, krb_safe, method_data, octet_string, pa_data, principal_name, sequence_of, ticket}
 use Rattle.krb_msg.specs.Notes.{notes_have}
-use Rattle.krb_msg.specs.Term.{IfPresent, Value, der}
-use Rattle.krb_msg.specs.Types.{ap_req_value, checksum_value, encrypted_data_value, host_address_value, kdc_req_body_value, krb_cred_value, krb_error_value, krb_safe_value, pa_data_of, pa_data_value, principal_name_value, ticket_value}
-use Rattle.krb_msg.specs.ValueOfDer.{value_of_der}
+use Rattle.krb_msg.specs.Shape.{is_unambiguous}
+use Rattle.krb_msg.specs.Term.{Term, IfPresent, Value}
+use Rattle.krb_msg.specs.Types.{checksum_value, encrypted_data_value, host_address_value, kdc_req_body_value, krb_cred_value, krb_error_value, krb_safe_value, pa_data_of, pa_data_value, principal_name_value, ticket_value}
 use Rattle.krb_msg.specs.declared.ap_req.ApReq.{ApReq}
 use Rattle.krb_msg.specs.declared.checksum.Checksum.{Checksum}
 use Rattle.krb_msg.specs.declared.encrypted_data.EncryptedData.{EncryptedData}
@@ -23,13 +19,13 @@ use Rattle.krb_msg.specs.declared.krb_safe.KrbSafe.{KrbSafe}
 use Rattle.krb_msg.specs.declared.notes.Notes.{Notes}
 use Rattle.krb_msg.specs.declared.pa_data.PaData.{PaData}
 use Rattle.krb_msg.specs.declared.principal_name.PrincipalName.{PrincipalName}
-use Rattle.krb_msg.proofs.Grammars.{whole_is_value}
-use Rattle.krb_msg.proofs.ValueOfDer.{value_of_der_is_value}
-use Rattle.krb_text.specs.Messages.{ap_req_fields, asks_for_preauth, items_if, kdc_rep_fields, kdc_req_fields, krb_cred_fields, krb_error_fields, krb_safe_fields, method_data_in, methods, notes, padata}
+use Rattle.krb_text.specs.Judged.{asks_for_preauth, judged}
+use Rattle.krb_text.specs.MessageFields.{ap_req_fields, kdc_rep_fields, kdc_req_fields, krb_cred_fields, krb_error_fields, krb_safe_fields, methods, notes, padata}
 use Rattle.krb_text.specs.Values.{Value as Shown, Number, Quoted, Word, address, checksum, client, count, if_there, principal, sealed}
+use Rattle.krb_text.proofs.Judged.{IsJudged, is_judged}
 use Rattle.krb_laws.specs.JsonLaws.{IsSmall}
 use Rattle.krb_laws.proofs.JsonShown.{AreCounted, IsCounted}
-use Rattle.krb_laws.proofs.JsonSizes.{IsBrief, brief}
+use Rattle.krb_laws.proofs.JsonSizes.{IsBrief, brief, is_narrow}
 
 -- ---- what may be left out
 always : {A : Type 0} (value : A → Shown) → ((a : A) → IsCounted (value a)) → (o : Option A) → IsCounted (if_there value o)
@@ -88,7 +84,7 @@ its_client (Some name) (Some realm) h = h.0
 its_address : (a : HostAddress) → IsBrief host_address (host_address_value a) → IsCounted (address a)
 its_address a h = h.0
 
-its_checksum : (c : Checksum) → IsBrief checksum_term (checksum_value c) → IsCounted (checksum c)
+pub its_checksum : (c : Checksum) → IsBrief checksum_term (checksum_value c) → IsCounted (checksum c)
 its_checksum c h = (h.0, omega (arith, h.1.0))
 
 -- ---- notes
@@ -104,27 +100,27 @@ pub its_notes : (n : Notes) → IsCounted (notes n)
 its_notes n = filtered (notes_have n) (1 ∷ 2 ∷ 3 ∷ 4 ∷ []) (omega arith, (omega arith, (omega arith, (omega arith, tt))))
 
 -- ---- METHOD-DATA
-types_of : (items : Value method_data) → AllByRecursion (IsBrief pa_data) items → IsCounted (padata (map pa_data_of items))
+pub types_of : (items : Value method_data) → AllByRecursion (IsBrief pa_data) items → IsCounted (padata (map pa_data_of items))
 types_of [] h = tt
 types_of (item ∷ items) h = (h.0.0, types_of items h.1)
 
-items_counted : (octets : List ℕ) (v : Verdict) → AreOctets octets → length octets < 2 ^ 31 → term_judgement method_data (length octets) octets ≡ v → IsCounted (if_there (λ items. padata (map pa_data_of items)) (items_if v octets))
-items_counted octets verdict.Open a short e = tt
-items_counted octets (verdict.Refused refusal) a short e = tt
-items_counted octets verdict.Whole a short e =
-    let found = whole_is_value method_data octets a e in
-    let size : length (der method_data found.value) < 2 ^ 31 = omega (arith, ap length found.form, short) in
-    subst (λ items. IsCounted (padata (map pa_data_of items)))
-    (sym (ap (value_of_der method_data) found.form ∙ value_of_der_is_value method_data found.value refl (omega (arith, size))))
-    (types_of found.value (brief method_data refl found.value found.fits size).1)
+-- octets that are judged to be an item of a term by themselves
+pub judged_is_brief : (term : Term) (octets : List ℕ) (value : Value term) → is_unambiguous term ≡ true → is_narrow term ≡ true → judged term octets ≡ Some value → IsBrief term value
+judged_is_brief term octets value u narrow e =
+    let h : IsJudged term octets value = is_judged term octets value u e in
+    brief term narrow value h.fits (omega (arith, ap length h.form, h.short))
 
-asked : (asks : Bool) (octets : List ℕ) → AreOctets octets → length octets < 2 ^ 31 → IsCounted (if_there (λ items. padata (map pa_data_of items)) (if asks then method_data_in octets else None))
-asked true octets a short = items_counted octets (term_judgement method_data (length octets) octets) a short refl
-asked false octets a short = tt
+items_counted : (octets : List ℕ) (found : Option (Value method_data)) → judged method_data octets ≡ found → IsCounted (if_there (λ items. padata (map pa_data_of items)) found)
+items_counted octets None e = tt
+items_counted octets (Some items) e = types_of items (judged_is_brief method_data octets items refl refl e).1
 
-its_methods : (code : ℤ) (octets : Option (List ℕ)) → IfPresent AreOctets octets → IfPresent (IsBrief octet_string) octets → IsCounted (methods code octets)
-its_methods code None a short = tt
-its_methods code (Some octets) a short = asked (asks_for_preauth code) octets a short
+asked : (asks : Bool) (octets : List ℕ) → IsCounted (if_there (λ items. padata (map pa_data_of items)) (if asks then judged method_data octets else None))
+asked true octets = items_counted octets (judged method_data octets) refl
+asked false octets = tt
+
+its_methods : (code : ℤ) (octets : Option (List ℕ)) → IsCounted (methods code octets)
+its_methods code None = tt
+its_methods code (Some octets) = asked (asks_for_preauth code) octets
 
 -- ---- messages
 pub kdc_req : (m : KdcReq) → IfPresent (IsBrief (sequence_of pa_data)) (option_map (map pa_data_value) m.padata) → IsBrief kdc_req_body (kdc_req_body_value m.body) → AreCounted (kdc_req_fields m)
@@ -173,9 +169,8 @@ pub kdc_rep : (m : KdcRep) → IfPresent (IsBrief (sequence_of pa_data)) (option
 kdc_rep m items cname its_ticket enc_part =
     (cname.0, (its_ticket.1.1.0.0, (its_padata m.padata items, (its_sealed m.ticket.enc_part its_ticket.1.1.1.0, (its_sealed m.enc_part enc_part, tt)))))
 
-pub of_ap_req : (m : ApReq) → IsBrief ap_req (ap_req_value m) → AreCounted (ap_req_fields m)
-of_ap_req m (version, (type, (options, (its_ticket, (authenticator, rest))))) =
-    (its_ticket.1.1.0.0, (omega (arith, options), (its_sealed m.ticket.enc_part its_ticket.1.1.1.0, (its_sealed m.authenticator authenticator, tt))))
+pub of_ap_req : (m : ApReq) → IsBrief kerberos_flags m.ap_options → IsBrief principal_name (principal_name_value m.ticket.sname) → IsBrief encrypted_data (encrypted_data_value m.ticket.enc_part) → IsBrief encrypted_data (encrypted_data_value m.authenticator) → AreCounted (ap_req_fields m)
+of_ap_req m options sname enc_part authenticator = (sname.0, (omega (arith, options), (its_sealed m.ticket.enc_part enc_part, (its_sealed m.authenticator authenticator, tt))))
 
 pub safe : (m : KrbSafe) → IsBrief krb_safe (krb_safe_value m) → AreCounted (krb_safe_fields m)
 safe m (version, (type, ((user_data, (timestamp, (usec, (seq_number, (s_address, (r_address, no_more)))))), (cksum, rest)))) = (
@@ -204,8 +199,8 @@ safe m (version, (type, ((user_data, (timestamp, (usec, (seq_number, (s_address,
 pub cred : (m : KrbCred) → IsBrief krb_cred (krb_cred_value m) → AreCounted (krb_cred_fields m)
 cred m (version, (type, (tickets, (enc_part, rest)))) = (counted ticket_value m.tickets tickets.0, (its_sealed m.enc_part enc_part, tt))
 
-pub error : (m : KrbError) → IfPresent AreOctets m.e_data → IsBrief krb_error (krb_error_value m) → AreCounted (krb_error_fields m)
-error m octets (version, (type, (ctime, (cusec, (stime, (susec, (error_code, (crealm, (cname, (realm, (sname, (text, (e_data, rest))))))))))))) = (
+pub error : (m : KrbError) → IsBrief krb_error (krb_error_value m) → AreCounted (krb_error_fields m)
+error m (version, (type, (ctime, (cusec, (stime, (susec, (error_code, (crealm, (cname, (realm, (sname, (text, (e_data, rest))))))))))))) = (
   error_code,
   (
     its_client m.cname m.crealm cname,
@@ -224,7 +219,7 @@ error m octets (version, (type, (ctime, (cusec, (stime, (susec, (error_code, (cr
                 (
                   octets_counted m.e_data e_data,
                   (
-                    its_methods m.error_code m.e_data octets e_data,
+                    its_methods m.error_code m.e_data,
                     tt,
                   ),
                 ),

@@ -75,9 +75,11 @@ after_names P name rest h k all value = all
 -- what holds of each name that members may have, and of those after them, holds of each that they have
 of_names : (P : List ℕ → Type 0) (more : List (List ℕ × Json)) (fields : List Field) → AllByRecursion P (flat_map (λ f. member_names f.name) fields ++ keys (members_of more)) → AllByRecursion P (keys (members_of (flat_map field_members fields ++ more)))
 of_names P more [] h = h
-of_names P more (first ∷ rest) h =
-    (h.0, subst (λ ms. AllByRecursion P (keys (members_of ms))) (sym (append_assoc (names_of_value first.name first.value) (flat_map field_members rest) more))
-    (after_names P first.name (flat_map field_members rest ++ more) h.1.0 h.1.1.0 (of_names P more rest h.1.1.1) first.value))
+of_names P more (first ∷ rest) h = (
+  h.0,
+  subst (λ ms. AllByRecursion P (keys (members_of ms))) (sym (append_assoc (names_of_value first.name first.value) (flat_map field_members rest) more))
+      (after_names P first.name (flat_map field_members rest ++ more) h.1.0 h.1.1.0 (of_names P more rest h.1.1.1) first.value),
+)
 
 distinct_names : (name : List ℕ) (rest : List (List ℕ × Json)) → AllOthers (name ++ codes "_name") (keys (members_of rest)) → AllOthers (name ++ codes "_names") (keys (members_of rest)) → AreDistinct (keys (members_of rest)) → (value : Value) → AreDistinct (keys (members_of (names_of_value name value ++ rest)))
 unfolding names_of_value

@@ -1,12 +1,12 @@
 -- Records whose values are shown, and whose numbers are small, fit JSON; from any origin.
-use Rattle.std.proofs.Common.{◌≡◌, ℕ, ◌*◌, ◌^◌, ◌<◌, not, Bool, true, false, cond, List, [], ◌∷◌, ◌++◌, length, IfSome, codes, refl, ◌∙◌, ap}
+use Rattle.std.proofs.Common.{◌≡◌, ℕ, ◌*◌, ◌^◌, ◌<◌, not, Bool, true, false, cond, List, [], ◌∷◌, ◌++◌, length, Option, IfSome, codes, append_assoc, refl, ◌∙◌, ap}
 use Rattle.std.proofs.lemmas.Bool.{and_parts, and_from}
 use Rattle.std.proofs.lemmas.Grind.{flat_map-append}
 use Rattle.std.specs.List.{AllByRecursion, flat_map, list_all}
 use Rattle.std.specs.Str.{bytes_eq}
-use Rattle.krb_text.specs.Values.{Value, Absent, NoTicket, Number, Named, Numbers, ErrorCode, Reason, NoReason, String, Quoted, FileName, Word, Flags, TicketFlags, Sealed, Principal, Address, Digest, YesNo, Offset, RefusedTicket, Flow, Layers, Field, printed, with_origin}
+use Rattle.krb_text.specs.Values.{Value, Absent, NoTicket, Number, Named, Numbers, ErrorCode, Reason, NoReason, String, Quoted, FileName, Word, Hex, Flags, TicketFlags, Sealed, Principal, Address, Digest, YesNo, Offset, RefusedTicket, Flow, Layers, Field, Part, printed, with_inside, with_origin}
 use Rattle.krb_text.proofs.EachForm.{AreShown, IsShown}
-use Rattle.krb_laws.specs.JsonLaws.{FitsJson, IsSmall, ValueFits, are_different, is_plain, member_names}
+use Rattle.krb_laws.specs.JsonLaws.{FitsJson, IsSmall, PartFits, ValueFits, are_different, inside_name, is_plain, member_names}
 use Rattle.krb_laws.proofs.JsonRecords.{ValuesFit, names_are_plain}
 use Rattle.krb_laws.proofs.JsonStrings.{all-append}
 
@@ -40,6 +40,7 @@ fits (String octets) s h = tt
 fits (Quoted octets) s h = tt
 fits (FileName octets) s h = tt
 fits (Word text) s h = s
+fits (Hex octets) s h = tt
 fits (Flags registry bits) s h = h
 fits (TicketFlags flags) s h = tt
 fits (Sealed etype kvno size) s h = h
@@ -96,11 +97,12 @@ pub record IsOrigin (origin : List Field) : Type 0 where
   pub values : ValuesFit origin
 
 -- a record that fits from each origin
-pub record FitsFrom (kind : List ℕ) (fields : List Field) : Type 0 where
+pub record FitsFrom (kind : List ℕ) (fields : List Field) (inside : Option (List Part)) : Type 0 where
   pub kind_plain : is_plain kind ≡ true
   pub plain : names_are_plain fields ≡ true
-  pub apart : are_different (codes "kind" ∷ (origin_names ++ names_of fields)) ≡ true
+  pub apart : are_different (codes "kind" ∷ (origin_names ++ (names_of fields ++ inside_name inside))) ≡ true
   pub values : ValuesFit fields
+  pub parts : IfSome inside (AllByRecursion PartFits)
 
 all-both : {A : Type 0} (test : A → Bool) (xs ys : List A) → list_all test xs ≡ true → list_all test ys ≡ true → list_all test (xs ++ ys) ≡ true
 all-both test [] ys e f = f
@@ -108,12 +110,20 @@ all-both test (x ∷ xs) ys e f =
     let parts = and_parts (test x) (list_all test xs) e in
     and_from (test x) (list_all test (xs ++ ys)) parts.0 (all-both test xs ys parts.1 f)
 
-pub from_origin : (origin : List Field) (kind : List ℕ) (fields : List Field) → IsOrigin origin → FitsFrom kind fields → FitsJson (with_origin origin (printed kind fields))
-from_origin origin kind fields o r = record {
+-- the names of an origin and of fields are some of all names
+both_names : (origin fields : List Field) (inside : Option (List Part)) (o : IsOrigin origin) → names_of (origin ++ fields) ++ inside_name inside ≡ picked o.keeps (origin_names ++ (names_of fields ++ inside_name inside))
+both_names origin fields inside o =
+    ap (λ names. names ++ inside_name inside) (flat_map-append (λ (f : Field). member_names f.name) origin fields)
+    ∙ append_assoc (names_of origin) (names_of fields) (inside_name inside)
+    ∙ o.among (names_of fields ++ inside_name inside)
+
+pub from_origin : (origin : List Field) (kind : List ℕ) (fields : List Field) (inside : Option (List Part)) → IsOrigin origin → FitsFrom kind fields inside → FitsJson (with_origin origin (with_inside inside (printed kind fields)))
+from_origin origin kind fields inside o r = record {
   kind = r.kind_plain;
   names = all-both (λ (f : Field). is_plain f.name) origin fields o.plain r.plain;
-  apart = ap (λ names. are_different (codes "kind" ∷ names)) (flat_map-append (λ (f : Field). member_names f.name) origin fields ∙ o.among (names_of fields)) ∙ different-picked (true ∷ o.keeps) (codes "kind" ∷ (origin_names ++ names_of fields)) r.apart;
+  apart = ap (λ names. are_different (codes "kind" ∷ names)) (both_names origin fields inside o) ∙ different-picked (true ∷ o.keeps) (codes "kind" ∷ (origin_names ++ (names_of fields ++ inside_name inside))) r.apart;
   values = all-append (λ (f : Field). ValueFits f.value) origin fields o.values r.values;
+  inside = r.parts;
 }
 
 pub no_origin : IsOrigin []

@@ -8,5 +8,6 @@ pub mod JsonRecords
 pub mod JsonSizes
 pub mod JsonShown
 pub mod JsonNumbers
+pub mod JsonInside
 pub mod JsonMessages
 pub mod JsonEnds
