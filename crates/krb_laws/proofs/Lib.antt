@@ -10,3 +10,4 @@ pub mod JsonShown
 pub mod JsonNumbers
 pub mod JsonMessages
 pub mod JsonEnds
+pub mod JsonFiles
