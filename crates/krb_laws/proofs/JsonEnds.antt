@@ -41,7 +41,7 @@ use Rattle.krb_laws.proofs.JsonValues.{small_reason}
 from : (origin : List Field) (kind : List ℕ) (fields : List Field) → IsOrigin origin → FitsFrom kind fields None → PrintsJson (with_origin origin (printed kind fields))
 from origin kind fields o r = record_is_json (with_origin origin (printed kind fields)) (from_origin origin kind fields None o r)
 
-alone : (kind : List ℕ) (fields : List Field) → FitsFrom kind fields None → PrintsJson (printed kind fields)
+pub alone : (kind : List ℕ) (fields : List Field) → FitsFrom kind fields None → PrintsJson (printed kind fields)
 alone kind fields r = from [] kind fields no_origin r
 
 -- ---- what is told of a refusal

@@ -11,3 +11,4 @@ pub mod JsonNumbers
 pub mod JsonInside
 pub mod JsonMessages
 pub mod JsonEnds
+pub mod JsonFiles

@@ -1,3 +1,4 @@
 pub mod Spelled
 pub mod Json
 pub mod JsonLaws
+pub mod JsonFiles
