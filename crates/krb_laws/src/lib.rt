@@ -1,4 +1,5 @@
-//! Laws over several libraries: what inputs spell.
+//! Laws over several libraries: what inputs spell, and that what is printed in the form `Json` is
+//! JSON.
 #![tactic(auto)]
 
 pub mod objects;
