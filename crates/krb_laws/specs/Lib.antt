@@ -1,4 +1,5 @@
 pub mod Spelled
 pub mod Json
+pub mod JsonExamples
 pub mod JsonLaws
 pub mod JsonFiles
