@@ -23,3 +23,15 @@ pub mod TokenFields
 pub mod TokenGss
 pub mod TokenOpened
 pub mod TokenTickets
+pub mod JsonPieces
+pub mod JsonStrings
+pub mod JsonNames
+pub mod JsonValues
+pub mod JsonRecords
+pub mod JsonSizes
+pub mod JsonShown
+pub mod JsonNumbers
+pub mod JsonInside
+pub mod JsonMessages
+pub mod JsonEnds
+pub mod JsonFiles

@@ -3,5 +3,6 @@
 //! stands on this one.
 #![tactic(auto)]
 
+pub mod objects;
 pub mod spelled;
 pub mod tokens;

@@ -1,0 +1,130 @@
+-- Records whose values are shown, and whose numbers are small, fit JSON; from any origin.
+use Rattle.std.proofs.Common.{◌≡◌, ℕ, ◌*◌, ◌^◌, ◌<◌, not, Bool, true, false, cond, List, [], ◌∷◌, ◌++◌, length, Option, IfSome, codes, append_assoc, refl, ◌∙◌, ap}
+use Rattle.std.proofs.lemmas.Bool.{and_parts, and_from}
+use Rattle.std.proofs.lemmas.Grind.{flat_map-append}
+use Rattle.std.specs.List.{AllByRecursion, flat_map, list_all}
+use Rattle.std.specs.Str.{bytes_eq}
+use Rattle.krb_text.specs.Values.{Value, Absent, NoTicket, Number, Named, Numbers, ErrorCode, Reason, NoReason, String, Quoted, FileName, Word, Hex, Flags, TicketFlags, Sealed, Principal, Address, Digest, YesNo, Offset, RefusedTicket, Flow, Layers, Field, Part, printed, with_inside, with_origin}
+use Rattle.krb_text.proofs.EachForm.{AreShown, IsShown}
+use Rattle.krb_laws.specs.JsonLaws.{FitsJson, IsSmall, PartFits, ValueFits, are_different, inside_name, is_plain, member_names}
+use Rattle.krb_laws.proofs.JsonRecords.{ValuesFit, names_are_plain}
+use Rattle.krb_laws.proofs.JsonStrings.{all-append}
+
+-- ---- the numbers of values
+abbrev pub IsCounted : Value → Type 0
+IsCounted (Number n) = IsSmall n
+IsCounted (Named registry n) = IsSmall n
+IsCounted (Numbers registry ns) = AllByRecursion IsSmall ns
+IsCounted (ErrorCode code) = IsSmall code
+IsCounted (Reason n name) = n < 2 ^ 64
+IsCounted (Flags registry bits) = 8 * length bits.1 < 2 ^ 64
+IsCounted (Sealed etype kvno size) = IsSmall etype × IfSome kvno IsSmall × (size < 2 ^ 64)
+IsCounted (Principal name_type components realm) = IsSmall name_type
+IsCounted (Address addr_type octets) = IsSmall addr_type
+IsCounted (Digest cksumtype size) = IsSmall cksumtype × (size < 2 ^ 64)
+IsCounted (Offset seconds microseconds) = IsSmall seconds × IsSmall microseconds
+IsCounted (RefusedTicket refusal) = refusal.place < 2 ^ 64
+IsCounted (Flow transport source target) = (source.port < 2 ^ 64) × (target.port < 2 ^ 64)
+IsCounted value = Unit {0}
+
+fits : (value : Value) → IsShown value → IsCounted value → ValueFits value
+fits Absent s h = tt
+fits NoTicket s h = tt
+fits (Number n) s h = h
+fits (Named registry n) s h = h
+fits (Numbers registry ns) s h = h
+fits (ErrorCode code) s h = h
+fits (Reason n name) s h = (h, s)
+fits NoReason s h = tt
+fits (String octets) s h = tt
+fits (Quoted octets) s h = tt
+fits (FileName octets) s h = tt
+fits (Word text) s h = s
+fits (Hex octets) s h = tt
+fits (Flags registry bits) s h = h
+fits (TicketFlags flags) s h = tt
+fits (Sealed etype kvno size) s h = h
+fits (Principal name_type components realm) s h = h
+fits (Address addr_type octets) s h = h
+fits (Digest cksumtype size) s h = h
+fits (YesNo holds) s h = tt
+fits (Offset seconds microseconds) s h = h
+fits (RefusedTicket refusal) s h = h
+fits (Flow transport source target) s h = ((s.0, h.0), (s.1, h.1))
+fits (Layers layers) s h = tt
+
+abbrev pub AreCounted : List Field → Type 0
+AreCounted fields = AllByRecursion (λ (f : Field). IsCounted f.value) fields
+
+pub fields_fit : (fields : List Field) → AreShown fields → AreCounted fields → ValuesFit fields
+fields_fit [] s h = tt
+fields_fit (first ∷ rest) s h = (fits first.value s.0 h.0, fields_fit rest s.1 h.1)
+
+-- ---- some of several names
+abbrev pub picked : {A : Type 0} → List Bool → List A → List A
+picked [] names = names
+picked (keeps ∷ others) [] = []
+picked (keeps ∷ others) (name ∷ names) = cond keeps (name ∷ picked others names) (picked others names)
+
+all-picked : {A : Type 0} (test : A → Bool) (keeps : List Bool) (names : List A) → list_all test names ≡ true → list_all test (picked keeps names) ≡ true
+all-picked test [] names e = e
+all-picked test (keep ∷ keeps) [] e = refl
+all-picked test (true ∷ keeps) (name ∷ names) e =
+    let parts = and_parts (test name) (list_all test names) e in
+    and_from (test name) (list_all test (picked keeps names)) parts.0 (all-picked test keeps names parts.1)
+all-picked test (false ∷ keeps) (name ∷ names) e = all-picked test keeps names (and_parts (test name) (list_all test names) e).1
+
+different-picked : (keeps : List Bool) (names : List (List ℕ)) → are_different names ≡ true → are_different (picked keeps names) ≡ true
+different-picked [] names e = e
+different-picked (keep ∷ keeps) [] e = refl
+different-picked (true ∷ keeps) (name ∷ names) e =
+    let parts = and_parts (list_all (λ other. not (bytes_eq name other)) names) (are_different names) e in
+    and_from (list_all (λ other. not (bytes_eq name other)) (picked keeps names)) (are_different (picked keeps names)) (all-picked (λ other. not (bytes_eq name other)) keeps names parts.0) (different-picked keeps names parts.1)
+different-picked (false ∷ keeps) (name ∷ names) e = different-picked keeps names (and_parts (list_all (λ other. not (bytes_eq name other)) names) (are_different names) e).1
+
+-- ---- origins
+abbrev pub names_of : List Field → List (List ℕ)
+names_of fields = flat_map (λ (f : Field). member_names f.name) fields
+
+-- the names that an origin may have, and those of a record's members
+abbrev pub origin_names : List (List ℕ)
+origin_names = flat_map member_names (codes "line" ∷ codes "via" ∷ codes "packet" ∷ codes "t" ∷ codes "flow" ∷ [])
+
+pub record IsOrigin (origin : List Field) : Type 0 where
+  pub plain : names_are_plain origin ≡ true
+  pub keeps : List Bool
+  pub among : (rest : List (List ℕ)) → names_of origin ++ rest ≡ picked keeps (origin_names ++ rest)
+  pub values : ValuesFit origin
+
+-- a record that fits from each origin
+pub record FitsFrom (kind : List ℕ) (fields : List Field) (inside : Option (List Part)) : Type 0 where
+  pub kind_plain : is_plain kind ≡ true
+  pub plain : names_are_plain fields ≡ true
+  pub apart : are_different (codes "kind" ∷ (origin_names ++ (names_of fields ++ inside_name inside))) ≡ true
+  pub values : ValuesFit fields
+  pub parts : IfSome inside (AllByRecursion PartFits)
+
+all-both : {A : Type 0} (test : A → Bool) (xs ys : List A) → list_all test xs ≡ true → list_all test ys ≡ true → list_all test (xs ++ ys) ≡ true
+all-both test [] ys e f = f
+all-both test (x ∷ xs) ys e f =
+    let parts = and_parts (test x) (list_all test xs) e in
+    and_from (test x) (list_all test (xs ++ ys)) parts.0 (all-both test xs ys parts.1 f)
+
+-- the names of an origin and of fields are some of all names
+both_names : (origin fields : List Field) (inside : Option (List Part)) (o : IsOrigin origin) → names_of (origin ++ fields) ++ inside_name inside ≡ picked o.keeps (origin_names ++ (names_of fields ++ inside_name inside))
+both_names origin fields inside o =
+    ap (λ names. names ++ inside_name inside) (flat_map-append (λ (f : Field). member_names f.name) origin fields)
+    ∙ append_assoc (names_of origin) (names_of fields) (inside_name inside)
+    ∙ o.among (names_of fields ++ inside_name inside)
+
+pub from_origin : (origin : List Field) (kind : List ℕ) (fields : List Field) (inside : Option (List Part)) → IsOrigin origin → FitsFrom kind fields inside → FitsJson (with_origin origin (with_inside inside (printed kind fields)))
+from_origin origin kind fields inside o r = record {
+  kind = r.kind_plain;
+  names = all-both (λ (f : Field). is_plain f.name) origin fields o.plain r.plain;
+  apart = ap (λ names. are_different (codes "kind" ∷ names)) (both_names origin fields inside o) ∙ different-picked (true ∷ o.keeps) (codes "kind" ∷ (origin_names ++ (names_of fields ++ inside_name inside))) r.apart;
+  values = all-append (λ (f : Field). ValueFits f.value) origin fields o.values r.values;
+  inside = r.parts;
+}
+
+pub no_origin : IsOrigin []
+no_origin = record { plain = refl; keeps = false ∷ false ∷ false ∷ false ∷ false ∷ false ∷ false ∷ false ∷ false ∷ false ∷ false ∷ false ∷ false ∷ false ∷ false ∷ []; among = λ rest. refl; values = tt }

@@ -1,0 +1,167 @@
+-- The laws of what is printed in the form Json. Each is the contract of a function of the module `objects`.
+use Rattle.std.specs.Prelude.{ℕ, ℤ, ◌≡◌, ◌<◌, ◌*◌, ◌^◌, ◌==◌, ◌&&◌, ◌||◌, nat_le, not, unsigned_abs, Bool, true, List, [], ◌∷◌, ◌++◌, length, Option, Some, None, IfSome, codes}
+use Rattle.std.specs.List.{AllByRecursion, flat_map, list_all}
+use Rattle.std.specs.Net.Addr.{IsIpv4Addr, IsIpv6Addr, MatchIp}
+use Rattle.std.specs.Str.{bytes_eq}
+use Rattle.json.specs.Json.{Json, document}
+use Rattle.json.specs.Print.{print}
+use Rattle.json.specs.Strict.{HasUniqueKeys}
+use Rattle.json.specs.Tree.{json_tokens}
+use Rattle.krb_der.specs.declared.profile.Profile.TheVariants as profiles
+use Rattle.krb_der.specs.declared.verdict.Refusal.{Refusal}
+use Rattle.krb_der.specs.declared.why.Why.{Why}
+use Rattle.krb_file.specs.declared.fault.FileWhy.{FileWhy}
+use Rattle.krb_input.specs.declared.spelling.Spelling.{Spelling}
+use Rattle.krb_msg.specs.Grammar.{ticket}
+use Rattle.krb_msg.specs.Stream.{End, Boundary, Within, Refused}
+use Rattle.krb_msg.specs.Term.{Fits, der}
+use Rattle.krb_msg.specs.Types.{ticket_value}
+use Rattle.krb_msg.specs.Views.{IsInProfile}
+use Rattle.krb_msg.specs.declared.message.Message.{Message}
+use Rattle.krb_msg.specs.declared.ticket.Ticket.{Ticket}
+use Rattle.krb_packet.specs.declared.contents.Endpoint.{Endpoint}
+use Rattle.krb_text.specs.Captures.{capture_refused_record, count_fields, lost_record, origin_fields, password_record}
+use Rattle.krb_text.specs.Files.{file_record}
+use Rattle.krb_text.specs.Forms.{record_text}
+use Rattle.krb_text.specs.Inputs.{input_refused_record}
+use Rattle.krb_text.specs.Laws.{OriginIsInRange}
+use Rattle.krb_text.specs.Messages.{message_origin, message_record, ticket_record}
+use Rattle.krb_text.specs.Refusals.{extent_in, file_refused_record, message_refused_record, path_in, refusal_record}
+use Rattle.krb_text.specs.Streams.{counted_end_record, end_record, refused_frame}
+use Rattle.krb_text.specs.Text.{IsPrintable}
+use Rattle.krb_text.specs.Values.{Value, Number, Named, Numbers, ErrorCode, Reason, Word, Flags, Sealed, Principal, Address, Digest, Offset, RefusedTicket, Flow, Field, Part, Printed, printed, with_origin}
+use Rattle.krb_text.specs.declared.capture.CaptureCounts.{CaptureCounts}
+use Rattle.krb_text.specs.declared.extent.Extent.{Extent}
+use Rattle.krb_text.specs.declared.form.Form.TheVariants as forms
+use Rattle.krb_text.specs.declared.input.InputFault.{InputFault}
+use Rattle.krb_text.specs.declared.origin.Origin.{Origin}
+use Rattle.krb_token.specs.declared.layer.Layer.{Layer}
+use Rattle.krb_laws.specs.Json.{json_of}
+
+-- A text is a value of JSON (RFC 8259), as it is printed without blanks, and no object in it has a name twice.
+pub record IsJson (text : List ℕ) (value : Json) : Type 0 where
+  pub document_is : document text ≡ Some value
+  pub printed : print (json_tokens value) ≡ text
+  pub unique : HasUniqueKeys value
+
+-- ---- records
+-- 20 to 7E but `"` and `\`
+abbrev pub is_plain : List ℕ → Bool
+is_plain text = list_all (λ c. nat_le 0x20 c && nat_le c 0x7E && not (c == 0x22 || c == 0x5C)) text
+
+-- the names that the members of a field may have
+abbrev pub member_names : List ℕ → List (List ℕ)
+member_names name = name ∷ (name ++ codes "_name") ∷ (name ++ codes "_names") ∷ []
+
+abbrev pub are_different : List (List ℕ) → Bool
+are_different [] = true
+are_different (first ∷ others) = list_all (λ other. not (bytes_eq first other)) others && are_different others
+
+-- a number of 64 bits
+abbrev pub IsSmall : ℤ → Type 0
+IsSmall n = unsigned_abs n < 2 ^ 63
+
+abbrev pub IsEndpoint : Endpoint → Type 0
+IsEndpoint e = MatchIp e.address IsIpv4Addr IsIpv6Addr × (e.port < 2 ^ 64)
+
+-- numbers and sizes are of 64 bits, words are printable, and addresses are as their types have them; octets may be any
+abbrev pub ValueFits : Value → Type 0
+ValueFits (Number n) = IsSmall n
+ValueFits (Named registry n) = IsSmall n
+ValueFits (Numbers registry ns) = AllByRecursion IsSmall ns
+ValueFits (ErrorCode code) = IsSmall code
+ValueFits (Reason n name) = (n < 2 ^ 64) × IsPrintable name
+ValueFits (Word text) = IsPrintable text
+ValueFits (Flags registry bits) = 8 * length bits.1 < 2 ^ 64
+ValueFits (Sealed etype kvno size) = IsSmall etype × IfSome kvno IsSmall × (size < 2 ^ 64)
+ValueFits (Principal name_type components realm) = IsSmall name_type
+ValueFits (Address addr_type octets) = IsSmall addr_type
+ValueFits (Digest cksumtype size) = IsSmall cksumtype × (size < 2 ^ 64)
+ValueFits (Offset seconds microseconds) = IsSmall seconds × IsSmall microseconds
+ValueFits (RefusedTicket refusal) = refusal.place < 2 ^ 64
+ValueFits (Flow transport source target) = IsEndpoint source × IsEndpoint target
+ValueFits value = Unit {0}
+
+-- The kind and the names of a record inside of another are plain, no two members of it may have one name, and its values fit.
+pub record PartFits (p : Part) : Type 0 where
+  pub kind : is_plain p.kind ≡ true
+  pub names : list_all (λ (f : Field). is_plain f.name) p.fields ≡ true
+  pub apart : are_different (codes "kind" ∷ flat_map (λ f. member_names f.name) p.fields) ≡ true
+  pub values : AllByRecursion (λ (f : Field). ValueFits f.value) p.fields
+
+-- the name of the member of what is inside
+abbrev pub inside_name : Option (List Part) → List (List ℕ)
+inside_name None = []
+inside_name (Some parts) = codes "inside" ∷ []
+
+-- So it is of a record, and what is inside fits.
+pub record FitsJson (r : Printed) : Type 0 where
+  pub kind : is_plain r.kind ≡ true
+  pub names : list_all (λ (f : Field). is_plain f.name) (r.origin ++ r.fields) ≡ true
+  pub apart : are_different (codes "kind" ∷ (flat_map (λ f. member_names f.name) (r.origin ++ r.fields) ++ inside_name r.inside)) ≡ true
+  pub values : AllByRecursion (λ (f : Field). ValueFits f.value) (r.origin ++ r.fields)
+  pub inside : IfSome r.inside (AllByRecursion PartFits)
+
+-- the text of a record is its object
+abbrev pub PrintsJson : Printed → Type 0
+PrintsJson r = IsJson (record_text forms.Json r) (json_of r)
+
+-- The text of each record that fits is its object.
+abbrev pub RecordsAreJson : Type 0
+RecordsAreJson = (r : Printed) → FitsJson r → PrintsJson r
+
+-- ---- the records that are printed
+-- the number of a line
+abbrev pub IsLine : Option ℕ → Type 0
+IsLine line = IfSome line (λ n. n < 2 ^ 63)
+
+-- of a message, with an origin too, and of a Ticket
+pub record MessagesAreJson : Type 0 where
+  pub message : (m : Message) → IsInProfile profiles.Lenient m → PrintsJson (message_record m)
+  pub from : (line : Option ℕ) (layers : List Layer) (m : Message) → IsLine line → IsInProfile profiles.Lenient m → PrintsJson (with_origin (message_origin line layers) (message_record m))
+  pub ticket : (line : Option ℕ) (layers : List Layer) (t : Ticket) → IsLine line → Fits ticket (ticket_value t) → length (der ticket (ticket_value t)) < 2 ^ 31 → PrintsJson (with_origin (message_origin line layers) (ticket_record t))
+
+-- the place of octets and their number
+pub record IsExtent (extent : Extent) : Type 0 where
+  pub at : extent.at < 2 ^ 63
+  pub length : IfSome extent.length (λ n. n < 2 ^ 63)
+
+abbrev pub IsEnd : End → Type 0
+IsEnd Boundary = Unit {0}
+IsEnd (Within present) = present < 2 ^ 63
+IsEnd (Refused place reason) = place < 2 ^ 63
+
+-- of a refused file, message or input, of the end of a stream, and of the name of a file
+pub record EndsAreJson : Type 0 where
+  pub file : (place : ℕ) (reason : FileWhy) (path : Option (List ℕ)) (extent : Extent) → place < 2 ^ 63 → IsExtent extent → PrintsJson (file_refused_record forms.Json place reason path extent)
+  pub message : (line : Option ℕ) (layers : List Layer) (refusal : Refusal) (path : Option (List ℕ)) (extent : Extent) (spelling : Spelling) → IsLine line → refusal.place < 2 ^ 63 → IsExtent extent → PrintsJson (with_origin (message_origin line layers) (message_refused_record forms.Json refusal path extent spelling))
+  pub untold_message : (refusal : Refusal) (path : Option (List ℕ)) → refusal.place < 2 ^ 63 → PrintsJson (refusal_record refusal (path_in forms.Json path))
+  pub input : (line : Option ℕ) (layers : List Layer) (fault : InputFault) (place : Option ℕ) (extent : Extent) (spelling : Option Spelling) → IsLine line → IfSome place (λ n. n < 2 ^ 63) → IsExtent extent → PrintsJson (with_origin (message_origin line layers) (input_refused_record forms.Json fault place extent spelling))
+  pub stream : (messages : ℕ) (end : End) (path : Option (List ℕ)) (extent : Extent) → messages < 2 ^ 63 → IsEnd end → IsExtent extent → PrintsJson (end_record forms.Json messages end path extent)
+  pub untold_stream : (messages place : ℕ) (reason : Why) (path : Option (List ℕ)) → messages < 2 ^ 63 → place < 2 ^ 63 → PrintsJson (refused_frame messages place reason (path_in forms.Json path))
+  pub counted_stream : (messages refused : ℕ) → messages < 2 ^ 63 → refused < 2 ^ 63 → PrintsJson (counted_end_record messages refused)
+  pub name : (name : List ℕ) → PrintsJson (file_record name)
+
+-- the origin of a record of a capture: its numbers and addresses are as their types have them
+pub record IsFlowOrigin (origin : Origin) : Type 0 where
+  pub in_range : OriginIsInRange origin
+  pub packet : origin.packet < 2 ^ 63
+  pub source : origin.source.port < 2 ^ 16
+  pub target : origin.target.port < 2 ^ 16
+
+pub record AreCounts (counts : CaptureCounts) : Type 0 where
+  pub packets : counts.packets < 2 ^ 63
+  pub messages : counts.messages < 2 ^ 63
+  pub refused : counts.refused < 2 ^ 63
+  pub lost : counts.lost < 2 ^ 63
+  pub unread : counts.unread < 2 ^ 63
+
+-- of what is found in a capture, and of its end or its refusal
+pub record CapturesAreJson : Type 0 where
+  pub message : (origin : Origin) (m : Message) → IsFlowOrigin origin → IsInProfile profiles.Lenient m → PrintsJson (with_origin (origin_fields origin) (message_record m))
+  pub refusal : (origin : Origin) (refusal : Refusal) (path : Option (List ℕ)) (extent : Extent) → IsFlowOrigin origin → refusal.place < 2 ^ 63 → IsExtent extent → PrintsJson (with_origin (origin_fields origin) (refusal_record refusal (path_in forms.Json path ++ extent_in forms.Json extent)))
+  pub joined : (origin : Origin) → IsFlowOrigin origin → PrintsJson (with_origin (origin_fields origin) (printed (codes "joined") []))
+  pub lost : (origin : Origin) (place octets : ℕ) (path : Option (List ℕ)) → IsFlowOrigin origin → place < 2 ^ 63 → octets < 2 ^ 63 → PrintsJson (with_origin (origin_fields origin) (lost_record forms.Json place octets path))
+  pub password : (origin : Origin) (version ap rest : ℕ) → IsFlowOrigin origin → version < 2 ^ 16 → ap < 2 ^ 16 → rest < 2 ^ 63 → PrintsJson (with_origin (origin_fields origin) (password_record version ap rest))
+  pub end : (counts : CaptureCounts) → AreCounts counts → PrintsJson (printed (codes "end") (count_fields counts))
+  pub file : (counts : CaptureCounts) (place : ℕ) (reason : FileWhy) (path : Option (List ℕ)) (extent : Extent) → AreCounts counts → place < 2 ^ 63 → IsExtent extent → PrintsJson (capture_refused_record forms.Json counts place reason path extent)
