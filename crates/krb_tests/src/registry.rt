@@ -7,7 +7,7 @@ use krb_registry::Registry::{
 use krb_registry::{Registry, name_of, rows};
 
 /// Numbers of registries, and the names that they have.
-const NAMES: [(Registry, i64, Option<&str>); 38] = [
+const NAMES: [(Registry, i64, Option<&str>); 40] = [
     (EncryptionTypes, 18, Some("aes256-cts-hmac-sha1-96")),
     (EncryptionTypes, 20, Some("aes256-cts-hmac-sha384-192")),
     (EncryptionTypes, 23, Some("rc4-hmac")),
