@@ -16,7 +16,7 @@ pub mod Unfit
 pub mod InEachForm
 pub mod Messages
 pub mod Opened
-pub mod Tokens
+pub mod TokenSpellings
 pub mod TokenContents
 pub mod TokenItems
 pub mod TokenFields

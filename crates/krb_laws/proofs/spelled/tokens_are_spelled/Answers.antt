@@ -1,4 +1,4 @@
-use Rattle.krb_laws.proofs.Tokens.{tokens_are_spelled}
+use Rattle.krb_laws.proofs.TokenSpellings.{tokens_are_spelled}
 use Rattle.krb_laws.proofs.spelled.tokens_are_spelled.Goals as goal
 
 pub returns : goal.returns
