@@ -14,6 +14,7 @@ use krb_text::{
     put_untold_stream_refusal,
 };
 use krb_token::Layer;
+use std::alloc::Global;
 use std::net::{IpAddr, Ipv4Addr, Ipv6Addr};
 use std::test::Fail;
 
@@ -140,15 +141,24 @@ const MESSAGES: [&str; 3] = [
     "{\"kind\":\"Ticket\",\"server\":{\"text\":\"h@A\",\"type\":2,\"type_name\":\"NT-SRV-INST\",\"components\":[\"h\"],\"realm\":\"A\"},\"ticket\":{\"etype\":18,\"etype_name\":\"aes256-cts-hmac-sha1-96\",\"kvno\":null,\"size\":2},\"notes\":[],\"notes_names\":[]}\n{\"kind\":\"AP-REP\",\"line\":2,\"via\":[\"SPNEGO\",\"GSS\"],\"enc\":{\"etype\":18,\"etype_name\":\"aes256-cts-hmac-sha1-96\",\"kvno\":null,\"size\":4},\"notes\":[],\"notes_names\":[]}\n",
 ];
 
+/// Returns what is printed of the Ticket and of the AP-REP in a form.
+fn messages_shown(alloc: Global, form: Form) -> Result<String, Fail> {
+    let mut text = TextBuffer::new(alloc);
+    let Ok(ticket) = read_ticket_in(Profile::Strict, &TICKET) else {
+        return Err(Fail::from("no Ticket"));
+    };
+    put_ticket(&mut text, form, &ALONE, &ticket)?;
+    let Ok(message) = read_message_in(Profile::Strict, &AP_REP) else {
+        return Err(Fail::from("no AP-REP"));
+    };
+    put_message_from(&mut text, form, &IN_TOKENS, &message)?;
+    Ok(text.into_string())
+}
+
 #[test]
 fn shows_messages_of_an_origin(rt: HostRuntime) -> Result<(), Fail> {
-    let ticket = read_ticket_in(Profile::Strict, &TICKET).map_err(|_| "a Ticket")?;
-    let message = read_message_in(Profile::Strict, &AP_REP).map_err(|_| "an AP-REP")?;
     for (form, expected) in FORMS.into_iter().zip(MESSAGES) {
-        let mut text = TextBuffer::new(rt.alloc());
-        put_ticket(&mut text, form, &ALONE, &ticket)?;
-        put_message_from(&mut text, form, &IN_TOKENS, &message)?;
-        let shown = text.into_string();
+        let shown = messages_shown(rt.alloc(), form)?;
         assert_eq!(rt; shown.as_str(), expected);
     }
     Ok(())

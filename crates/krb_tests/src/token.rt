@@ -317,7 +317,7 @@ fn refused(
     let path = path.unwrap_or("-");
     Ok(format!(in alloc;
         "refused place={} why={number} in={path}",
-        place + refusal.place
+        u64::from(place) + u64::from(refusal.place)
     )?)
 }
 
