@@ -16,11 +16,8 @@ fn lines_have_the_label_before_them(rt: HostRuntime) -> Result<(), Fail> {
     for at_most in 1..LINES.len() {
         let label = Label::of_name(alloc, Form::Lines, b"a b")?;
         let mut output = Output::new(alloc, Vec::new(alloc), label);
-        let mut rest = LINES;
-        while !rest.is_empty() {
-            let count = at_most.min(rest.len());
-            output.write_all(&rest[..count])?;
-            rest = &rest[count..];
+        for piece in LINES.chunks(at_most.max(1)) {
+            output.write_all(piece)?;
         }
         let (text, sent) = output.finish();
         assert!(rt; sent.is_ok());

@@ -350,7 +350,7 @@ fn ticket(alloc: Global, octets: &[u8]) -> Result<String, Fail> {
 
 /// Returns what is shown of what octets are opened to.
 fn shown(alloc: Global, octets: &[u8]) -> Result<String, Fail> {
-    let opened = open(octets);
+    let opened = open(&octets[..octets.len().min(65535)]);
     let layers = names_of(alloc, opened.layers)?;
     let found = match opened.found {
         Found::Message { place, octets } => message(alloc, place, octets)?,
