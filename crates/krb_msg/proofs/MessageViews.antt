@@ -8,9 +8,8 @@ use Rattle.krb_msg.specs.declared.message.Kind.TheVariants as kind
 use Rattle.krb_msg.specs.declared.message.Message.{Message}
 use Rattle.krb_msg.specs.Judgement.{judgement, term_judgement}
 use Rattle.krb_msg.specs.Laws.{AreMessage}
-use Rattle.krb_msg.specs.Views.{message_of_der, message_of_kind, kind_of, kind_of_tag, kind_tag, kind_term, message_der, message_of, message_value, IsInProfile}
+use Rattle.krb_msg.specs.Views.{message_of_der, message_of_kind, kind_of_tag, kind_tag, kind_term, message_der, message_of, IsInProfile}
 use Rattle.krb_msg.specs.Term.{Value}
-use Rattle.krb_msg.specs.inner.Values.{der_is}
 use Rattle.krb_msg.proofs.Judged.{whole_is_message}
 use Rattle.krb_msg.proofs.KindLaws.{chosen, kind_tags}
 use Rattle.krb_msg.proofs.MessageOfDer.{message_of_der_is_message}
@@ -19,13 +18,6 @@ use Rattle.krb_msg.specs.ViewValues.{BeginAs, IsMessageView, IsNoMessage, Messag
 use Rattle.krb_msg.specs.declared.message_view.MessageView.{MessageView}
 
 -- ---- octets of no message
-no_octets_whole : judgement profile.Lenient 0 [] ≡ verdict.Whole → ⊥
-no_octets_whole e = cc
-
-first_of_message : (m : Message) (octets : List ℕ) → message_der m ≡ octets → kind_tag (kind_of m) ≡ get_or octets 0 0
-first_of_message m octets e =
-    sym (kind_tags (kind_of m)).2 ∙ ap (λ (l : List ℕ). get_or l 0 0) (sym (der_is (kind_term (kind_of m)) (message_value m)) ∙ e)
-
 -- ---- octets of a kind
 pub judged_as : (k : Kind) (octets : List ℕ) → 0 < length octets → get_or octets 0 0 ≡ kind_tag k → judgement profile.Lenient (length octets) octets ≡ term_judgement (kind_term k) (length octets) octets
 judged_as k [] some first = absurd (omega (arith, some))
