@@ -88,7 +88,7 @@ def rows_answer(module):
 # The functions by cases of a kind.
 OF_KINDS = {
     "message/octets_of": "octets_of",
-    "message/put_octets": "put_octets",
+    "message/put": "message_put",
     "message/notes_of": "notes_of",
     "message_view/notes_of_view": "notes_of_view",
     "message_view/MessageView/to_message": "to_message",

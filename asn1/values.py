@@ -137,7 +137,7 @@ def known(field, value):
     if field.is_list:
         name, fact = "items", f"AreViewed {term_of(field.part)} {{}}.octets.now"
     elif isinstance(field.type, Sequence):
-        return f"OfSome {field.type.rust}Lists {value}" if field.optional else f"{field.type.rust}Lists {value}"
+        return f"IfPresent {field.type.rust}Lists {value}" if field.optional else f"{field.type.rust}Lists {value}"
     elif field.type.form in ("time", "micros", "octets"):
         facts = {
             "time": ("time", "IsTimeFrom 14 {}.now"),
@@ -147,7 +147,7 @@ def known(field, value):
         name, fact = facts[field.type.form]
     else:
         return None
-    return f"OfSome (λ {name}. {fact.format(name)}) {value}" if field.optional else fact.format(value)
+    return f"IfPresent (λ {name}. {fact.format(name)}) {value}" if field.optional else fact.format(value)
 
 
 def facts_of(it, root):
@@ -196,9 +196,9 @@ def values_file(it):
     homes = [
         ("Rattle.std.specs.Prelude", PRELUDE),
         ("Rattle.std.specs.Option", ["option_map"]),
-        ("Rattle.krb_msg.specs.Term", ["Value", "IsTimeFrom"]),
+        ("Rattle.krb_msg.specs.Term", ["Value", "IfPresent", "IsTimeFrom"]),
         ("Rattle.krb_msg.specs.Basic", ["micros_of", "flags_of_view"]),
-        ("Rattle.krb_msg.specs.Viewed", ["AreViewed", "OfSome", "items_of"]),
+        ("Rattle.krb_msg.specs.Viewed", ["AreViewed", "items_of"]),
     ]
     text = f"-- {it.name} ({it.source}): values of the type and of views of it, as values of its term, and back. {by(it.home.path)}\n"
     text += brought(body, homes) + f"use Rattle.{it.crate}.specs.Grammar.{{{terms}}}\n"

@@ -13,7 +13,8 @@ use Rattle.krb_msg.proofs.Items.{item_done}
 use Rattle.krb_msg.proofs.Laws.{done_within}
 use Rattle.krb_msg.proofs.TermsDecided.{item-count, contents-count}
 use Rattle.krb_judge.specs.FieldNames.{field_at}
-use Rattle.krb_judge.specs.Paths.{field_path, element_path, begin_with, after_done, within_head, first_item, elements_path, contents_path, fields_path, item_path}
+use Rattle.krb_judge.specs.Paths.{field_path, element_path, after_done, within_head, first_item, elements_path, contents_path, fields_path, item_path}
+use Rattle.krb_msg.specs.ValueOfDer.{begins_with}
 use Rattle.krb_judge.specs.Located.{IsOf, BeginWithItems, LiesIn, LiesInside, LiesInField, BeginsPath}
 use Rattle.krb_judge.specs.declared.locating.names.Names.{Names}
 use Rattle.krb_judge.proofs.Lies.{gone, bad_is, why_is, after-bad, contents-within, moved, same-item}
@@ -21,9 +22,6 @@ use Rattle.krb_judge.proofs.Lies.{gone, bad_is, why_is, after-bad, contents-with
 -- ---- a path in an item begins with the path of the item
 begins-same : (path : List ℕ) → BeginsPath path path
 begins-same path = ([], sym (append-nil path))
-
-begins-is : (path found : List ℕ) → path ≡ found → BeginsPath path found
-begins-is path found e = subst (BeginsPath path) e (begins-same path)
 
 begins-then : (path inner found : List ℕ) → BeginsPath path inner → BeginsPath inner found → BeginsPath path found
 begins-then path inner found p q = (p.0 ++ q.0, q.1 ∙ ap (λ (x : List ℕ). x ++ q.0) p.1 ∙ append_assoc path p.0 q.0)
@@ -50,7 +48,7 @@ head-begins term begin (Got header contents) names path room sole octets =
 
 item-begins : (term : Term) → ContentsBegin term → (names : Names) (path : List ℕ) (room : ℕ) (sole : Bool) (octets : List ℕ) → BeginsPath path (item_path term names path room sole octets)
 item-begins term begin names path room sole octets =
-    when-begins (begin_with (tag_of term) octets) path (within_head (head room octets) path room sole octets (contents_path term names path)) path (head-begins term begin (head room octets) names path room sole octets) (begins-same path)
+    when-begins (begins_with (tag_of term) octets) path (within_head (head room octets) path room sole octets (contents_path term names path)) path (head-begins term begin (head room octets) names path room sole octets) (begins-same path)
 
 done-begins : (o : Outcome) (path found : List ℕ) (next : ℕ → List ℕ) → ((count : ℕ) → BeginsPath path (next count)) → BeginsPath path found → BeginsPath path (after_done o next (λ _. found))
 done-begins Open path found next later here = here
@@ -60,7 +58,7 @@ done-begins (Done count) path found next later here = later count
 elements-begin : (term : Term) → ContentsBegin term → (names : Names) (path : List ℕ) (bound index room : ℕ) (octets : List ℕ) → BeginsPath path (elements_path (contents_path term names) term path bound index room octets)
 elements-begin term begin names path zero index room octets = begins-same path
 elements-begin term begin names path (suc bound) index room octets =
-    when-begins (begin_with (tag_of term) octets) path (first_item term (element_path path index) room octets (contents_path term names (element_path path index)) (elements_path (contents_path term names) term path bound (index + 1))) path
+    when-begins (begins_with (tag_of term) octets) path (first_item term (element_path path index) room octets (contents_path term names (element_path path index)) (elements_path (contents_path term names) term path bound (index + 1))) path
     (done-begins (item_outcome term room false octets) path (item_path term names (element_path path index) room false octets) (λ count. elements_path (contents_path term names) term path bound (index + 1) (room - count) (drop count octets))
     (λ count. elements-begin term begin names path bound (index + 1) (room - count) (drop count octets))
     (begins-then path (element_path path index) (item_path term names (element_path path index) room false octets) (element-begins path index) (item-begins term begin names (element_path path index) room false octets)))
@@ -90,16 +88,16 @@ mutual
   fields-begin End names path index room octets = begins-same path
   fields-begin (Required term fields) names path index zero octets = field-begins path (field_at names index).name
   fields-begin (Required term fields) names path index (suc room) octets =
-      when-begins (begin_with (tag_of term) octets) path _ path (first-begins term (contents-begin term) fields names path index (suc room) octets (λ r o. fields-begin fields names path (index + 1) r o)) (begins-same path)
+      when-begins (begins_with (tag_of term) octets) path _ path (first-begins term (contents-begin term) fields names path index (suc room) octets (λ r o. fields-begin fields names path (index + 1) r o)) (begins-same path)
   fields-begin (Optional term fields) names path index room octets =
-      when-begins (begin_with (tag_of term) octets) path _ (fields_path fields names path (index + 1) room octets) (first-begins term (contents-begin term) fields names path index room octets (λ r o. fields-begin fields names path (index + 1) r o)) (fields-begin fields names path (index + 1) room octets)
+      when-begins (begins_with (tag_of term) octets) path _ (fields_path fields names path (index + 1) room octets) (first-begins term (contents-begin term) fields names path index room octets (λ r o. fields-begin fields names path (index + 1) r o)) (fields-begin fields names path (index + 1) room octets)
 
 -- ---- items that are done
-begins-done : (term : Term) (room : ℕ) (octets : List ℕ) (count : ℕ) → item_outcome term room false octets ≡ Done count → begin_with (tag_of term) octets ≡ true
+begins-done : (term : Term) (room : ℕ) (octets : List ℕ) (count : ℕ) → item_outcome term room false octets ≡ Done count → begins_with (tag_of term) octets ≡ true
 begins-done term room octets count e =
     let d = item_done (contents_outcome term) term room false octets count e in
     let same : (tag_of term == tag_of term) ≡ true = eqb-same (tag_of term) in
-    ap (begin_with (tag_of term)) d.parts ∙ same
+    ap (begins_with (tag_of term)) d.parts ∙ same
   where
     eqb-same : (n : ℕ) → (n == n) ≡ true
     eqb-same n = grind (arith, nat_tests)
@@ -227,14 +225,14 @@ only-deep term begin deep names path (suc room) octets before offset reason pres
 -- the octet lies in the first field, or in a later one
 abbrev FirstOrLater : Term → Fields → Names → (path : List ℕ) → (index offset : ℕ) → (other : List ℕ) → (room : ℕ) → (octets : List ℕ) → (before : ℕ) → Type 0
 FirstOrLater term fields names path index offset other room octets before =
-    ((before ≤ offset) × (begin_with (tag_of term) octets ≡ true) × LiesIn ⊥ term (field_at names index).inside (field_path path (field_at names index).name) room octets (offset - before) other)
+    ((before ≤ offset) × (begins_with (tag_of term) octets ≡ true) × LiesIn ⊥ term (field_at names index).inside (field_path path (field_at names index).name) room octets (offset - before) other)
     ⊎ ((count : ℕ) × (item_outcome term room false octets ≡ Done count) × LiesInField ⊥ fields names path (index + 1) offset other (room - count) (drop count octets) (before + count))
 
 first-deep : (term : Term) → ContentsBegin term → ContentsDeep term → (fields : Fields) (names : Names) (path : List ℕ) (index room : ℕ) (octets : List ℕ) (before offset : ℕ) (reason : Why) → (gone reason → ⊥) → length octets ≤ room → before + length octets ≡ suc offset
     → (o : Outcome) → item_outcome term room false octets ≡ o → then_after before o (λ count. fields_outcome fields (before + count) (room - count) (drop count octets)) ≡ Bad offset reason → (other : List ℕ)
     → ((count : ℕ) → item_outcome term room false octets ≡ Done count → fields_outcome fields (before + count) (room - count) (drop count octets) ≡ Bad offset reason
     → LiesInField ⊥ fields names path (index + 1) offset other (room - count) (drop count octets) (before + count) → BeginsPath other (fields_path fields names path (index + 1) (room - count) (drop count octets)))
-    → (begins : Bool) → begin_with (tag_of term) octets ≡ begins → FirstOrLater term fields names path index offset other room octets before
+    → (begins : Bool) → begins_with (tag_of term) octets ≡ begins → FirstOrLater term fields names path index offset other room octets before
     → BeginsPath other (when begins (λ _. after_done o (λ count. fields_path fields names path (index + 1) (room - count) (drop count octets)) (λ _. item_path term (field_at names index).inside (field_path path (field_at names index).name) room false octets)) (λ _. path))
 first-deep term begin deep fields names path index room octets before offset reason present fits len o is e other later false b (inl here) = absurd (let t : true ≡ false = sym here.1 ∙ b in cc)
 first-deep term begin deep fields names path index room octets before offset reason present fits len o is e other later false b (inr after) = absurd (let t : true ≡ false = sym (begins-done term room octets after.0 after.1) ∙ b in cc)
@@ -255,17 +253,17 @@ first-deep term begin deep fields names path index room octets before offset rea
 -- ---- items of a SEQUENCE OF
 abbrev AnElement : Term → Names → (path : List ℕ) → (index offset : ℕ) → (other : List ℕ) → (room : ℕ) → (octets : List ℕ) → (before : ℕ) → (k size : ℕ) → Type 0
 AnElement term names path index offset other room octets before k size =
-    BeginWithItems term k size room octets × (before + size ≤ offset) × (begin_with (tag_of term) (drop size octets) ≡ true)
+    BeginWithItems term k size room octets × (before + size ≤ offset) × (begins_with (tag_of term) (drop size octets) ≡ true)
     × LiesIn ⊥ term names (element_path path (index + k)) (room - size) (drop size octets) (offset - (before + size)) other
 
 element-deep : (term : Term) → ContentsBegin term → ContentsDeep term → (names : Names) (path : List ℕ) (more index room : ℕ) (octets : List ℕ) (before offset : ℕ) (reason : Why) (next : ℕ → Outcome) → (gone reason → ⊥) → length octets ≤ room → before + length octets ≡ suc offset
     → (o : Outcome) → item_outcome term room false octets ≡ o → then_after before o next ≡ Bad offset reason → ((count : ℕ) → next count ≡ Bad offset reason → before + count ≤ offset) → (other : List ℕ)
     → ((count k size : ℕ) → item_outcome term room false octets ≡ Done count → next count ≡ Bad offset reason → AnElement term names path (index + 1) offset other (room - count) (drop count octets) (before + count) k size
     → BeginsPath other (elements_path (contents_path term names) term path more (index + 1) (room - count) (drop count octets)))
-    → (begins : Bool) → begin_with (tag_of term) octets ≡ begins → (k size : ℕ) → AnElement term names path index offset other room octets before k size
+    → (begins : Bool) → begins_with (tag_of term) octets ≡ begins → (k size : ℕ) → AnElement term names path index offset other room octets before k size
     → BeginsPath other (when begins (λ _. after_done o (λ count. elements_path (contents_path term names) term path more (index + 1) (room - count) (drop count octets)) (λ _. item_path term names (element_path path index) room false octets)) (λ _. path))
 element-deep term begin deep names path more index room octets before offset reason next present fits len o is e from other later false b zero size (none, le, t, lie) =
-    let here : begin_with (tag_of term) octets ≡ true = subst (λ (n : ℕ). begin_with (tag_of term) (drop n octets) ≡ true) none t in
+    let here : begins_with (tag_of term) octets ≡ true = subst (λ (n : ℕ). begins_with (tag_of term) (drop n octets) ≡ true) none t in
     absurd (let f : true ≡ false = sym here ∙ b in cc)
 element-deep term begin deep names path more index room octets before offset reason next present fits len o is e from other later false b (suc k) size (items, le, t, lie) =
     absurd (let f : true ≡ false = sym (begins-done term room octets items.0 items.3) ∙ b in cc)
@@ -286,7 +284,7 @@ element-deep term begin deep names path more index room octets before offset rea
     later count k others is e (
       subst (λ (n : ℕ). BeginWithItems term k others (room - n) (drop n octets)) same items.4,
       omega (arith, le, total),
-      subst (λ (o : List ℕ). begin_with (tag_of term) o ≡ true) left t,
+      subst (λ (o : List ℕ). begins_with (tag_of term) o ≡ true) left t,
       same-item ⊥ term names path other (index + suc k) ((index + 1) + k) (room - size) ((room - count) - others) (offset - (before + size)) (offset - ((before + count) + others)) (drop size octets) (drop others (drop count octets)) (omega arith) (omega (arith, total)) left (omega (arith, total)) lie,
     )
 
@@ -303,7 +301,7 @@ elements-deep term begin deep names path (suc bound) (suc more) index (suc room)
     let some = (item-count term (contents-count term) (suc room) false octets count is).0 in
     let within = done_within term (suc room) false octets count fits is in
     elements-deep term begin deep names path bound more (index + 1) (suc room - count) (drop count octets) (before + count) offset reason present (omega (arith, length-drop count octets, fits, within)) (omega (arith, length-drop count octets, le, some)) (omega (arith, length-drop count octets, len, within)) next other i n there)
-    (begin_with (tag_of term) octets) refl k size it
+    (begins_with (tag_of term) octets) refl k size it
 
 -- ---- a field that may be absent, by the tag of what is there
 optional-deep : (term : Term) (fields : Fields) (names : Names) (path : List ℕ) (index room octet : ℕ) (octets : List ℕ) (before offset : ℕ) (reason : Why) (other : List ℕ) (tag : Bool) → (octet == tag_of term) ≡ tag
@@ -347,7 +345,7 @@ mutual
       (λ count is next there.
       let within = done_within term (suc room) false octets count fits is in
       fields-deep fields names path (index + 1) (suc room - count) (drop count octets) (before + count) offset reason present (omega (arith, length-drop count octets, fits, within)) (omega (arith, length-drop count octets, len, within)) next other there)
-      (begin_with (tag_of term) octets) refl lie
+      (begins_with (tag_of term) octets) refl lie
   fields-deep (Optional term fields) names path index zero (octet ∷ octets) before offset reason present fits len e other lie = absurd (omega (arith, fits))
   fields-deep (Optional term fields) names path index zero [] before offset reason present fits len e other (inl here) = absurd (let f : false ≡ true = here.1 in cc)
   fields-deep (Optional term fields) names path index zero [] before offset reason present fits len e other (inr (inl after)) = absurd (let f : false ≡ true = begins-done term 0 [] after.0 after.1 in cc)

@@ -9,7 +9,8 @@ use Rattle.krb_msg.specs.declared.grammar.Form.TheVariants as form
 use Rattle.krb_msg.specs.declared.grammar.Slot.{Slot}
 use Rattle.krb_msg.specs.declared.grammar.Slot.TheVariants as slot
 use Rattle.krb_judge.specs.FieldNames.{field_at}
-use Rattle.krb_judge.specs.Paths.{begin_with, within, first_item, contents_path, fields_path, field_path, elements_path, element_path}
+use Rattle.krb_judge.specs.Paths.{within, first_item, contents_path, fields_path, field_path, elements_path, element_path}
+use Rattle.krb_msg.specs.ValueOfDer.{begins_with}
 use Rattle.krb_judge.specs.inner.Descent.{presence_path}
 use Rattle.krb_judge.specs.declared.locating.Presence.{Presence}
 use Rattle.krb_judge.specs.declared.locating.Presence.TheVariants as presence
@@ -52,17 +53,17 @@ rest_shallow slots index h =
     rw (slot_next slots index none h) (slot_shallow (get_or slots index none) (fields_from nodes (drop (index + 1) slots)))
 
 -- ---- the items of a SEQUENCE OF
-pub begins_some : (tag : ℕ) (octets : List ℕ) → begin_with tag octets ≡ true → 0 < length octets
+pub begins_some : (tag : ℕ) (octets : List ℕ) → begins_with tag octets ≡ true → 0 < length octets
 begins_some tag [] e = absurd cc
 begins_some tag (octet ∷ octets) e = omega arith
 
 abbrev Inside : Type 0
 Inside = ℕ → List ℕ → List ℕ
 
-elements_first : (inside : List ℕ → Inside) (term : Term) (path : List ℕ) (bound index : ℕ) (rest : Rest) → begin_with (tag_of term) rest.octets.now ≡ true → elements_path inside term path (suc bound) index rest.room rest.octets.now ≡ first_item term (element_path path index) rest.room rest.octets.now (inside (element_path path index)) (elements_path inside term path bound (index + 1))
+elements_first : (inside : List ℕ → Inside) (term : Term) (path : List ℕ) (bound index : ℕ) (rest : Rest) → begins_with (tag_of term) rest.octets.now ≡ true → elements_path inside term path (suc bound) index rest.room rest.octets.now ≡ first_item term (element_path path index) rest.room rest.octets.now (inside (element_path path index)) (elements_path inside term path bound (index + 1))
 elements_first inside term path bound index rest e = rw e refl
 
-elements_some : (inside : List ℕ → Inside) (term : Term) (path : List ℕ) (size index : ℕ) (rest : Rest) → begin_with (tag_of term) rest.octets.now ≡ true → index + length rest.octets.now ≤ size → elements_path inside term path (size - index) index rest.room rest.octets.now ≡ first_item term (element_path path index) rest.room rest.octets.now (inside (element_path path index)) (elements_path inside term path (size - (index + 1)) (index + 1))
+elements_some : (inside : List ℕ → Inside) (term : Term) (path : List ℕ) (size index : ℕ) (rest : Rest) → begins_with (tag_of term) rest.octets.now ≡ true → index + length rest.octets.now ≤ size → elements_path inside term path (size - index) index rest.room rest.octets.now ≡ first_item term (element_path path index) rest.room rest.octets.now (inside (element_path path index)) (elements_path inside term path (size - (index + 1)) (index + 1))
 elements_some inside term path size index rest e h =
     let more : size - index ≡ suc (size - (index + 1)) = omega (arith, h, begins_some (tag_of term) rest.octets.now e) in
     ap (λ bound. elements_path inside term path bound index rest.room rest.octets.now) more ∙ elements_first inside term path (size - (index + 1)) index rest e
@@ -70,7 +71,7 @@ elements_some inside term path size index rest e h =
 -- an item that is done, one that is not, and none
 pub element_next :
     (inside : List ℕ → Inside) (term : Term) (path : List ℕ) (size index : ℕ) (rest next : Rest)
-    → begin_with (tag_of term) rest.octets.now ≡ true
+    → begins_with (tag_of term) rest.octets.now ≡ true
     → index + length rest.octets.now ≤ size
     → ((path : List ℕ) (inside after : Inside) → first_item term path rest.room rest.octets.now inside after ≡ after next.room next.octets.now)
     → elements_path inside term path (size - index) index rest.room rest.octets.now ≡ elements_path inside term path (size - (index + 1)) (index + 1) next.room next.octets.now
@@ -79,14 +80,14 @@ element_next inside term path size index rest next e h first =
 
 pub element_here :
     (inside : List ℕ → Inside) (term : Term) (path : List ℕ) (size index : ℕ) (rest : Rest)
-    → begin_with (tag_of term) rest.octets.now ≡ true
+    → begins_with (tag_of term) rest.octets.now ≡ true
     → index + length rest.octets.now ≤ size
     → ((path : List ℕ) (inside after : Inside) → first_item term path rest.room rest.octets.now inside after ≡ within term path rest.room false rest.octets.now inside)
     → elements_path inside term path (size - index) index rest.room rest.octets.now ≡ within term (element_path path index) rest.room false rest.octets.now (inside (element_path path index))
 element_here inside term path size index rest e h first =
     elements_some inside term path size index rest e h ∙ first (element_path path index) (inside (element_path path index)) (elements_path inside term path (size - (index + 1)) (index + 1))
 
-pub no_element : (inside : List ℕ → Inside) (term : Term) (path : List ℕ) (bound index room : ℕ) (octets : List ℕ) → begin_with (tag_of term) octets ≡ false → elements_path inside term path bound index room octets ≡ path
+pub no_element : (inside : List ℕ → Inside) (term : Term) (path : List ℕ) (bound index room : ℕ) (octets : List ℕ) → begins_with (tag_of term) octets ≡ false → elements_path inside term path bound index room octets ≡ path
 no_element inside term path zero index room octets e = refl
 no_element inside term path (suc bound) index room octets e = rw e refl
 

@@ -12,7 +12,8 @@ use Rattle.krb_msg.proofs.Laws.{done_within}
 use Rattle.krb_msg.proofs.TermsStable.{IsStable-contents, fields_outcome-empty}
 use Rattle.krb_msg.proofs.TermsDecided.{item-count, contents-count, contents-decided}
 use Rattle.krb_judge.specs.FieldNames.{field_at}
-use Rattle.krb_judge.specs.Paths.{field_path, element_path, begin_with, after_done, within_head, elements_path, contents_path, fields_path, item_path}
+use Rattle.krb_judge.specs.Paths.{field_path, element_path, after_done, within_head, elements_path, contents_path, fields_path, item_path}
+use Rattle.krb_msg.specs.ValueOfDer.{begins_with}
 use Rattle.krb_judge.specs.Located.{IsOf, BeginWithItems, LiesIn, LiesInside, LiesInField}
 use Rattle.krb_judge.specs.declared.locating.names.Names.{Names}
 
@@ -193,7 +194,7 @@ known-lies term lies names path room sole octets offset o is fits stop =
 abbrev FieldLies : (Absent : Type 0) → Term → Fields → Names → (path : List ℕ) → (index offset : ℕ) → (found : List ℕ) → (room : ℕ) → (octets : List ℕ) → (before : ℕ) → Type 0
 FieldLies Absent term fields names path index offset found room octets before =
     (found ≡ path)
-    ⊎ ((before ≤ offset) × (begin_with (tag_of term) octets ≡ true) × LiesIn Absent term (field_at names index).inside (field_path path (field_at names index).name) room octets (offset - before) found)
+    ⊎ ((before ≤ offset) × (begins_with (tag_of term) octets ≡ true) × LiesIn Absent term (field_at names index).inside (field_path path (field_at names index).name) room octets (offset - before) found)
     ⊎ ((count : ℕ) × (item_outcome term room false octets ≡ Done count) × LiesInField Absent fields names path (index + 1) offset found (room - count) (drop count octets) (before + count))
 
 -- what is shown of the fields after one that is done
@@ -205,7 +206,7 @@ pub moved : (Absent : Type 0) (term : Term) (names : Names) (path found : List �
 moved Absent term names path found room octets k l e = subst (λ (n : ℕ). LiesIn Absent term names path room octets n found) e
 
 -- a field that is not done
-here-lies : (term : Term) → ContentsLie term → (fields : Fields) (names : Names) (path : List ℕ) (index room : ℕ) (octets : List ℕ) (before offset : ℕ) (o : Outcome) → item_outcome term room false octets ≡ o → length octets ≤ room → Stops (after before o) (before + length octets) offset → begin_with (tag_of term) octets ≡ true
+here-lies : (term : Term) → ContentsLie term → (fields : Fields) (names : Names) (path : List ℕ) (index room : ℕ) (octets : List ℕ) (before offset : ℕ) (o : Outcome) → item_outcome term room false octets ≡ o → length octets ≤ room → Stops (after before o) (before + length octets) offset → begins_with (tag_of term) octets ≡ true
     → FieldLies (Missed o) term fields names path index offset (item_path term (field_at names index).inside (field_path path (field_at names index).name) room false octets) room octets before
 here-lies term lies fields names path index room octets before offset o is fits stop b =
     let s = stops-inside before (length octets) offset o stop in
@@ -215,7 +216,7 @@ field-lies : (term : Term) → ContentsLie term → (fields : Fields) (names : N
     → (o : Outcome) → item_outcome term room false octets ≡ o → Stops (then_after before o (λ count. fields_outcome fields (before + count) (room - count) (drop count octets))) (before + length octets) offset
     → ((count : ℕ) → item_outcome term room false octets ≡ Done count → Stops (fields_outcome fields (before + count) (room - count) (drop count octets)) ((before + count) + length (drop count octets)) offset
     → LaterLies (Missed (fields_outcome fields (before + count) (room - count) (drop count octets))) fields names path (index + 1) offset (room - count) (drop count octets) (before + count))
-    → (begins : Bool) → begin_with (tag_of term) octets ≡ begins
+    → (begins : Bool) → begins_with (tag_of term) octets ≡ begins
     → FieldLies (Missed (then_after before o (λ count. fields_outcome fields (before + count) (room - count) (drop count octets)))) term fields names path index offset
     (when begins (λ _. after_done o (λ count. fields_path fields names path (index + 1) (room - count) (drop count octets)) (λ _. item_path term (field_at names index).inside (field_path path (field_at names index).name) room false octets)) (λ _. path))
     room octets before
@@ -235,7 +236,7 @@ field-lies term lies fields names path index room octets before offset fits (Don
 abbrev ElementLies : (Absent : Type 0) → Term → Names → (path : List ℕ) → (index offset : ℕ) → (found : List ℕ) → (room : ℕ) → (octets : List ℕ) → (before : ℕ) → Type 0
 ElementLies Absent term names path index offset found room octets before =
     (found ≡ path)
-    ⊎ ((k size : ℕ) × BeginWithItems term k size room octets × (before + size ≤ offset) × (begin_with (tag_of term) (drop size octets) ≡ true) × LiesIn Absent term names (element_path path (index + k)) (room - size) (drop size octets) (offset - (before + size)) found)
+    ⊎ ((k size : ℕ) × BeginWithItems term k size room octets × (before + size ≤ offset) × (begins_with (tag_of term) (drop size octets) ≡ true) × LiesIn Absent term names (element_path path (index + k)) (room - size) (drop size octets) (offset - (before + size)) found)
 
 -- the same item, by other sums of the same numbers
 pub same-item : (Absent : Type 0) (term : Term) (names : Names) (path found : List ℕ) (i j r s k l : ℕ) (x y : List ℕ) → i ≡ j → r ≡ s → x ≡ y → k ≡ l → LiesIn Absent term names (element_path path i) r x k found → LiesIn Absent term names (element_path path j) s y l found
@@ -253,13 +254,13 @@ elements-done Absent term names path index offset count room found octets before
       count + size,
       (count, size, refl, is, items),
       omega (arith, le),
-      subst (λ (o : List ℕ). begin_with (tag_of term) o ≡ true) (drop-drop size count octets ∙ ap (λ (n : ℕ). drop n octets) (omega arith)) b,
+      subst (λ (o : List ℕ). begins_with (tag_of term) o ≡ true) (drop-drop size count octets ∙ ap (λ (n : ℕ). drop n octets) (omega arith)) b,
       same-item Absent term names path found ((index + 1) + k) (index + suc k) ((room - count) - size) (room - (count + size)) (offset - ((before + count) + size)) (offset - (before + (count + size))) (drop size (drop count octets)) (drop (count + size) octets)
           (omega arith) (omega arith) (drop-drop size count octets ∙ ap (λ (n : ℕ). drop n octets) (omega arith)) (omega arith) lie,
     )
 
 -- an item that is not done
-this-lies : (term : Term) → ContentsLie term → (names : Names) (path : List ℕ) (index room : ℕ) (octets : List ℕ) (before offset : ℕ) (o : Outcome) → item_outcome term room false octets ≡ o → length octets ≤ room → Stops (after before o) (before + length octets) offset → begin_with (tag_of term) octets ≡ true
+this-lies : (term : Term) → ContentsLie term → (names : Names) (path : List ℕ) (index room : ℕ) (octets : List ℕ) (before offset : ℕ) (o : Outcome) → item_outcome term room false octets ≡ o → length octets ≤ room → Stops (after before o) (before + length octets) offset → begins_with (tag_of term) octets ≡ true
     → ElementLies (Missed o) term names path index offset (item_path term names (element_path path index) room false octets) room octets before
 this-lies term lies names path index room octets before offset o is fits stop b =
     let s = stops-inside before (length octets) offset o stop in
@@ -278,7 +279,7 @@ element-lies : (term : Term) → ContentsLie term → (names : Names) (path : Li
     → (o : Outcome) → item_outcome term room false octets ≡ o → Stops (then_after before o next) (before + length octets) offset
     → ((count : ℕ) → item_outcome term room false octets ≡ Done count → Stops (next count) ((before + count) + length (drop count octets)) offset
     → ElementLies (Missed (next count)) term names path (index + 1) offset (elements_path (contents_path term names) term path more (index + 1) (room - count) (drop count octets)) (room - count) (drop count octets) (before + count))
-    → (begins : Bool) → begin_with (tag_of term) octets ≡ begins
+    → (begins : Bool) → begins_with (tag_of term) octets ≡ begins
     → ElementLies (Missed (then_after before o next)) term names path index offset
     (when begins (λ _. after_done o (λ count. elements_path (contents_path term names) term path more (index + 1) (room - count) (drop count octets)) (λ _. item_path term names (element_path path index) room false octets)) (λ _. path))
     room octets before
@@ -302,7 +303,7 @@ elements-lie term lies names path (suc bound) (suc more) index (suc room) octets
     let some = (item-count term (contents-count term) (suc room) false octets count is).0 in
     let there = done_within term (suc room) false octets count fits is in
     elements-lie term lies names path bound more (index + 1) (suc room - count) (drop count octets) (before + count) offset (omega (arith, length-drop count octets, fits, there)) (omega (arith, enough, some)) (omega (arith, length-drop count octets, le, some)) next)
-    (begin_with (tag_of term) octets) refl
+    (begins_with (tag_of term) octets) refl
 
 -- ---- all terms
 none-begins : (octets : List ℕ) → length octets ≤ 0 → octets ≡ []
@@ -339,7 +340,7 @@ optional Absent term fields names path index offset found room octets before (in
 optional Absent term fields names path index offset found room octets before (inr (inl lie)) = inr (inl lie)
 optional Absent term fields names path index offset found room octets before (inr (inr lie)) = inr (inr (inl lie))
 
-absent : (Absent : Type 0) (term : Term) (fields : Fields) (names : Names) (path : List ℕ) (index offset : ℕ) (found : List ℕ) (room : ℕ) (octets : List ℕ) (before : ℕ) → begin_with (tag_of term) octets ≡ false → (found ≡ path) ⊎ LiesInField Absent fields names path (index + 1) offset found room octets before → (found ≡ path) ⊎ LiesInField Absent (Optional term fields) names path index offset found room octets before
+absent : (Absent : Type 0) (term : Term) (fields : Fields) (names : Names) (path : List ℕ) (index offset : ℕ) (found : List ℕ) (room : ℕ) (octets : List ℕ) (before : ℕ) → begins_with (tag_of term) octets ≡ false → (found ≡ path) ⊎ LiesInField Absent fields names path (index + 1) offset found room octets before → (found ≡ path) ⊎ LiesInField Absent (Optional term fields) names path index offset found room octets before
 absent Absent term fields names path index offset found room octets before b (inl same) = inl same
 absent Absent term fields names path index offset found room octets before b (inr lie) = inr (inr (inr (b, lie)))
 
@@ -386,7 +387,7 @@ mutual
       (λ count is next.
       let there = done_within term (suc room) false octets count fits is in
       fields-lie fields names path (index + 1) (suc room - count) (drop count octets) (before + count) offset (omega (arith, some)) (omega (arith, length-drop count octets, fits, there)) next)
-      (begin_with (tag_of term) octets) refl)
+      (begins_with (tag_of term) octets) refl)
   fields-lie (Optional term fields) names path index zero [] before offset some fits stop =
       absent (Missed (fields_outcome fields before 0 [])) term fields names path index offset (fields_path fields names path (index + 1) 0 []) 0 [] before refl (fields-lie fields names path (index + 1) 0 [] before offset some fits stop)
   fields-lie (Optional term fields) names path index zero (octet ∷ octets) before offset some fits stop = absurd (omega (arith, fits))

@@ -1,5 +1,6 @@
 -- The names of the fields of each type, compared by computing.
 use Rattle.std.proofs.Common.{◌≡◌, ℕ, ◌<◌, Bool, true, false, ◌&&◌, not, nat_lt, List, [], ◌∷◌, length, map, refl, arith}
+use Rattle.std.proofs.lemmas.Bool.{and_parts, not-true}
 use Rattle.std.proofs.lemmas.Bool.Decides.{nat_tests}
 use Rattle.std.specs.List.{list_all, AllByRecursion, IsDistinct}
 use Rattle.std.specs.Str.{bytes_eq}
@@ -14,14 +15,6 @@ abbrev are_distinct : List (List ℕ) → Bool
 are_distinct [] = true
 are_distinct (name ∷ others) = list_all (λ other. not (bytes_eq name other)) others && are_distinct others
 
-and_parts : (a b : Bool) → (a && b) ≡ true → (a ≡ true) × (b ≡ true)
-and_parts true b e = (refl, e)
-and_parts false b e = absurd cc
-
-not_true : (a : Bool) → not a ≡ true → a ≡ false
-not_true true e = absurd cc
-not_true false e = refl
-
 all-some : (fields : List Named) → list_all is_some fields ≡ true → AllByRecursion (λ field. 0 < length field.name) fields
 all-some [] e = tt
 all-some (field ∷ fields) e = let p = and_parts (is_some field) (list_all is_some fields) e in (grind (arith, nat_tests, p.0), all-some fields p.1)
@@ -30,7 +23,7 @@ all-apart : (name : List ℕ) (others : List (List ℕ)) → list_all (λ other.
 all-apart name [] e = tt
 all-apart name (other ∷ others) e =
     let p = and_parts (not (bytes_eq name other)) (list_all (λ o. not (bytes_eq name o)) others) e in
-    (not_true (bytes_eq name other) p.0, all-apart name others p.1)
+    (not-true (bytes_eq name other) p.0, all-apart name others p.1)
 
 all-distinct : (found : List (List ℕ)) → are_distinct found ≡ true → IsDistinct bytes_eq found
 unfolding IsDistinct

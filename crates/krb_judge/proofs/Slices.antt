@@ -17,8 +17,7 @@ use Rattle.krb_msg.specs.Laws.{AreMessage}
 use Rattle.krb_msg.proofs.Judged.{whole_is_message, message_is_whole, whole_is_value, value_is_whole, value_is_decided, der_is_prefix_free, lenient_whole}
 use Rattle.krb_msg.proofs.Grammars.{all_is_decided}
 use Rattle.krb_msg.specs.Grammar.{messages}
-use Rattle.krb_msg.proofs.Laws.{same_value}
-use Rattle.krb_msg.specs.inner.Values.{der_begins}
+use Rattle.krb_msg.specs.inner.Values.{der_begins, same_from_der}
 use Rattle.krb_msg.specs.Profiles.{profile_term}
 use Rattle.krb_msg.specs.Der.{IsDer}
 use Rattle.krb_msg.specs.ViewValues.{IsNoMessage}
@@ -105,7 +104,7 @@ pub lenient_message : (profile : Profile) (octets : List ℕ) → AreOctets octe
 lenient_message profile octets a e = let w = whole_message profile octets e in whole_not_refused profiles.Lenient octets w.short (lenient_whole profile (length octets) octets w.short a (omega arith) w.whole)
 
 pub no_message_refused : (octets : List ℕ) → IsNoMessage octets → refusal_of profiles.Lenient octets ≢ None
-no_message_refused octets none e = none (whole_message profiles.Lenient octets e).whole
+no_message_refused octets none e = let w = whole_message profiles.Lenient octets e in none w.short w.whole
 
 -- ---- values of a term
 pub whole_value : (term : Term) (octets : List ℕ) → AreOctets octets → refusal_by (term_judgement term) octets ≡ None → IsDer term octets × (length octets < 2 ^ 31)
@@ -129,12 +128,12 @@ no_item_refused term octets none e = none (whole_slice (term_judgement term) oct
 module _ {A : Type 0} (term : Term) (unambiguous : is_unambiguous term ≡ true) (value_of : A → Value term) (of_value : Value term → A) (back : (a : A) → of_value (value_of a) ≡ a) (onto : (value : Value term) → Fits term value → value_of (of_value value) ≡ value) where
   pub are_of_value : {octets : List ℕ} (a : A) → IsDer term octets → length octets < 2 ^ 31 → der term (value_of a) ≡ octets → AreOfValue term value_of octets a
   are_of_value {octets = octets} a f short e =
-      let same : f.value ≡ value_of a = (same_value term unambiguous f.value (value_of a) [] [] (ap (λ l. l ++ []) (sym f.form ∙ sym e))).0 in
+      let same : f.value ≡ value_of a = (same_from_der term unambiguous f.value (value_of a) [] [] (ap (λ l. l ++ []) (sym f.form ∙ sym e))).0 in
       record { fits = subst (Fits term) same f.fits; short = short; form = e }
 
   pub same_of_value : {octets : List ℕ} (a b : A) → der term (value_of a) ≡ octets → der term (value_of b) ≡ octets → a ≡ b
   same_of_value a b e f =
-      let same : value_of a ≡ value_of b = (same_value term unambiguous (value_of a) (value_of b) [] [] (ap (λ l. l ++ []) (e ∙ sym f))).0 in
+      let same : value_of a ≡ value_of b = (same_from_der term unambiguous (value_of a) (value_of b) [] [] (ap (λ l. l ++ []) (e ∙ sym f))).0 in
       sym (back a) ∙ ap of_value same ∙ back b
 
   pub value_not_refused : {octets : List ℕ} (a : A) → AreOfValue term value_of octets a → refusal_by (term_judgement term) octets ≡ None

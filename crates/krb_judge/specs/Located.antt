@@ -6,7 +6,8 @@ use Rattle.krb_msg.specs.Term.{Term, Fields, Sequence, SequenceOf, Tagged, Appli
 use Rattle.krb_msg.specs.Views.{kind_with_tag, kind_name, kind_term_in}
 use Rattle.krb_msg.specs.declared.message.Kind.{Kind}
 use Rattle.krb_judge.specs.FieldNames.{field_at, names_of_kind}
-use Rattle.krb_judge.specs.Paths.{field_path, element_path, begin_with}
+use Rattle.krb_judge.specs.Paths.{field_path, element_path}
+use Rattle.krb_msg.specs.ValueOfDer.{begins_with}
 use Rattle.krb_judge.specs.declared.locating.names.Names.{Names}
 
 -- An octet, by its offset from the first octet of an item, is one of the item, whose head is not all there, is refused at this octet or at a later one, or says how many octets the item has.
@@ -31,7 +32,7 @@ abbrev mutual
   pub LiesInside : (Absent : Type 0) → Term → Names → (path : List ℕ) → (offset : ℕ) → (found : List ℕ) → (room : ℕ) → (octets : List ℕ) → (before : ℕ) → Type 0
   LiesInside Absent (Sequence fields) names path offset found room octets before = LiesInField Absent fields names path 0 offset found room octets before
   LiesInside Absent (SequenceOf empty term) names path offset found room octets before =
-      (index size : ℕ) × BeginWithItems term index size room octets × (before + size ≤ offset) × (begin_with (tag_of term) (drop size octets) ≡ true)
+      (index size : ℕ) × BeginWithItems term index size room octets × (before + size ≤ offset) × (begins_with (tag_of term) (drop size octets) ≡ true)
       × LiesBy (LiesInside Absent term names (element_path path index) (offset - (before + size)) found) (element_path path index) (room - size) (drop size octets) (offset - (before + size)) found
   LiesInside Absent (Tagged index term) names path offset found room octets before = (before ≤ offset) × LiesBy (LiesInside Absent term names path (offset - before) found) path room octets (offset - before) found
   LiesInside Absent (Application number term) names path offset found room octets before = (before ≤ offset) × LiesBy (LiesInside Absent term names path (offset - before) found) path room octets (offset - before) found
@@ -42,14 +43,14 @@ abbrev mutual
   LiesInField Absent End names path index offset found room octets before = ⊥
   LiesInField Absent (Required term fields) names path index offset found room octets before =
       (Absent × (room ≡ 0) × (suc offset ≡ before) × (found ≡ field_path path (field_at names index).name))
-      ⊎ ((before ≤ offset) × (begin_with (tag_of term) octets ≡ true)
+      ⊎ ((before ≤ offset) × (begins_with (tag_of term) octets ≡ true)
       × LiesBy (LiesInside Absent term (field_at names index).inside (field_path path (field_at names index).name) (offset - before) found) (field_path path (field_at names index).name) room octets (offset - before) found)
       ⊎ ((count : ℕ) × (item_outcome term room false octets ≡ Done count) × LiesInField Absent fields names path (index + 1) offset found (room - count) (drop count octets) (before + count))
   LiesInField Absent (Optional term fields) names path index offset found room octets before =
-      ((before ≤ offset) × (begin_with (tag_of term) octets ≡ true)
+      ((before ≤ offset) × (begins_with (tag_of term) octets ≡ true)
       × LiesBy (LiesInside Absent term (field_at names index).inside (field_path path (field_at names index).name) (offset - before) found) (field_path path (field_at names index).name) room octets (offset - before) found)
       ⊎ ((count : ℕ) × (item_outcome term room false octets ≡ Done count) × LiesInField Absent fields names path (index + 1) offset found (room - count) (drop count octets) (before + count))
-      ⊎ ((begin_with (tag_of term) octets ≡ false) × LiesInField Absent fields names path (index + 1) offset found room octets before)
+      ⊎ ((begins_with (tag_of term) octets ≡ false) × LiesInField Absent fields names path (index + 1) offset found room octets before)
 
 -- an octet of an item of a term
 abbrev pub LiesIn : (Absent : Type 0) → Term → Names → (path : List ℕ) → (room : ℕ) → (octets : List ℕ) → (offset : ℕ) → (found : List ℕ) → Type 0

@@ -9,6 +9,7 @@ use Rattle.krb_der.specs.declared.profile.Profile.{Profile}
 use Rattle.krb_msg.specs.Grammar.{ticket}
 use Rattle.krb_msg.specs.Judgement.{Outcome, Open, Bad, Done, Head, Partial, Refused, Got, head, item_outcome}
 use Rattle.krb_msg.specs.Profiles.{profile_term}
+use Rattle.krb_msg.specs.ValueOfDer.{begins_with}
 use Rattle.krb_msg.specs.Term.{Term, Fields, Sequence, SequenceOf, Tagged, Application, End, Required, Optional, tag_of}
 use Rattle.krb_msg.specs.Views.{kind_with_tag, kind_name, kind_term_in}
 use Rattle.krb_judge.specs.FieldNames.{field_at, names_of_kind}
@@ -22,11 +23,6 @@ field_path path name = path ++ codes "." ++ name
 -- an item, by its index, after the path of its SEQUENCE OF
 abbrev pub element_path : List ℕ → ℕ → List ℕ
 element_path path index = path ++ codes "[" ++ decimal index ++ codes "]"
-
--- whether the octets begin with a tag
-abbrev pub begin_with : ℕ → List ℕ → Bool
-begin_with tag [] = false
-begin_with tag (octet ∷ octets) = octet == tag
 
 -- if an item is done, goes on after it, and else into it
 abbrev pub after_done : Outcome → (ℕ → List ℕ) → (Unit {0} → List ℕ) → List ℕ
@@ -43,7 +39,7 @@ within_head (Got header contents) path room sole octets inside =
 
 abbrev pub within : Term → (path : List ℕ) → ℕ → Bool → List ℕ → (ℕ → List ℕ → List ℕ) → List ℕ
 within term path room sole octets inside =
-    when (begin_with (tag_of term) octets) (λ _. within_head (head room octets) path room sole octets inside) (λ _. path)
+    when (begins_with (tag_of term) octets) (λ _. within_head (head room octets) path room sole octets inside) (λ _. path)
 
 -- the path in the first item of what is left of a container, or, if that item is done, in what is left after it
 abbrev pub first_item : Term → (path : List ℕ) → ℕ → List ℕ → (inside after : ℕ → List ℕ → List ℕ) → List ℕ
@@ -54,7 +50,7 @@ first_item term path room octets inside after =
 abbrev pub elements_path : (List ℕ → ℕ → List ℕ → List ℕ) → Term → (path : List ℕ) → (bound index : ℕ) → ℕ → List ℕ → List ℕ
 elements_path inside term path zero index room octets = path
 elements_path inside term path (suc bound) index room octets =
-    when (begin_with (tag_of term) octets)
+    when (begins_with (tag_of term) octets)
     (λ _. first_item term (element_path path index) room octets (inside (element_path path index)) (elements_path inside term path bound (index + 1)))
     (λ _. path)
 
@@ -72,11 +68,11 @@ abbrev mutual
   fields_path End names path index room octets = path
   fields_path (Required term fields) names path index zero octets = field_path path (field_at names index).name
   fields_path (Required term fields) names path index (suc room) octets =
-      when (begin_with (tag_of term) octets)
+      when (begins_with (tag_of term) octets)
       (λ _. first_item term (field_path path (field_at names index).name) (suc room) octets (contents_path term (field_at names index).inside (field_path path (field_at names index).name)) (fields_path fields names path (index + 1)))
       (λ _. path)
   fields_path (Optional term fields) names path index room octets =
-      when (begin_with (tag_of term) octets)
+      when (begins_with (tag_of term) octets)
       (λ _. first_item term (field_path path (field_at names index).name) room octets (contents_path term (field_at names index).inside (field_path path (field_at names index).name)) (fields_path fields names path (index + 1)))
       (λ _. fields_path fields names path (index + 1) room octets)
 

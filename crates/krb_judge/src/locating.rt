@@ -17,7 +17,8 @@ ghost use Rattle.krb_msg.specs.Shape.{depth, depth_of_fields};
 ghost use Rattle.krb_msg.specs.Table.{IsNode, IsSlot, fields_from, with_slot};
 ghost use Rattle.krb_msg.specs.Term.{Fields};
 ghost use Rattle.krb_msg.specs.Views.{kind_term_in};
-ghost use Rattle.krb_judge.specs.Paths.{begin_with, contents_path, element_path, elements_path, field_path, fields_path, first_item, message_path, ticket_path, within};
+ghost use Rattle.krb_judge.specs.Paths.{contents_path, element_path, elements_path, field_path, fields_path, first_item, message_path, ticket_path, within};
+ghost use Rattle.krb_msg.specs.ValueOfDer.{begins_with};
 ghost use Rattle.krb_judge.specs.inner.Descent.{IsItem, IsInside, IsPresent, IsPresenceFor, IsFaultOf, path_in, path_on, in_contents, in_first, presence_path, fault_path, in_element};
 
 use crate::locating::head::{Head, part, read_head};
@@ -187,7 +188,7 @@ fn put_inside<'a>(text: &mut String, item: Item<'a>) -> Result<Option<Item<'a>>,
 
 /// Returns whether octets begin with a tag.
 fn begins(octets: &[u8], tag: u8) -> bool
-    ensures { result ≡ begin_with tag octets.now }
+    ensures { result ≡ begins_with tag octets.now }
 {
     match octets.first() {
         None => false,

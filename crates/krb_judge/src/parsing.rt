@@ -232,9 +232,6 @@ fn read_item<'a, T: View<'a>>(
 fn viewed_message(octets: &[u8]) -> Option<MessageView<'_>>
     ensures { MatchOption result (refusal_in Profile.Lenient octets.now ≢ None) (λ seen. IsMessageView octets.now seen × (refusal_in Profile.Lenient octets.now ≡ None)) }
 {
-    if octets.len() > MOST {
-        return None;
-    }
     view_message(octets)
 }
 

@@ -13,7 +13,8 @@ use Rattle.krb_laws.proofs.TokenItems.{IsRead, entered_item, entered_back, octet
 use Rattle.krb_token.proofs.Walks.{field_absent, field_read}
 use Rattle.krb_token.specs.Items.{Item, entered, judged, refusal_in, simple_contents, simple_has_size, simple_item, simple_items, simple_tag}
 use Rattle.krb_token.specs.Opened.{Part, Fault, and_then, fault_in}
-use Rattle.krb_judge.specs.Paths.{begin_with, element_path}
+use Rattle.krb_judge.specs.Paths.{element_path}
+use Rattle.krb_msg.specs.ValueOfDer.{begins_with}
 use Rattle.krb_token.specs.Spnego.{Holds, Fields, One, Many, Token, OctetsOr, End, Field, held, fields_read, ended}
 use Rattle.krb_laws.specs.Opened.{IsItem, BeginsWithItem, IsContents, IsOne, IsHeld, AreFields}
 use Rattle.krb_token.specs.declared.simple.Simple.{Simple}
@@ -30,10 +31,10 @@ then_back (Ok first) next found e = record { first = first; read_first = refl; r
 then_back (Err fault) next found e = absurd cc
 
 -- ---- octets of items
-begins : (tag : ℕ) (octets contents rest : List ℕ) → octets ≡ item tag contents ++ rest → begin_with tag octets ≡ true
+begins : (tag : ℕ) (octets contents rest : List ℕ) → octets ≡ item tag contents ++ rest → begins_with tag octets ≡ true
 begins tag octets contents rest e = rw e (eq-eqb tag tag refl)
 
-begins_otherwise : (tag other : ℕ) (octets contents rest : List ℕ) → octets ≡ item other contents ++ rest → (other ≡ tag → ⊥) → begin_with tag octets ≡ false
+begins_otherwise : (tag other : ℕ) (octets contents rest : List ℕ) → octets ≡ item other contents ++ rest → (other ≡ tag → ⊥) → begins_with tag octets ≡ false
 begins_otherwise tag other octets contents rest e d = rw e (ne_eqb other tag d)
 
 -- ---- simple types
@@ -66,7 +67,7 @@ one_back : (type : Simple) (part : Part) (found : Item) → IsSimple type true p
 one_back type part found is = (found.contents.octets, (alone_back (simple_tag type) part found is.read).form, is.has)
 
 -- ---- a SEQUENCE OF
-items_step : (type : Simple) (path : List ℕ) (bound index : ℕ) (part : Part) (octets : List ℕ) → begin_with (simple_tag type) octets ≡ true →
+items_step : (type : Simple) (path : List ℕ) (bound index : ℕ) (part : Part) (octets : List ℕ) → begins_with (simple_tag type) octets ≡ true →
     simple_items type path (suc bound) index part octets ≡ and_then (simple_item type (element_path path index) false part) (λ item. simple_items type path bound (index + 1) item.rest item.rest.octets)
 items_step type path bound index part [] t = absurd cc
 items_step type path bound index part (octet ∷ octets) t = rw t refl
@@ -127,7 +128,7 @@ abbrev mutual
   AreRising least End = Unit {0}
   AreRising least (Field tag path holds fields) = (least ≤ tag) × IsRising holds × AreRising (suc tag) fields
 
-other_tag : (tag least : ℕ) (fields : Fields) (before found : Option Part) (part : Part) → AreFields fields before found part → AreRising least fields → tag < least → begin_with tag part.octets ≡ false
+other_tag : (tag least : ℕ) (fields : Fields) (before found : Option Part) (part : Part) → AreFields fields before found part → AreRising least fields → tag < least → begins_with tag part.octets ≡ false
 other_tag tag least End before found part are rising below = rw are.0 refl
 other_tag tag least (Field own path holds fields) before found part (inl are) rising below = other_tag tag (suc own) fields before found part are rising.2 (omega (arith, rising.0))
 other_tag tag least (Field own path holds fields) before found part (inr are) rising below = begins_otherwise tag own part.octets are.contents.octets are.rest.octets are.begins.form (λ e. omega (arith, rising.0, e))
@@ -151,12 +152,12 @@ token_held path before found part is small =
 
 or_octets : (fields : Fields) (path : List ℕ) (before found : Option Part) (part : Part) → IsOne simple.Octets part.octets × (found ≡ before) → length part.octets < 2 ^ 32 → held (OctetsOr fields) path before part ≡ Ok found
 or_octets fields path before found part is small =
-    when-false (begin_with 0x30 part.octets) _ _ (begins_otherwise 0x30 0x04 part.octets is.0.0 [] (is.0.1 ∙ sym (append-nil (item 0x04 is.0.0))) (λ e. omega (arith, e)))
+    when-false (begins_with 0x30 part.octets) _ _ (begins_otherwise 0x30 0x04 part.octets is.0.0 [] (is.0.1 ∙ sym (append-nil (item 0x04 is.0.0))) (λ e. omega (arith, e)))
     ∙ one_held simple.Octets path before found part is small
 
 or_sequence : (fields : Fields) (path : List ℕ) (before found : Option Part) (part contents : Part) → IsItem 0x30 part contents → length part.octets < 2 ^ 32 → fields_read fields path before contents ≡ Ok found → held (OctetsOr fields) path before part ≡ Ok found
 or_sequence fields path before found part contents is small e =
-    when-true (begin_with 0x30 part.octets) _ _ (begins 0x30 part.octets contents.octets [] (is.form ∙ sym (append-nil (item 0x30 contents.octets))))
+    when-true (begins_with 0x30 part.octets) _ _ (begins 0x30 part.octets contents.octets [] (is.form ∙ sym (append-nil (item 0x30 contents.octets))))
     ∙ ap (λ read. and_then {B = Option Part} read (λ list. fields_read fields path before list.contents)) (entered_item path 0x30 true part contents _ (begins_alone 0x30 part contents is) small (λ t. refl))
     ∙ e
 
@@ -217,7 +218,7 @@ mutual
   held_back (Many type) path before found part a e = many_back_held type path before found part a e
   held_back Token path before found part a e = token_back_held path before found part a e
   held_back (OctetsOr fields) path before found part a e =
-      elim (cases_Bool (begin_with 0x30 part.octets)) [
+      elim (cases_Bool (begins_with 0x30 part.octets)) [
         | inl t ↦
             let f = then_back (entered path 0x30 true part) (λ list. fields_read fields path before list.contents) found (rw t at e) in
             let is : IsItem 0x30 part f.first.contents = alone_back 0x30 part f.first (entered_back path 0x30 true part f.first a f.read_first) in
@@ -228,7 +229,7 @@ mutual
   pub fields_back : (fields : Fields) (path : List ℕ) (before found : Option Part) (part : Part) → AreOctets part.octets → fields_read fields path before part ≡ Ok found → AreFields fields before found part
   fields_back End path before found part a e = ended_back path before found part.place part.octets e
   fields_back (Field tag own holds fields) path before found part a e =
-      elim (cases_Bool (begin_with tag part.octets)) [
+      elim (cases_Bool (begins_with tag part.octets)) [
         | inl t ↦
             let f = then_back (entered own tag false part) (λ item. and_then (held holds own before item.contents) (λ between. fields_read fields path between item.rest)) found (rw t at e) in
             let g = then_back (held holds own before f.first.contents) (λ between. fields_read fields path between f.first.rest) found f.read_next in

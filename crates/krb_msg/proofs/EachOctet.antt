@@ -1,10 +1,9 @@
 -- Contents whose octets pass a test of their places.
-use Rattle.std.proofs.Common.{◌≡◌, ℕ, ◌+◌, ◌<◌, ◌≤◌, Bool, true, false, nat_lt, nat_le, lt-ltb, le-ltb, le-leb, if◌then◌else◌, List, [], ◌∷◌, length, drop, get_or, ap, ◌∙◌, arith}
+use Rattle.std.proofs.Common.{◌≡◌, ℕ, ◌+◌, ◌<◌, ◌≤◌, Bool, true, false, lt-ltb, le-ltb, List, length, drop, get_or, ap, ◌∙◌}
 use Rattle.std.proofs.lemmas.List.{drop_all}
-use Rattle.krb_der.specs.Octets.{AreOctets}
 use Rattle.krb_der.proofs.Spelled.{next_octet}
 use Rattle.krb_der.specs.declared.why.Why.{Why}
-use Rattle.krb_msg.specs.Judgement.{Open, Bad, Done, each_contents, text_octet, any_contents}
+use Rattle.krb_msg.specs.Judgement.{Open, Bad, Done, each_contents}
 
 -- ---- octets that pass a test of their places
 module _ (passes : ℕ → ℕ → Bool) (reason : Why) (contents : ℕ) where
@@ -23,18 +22,3 @@ module _ (passes : ℕ → ℕ → Bool) (reason : Why) (contents : ℕ) where
 
   pub each-done : (octets : List ℕ) (place : ℕ) → length octets ≤ place → contents ≤ place → each_contents passes reason contents place (drop place octets) ≡ Done contents
   each-done octets place h l = ap (each_contents passes reason contents place) (drop_all place octets h) ∙ rw (le-ltb place contents l)
-
--- octets are all in a string that may have any
-each-octet : (reason : Why) (contents place : ℕ) (octets : List ℕ) → AreOctets octets → each_contents (text_octet 255) reason contents place octets ≡ (if nat_lt (place + length octets) contents then Open else Done contents)
-each-octet reason contents place [] a =
-    let e : place + 0 ≡ place = omega arith in
-    rw e
-each-octet reason contents place (octet ∷ octets) a =
-    let e : place + 1 + length octets ≡ place + length (octet ∷ octets) = omega arith in
-    let t : nat_le octet 255 ≡ true = le-leb octet 255 (omega (arith, a.0)) in
-    rw t (each-octet reason contents (place + 1) octets a.1 ∙ ap (λ n. if nat_lt n contents then Open else Done contents) e)
-
-pub text-any : (reason : Why) (contents : ℕ) (octets : List ℕ) → AreOctets octets → each_contents (text_octet 255) reason contents 0 octets ≡ any_contents contents octets
-text-any reason contents octets a =
-    let e : 0 + length octets ≡ length octets = omega arith in
-    each-octet reason contents 0 octets a ∙ ap (λ n. if nat_lt n contents then Open else Done contents) e

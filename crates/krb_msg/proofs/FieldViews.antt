@@ -1,18 +1,17 @@
 -- Views of fields, of items and of scalars.
-use Rattle.std.proofs.Common.{◌≡◌, ℕ, get_or, ◌+◌, ◌<◌, ◌≤◌, inl, inr, ℤ, pos, negsuc, true, false, not, List, [], ◌∷◌, ◌++◌, length, Option, Some, None, MatchOption, refl, sym, ap, ◌∙◌, subst, arith, eq-eqb, eqb-true}
+use Rattle.std.proofs.Common.{◌≡◌, ℕ, get_or, ◌+◌, ◌<◌, ◌≤◌, ℤ, pos, negsuc, true, false, not, List, [], ◌∷◌, ◌++◌, length, Option, Some, None, MatchOption, refl, sym, ap, ◌∙◌, subst, arith, eq-eqb, eqb-true}
 use Rattle.std.specs.Prelude.{◌≤ℤ◌}
-use Rattle.std.specs.List.{AllByRecursion}
 use Rattle.std.proofs.lemmas.Bool.{not-true, true≢false}
 use Rattle.std.proofs.lemmas.Int.{ints}
 use Rattle.krb_der.specs.Octets.{item, number, integer_octets, integer_value, AreOctets}
 use Rattle.krb_der.specs.inner.Items.{same_from_item}
 use Rattle.krb_der.specs.inner.Numbers.{IsShortestInteger, IsShortestInteger-integer_octets, integer_octets-integer_value, integer_value-integer_octets, length-integer_octets-le, spelled-number}
-use Rattle.krb_msg.specs.Term.{Term, Fields, Integer, Text, Octets, Sequence, Tagged, Application, End, Required, Optional, tag_of, Value, Values, der, der_of_fields, Fits}
+use Rattle.krb_msg.specs.Term.{Term, Fields, Integer, Sequence, Tagged, Required, Optional, tag_of, Value, Values, der, der_of_fields, Fits}
 use Rattle.krb_msg.specs.Judgement.{is_padded}
 use Rattle.krb_msg.specs.ValueOfDer.{begins_with}
 use Rattle.krb_msg.specs.Shape.{may_begin}
 use Rattle.krb_msg.specs.inner.Values.{contents, der_is, may_begin_from_der}
-use Rattle.krb_msg.proofs.Integers.{is_padded-shortest, IsShortestInteger-from_unpadded}
+use Rattle.krb_msg.proofs.Integers.{is_padded-shortest, shortest_some, IsShortestInteger-from_unpadded}
 use Rattle.krb_msg.specs.inner.Fields.{HasNoField}
 use Rattle.krb_msg.specs.Viewed.{IsNoItem, AreContents, AreNoContents, AreFields, AreNoFields, BeginsWithValue, BeginsWithNoValue, MayBeginWithValue, IsMalformedField, IsNumberIn, IsNoNumberIn}
 
@@ -42,16 +41,7 @@ contents_none index tag term octets inner own rest t e i none value more s =
     let p = same_from_item (0xA0 + index) (0xA0 + index) inner (der term value) rest more (sym e ∙ s.form) in
     none value (record { fits = s.fits; form = ap (λ n. item n own) (sym t) ∙ sym i ∙ p.1 })
 
-pub field_some : (index tag : ℕ) (term : Term) (octets inner own rest : List ℕ) (value : Value term) → tag ≡ tag_of term → octets ≡ item (0xA0 + index) inner ++ rest → inner ≡ item tag own → AreContents term own value → BeginsWithValue (Tagged index term) octets value rest
-field_some index tag term octets inner own rest value t e i a = record {
-  fits = a.fits;
-  form = e ∙ ap (λ l. item (0xA0 + index) l ++ rest) (i ∙ ap (λ n. item n own) t ∙ a.form);
-}
-
 -- ---- a required field
-pub required_none : (index : ℕ) (term : Term) (fields : Fields) (octets : List ℕ) → BeginsWithNoValue (Tagged index term) octets → AreNoFields (Required (Tagged index term) fields) octets
-required_none index term fields octets none values f = none values.0 (der_of_fields fields values.1) (record { fits = f.fit.0; form = f.form })
-
 pub required_rest_none : (index : ℕ) (term : Term) (fields : Fields) (octets rest : List ℕ) (value : Value term) → BeginsWithValue (Tagged index term) octets value rest → AreNoFields fields rest → AreNoFields (Required (Tagged index term) fields) octets
 required_rest_none index term fields octets rest value s none values f =
     let p = same_from_item (0xA0 + index) (0xA0 + index) (der term value) (der term values.0) rest (der_of_fields fields values.1) (sym s.form ∙ f.form) in
@@ -88,17 +78,7 @@ rest_none_at index term fields octets rest a (Some value) m none (Some other) va
 pub optional_rest_none : (index : ℕ) (term : Term) (fields : Fields) (octets rest : List ℕ) → not (may_begin (0xA0 + index) fields) ≡ true → (value : Option (Value term)) → MayBeginWithValue (Tagged index term) octets value rest → AreNoFields fields rest → AreNoFields (Optional (Tagged index term) fields) octets
 optional_rest_none index term fields octets rest a value m none values f = rest_none_at index term fields octets rest a value m none values.0 values.1 f
 
-pub optional_some : (term : Term) (fields : Fields) (octets rest : List ℕ) (value : Option (Value term)) (values : Values fields) → MayBeginWithValue term octets value rest → AreFields fields rest values → AreFields (Optional term fields) octets (value, values)
-optional_some term fields octets rest None values m a = record { fit = (tt, a.fit); form = sym m.0 ∙ a.form }
-optional_some term fields octets rest (Some value) values m a = record { fit = (m.fits, a.fit); form = m.form ∙ ap (λ l. der term value ++ l) a.form }
-
 -- ---- no fields
-pub end_some : (octets : List ℕ) → octets ≡ [] → AreFields End octets tt
-end_some octets e = record { fit = tt; form = e }
-
-pub end_none : (octets : List ℕ) → 0 < length octets → AreNoFields End octets
-end_none octets some values f = omega (arith, some, ap length f.form)
-
 -- ---- a SEQUENCE
 pub sequence_none : (fields : Fields) (octets : List ℕ) → AreNoFields fields octets → AreNoContents (Sequence fields) octets
 sequence_none fields octets none value a = none value (record { fit = a.fits; form = same_contents 0x30 octets (der_of_fields fields value) a.form })
@@ -107,41 +87,18 @@ pub sequence_some : (fields : Fields) (octets : List ℕ) (values : Values field
 sequence_some fields octets values a = record { fits = a.fit; form = ap (item 0x30) a.form }
 
 -- ---- an item in a tag of its own, from its octets: the contents of [index] and of [APPLICATION number]
-pub inside_no_item : (tag : ℕ) (term : Term) (octets : List ℕ) → tag ≡ tag_of term → IsNoItem tag octets → (value : Value term) → octets ≡ der term value → ⊥
-inside_no_item tag term octets t none value e = none (contents term value) (e ∙ der_is term value ∙ ap (λ n. item n (contents term value)) (sym t))
+pub inside_no_item : (outer tag : ℕ) (term : Term) (octets : List ℕ) → tag ≡ tag_of term → IsNoItem tag octets → (value : Value term) → item outer octets ≡ item outer (der term value) → ⊥
+inside_no_item outer tag term octets t none value e =
+    none (contents term value) (same_contents outer octets (der term value) e ∙ der_is term value ∙ ap (λ n. item n (contents term value)) (sym t))
 
-pub inside_none : (tag : ℕ) (term : Term) (octets inner : List ℕ) → tag ≡ tag_of term → octets ≡ item tag inner → AreNoContents term inner → (value : Value term) → Fits term value → octets ≡ der term value → ⊥
-inside_none tag term octets inner t e none value fits form = none value (record { fits = fits; form = ap (λ n. item n inner) (sym t) ∙ sym e ∙ form })
+pub inside_none : (outer tag : ℕ) (term : Term) (octets inner : List ℕ) → tag ≡ tag_of term → octets ≡ item tag inner → AreNoContents term inner → (value : Value term) → Fits term value → item outer octets ≡ item outer (der term value) → ⊥
+inside_none outer tag term octets inner t e none value fits form =
+    none value (record { fits = fits; form = ap (λ n. item n inner) (sym t) ∙ sym e ∙ same_contents outer octets (der term value) form })
 
-pub inside_some : (tag : ℕ) (term : Term) (octets inner : List ℕ) (value : Value term) → tag ≡ tag_of term → octets ≡ item tag inner → AreContents term inner value → octets ≡ der term value
-inside_some tag term octets inner value t e a = e ∙ ap (λ n. item n inner) t ∙ a.form
-
-pub application_no_item : (number tag : ℕ) (term : Term) (octets : List ℕ) → tag ≡ tag_of term → IsNoItem tag octets → AreNoContents (Application number term) octets
-application_no_item number tag term octets t none value a = inside_no_item tag term octets t none value (same_contents (0x60 + number) octets (der term value) a.form)
-
-pub application_none : (number tag : ℕ) (term : Term) (octets inner : List ℕ) → tag ≡ tag_of term → octets ≡ item tag inner → AreNoContents term inner → AreNoContents (Application number term) octets
-application_none number tag term octets inner t e none value a =
-    inside_none tag term octets inner t e none value a.fits (same_contents (0x60 + number) octets (der term value) a.form)
-
-pub application_some : (number tag : ℕ) (term : Term) (octets inner : List ℕ) (value : Value term) → tag ≡ tag_of term → octets ≡ item tag inner → AreContents term inner value → AreContents (Application number term) octets value
-application_some number tag term octets inner value t e a = record { fits = a.fits; form = ap (item (0x60 + number)) (inside_some tag term octets inner value t e a) }
-
-pub tagged_no_item : (index tag : ℕ) (term : Term) (octets : List ℕ) → tag ≡ tag_of term → IsNoItem tag octets → AreNoContents (Tagged index term) octets
-tagged_no_item index tag term octets t none value a = inside_no_item tag term octets t none value (same_contents (0xA0 + index) octets (der term value) a.form)
-
-pub tagged_none : (index tag : ℕ) (term : Term) (octets inner : List ℕ) → tag ≡ tag_of term → octets ≡ item tag inner → AreNoContents term inner → AreNoContents (Tagged index term) octets
-tagged_none index tag term octets inner t e none value a =
-    inside_none tag term octets inner t e none value a.fits (same_contents (0xA0 + index) octets (der term value) a.form)
-
-pub tagged_some : (index tag : ℕ) (term : Term) (octets inner : List ℕ) (value : Value term) → tag ≡ tag_of term → octets ≡ item tag inner → AreContents term inner value → AreContents (Tagged index term) octets value
-tagged_some index tag term octets inner value t e a = record { fits = a.fits; form = ap (item (0xA0 + index)) (inside_some tag term octets inner value t e a) }
+pub inside_some : (outer tag : ℕ) (term : Term) (octets inner : List ℕ) (value : Value term) → tag ≡ tag_of term → octets ≡ item tag inner → AreContents term inner value → item outer octets ≡ item outer (der term value)
+inside_some outer tag term octets inner value t e a = ap (item outer) (e ∙ ap (λ n. item n inner) t ∙ a.form)
 
 -- ---- numbers
-shortest_some : (octets : List ℕ) → IsShortestInteger octets → 0 < length octets
-shortest_some [] (inl s) = absurd s
-shortest_some [] (inr s) = absurd s
-shortest_some (octet ∷ octets) s = omega arith
-
 pub record IsNumberShaped (octets : List ℕ) (number : ℤ) : Type 0 where
   pub some : 0 < length octets
   pub few : length octets ≤ 5
@@ -182,18 +139,4 @@ integer_form low high octets number a = same_contents 0x02 octets (integer_octet
 pub integer_some : (low high : ℤ) (octets : List ℕ) (number : ℤ) → IsNumberIn low high octets number → AreContents (Integer low high) octets number
 integer_some low high octets number n = record { fits = (n.low_le, n.le_high); form = ap (item 0x02) n.form }
 
-pub exactly_some : (number : ℕ) (octets : List ℕ) (that : ℤ) → IsNumberIn (pos number) (pos number) octets that → AreContents (Integer (pos number) (pos number)) octets (pos number)
-exactly_some number octets that n =
-    let same : that ≡ pos number = omega (arith, ints, n.low_le, n.le_high) in
-    subst (AreContents (Integer (pos number) (pos number)) octets) same (integer_some (pos number) (pos number) octets that n)
-
 -- ---- strings
-at_most : (octets : List ℕ) → AreOctets octets → AllByRecursion (λ octet. octet ≤ 255) octets
-at_most [] a = tt
-at_most (octet ∷ octets) a = (omega (arith, a.0), at_most octets a.1)
-
-pub text_some : (octets : List ℕ) → AreOctets octets → AreContents (Text 255) octets octets
-text_some octets a = record { fits = (a, at_most octets a); form = refl }
-
-pub octets_some : (octets : List ℕ) → AreOctets octets → AreContents Octets octets octets
-octets_some octets a = record { fits = a; form = refl }

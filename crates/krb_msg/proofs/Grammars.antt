@@ -11,7 +11,9 @@ use Rattle.krb_msg.specs.Judgement.{Outcome, Open, Bad, Done, item_outcome, mess
 use Rattle.krb_msg.specs.Der.{IsDer}
 use Rattle.krb_msg.specs.Laws.{AreOneOf, IsFinal, AreSame}
 use Rattle.krb_msg.proofs.Encoded.{AreOctets-der}
-use Rattle.krb_msg.proofs.Laws.{IsWhole, IsWhole-done, Settles, item_outcome-der, decided}
+use Rattle.krb_msg.proofs.Accepts.{item-accepted}
+use Rattle.krb_msg.proofs.TermsDecided.{item_outcome-decided}
+use Rattle.krb_msg.proofs.Laws.{IsWhole, IsWhole-done, Settles}
 use Rattle.krb_msg.proofs.Messages.{IsChosen, one_of_chosen, one_of_passes, chosen_one_of, message_outcome-der, IsWhole-message, Settles-message_outcome, message_outcome-decided, same_message}
 
 -- ---- the verdict and the outcome
@@ -46,11 +48,11 @@ whole_is_value term octets a e = by (whole_outcome (item_outcome term (length oc
 pub value_is_whole : (term : Term) (value : Value term) → is_unambiguous term ≡ true → Fits term value → length (der term value) < 2 ^ 31 → term_judgement term (length (der term value)) (der term value) ≡ verdict.Whole
 value_is_whole term value u f small =
     let e : item_outcome term (length (der term value)) true (der term value ++ []) ≡ Done (length (der term value)) =
-    item_outcome-der term u value f (omega arith) (length (der term value)) true [] (omega arith) (λ t. refl) in
+    item-accepted term u value f (omega arith) (length (der term value)) true [] (omega arith) (λ t. refl) in
     ap verdict_of (ap (item_outcome term (length (der term value)) true) (sym (append-nil (der term value))) ∙ e)
 
 pub value_is_decided : (term : Term) (octets : List ℕ) → 0 < length octets → term_judgement term (length octets) octets ≡ verdict.Open → ⊥
-value_is_decided term octets some e = decided term (length octets) true octets some refl (open_outcome (item_outcome term (length octets) true octets) e)
+value_is_decided term octets some e = item_outcome-decided term (length octets) true octets some refl (open_outcome (item_outcome term (length octets) true octets) e)
 
 -- ---- any messages
 pub whole_is_one_of : (messages : List Term) (n : ℕ) (octets : List ℕ) → AreOctets octets → length octets ≤ n → judgement_by messages n octets ≡ verdict.Whole → AreOneOf messages n octets

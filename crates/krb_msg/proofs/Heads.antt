@@ -14,9 +14,6 @@ use Rattle.krb_msg.specs.Judgement.{Head, Partial, Refused, Got, fitting, long_h
 fitting-got : (room header contents : ℕ) → header + contents ≤ room → fitting room header contents ≡ Got header contents
 fitting-got room header contents h = rw (le-ltb room (header + contents) h)
 
-fitting-refused : (room header contents : ℕ) → room < header + contents → fitting room header contents ≡ Refused (header - 1) why.Overrun
-fitting-refused room header contents h = rw (lt-ltb room (header + contents) h)
-
 abbrev pub need_of_head : Head → ℕ
 need_of_head Partial = 0
 need_of_head (Refused offset reason) = suc offset
@@ -84,6 +81,10 @@ head-long room tag k rest p q h =
     let e : 128 + k - 128 ≡ k = omega arith in
     rw e (grind (arith, nat_tests))
 
+pub some_from_shortest : (digits : List ℕ) → IsShortest 256 digits → 0 < length digits
+some_from_shortest [] s = absurd s
+some_from_shortest (digit ∷ digits) s = omega arith
+
 -- a length is read back, with any octets after it
 pub head-length_octets : (room tag n : ℕ) (rest : List ℕ) → n < 2 ^ 32 → 1 + length (length_octets n) + n ≤ room → head room (tag ∷ (length_octets n ++ rest)) ≡ Got (1 + length (length_octets n)) n
 head-length_octets room tag n rest small fits = go (cases_lt n 128)
@@ -99,14 +100,10 @@ head-length_octets room tag n rest small fits = go (cases_lt n 128)
       where
         by_digits : (digits : List ℕ) → AreOctets digits → IsShortest 256 digits → number digits ≡ n → length digits ≤ 4 → 2 + length digits + n ≤ room → head room (tag ∷ (128 + length digits) ∷ (digits ++ rest)) ≡ Got (1 + suc (length digits)) n
         by_digits digits a s e k f =
-            head-long room tag (length digits) (digits ++ rest) (positive digits s) k (omega arith)
+            head-long room tag (length digits) (digits ++ rest) (some_from_shortest digits s) k (omega arith)
             ∙ long_head-accepts room digits rest a s (omega arith) (omega arith)
             ∙ ap (λ m. Got (2 + length digits) m) e
             ∙ ap (λ m. Got m n) (omega arith)
-          where
-            positive : (digits : List ℕ) → IsShortest 256 digits → 0 < length digits
-            positive [] s = absurd s
-            positive (digit ∷ digits) s = omega arith
 
 -- ---- an accepted head
 pub record IsHead (room header contents : ℕ) (octets : List ℕ) : Type 0 where
@@ -163,6 +160,9 @@ pub record HeadShown (room : ℕ) (octets : List ℕ) (found : Head) : Type 0 wh
   pub same : (rest : List ℕ) → head room (prefix ++ rest) ≡ found
   pub sooner : (k : ℕ) → k < length prefix → head room (take k prefix) ≡ Partial
 
+pub zero_from_lt_one : (n : ℕ) → n < 1 → n ≡ 0
+zero_from_lt_one n h = omega arith
+
 head-short : (room : ℕ) (octets : List ℕ) → length octets < 2 → head room octets ≡ Partial
 head-short room [] h = refl
 head-short room (tag ∷ []) h = refl
@@ -205,9 +205,6 @@ HeadShown-long_head room tag octet k (first ∷ rest) found p f e d = go k p (ca
         HeadShown-long room tag octet k (first ∷ []) rest found (ap need_of_head (sym g)) f
         (λ rest. long_head-refused room k first rest t ∙ g)
         (λ n h. ap (λ m. long_head room k (take m (first ∷ []))) (zero_from_lt_one n h))
-      where
-        zero_from_lt_one : (n : ℕ) → n < 1 → n ≡ 0
-        zero_from_lt_one n h = omega arith
     go k p (inr t) (inl l) f e = absurd (d (sym (sym (long_head-partial room k first rest t l) ∙ e)))
     go zero p (inr t) (inr l) f e = absurd (omega arith)
     go (suc k) p (inr t) (inr l) f e =

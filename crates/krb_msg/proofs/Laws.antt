@@ -1,21 +1,13 @@
 -- The laws of the judgement of an item, for every term.
-use Rattle.std.proofs.Common.{◌≡◌, ℕ, suc, ◌^◌, ◌<◌, ◌≤◌, Bool, true, List, [], ◌++◌, length, take, drop, refl, sym, ◌∙◌, ap, arith, length-append, take-append-drop}
+use Rattle.std.proofs.Common.{◌≡◌, ℕ, ◌<◌, ◌≤◌, Bool, true, List, ◌++◌, length, take, drop, sym, ◌∙◌, ap, arith, length-append, take-append-drop}
 use Rattle.std.proofs.lemmas.List.{take_at, take-append-le}
 use Rattle.krb_der.specs.Octets.{AreOctets}
 use Rattle.krb_der.specs.declared.why.Why.{Why}
 use Rattle.krb_msg.specs.Term.{Term, Value, der, Fits}
-use Rattle.krb_msg.specs.Shape.{is_unambiguous}
 use Rattle.krb_msg.specs.Judgement.{Outcome, Open, Bad, Done, item_outcome}
 use Rattle.krb_msg.proofs.Stable.{need, IsDecided, Shown, IsStable, length_parts}
 use Rattle.krb_msg.proofs.TermsStable.{IsStable-item_outcome}
-use Rattle.krb_msg.proofs.TermsDecided.{item_outcome-decided, item-count, contents-count}
-use Rattle.krb_msg.specs.inner.Values.{same_from_der}
-use Rattle.krb_msg.proofs.Accepts.{item-accepted}
 use Rattle.krb_msg.proofs.Whole.{ItemWhole, item-whole}
-
--- ---- accepts
-pub item_outcome-der : (term : Term) → is_unambiguous term ≡ true → (value : Value term) → Fits term value → length (der term value) < 2 ^ 32 → (room : ℕ) (sole : Bool) (rest : List ℕ) → length (der term value) ≤ room → (sole ≡ true → length (der term value) ≡ room) → item_outcome term room sole (der term value ++ rest) ≡ Done (length (der term value))
-item_outcome-der term u value f small room sole rest within fills = item-accepted term u value f small room sole rest within fills
 
 -- ---- stable
 -- An outcome that is decided by just the octets that it needs: it is the same with any others after them, and fewer decide nothing.
@@ -56,20 +48,8 @@ Settles-item_outcome term room sole = Settles-stable room (item_outcome term roo
 pub bad_within : (term : Term) (room : ℕ) (sole : Bool) (octets : List ℕ) (place : ℕ) (reason : Why) → length octets ≤ room → item_outcome term room sole octets ≡ Bad place reason → place < length octets
 bad_within term room sole octets place reason h e = (Settles-item_outcome term room sole octets (Bad place reason) h e tt).within
 
-pub bad_same : (term : Term) (room : ℕ) (sole : Bool) (octets other : List ℕ) (place : ℕ) (reason : Why) → length octets ≤ room → length other ≤ room → item_outcome term room sole octets ≡ Bad place reason → take (suc place) other ≡ take (suc place) octets → item_outcome term room sole other ≡ Bad place reason
-bad_same term room sole octets other place reason h k e = (Settles-item_outcome term room sole octets (Bad place reason) h e tt).same other k
-
-pub bad_sooner : (term : Term) (room : ℕ) (sole : Bool) (octets : List ℕ) (place : ℕ) (reason : Why) → length octets ≤ room → item_outcome term room sole octets ≡ Bad place reason → (k : ℕ) → k ≤ place → item_outcome term room sole (take k octets) ≡ Open
-bad_sooner term room sole octets place reason h e k l = (Settles-item_outcome term room sole octets (Bad place reason) h e tt).sooner k (omega arith)
-
 pub done_within : (term : Term) (room : ℕ) (sole : Bool) (octets : List ℕ) (count : ℕ) → length octets ≤ room → item_outcome term room sole octets ≡ Done count → count ≤ length octets
 done_within term room sole octets count h e = (Settles-item_outcome term room sole octets (Done count) h e tt).within
-
-pub done_same : (term : Term) (room : ℕ) (sole : Bool) (octets other : List ℕ) (count : ℕ) → length octets ≤ room → length other ≤ room → item_outcome term room sole octets ≡ Done count → take count other ≡ take count octets → item_outcome term room sole other ≡ Done count
-done_same term room sole octets other count h k e = (Settles-item_outcome term room sole octets (Done count) h e tt).same other k
-
-pub done_sooner : (term : Term) (room : ℕ) (sole : Bool) (octets : List ℕ) (count : ℕ) → length octets ≤ room → item_outcome term room sole octets ≡ Done count → (k : ℕ) → k < count → item_outcome term room sole (take k octets) ≡ Open
-done_sooner term room sole octets count h e = (Settles-item_outcome term room sole octets (Done count) h e tt).sooner
 
 -- ---- whole
 pub record IsWhole (term : Term) (room : ℕ) (sole : Bool) (octets : List ℕ) (count : ℕ) : Type 0 where
@@ -77,32 +57,18 @@ pub record IsWhole (term : Term) (room : ℕ) (sole : Bool) (octets : List ℕ) 
   pub fits : Fits term value
   pub form : take count octets ≡ der term value
   pub within : count ≤ length octets
-  pub in_room : count ≤ room
   pub fills : sole ≡ true → count ≡ room
 
-IsWhole-from_item : (term : Term) (room : ℕ) (sole : Bool) (octets : List ℕ) (count : ℕ) → count ≤ room → ItemWhole term room sole octets count → IsWhole term room sole octets count
-IsWhole-from_item term room sole octets count r w = record {
+IsWhole-from_item : (term : Term) (room : ℕ) (sole : Bool) (octets : List ℕ) (count : ℕ) → ItemWhole term room sole octets count → IsWhole term room sole octets count
+IsWhole-from_item term room sole octets count w = record {
   value = w.value;
   fits = w.fits;
   form = ap (take count) w.parts ∙ take_at (der term w.value) w.rest count (sym w.counted);
   within = omega (arith, w.counted, ap length w.parts, length-append (der term w.value) w.rest);
-  in_room = r;
   fills = w.fills;
 }
 
 -- neither the octets present nor the room needs a bound
 pub IsWhole-done : (term : Term) (room : ℕ) (sole : Bool) (octets : List ℕ) (count : ℕ) → AreOctets octets → item_outcome term room sole octets ≡ Done count → IsWhole term room sole octets count
 IsWhole-done term room sole octets count a e =
-    IsWhole-from_item term room sole octets count (item-count term (contents-count term) room sole octets count e).1 (item-whole term room sole octets count a e)
-
--- ---- decided
-pub decided : (term : Term) (room : ℕ) (sole : Bool) (octets : List ℕ) → 0 < room → length octets ≡ room → item_outcome term room sole octets ≡ Open → ⊥
-decided = item_outcome-decided
-
--- in a room of no octets there is no octet, and the outcome is open
-pub open_without_room : (term : Term) (sole : Bool) → item_outcome term 0 sole [] ≡ Open
-open_without_room term sole = refl
-
--- ---- injective
-pub same_value : (term : Term) → is_unambiguous term ≡ true → (v w : Value term) (x y : List ℕ) → der term v ++ x ≡ der term w ++ y → (v ≡ w) × (x ≡ y)
-same_value = same_from_der
+    IsWhole-from_item term room sole octets count (item-whole term room sole octets count a e)

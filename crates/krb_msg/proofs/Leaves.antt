@@ -6,6 +6,7 @@ use Rattle.krb_der.specs.Octets.{integer_value, last_or_zero}
 use Rattle.krb_der.specs.declared.why.Why.{Why}
 use Rattle.krb_der.specs.declared.why.Why.TheVariants as why
 use Rattle.krb_msg.specs.Judgement.{Outcome, Open, Bad, Done, is_padded, int_le, integer_contents, each_contents, bits_contents, any_contents}
+use Rattle.krb_msg.proofs.Heads.{zero_from_lt_one}
 use Rattle.krb_msg.proofs.Stable.{need, IsDecided, Shown, IsStable, IsStable-same, not_open}
 
 -- ---- contents that are refused early, or else judged when all of them are present
@@ -131,9 +132,6 @@ IsStable-bits_contents least room p =
     (IsStable-early_or_full room 0 why.Bits (bits_early least room) (bits_full room) (bits_early-short least room) (bits_early-append least room) (need-bits_full room p))
 
 -- ---- octets that each pass a test: strings and times
-zero_from_lt_one : (k : ℕ) → k < 1 → k ≡ 0
-zero_from_lt_one k h = omega arith
-
 module _ (passes : ℕ → ℕ → Bool) (reason : Why) (size : ℕ) where
   abbrev each : ℕ → List ℕ → Outcome
   each = each_contents passes reason size

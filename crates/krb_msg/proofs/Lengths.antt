@@ -6,6 +6,7 @@ use Rattle.krb_der.specs.Octets.{AreOctets, number, length_octets, item}
 use Rattle.krb_der.specs.inner.Numbers.{spelled, IsShortest, IsShortest-spelled, number-fewest, AreOctets-spelled, length-spelled-le, spelled-number}
 use Rattle.std.proofs.lemmas.List.{take_all}
 use Rattle.krb_der.specs.inner.Items.{same_from_length_octets, length_octets-short, length_octets-long, length-item, item-append, same_from_cons, same_from_item}
+use Rattle.krb_msg.proofs.Heads.{some_from_shortest}
 use Rattle.krb_msg.specs.inner.Fields.{HasNoField}
 use Rattle.krb_msg.specs.Viewed.{HasNoItem, IsNoItem}
 
@@ -40,10 +41,6 @@ pub record LongLength (first : ℕ) (octets : List ℕ) (size : ℕ) (rest : Lis
   pub large : 128 ≤ size
   pub lead : get_or digits 0 0 ≢ 0
 
-shortest_some : (digits : List ℕ) → IsShortest 256 digits → 0 < length digits
-shortest_some [] s = absurd s
-shortest_some (first ∷ digits) s = omega arith
-
 shortest_lead : (digits : List ℕ) → AreOctets digits → IsShortest 256 digits → 128 ≤ number digits → get_or digits 0 0 ≢ 0
 shortest_lead [] a s h = absurd s
 shortest_lead (first ∷ []) a s h = omega (arith, h)
@@ -64,7 +61,7 @@ long_length first octets size rest h small e = go (cases_lt size 128)
         record {
           digits = spelled 256 size;
           first_is = p.0;
-          some = shortest_some (spelled 256 size) s;
+          some = some_from_shortest (spelled 256 size) s;
           few = length-spelled-le 256 3 size (omega arith) (omega (arith, small));
           parts = p.1;
           value = v;
@@ -79,25 +76,9 @@ long_digits first octets prefix size rest suffix l n e =
     sym (take_at prefix suffix (length prefix) refl) ∙ ap (take (length prefix)) (sym e ∙ l.parts) ∙ take_at l.digits rest (length prefix) (sym m)
 
 -- ---- items
--- an item whose length is one octet
-pub short_item : (tag octet : ℕ) (octets : List ℕ) (contents rest : List ℕ) (first : ℕ) → octet < 128 → first ∷ octet ∷ octets ≡ item tag contents ++ rest → (octet ≡ length contents) × (octets ≡ contents ++ rest)
-short_item tag octet octets contents rest first h e = go (cases_lt (length contents) 128)
-  where
-    f : octet ∷ octets ≡ length_octets (length contents) ++ (contents ++ rest)
-    f = (same_from_cons _ _ _ _ (e ∙ item-append tag contents rest)).1
-
-    go : (length contents < 128) ⊎ (128 ≤ length contents) → (octet ≡ length contents) × (octets ≡ contents ++ rest)
-    go (inl l) = same_from_cons _ _ _ _ (rw (length_octets-short (length contents) l) at f)
-    go (inr l) =
-        let g : octet ∷ octets ≡ (128 + length (spelled 256 (length contents))) ∷ (spelled 256 (length contents) ++ (contents ++ rest)) = rw (length_octets-long (length contents) l) at f in
-        absurd (omega (arith, h, (same_from_cons _ _ _ _ g).0))
-
 -- an item whose length is any
 pub lengths_of_item : (tag first octet : ℕ) (octets contents rest : List ℕ) → first ∷ octet ∷ octets ≡ item tag contents ++ rest → octet ∷ octets ≡ length_octets (length contents) ++ (contents ++ rest)
 lengths_of_item tag first octet octets contents rest e = (same_from_cons _ _ _ _ (e ∙ item-append tag contents rest)).1
-
-pub tag_of_item : (tag first : ℕ) (octets contents rest : List ℕ) → first ∷ octets ≡ item tag contents ++ rest → first ≡ tag
-tag_of_item tag first octets contents rest e = (same_from_cons _ _ _ _ e).0
 
 pub item_small : (tag : ℕ) (octets contents rest : List ℕ) → length octets < 2 ^ 31 → octets ≡ item tag contents ++ rest → length contents < 2 ^ 31
 item_small tag octets contents rest h e = omega (arith, h, ap length e, length-append (item tag contents) rest, length-item tag contents)
@@ -107,10 +88,6 @@ pub is_item : (tag octet size : ℕ) (octets prefix suffix after : List ℕ) →
 is_item tag octet size octets prefix suffix after e f n =
     ap (λ l. tag ∷ l) (e ∙ ap (λ l. length_octets size ++ l) f ∙ ap (λ m. length_octets m ++ (prefix ++ suffix)) (sym n)) ∙ sym (item-append tag prefix suffix)
 
-pub is_short_item : (tag octet : ℕ) (octets prefix suffix : List ℕ) → octet < 128 → octets ≡ prefix ++ suffix → length prefix ≡ octet → tag ∷ octet ∷ octets ≡ item tag prefix ++ suffix
-is_short_item tag octet octets prefix suffix h e n =
-    is_item tag octet octet octets prefix suffix octets (rw (length_octets-short octet h) refl) e n
-
 -- ---- only one item
 pub not_only : (tag : ℕ) (octets inner rest : List ℕ) → octets ≡ item tag inner ++ rest → 0 < length rest → IsNoItem tag octets
 not_only tag octets inner rest e some contents f =
@@ -119,9 +96,6 @@ not_only tag octets inner rest e some contents f =
 
 pub only_none : (tag : ℕ) (octets : List ℕ) → HasNoItem tag octets → IsNoItem tag octets
 only_none tag octets none contents e = none contents [] (e ∙ sym (append-nil (item tag contents)))
-
-pub only_some : (tag : ℕ) (octets contents rest : List ℕ) → octets ≡ item tag contents ++ rest → rest ≡ [] → octets ≡ item tag contents
-only_some tag octets contents rest e n = e ∙ ap (λ l. item tag contents ++ l) n ∙ append-nil (item tag contents)
 
 -- ---- a field that holds an item
 pub no_field : (outer tag : ℕ) (octets : List ℕ) → HasNoItem outer octets → HasNoField outer tag octets

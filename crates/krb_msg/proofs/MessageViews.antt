@@ -1,5 +1,5 @@
 -- A message as it is viewed: its first octet chooses the term by which it is judged.
-use Rattle.std.proofs.Common.{◌≡◌, ℕ, ◌^◌, ◌<◌, List, [], ◌∷◌, length, get_or, None, sym, ◌∙◌, ap, subst, arith}
+use Rattle.std.proofs.Common.{◌≡◌, ℕ, ◌^◌, ◌<◌, List, [], ◌∷◌, length, get_or, sym, ◌∙◌, ap, subst, arith}
 use Rattle.krb_der.specs.Octets.{AreOctets}
 use Rattle.krb_der.specs.declared.profile.Profile.TheVariants as profile
 use Rattle.krb_der.specs.declared.verdict.Verdict.TheVariants as verdict
@@ -8,11 +8,9 @@ use Rattle.krb_msg.specs.declared.message.Kind.TheVariants as kind
 use Rattle.krb_msg.specs.declared.message.Message.{Message}
 use Rattle.krb_msg.specs.Judgement.{judgement, term_judgement}
 use Rattle.krb_msg.specs.Laws.{AreMessage}
-use Rattle.krb_msg.specs.Views.{message_of_der, message_of_kind, kind_of, kind_of_tag, kind_tag, kind_term, kind_with_tag, message_der, message_of, message_value, IsInProfile}
+use Rattle.krb_msg.specs.Views.{message_of_der, message_of_kind, kind_of_tag, kind_tag, kind_term, message_der, message_of, IsInProfile}
 use Rattle.krb_msg.specs.Term.{Value}
-use Rattle.krb_msg.specs.inner.Values.{der_is}
 use Rattle.krb_msg.proofs.Judged.{whole_is_message}
-use Rattle.krb_msg.proofs.KindSteps.{some_is_none}
 use Rattle.krb_msg.proofs.KindLaws.{chosen, kind_tags}
 use Rattle.krb_msg.proofs.MessageOfDer.{message_of_der_is_message}
 use Rattle.krb_msg.specs.Viewed.{IsViewOf, IsNotWhole}
@@ -20,23 +18,6 @@ use Rattle.krb_msg.specs.ViewValues.{BeginAs, IsMessageView, IsNoMessage, Messag
 use Rattle.krb_msg.specs.declared.message_view.MessageView.{MessageView}
 
 -- ---- octets of no message
-no_octets_whole : judgement profile.Lenient 0 [] ≡ verdict.Whole → ⊥
-no_octets_whole e = cc
-
-pub empty_not_whole : (octets : List ℕ) → length octets < 1 → judgement profile.Lenient (length octets) octets ≡ verdict.Whole → ⊥
-empty_not_whole [] none e = no_octets_whole e
-empty_not_whole (octet ∷ octets) none e = omega (arith, none)
-
-first_of_message : (m : Message) (octets : List ℕ) → message_der m ≡ octets → kind_tag (kind_of m) ≡ get_or octets 0 0
-first_of_message m octets e =
-    sym (kind_tags (kind_of m)).2 ∙ ap (λ (l : List ℕ). get_or l 0 0) (sym (der_is (kind_term (kind_of m)) (message_value m)) ∙ e)
-
-pub no_kind_not_whole : (octets : List ℕ) → AreOctets octets → length octets < 2 ^ 31 → kind_with_tag (get_or octets 0 0) ≡ None → judgement profile.Lenient (length octets) octets ≡ verdict.Whole → ⊥
-no_kind_not_whole octets a small none e = by (whole_is_message profile.Lenient (length octets) octets small a (omega arith) e)
-  where
-    by : AreMessage profile.Lenient (length octets) octets → ⊥
-    by w = some_is_none (kind_of w.message) (sym (kind_tags (kind_of w.message)).0 ∙ ap kind_with_tag (first_of_message w.message octets w.form) ∙ none)
-
 -- ---- octets of a kind
 pub judged_as : (k : Kind) (octets : List ℕ) → 0 < length octets → get_or octets 0 0 ≡ kind_tag k → judgement profile.Lenient (length octets) octets ≡ term_judgement (kind_term k) (length octets) octets
 judged_as k [] some first = absurd (omega (arith, some))
@@ -76,4 +57,4 @@ viewed_message k octets m value same a b v lists =
     record { whole = o.whole; in_profile = o.in_profile; form = o.form; read = o.read; lists = lists }
 
 pub none_of_kind : (k : Kind) (octets : List ℕ) → BeginAs k octets → IsNotWhole (kind_term k) octets → IsNoMessage octets
-none_of_kind k octets b none = kind_not_whole k octets b.some b.first none
+none_of_kind k octets b none short = kind_not_whole k octets b.some b.first none

@@ -13,8 +13,10 @@ use Rattle.krb_msg.proofs.Stable.{IsDecided, IsStable, IsStable-refusal, refusal
 use Rattle.krb_msg.proofs.Items.{IsStable-first}
 use Rattle.krb_msg.proofs.TermsStable.{IsStable-item_outcome}
 use Rattle.krb_der.specs.inner.Items.{same_from_cons}
-use Rattle.krb_msg.specs.inner.Values.{der-append}
-use Rattle.krb_msg.proofs.Laws.{item_outcome-der, Settles, Settles-stable, IsWhole, IsWhole-done, decided, same_value}
+use Rattle.krb_msg.specs.inner.Values.{der-append, same_from_der}
+use Rattle.krb_msg.proofs.Accepts.{item-accepted}
+use Rattle.krb_msg.proofs.TermsDecided.{item_outcome-decided}
+use Rattle.krb_msg.proofs.Laws.{Settles, Settles-stable, IsWhole, IsWhole-done}
 
 -- ---- the term of a tag
 -- a term whose tag is no earlier one's
@@ -79,7 +81,7 @@ pub message_outcome-der : (terms : List Term) (term : Term) → IsChosen term te
 message_outcome-der terms term c u value f small rest =
     let e : message_outcome terms (length (der term value)) (der term value ++ rest) ≡ item_outcome term (length (der term value)) true (der term value ++ rest) =
     rw (der-append term value rest) (message_outcome-chosen term terms (length (der term value)) _ c) in
-    e ∙ item_outcome-der term u value f small (length (der term value)) true rest (omega arith) (λ s. refl)
+    e ∙ item-accepted term u value f small (length (der term value)) true rest (omega arith) (λ s. refl)
 
 -- ---- stable
 pub IsStable-message_outcome : (terms : List Term) (room : ℕ) → IsStable room 0 (message_outcome terms room)
@@ -108,7 +110,7 @@ message_outcome-decided terms room (octet ∷ rest) p l e = by (choice terms oct
   where
     by : Choice terms octet → ⊥
     by (inl c) = let f : Bad 0 why.Tag ≡ Open = sym (c room rest) ∙ e in cc
-    by (inr c) = decided c.0 room true (octet ∷ rest) p l (sym (c.3 room rest) ∙ e)
+    by (inr c) = item_outcome-decided c.0 room true (octet ∷ rest) p l (sym (c.3 room rest) ∙ e)
 
 -- ---- injective
 same_chosen : (s t : Term) (terms : List Term) → IsChosen s terms → IsChosen t terms → tag_of s ≡ tag_of t → s ≡ t
@@ -125,7 +127,7 @@ same_message terms s t c d u v w x y e =
     at_term t (same_chosen s t terms c d tags) w e
   where
     at_same : (w : Value s) → der s v ++ x ≡ der s w ++ y → (◌≡◌ {A = SomeValue} (s, v) (s, w)) × (x ≡ y)
-    at_same w e = let p : (v ≡ w) × (x ≡ y) = same_value s u v w x y e in (λ i. (s, p.0 i), p.1)
+    at_same w e = let p : (v ≡ w) × (x ≡ y) = same_from_der s u v w x y e in (λ i. (s, p.0 i), p.1)
 
     at_term : (t : Term) → s ≡ t → (w : Value t) → der s v ++ x ≡ der t w ++ y → (◌≡◌ {A = SomeValue} (s, v) (t, w)) × (x ≡ y)
     at_term t same = path_j (λ (z : Term) (q : s ≡ z). (w : Value z) → der s v ++ x ≡ der z w ++ y → (◌≡◌ {A = SomeValue} (s, v) (z, w)) × (x ≡ y)) at_same same

@@ -1,22 +1,13 @@
 -- The values of a profile's terms, as those of the lenient terms.
-use Rattle.std.proofs.Common.{◌≡◌, ℕ, Bool, true, false, List, [], ◌∷◌, map, Option, Some, None, refl, sym, ◌∙◌, ap, ap₂, subst}
-use Rattle.std.specs.Option.{option_map}
+use Rattle.std.proofs.Common.{◌≡◌, ℕ, Bool, true, false, List, refl, sym, ◌∙◌, ap, ap₂, subst}
 use Rattle.krb_der.specs.declared.profile.Profile.{Profile}
 use Rattle.krb_der.specs.declared.profile.Profile.TheVariants as profiles
 use Rattle.krb_msg.specs.Term.{Term, Fields, Integer, Text, Octets, Time, Bits, Sequence, SequenceOf, Tagged, Application, End, Required, Optional, Value, Values, der, Fits}
 use Rattle.krb_msg.specs.Profiles.{narrowed, narrowed_value, narrowed_values, profile_term, profile_value}
 use Rattle.krb_msg.specs.Der.{IsDer}
-use Rattle.krb_msg.proofs.Profiles.{widened_value, widened_values, narrowed_widened, der_narrowed, fits_narrowed}
+use Rattle.krb_msg.proofs.Profiles.{maps_back, option_back, widened_value, widened_values, narrowed_widened, der_narrowed, fits_narrowed}
 
 -- ---- to the lenient term and back
-maps_back : {A B : Type 0} (f : A → B) (g : B → A) → ((a : A) → g (f a) ≡ a) → (values : List A) → map g (map f values) ≡ values
-maps_back f g back [] = refl
-maps_back f g back (a ∷ values) = ap₂ (λ x xs. x ∷ xs) (back a) (maps_back f g back values)
-
-option_back : {A B : Type 0} (f : A → B) (g : B → A) → ((a : A) → g (f a) ≡ a) → (value : Option A) → option_map g (option_map f value) ≡ value
-option_back f g back None = refl
-option_back f g back (Some a) = ap Some (back a)
-
 mutual
   widened_narrowed : (optional : Bool) (term : Term) (value : Value term) → widened_value optional term (narrowed_value optional term value) ≡ value
   widened_narrowed optional (Integer low high) value = refl
@@ -25,7 +16,7 @@ mutual
   widened_narrowed optional Time octets = refl
   widened_narrowed optional (Bits least) bits = refl
   widened_narrowed optional (Sequence fields) values = widened_narrowed_fields fields values
-  widened_narrowed optional (SequenceOf empty term) values = maps_back (narrowed_value false term) (widened_value false term) (widened_narrowed false term) values
+  widened_narrowed optional (SequenceOf empty term) values = maps_back (widened_value false term) (narrowed_value false term) (widened_narrowed false term) values
   widened_narrowed optional (Tagged index term) value = widened_narrowed optional term value
   widened_narrowed optional (Application number term) value = widened_narrowed false term value
 
@@ -33,7 +24,7 @@ mutual
   widened_narrowed_fields End values = refl
   widened_narrowed_fields (Required term fields) values = ap₂ (λ v vs. (v, vs)) (widened_narrowed false term values.0) (widened_narrowed_fields fields values.1)
   widened_narrowed_fields (Optional term fields) values =
-      ap₂ (λ v vs. (v, vs)) (option_back (narrowed_value true term) (widened_value true term) (widened_narrowed true term) values.0) (widened_narrowed_fields fields values.1)
+      ap₂ (λ v vs. (v, vs)) (option_back (widened_value true term) (narrowed_value true term) (widened_narrowed true term) values.0) (widened_narrowed_fields fields values.1)
 
 -- ---- of any profile
 pub der_profile : (profile : Profile) (optional : Bool) (term : Term) (value : Value term) → der (profile_term profile optional term) (profile_value profile optional term value) ≡ der term value

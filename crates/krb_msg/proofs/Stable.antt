@@ -5,6 +5,7 @@ use Rattle.std.proofs.lemmas.Bool.{cases_lt}
 use Rattle.std.proofs.lemmas.List.{take-append-le}
 use Rattle.krb_der.specs.declared.why.Why.{Why}
 use Rattle.krb_msg.specs.Judgement.{Outcome, Open, Bad, Done, after, then_after}
+use Rattle.krb_msg.proofs.Heads.{zero_from_lt_one}
 
 -- how many octets an outcome needs
 abbrev pub need : Outcome → ℕ
@@ -65,9 +66,6 @@ pub IsStable-refusal : (room before : ℕ) (reason : Why) → IsStable room befo
 IsStable-refusal room before reason [] o fits e d = absurd (not_open o e d)
 IsStable-refusal room before reason (octet ∷ octets) o fits e d =
     record { prefix = octet ∷ []; suffix = octets; parts = refl; reached = ap need (sym e) ∙ omega arith; same = λ rest h. e; sooner = λ k h. rw (zero_from_lt_one k h) }
-  where
-    zero_from_lt_one : (k : ℕ) → k < 1 → k ≡ 0
-    zero_from_lt_one k h = omega arith
 
 -- ---- a judgement after another
 pub IsStable-after : (room before : ℕ) (judge : List ℕ → Outcome) → IsStable room 0 judge → IsStable room before (λ octets. after before (judge octets))

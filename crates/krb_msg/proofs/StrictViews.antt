@@ -7,7 +7,7 @@ use Rattle.krb_msg.specs.declared.message.Message.{Message}
 use Rattle.krb_msg.specs.declared.message_view.MessageView.{MessageView}
 use Rattle.krb_msg.specs.Judgement.{judgement}
 use Rattle.krb_msg.specs.ViewValues.{IsMessageView, message_of_view}
-use Rattle.krb_msg.specs.Views.{is_strict}
+use Rattle.krb_msg.specs.Notes.{is_strict}
 use Rattle.krb_msg.proofs.Judged.{whole_is_message, message_is_whole, der_is_prefix_free}
 use Rattle.krb_msg.proofs.Strictness.{strict_is_narrower}
 

@@ -5,19 +5,16 @@ use Rattle.krb_der.specs.Octets.{item, AreOctets}
 use Rattle.krb_der.specs.declared.verdict.Verdict.TheVariants as verdict
 use Rattle.krb_msg.specs.Term.{Term, tag_of, Value, der, Fits}
 use Rattle.krb_msg.specs.Shape.{is_unambiguous}
-use Rattle.krb_msg.specs.Judgement.{Outcome, Open, Bad, Done, item_outcome, verdict_of, term_judgement}
+use Rattle.krb_msg.specs.Judgement.{Done, item_outcome, verdict_of, term_judgement}
 use Rattle.krb_msg.specs.ValueOfDer.{value_of_der}
 use Rattle.krb_msg.specs.inner.Values.{contents, der_is}
-use Rattle.krb_msg.proofs.Laws.{IsWhole, IsWhole-done, item_outcome-der}
+use Rattle.krb_msg.proofs.Accepts.{item-accepted}
+use Rattle.krb_msg.proofs.Grammars.{whole_outcome}
+use Rattle.krb_msg.proofs.Laws.{IsWhole, IsWhole-done}
 use Rattle.krb_msg.proofs.ValueOfDer.{value_of_der_is_value}
 use Rattle.krb_msg.specs.Viewed.{IsNoItem, AreContents, AreNoContents, IsViewOf, IsNotWhole}
 
 -- ---- what is judged whole is the DER of a value
-done_from : (outcome : Outcome) → verdict_of outcome ≡ verdict.Whole → (count : ℕ) × (outcome ≡ Done count)
-done_from Open e = absurd cc
-done_from (Bad offset reason) e = absurd cc
-done_from (Done count) e = (count, refl)
-
 record WholeValue (term : Term) (octets : List ℕ) : Type 0 where
   value : Value term
   fits : Fits term value
@@ -25,7 +22,7 @@ record WholeValue (term : Term) (octets : List ℕ) : Type 0 where
 
 whole_value : (term : Term) (octets : List ℕ) → AreOctets octets → term_judgement term (length octets) octets ≡ verdict.Whole → WholeValue term octets
 whole_value term octets a e =
-    let d : (count : ℕ) × (item_outcome term (length octets) true octets ≡ Done count) = done_from (item_outcome term (length octets) true octets) e in
+    let d : (count : ℕ) × (item_outcome term (length octets) true octets ≡ Done count) = whole_outcome (item_outcome term (length octets) true octets) e in
     let w : IsWhole term (length octets) true octets d.0 = IsWhole-done term (length octets) true octets d.0 a d.1 in
     record { value = w.value; fits = w.fits; form = sym (take_all d.0 octets (omega (arith, w.fills refl))) ∙ w.form }
 
@@ -46,7 +43,7 @@ is_view_of term tag octets own value u small t i a =
     let n : length octets ≡ length (der term value) = ap length f in
     record {
       whole = ap verdict_of (ap (item_outcome term (length octets) true) (f ∙ sym (append-nil (der term value)))
-          ∙ item_outcome-der term u value a.fits (omega (arith, n, small)) (length octets) true [] (omega (arith, n)) (λ s. sym n));
+          ∙ item-accepted term u value a.fits (omega (arith, n, small)) (length octets) true [] (omega (arith, n)) (λ s. sym n));
       fits = a.fits;
       form = sym f;
       read = sym (ap (value_of_der term) f ∙ value_of_der_is_value term value u (omega (arith, n, small)));

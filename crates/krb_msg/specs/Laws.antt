@@ -8,10 +8,10 @@ use Rattle.krb_der.specs.declared.why.Why.TheVariants.{Truncated, Charset}
 use Rattle.krb_der.specs.declared.verdict.Verdict.{Verdict}
 use Rattle.krb_der.specs.declared.verdict.Verdict.TheVariants.{Open, Whole, Refused}
 use Rattle.krb_msg.specs.declared.message.Message.{Message}
-use Rattle.krb_msg.specs.Views.{kind_of, message_value, message_of, message_der, IsInProfile, is_strict, message_of_der}
+use Rattle.krb_msg.specs.Views.{kind_of, message_value, message_of, message_der, IsInProfile, message_of_der}
 use Rattle.krb_msg.specs.Term.{Term, Value, der, Fits}
 use Rattle.krb_msg.specs.Shape.{is_unambiguous, greatest_depth, IsOneOf, IsGrammar}
-use Rattle.krb_msg.specs.Notes.{notes_of, notes_have}
+use Rattle.krb_msg.specs.Notes.{is_strict, notes_of, notes_have}
 use Rattle.krb_msg.specs.Grammar.{messages}
 use Rattle.krb_msg.specs.Judgement.{judgement_by, judgement, term_judgement}
 use Rattle.krb_msg.specs.ValueOfDer.{value_of_der}

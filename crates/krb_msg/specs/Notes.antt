@@ -1,5 +1,5 @@
 -- The notes on a message. A note holds of a value if it holds of any part of it, Tickets inside included; the octets of an OCTET STRING are no part.
-use Rattle.std.specs.Prelude.{ℕ, ℤ, negsuc, ◌-◌, ◌*◌, Bool, true, false, ◌&&◌, ◌||◌, ◌==◌, nat_lt, List, [], length, Option, Some, None, if◌then◌else◌}
+use Rattle.std.specs.Prelude.{ℕ, ℤ, negsuc, ◌-◌, ◌*◌, Bool, true, false, not, ◌&&◌, ◌||◌, ◌==◌, nat_lt, List, [], length, Option, Some, None, if◌then◌else◌}
 use Rattle.std.specs.List.{list_any}
 use Rattle.krb_msg.specs.Term.{Term, Fields, Integer, Text, Octets, Time, Bits, Sequence, SequenceOf, Tagged, Application, End, Required, Optional, Value, Values}
 use Rattle.krb_msg.specs.Profiles.{is_unsigned}
@@ -78,6 +78,14 @@ message_has note m = has note (kind_term (kind_of m)) (message_value m)
 
 abbrev pub notes_of : Message → Notes
 notes_of m = notes_by (λ note. message_has note m)
+
+-- whether none of them holds
+abbrev pub are_none : Notes → Bool
+are_none notes = not (((notes.high_octet || notes.few_flags) || notes.negative) || notes.empty_list)
+
+-- whether a message keeps the strict rules: no note holds of it
+abbrev pub is_strict : Message → Bool
+is_strict m = are_none (notes_of m)
 
 -- the notes on a Ticket alone
 abbrev pub notes_of_ticket : Ticket → Notes

@@ -1,6 +1,5 @@
--- Profiles. A profile is a grammar: the terms of the strict one are those of the lenient one, narrowed. A value of a term is one of the narrowed term if it keeps the strict rules.
-use Rattle.std.specs.Prelude.{ℤ, pos, negsuc, ◌+◌, ◌*◌, min, max, nat_lt, nat_le, Bool, true, false, not, ◌&&◌, ◌||◌, ◌==◌, if◌then◌else◌, length, map, Option, Some, None}
-use Rattle.std.specs.List.{list_all}
+-- Profiles. A profile is a grammar: the terms of the strict one are those of the lenient one, narrowed. A value of a term is one of the narrowed term if no note holds of it (`Notes`).
+use Rattle.std.specs.Prelude.{ℤ, pos, negsuc, min, max, Bool, true, false, not, ◌&&◌, ◌==◌, if◌then◌else◌, map}
 use Rattle.std.specs.Option.{option_map}
 use Rattle.krb_der.specs.declared.profile.Profile.{Profile}
 use Rattle.krb_der.specs.declared.profile.Profile.TheVariants as profile
@@ -10,10 +9,6 @@ use Rattle.krb_msg.specs.Term.{Term, Fields, Integer, Text, Octets, Time, Bits, 
 abbrev pub is_unsigned : ℤ → Bool
 is_unsigned (pos high) = high == 4294967295
 is_unsigned (negsuc high) = false
-
-abbrev pub is_negative : ℤ → Bool
-is_negative (pos number) = false
-is_negative (negsuc number) = true
 
 abbrev pub not_negative : ℤ → ℤ
 not_negative (pos number) = pos number
@@ -64,25 +59,3 @@ abbrev mutual
 abbrev pub profile_value : (profile : Profile) → (optional : Bool) → (term : Term) → Value term → Value (profile_term profile optional term)
 profile_value profile.Lenient optional term value = value
 profile_value profile.Strict optional term value = narrowed_value optional term value
-
-abbrev pub option_all : {A : Type 0} → (A → Bool) → Option A → Bool
-option_all test None = true
-option_all test (Some value) = test value
-
-abbrev mutual
-  -- whether a value keeps the strict rules
-  pub keeps_strict : (optional : Bool) → (term : Term) → Value term → Bool
-  keeps_strict optional (Integer low high) number = not (is_unsigned high && is_negative number)
-  keeps_strict optional (Text greatest) octets = list_all (λ octet. nat_le octet 0x7F) octets
-  keeps_strict optional Octets octets = true
-  keeps_strict optional Time octets = true
-  keeps_strict optional (Bits least) bits = nat_le (32 + bits.0) (8 * length bits.1)
-  keeps_strict optional (Sequence fields) values = keep_strict fields values
-  keeps_strict optional (SequenceOf empty term) values = (not optional || nat_lt 0 (length values)) && list_all (keeps_strict false term) values
-  keeps_strict optional (Tagged index term) value = keeps_strict optional term value
-  keeps_strict optional (Application number term) value = keeps_strict false term value
-
-  pub keep_strict : (fields : Fields) → Values fields → Bool
-  keep_strict End values = true
-  keep_strict (Required term fields) values = keeps_strict false term values.0 && keep_strict fields values.1
-  keep_strict (Optional term fields) values = option_all (keeps_strict true term) values.0 && keep_strict fields values.1

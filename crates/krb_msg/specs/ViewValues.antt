@@ -16,9 +16,9 @@ pub record IsMessageView (octets : List ℕ) (m : MessageView) : Type 0 where
   pub read : message_of_view m ≡ message_of_der octets
   pub lists : MessageLists m
 
--- they are not judged whole
+-- they are not judged whole, or are more than a frame holds
 abbrev pub IsNoMessage : List ℕ → Type 0
-IsNoMessage octets = judgement Lenient (length octets) octets ≡ Whole → ⊥
+IsNoMessage octets = length octets < 2 ^ 31 → judgement Lenient (length octets) octets ≡ Whole → ⊥
 
 -- fewer than 2147483648 octets, of which the first is the tag of a kind
 pub record BeginAs (kind : Kind) (octets : List ℕ) : Type 0 where

@@ -1,5 +1,5 @@
 -- Octets that a view is of: an item, its contents octets, fields, an INTEGER and lists.
-use Rattle.std.specs.Prelude.{⊤, Bool, ℕ, ℤ, ◌^◌, ◌<◌, ◌≡◌, ◌≤ℤ◌, true, false, List, ◌∷◌, ◌++◌, length, Option, Some, None}
+use Rattle.std.specs.Prelude.{Bool, ℕ, ℤ, ◌^◌, ◌<◌, ◌≡◌, ◌≤ℤ◌, true, false, List, ◌∷◌, ◌++◌, length, Option, Some, None}
 use Rattle.std.specs.List.{AllByRecursion, flat_map}
 use Rattle.krb_der.specs.Octets.{item, length_octets, integer_octets}
 use Rattle.krb_msg.specs.Term.{Term, Fields, tag_of, Value, Values, der, der_of_fields, Fits, AllFit}
@@ -106,8 +106,3 @@ pub record IsViewOf (term : Term) (octets : List ℕ) (value : Value term) : Typ
 -- they are not judged whole
 abbrev pub IsNotWhole : Term → List ℕ → Type 0
 IsNotWhole term octets = term_judgement term (length octets) octets ≡ verdict.Whole → ⊥
-
--- a fact of the value of an option, if there is one
-abbrev pub OfSome : {A : Type 0} → (A → Type 0) → Option A → Type 0
-OfSome P None = ⊤
-OfSome P (Some a) = P a

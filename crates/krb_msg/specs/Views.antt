@@ -1,11 +1,11 @@
 -- Messages as values of the terms of their kinds, with their DER, and what a message of a profile is. The numbers that a message fixes are in the value and not in the type.
-use Rattle.std.specs.Prelude.{ℕ, ◌≡◌, ◌^◌, ◌<◌, Bool, false, List, length}
+use Rattle.std.specs.Prelude.{ℕ, ◌≡◌, ◌^◌, ◌<◌, false, List, length}
 use Rattle.std.specs.Option.{unwrap_or}
 use Rattle.krb_msg.specs.declared.message.Message.{Message}
 use Rattle.krb_msg.specs.declared.message.Kind.{Kind}
 use Rattle.krb_msg.specs.declared.message.Kind.TheVariants as kind
 use Rattle.krb_der.specs.declared.profile.Profile.{Profile}
-use Rattle.krb_msg.specs.Profiles.{profile_term, profile_value, keeps_strict}
+use Rattle.krb_msg.specs.Profiles.{profile_term, profile_value}
 use Rattle.krb_msg.specs.Term.{Term, Value, der, Fits}
 use Rattle.krb_msg.specs.ValueOfDer.{first_or_zero, value_of_der}
 pub use Rattle.krb_msg.specs.Kinds.{kind_of, kind_number, kind_tag, kind_name, kind_with_tag, kind_term, message_value, message_of}
@@ -36,10 +36,6 @@ message_value_in profile m = profile_value profile false (kind_term (kind_of m))
 pub record IsInProfile (profile : Profile) (m : Message) : Type 0 where
   pub fits : Fits (kind_term_in profile (kind_of m)) (message_value_in profile m)
   pub short : length (message_der m) < 2 ^ 31
-
--- whether a message keeps the strict rules
-abbrev pub is_strict : Message → Bool
-is_strict m = keeps_strict false (kind_term (kind_of m)) (message_value m)
 
 -- the octets are those of some message of a profile, of this kind
 pub record AreOfKind (profile : Profile) (octets : List ℕ) (kind : Kind) : Type 0 where

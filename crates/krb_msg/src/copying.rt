@@ -4,7 +4,7 @@ ghost use Rattle.std.specs.Prelude.{◌≡◌, true, IfOk};
 ghost use Rattle.std.specs.Option.{option_map};
 ghost use Rattle.krb_msg.specs.Term.{Fits, IfPresent};
 ghost use Rattle.krb_msg.specs.Shape.{is_unambiguous, has_octet_tags};
-ghost use Rattle.krb_msg.specs.Viewed.{AreViewed, OfSome, items_of};
+ghost use Rattle.krb_msg.specs.Viewed.{AreViewed, items_of};
 ghost use Rattle.krb_msg.specs.inner.Copies.{AreCopies, MayBeCopies};
 
 mod scalars;
@@ -33,7 +33,7 @@ pub(crate) fn copy_option<'a, T: FromView<'a>>(
     seen: &Option<T::Of>,
 ) -> Result<Option<T>, Memory>
     requires fits { IfPresent (Fits T.View.term) (option_map T.View.value seen.now) }
-    requires lists { OfSome T.View.Lists seen.now }
+    requires lists { IfPresent T.View.Lists seen.now }
     ensures { IfOk result (λ it. it ≡ option_map T.copied seen.now) }
 {
     match seen {
@@ -69,7 +69,7 @@ pub(crate) fn copy_item_option<'a, T: FromView<'a>>(
 ) -> Result<Option<Many<T>>, Memory>
     requires tags { has_octet_tags T.View.term ≡ true }
     requires unambiguous { is_unambiguous T.View.term ≡ true }
-    requires viewed { OfSome (λ those. AreViewed T.View.term those.octets.now) items }
+    requires viewed { IfPresent (λ those. AreViewed T.View.term those.octets.now) items }
     ensures { IfOk result (λ values. MayBeCopies T.View.value T.copied (option_map (λ those. items_of T.View.term those.octets.now) items.entry) values) }
 {
     match items {

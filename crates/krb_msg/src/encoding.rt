@@ -2,14 +2,13 @@
 
 ghost use Rattle.std.specs.Prelude.{◌≡◌, ◌+◌, ◌<◌, ◌≤◌, ◌++◌, ◌↔◌, length, min, IfOk, IfSome, IsNone, IsErrOf};
 ghost use Rattle.std.specs.Vec.{vec_len, vec_capacity};
-ghost use Rattle.krb_der.specs.Puts.{Puts};
 ghost use Rattle.krb_der.specs.declared.profile.Profile.TheVariants.{Lenient};
 ghost use Rattle.krb_msg.specs.Term.{Fits};
 ghost use Rattle.krb_msg.specs.Views.{kind_of, kind_term, message_value, message_der, IsInProfile};
 ghost use Rattle.krb_msg.specs.inner.MessagePrefixFree.{message_begins, der_is_prefix_free};
 ghost use Rattle.krb_msg.specs.declared.encoding.EncodeFault.TheVariants.{Memory};
 
-use crate::message::{Message, octets_of, put_octets};
+use crate::message::{Message, octets_of, put};
 use krb_der::{Der, TOO_LONG};
 use std::alloc::{AllocError, Global};
 use thiserror::Error;
@@ -61,16 +60,6 @@ pub fn encode(alloc: Global, message: &Message) -> Result<Vec<u8>, EncodeFault>
     let mut octets = Vec::with_capacity(alloc, size as usize)?;
     put(message, &mut octets);
     Ok(octets)
-}
-
-/// Appends the DER octets of a message, at most 2147483647 of them, within the vector's
-/// capacity. It allocates nothing.
-pub fn put(message: &Message, out: &mut Vec<u8>)
-    requires short { length (message_der message.now) ≤ 2147483647 }
-    requires capacity { vec_len out.old + length (message_der message.now) ≤ vec_capacity out.old }
-    ensures { Puts (message_der message.now) out.old out.new }
-{
-    put_octets(message, out);
 }
 
 impl Der for Message {

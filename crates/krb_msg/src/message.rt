@@ -175,7 +175,7 @@ pub(crate) fn octets_of(message: &Message) -> u64
 
 /// Appends the DER octets of a message, at most 2147483647 of them, within the vector's capacity.
 /// It allocates nothing.
-pub(crate) fn put_octets(message: &Message, out: &mut Vec<u8>)
+pub fn put(message: &Message, out: &mut Vec<u8>)
     requires short { length (message_der message.now) ≤ 2147483647 }
     requires capacity { vec_len out.old + length (message_der message.now) ≤ vec_capacity out.old }
     ensures { Puts (message_der message.now) out.old out.new }

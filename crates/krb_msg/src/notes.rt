@@ -1,8 +1,7 @@
 //! What of a message deserves a note.
 
-ghost use Rattle.std.specs.Prelude.{◌≡◌, ◌||◌, false, not};
-ghost use Rattle.krb_msg.specs.Views.{is_strict};
-ghost use Rattle.krb_msg.specs.Notes.{notes_by, notes_have, notes_of_ticket, either};
+ghost use Rattle.std.specs.Prelude.{◌≡◌, false};
+ghost use Rattle.krb_msg.specs.Notes.{are_none, is_strict, notes_by, notes_have, notes_of_ticket, either};
 ghost use Rattle.krb_msg.specs.Types.{TicketLists, ticket_of_view};
 ghost use Rattle.krb_msg.specs.ViewValues.{MessageLists, message_of_view};
 
@@ -59,7 +58,7 @@ impl Notes {
 
     /// Returns whether none of them holds.
     fn are_none(&self) -> bool
-        ensures { result ≡ not (((self.now.high_octet || self.now.few_flags) || self.now.negative) || self.now.empty_list) }
+        ensures { result ≡ are_none self.now }
     {
         !(self.high_octet | self.few_flags | self.negative | self.empty_list)
     }

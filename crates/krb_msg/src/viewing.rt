@@ -11,12 +11,17 @@ use crate::message_view::{MessageView, view_of_kind};
 use crate::notes::is_strict_view;
 use krb_der::Profile;
 
+/// The most octets of a message (RFC 4120, 7.2.2).
+const MOST: usize = 0x7FFF_FFFF;
+
 /// Returns a view of the message that octets are, if they are one in the lenient profile: all of
-/// them, judged and viewed in one pass. It allocates nothing.
+/// them, judged and viewed in one pass. More than 2147483647 octets are none. It allocates nothing.
 pub fn view_message(octets: &[u8]) -> Option<MessageView<'_>>
-    requires short { length octets.now < 2 ^ 31 }
     ensures { MatchOption result (IsNoMessage octets.now) (λ m. IsMessageView octets.now m) }
 {
+    if octets.len() > MOST {
+        return None;
+    }
     let [first, ..] = octets else {
         return None;
     };

@@ -11,7 +11,8 @@ use Rattle.krb_scan.specs.inner.Numbers.{extended, in_range, integer_with, integ
 use Rattle.krb_scan.specs.inner.Outcomes.{LeafIs, LeafReads, LeafEnds}
 use Rattle.krb_msg.specs.Nodes.{nodes, term_at}
 use Rattle.krb_msg.specs.Table.{IsNode}
-use Rattle.krb_scan.specs.State.{KeepsOf, TipIs, first_or_zero}
+use Rattle.krb_scan.specs.State.{KeepsOf, TipIs}
+use Rattle.krb_msg.specs.ValueOfDer.{first_or_zero}
 use Rattle.krb_msg.specs.Table.{IsFormOf}
 use Rattle.krb_msg.specs.declared.grammar.Slot.{Slot}
 use Rattle.std.specs.Borrow.{Bor}

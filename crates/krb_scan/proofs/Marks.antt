@@ -1,6 +1,6 @@
 -- Marks, and the number of the last one.
 use Rattle.std.proofs.Common.{◌≡◌, ℕ, zero, suc, ◌-◌, ◌<◌, ℤ, pos, List, [], ◌∷◌, ◌++◌, length, map, get_or, set, refl, sym, ap, ◌∙◌, subst, arith}
-use Rattle.std.proofs.lemmas.List.{map-append, length-append}
+use Rattle.std.proofs.lemmas.List.{length-append}
 use Rattle.krb_scan.specs.inner.Paths.{IsNumbered, with_value}
 use Rattle.krb_scan.specs.Scan as scan
 use Rattle.krb_scan.specs.Scan.{mark_of}
@@ -73,10 +73,3 @@ numbered marks before after last there value kept at same are n is =
 nodes_push : (marks : List Mark) (mark : Mark) → AllByRecursion (λ m. IsNode m.node) marks → IsNode mark.node → AllByRecursion (λ m. IsNode m.node) (marks ++ mark ∷ [])
 nodes_push [] mark h k = (k, tt {0})
 nodes_push (first ∷ marks) mark h k = (h.0, nodes_push marks mark h.1 k)
-
--- one mark more
-pub marks_push : (marks : List Mark) (given : List scan.Mark) (mark : Mark) → AreMarks marks given → IsNode mark.node → AreMarks (marks ++ mark ∷ []) (given ++ mark_value mark ∷ [])
-marks_push marks given mark h k = record { nodes = nodes_push marks mark h.nodes k; values = map-append mark_value marks (mark ∷ []) ∙ ap (λ some. some ++ mark_value mark ∷ []) h.values }
-
-pub no_marks : AreMarks [] []
-no_marks = record { nodes = tt {0}; values = refl }

@@ -19,10 +19,6 @@ pub scan_append : (terms : List Term) (n : ℕ) (octets more : List ℕ) → 0 <
 scan_append terms n octets more some =
     run_scan terms n (octets ++ more) some ∙ run_append (initial terms n) octets more ∙ ap (λ given. go_on given (λ state. run state more)) (sym (run_scan terms n octets some))
 
--- A refusal stays with more octets.
-pub refusal_stays : (terms : List Term) (n : ℕ) (octets more : List ℕ) (place : ℕ) (reason : Why) → 0 < n → scan terms n octets ≡ Refusing place reason → scan terms n (octets ++ more) ≡ Refusing place reason
-refusal_stays terms n octets more place reason some h = scan_append terms n octets more some ∙ ap (λ given. go_on given (λ state. run state more)) h
-
 abbrev pub IsOngoing : Answer → Type 0
 IsOngoing (Ongoing state) = Unit {0}
 IsOngoing (Refusing place reason) = ⊥

@@ -105,13 +105,6 @@ pub some_run : (old new : Path) (decided : Verdict) (count : ℕ) (given : List 
 some_run old new decided count given r still size goes =
     ∥∥₁_map r (λ (k : (octets : List ℕ) × (terms : List Term) × IsScanOf terms old decided old.size octets). (k.0 ++ take count given, k.1, subst (λ n. IsScanOf k.1 new decided n (k.0 ++ take count given)) (sym size) (run_at old new decided old.size count k.0 given k.2 still size (goes k.1))))
 
--- how far an open string reaches
-pub leaf_left : {terms : List Term} (path : Path) (octets : List ℕ) (node start end : ℕ) (value : ℤ) (unused : ℕ) → IsPathOf terms path octets → path.tip ≡ tip.Leaf node start end value unused → string_left terms path.size octets ≡ (if is_string (term_at node) then end - 1 - path.looked else 0)
-leaf_left {terms = terms} path octets node start end value unused s e =
-    let leaf : LeafAt terms path octets node start end value unused = leaf_at path octets node start end value unused s e in
-    let same : leaf.count - 1 - length leaf.present ≡ end - 1 - path.looked = omega (arith, leaf.ends, leaf.looked) in
-    ap left_of leaf.at.reads ∙ ap (λ k. if is_string (term_at node) then k else 0) same
-
 pub leaf_some : {terms : List Term} (path : Path) (octets : List ℕ) (node start end : ℕ) (value : ℤ) (unused : ℕ) → IsPathOf terms path octets → path.tip ≡ tip.Leaf node start end value unused → path.looked < end
 leaf_some {terms = terms} path octets node start end value unused s e =
     let leaf : LeafAt terms path octets node start end value unused = leaf_at path octets node start end value unused s e in

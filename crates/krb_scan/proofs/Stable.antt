@@ -30,9 +30,6 @@ same_once_if : (b : Bool) (x y x' y' : Head) → SameOnce x x' → SameOnce y y'
 same_once_if true x y x' y' p q = p
 same_once_if false x y x' y' p q = q
 
-same_along : (now later later' : Head) → later ≡ later' → SameOnce now later' → SameOnce now later
-same_along now later later' e h = rw e h
-
 long_tail : (room k : ℕ) (octets more : List ℕ) →
     SameOnce (if nat_lt (length octets) k then Partial else fitting room (2 + k) (number (take k octets)))
     (if nat_lt (length (octets ++ more)) k then Partial else fitting room (2 + k) (number (take k (octets ++ more))))

@@ -83,9 +83,6 @@ fn parsed(alloc: Global, profile: Profile, frame: &str) -> Result<String, Fail> 
 
 /// Returns the message that octets are, copied out of a view of them, or `Memory` for other octets.
 fn copy_of(alloc: Global, octets: &[u8]) -> Result<Message, ParseFault> {
-    if octets.len() >= 0x8000_0000 {
-        return Err(ParseFault::Memory);
-    }
     match view_message(octets) {
         Some(view) => Ok(view.to_message(alloc)?),
         None => Err(ParseFault::Memory),

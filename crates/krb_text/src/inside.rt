@@ -5,7 +5,8 @@ ghost use Rattle.std.specs.Option.{option_map};
 ghost use Rattle.krb_msg.specs.Grammar.{pa_data, ticket};
 ghost use Rattle.krb_msg.specs.Types.{KdcRepLists, KdcReqLists, KrbCredLists, KrbErrorLists, kdc_rep_of_view, kdc_req_of_view, krb_cred_of_view, krb_error_of_view, pa_data_of, ticket_of};
 ghost use Rattle.krb_msg.specs.ViewValues.{MessageLists, message_of_view};
-ghost use Rattle.krb_msg.specs.Viewed.{AreViewed, OfSome, items_of};
+ghost use Rattle.krb_msg.specs.Term.{IfPresent};
+ghost use Rattle.krb_msg.specs.Viewed.{AreViewed, items_of};
 ghost use Rattle.krb_text.specs.Forms.{ending, part_text};
 ghost use Rattle.krb_text.specs.Inside.{each_if, inside_of, kdc_req_parts, krb_error_parts, method_data_if, methods_part, padata_parts, ticket_part};
 ghost use Rattle.krb_text.specs.Judged.{asks_for_preauth, says_preauth_failed};
@@ -47,7 +48,7 @@ trait HasParts {
 
 /// Returns how many parts pre-authentication data have, if they are there.
 fn count_optional_padata(in_request: bool, items: Option<ItemsView<'_>>) -> u64
-    requires { OfSome (λ items. AreViewed pa_data items.octets.now) items }
+    requires { IfPresent (λ items. AreViewed pa_data items.octets.now) items }
     ensures many { result ≡ length (padata_parts in_request (option_map (map pa_data_of) (option_map (λ items. items_of pa_data items.octets.now) items.entry))) }
     ensures few { result ≤ 2 ^ 62 }
 {
@@ -65,7 +66,7 @@ fn put_optional_padata(
     in_request: bool,
     items: Option<ItemsView<'_>>,
 ) -> Result<bool, AllocError>
-    requires { OfSome (λ items. AreViewed pa_data items.octets.now) items }
+    requires { IfPresent (λ items. AreViewed pa_data items.octets.now) items }
     ensures { IfOk result (λ told. Tells form (padata_parts in_request (option_map (map pa_data_of) (option_map (λ items. items_of pa_data items.octets.now) items.entry))) false text.old told text.new) }
 {
     match items {
@@ -76,7 +77,7 @@ fn put_optional_padata(
 
 /// Returns how many Tickets there are.
 fn count_tickets(items: Option<ItemsView<'_>>) -> u64
-    requires { OfSome (λ items. AreViewed ticket items.octets.now) items }
+    requires { IfPresent (λ items. AreViewed ticket items.octets.now) items }
     ensures many { result ≡ length (each_if ticket_part (option_map (map ticket_of) (option_map (λ items. items_of ticket items.octets.now) items.entry))) }
     ensures few { result < 2 ^ 31 }
 {
@@ -104,7 +105,7 @@ fn put_optional_tickets(
     at: PartPlace,
     items: Option<ItemsView<'_>>,
 ) -> Result<bool, AllocError>
-    requires { OfSome (λ items. AreViewed ticket items.octets.now) items }
+    requires { IfPresent (λ items. AreViewed ticket items.octets.now) items }
     ensures { IfOk result (λ by_now. Tells at.form (each_if ticket_part (option_map (map ticket_of) (option_map (λ items. items_of ticket items.octets.now) items.entry))) at.told text.old by_now text.new) }
 {
     match items {

@@ -6,7 +6,8 @@ ghost use Rattle.krb_der.specs.Scalars.{IsTimeFrom};
 ghost use Rattle.krb_msg.specs.Grammar.{host_address, int32, pa_data, ticket};
 ghost use Rattle.krb_msg.specs.Types.{encrypted_data_of, host_address_of, pa_data_of, principal_name_of, ticket_of, PrincipalNameLists, checksum_of_view, encrypted_data_of_view, encrypted_data_view_value, host_address_of_view, host_address_view_value, principal_name_of_view, principal_name_view_value};
 ghost use Rattle.krb_msg.specs.Basic.{micros_of, flags_of_view};
-ghost use Rattle.krb_msg.specs.Viewed.{AreViewed, OfSome, items_of};
+ghost use Rattle.krb_msg.specs.Term.{IfPresent};
+ghost use Rattle.krb_msg.specs.Viewed.{AreViewed, items_of};
 ghost use Rattle.krb_registry.specs.declared.registry.Registry.TheVariants.{EncryptionTypes as EncryptionTypeNumbers};
 ghost use Rattle.krb_text.specs.Forms.{labelled};
 ghost use Rattle.krb_text.specs.Messages.{padata};
@@ -89,7 +90,7 @@ pub(crate) fn put_optional_principal_field(
     name: &Option<PrincipalNameView<'_>>,
     realm: &[u8],
 ) -> Result<(), AllocError>
-    requires { OfSome PrincipalNameLists name.now }
+    requires { IfPresent PrincipalNameLists name.now }
     ensures { OnOk result (text.new ≡ text.old ++ labelled form label.now begin.now (if_there (principal realm.now) (option_map principal_name_of (option_map principal_name_view_value name.now)))) }
 {
     match name {
@@ -108,7 +109,7 @@ pub(crate) fn put_client_field(
     name: &Option<PrincipalNameView<'_>>,
     realm: Option<&[u8]>,
 ) -> Result<(), AllocError>
-    requires { OfSome PrincipalNameLists name.now }
+    requires { IfPresent PrincipalNameLists name.now }
     ensures { OnOk result (text.new ≡ text.old ++ labelled form label.now begin.now (client (option_map principal_name_of (option_map principal_name_view_value name.now)) (option_map (λ octets. octets.now) realm.entry))) }
 {
     match (name, realm) {
@@ -161,7 +162,7 @@ pub(crate) fn put_optional_time_field(
     begin: &str,
     time: Option<&[u8]>,
 ) -> Result<(), AllocError>
-    requires { OfSome (λ time. IsTimeFrom 14 time.now) time }
+    requires { IfPresent (λ time. IsTimeFrom 14 time.now) time }
     ensures { OnOk result (text.new ≡ text.old ++ labelled form label.now begin.now (if_there Word (option_map (λ time. time.now) time.entry))) }
 {
     match time {
@@ -318,7 +319,7 @@ pub(crate) fn put_padata_field(
     begin: &str,
     items: Option<ItemsView<'_>>,
 ) -> Result<(), AllocError>
-    requires { OfSome (λ items. AreViewed pa_data items.octets.now) items }
+    requires { IfPresent (λ items. AreViewed pa_data items.octets.now) items }
     ensures { OnOk result (text.new ≡ text.old ++ labelled form label.now begin.now (if_there padata (option_map (map pa_data_of) (option_map (λ items. items_of pa_data items.octets.now) items.entry)))) }
 {
     match items {
@@ -383,7 +384,7 @@ pub(crate) fn put_optional_tickets_field(
     begin: &str,
     items: Option<ItemsView<'_>>,
 ) -> Result<(), AllocError>
-    requires { OfSome (λ items. AreViewed ticket items.octets.now) items }
+    requires { IfPresent (λ items. AreViewed ticket items.octets.now) items }
     ensures { OnOk result (text.new ≡ text.old ++ labelled form label.now begin.now (if_there count (option_map (map ticket_of) (option_map (λ items. items_of ticket items.octets.now) items.entry)))) }
 {
     match items {
@@ -401,7 +402,7 @@ pub(crate) fn put_addresses_field(
     begin: &str,
     items: Option<ItemsView<'_>>,
 ) -> Result<(), AllocError>
-    requires { OfSome (λ items. AreViewed host_address items.octets.now) items }
+    requires { IfPresent (λ items. AreViewed host_address items.octets.now) items }
     ensures { OnOk result (text.new ≡ text.old ++ labelled form label.now begin.now (if_there count (option_map (map host_address_of) (option_map (λ items. items_of host_address items.octets.now) items.entry)))) }
 {
     match items {

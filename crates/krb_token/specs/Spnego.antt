@@ -3,7 +3,7 @@ use Rattle.std.specs.Prelude.{ℕ, ◌+◌, true, false, List, [], ◌∷◌, le
 use Prim.Native.String.{String}
 use Rattle.krb_der.specs.Octets.{when}
 use Rattle.krb_der.specs.declared.why.Why.TheVariants as why
-use Rattle.krb_judge.specs.Paths.{begin_with}
+use Rattle.krb_msg.specs.ValueOfDer.{begins_with}
 use Rattle.krb_token.specs.Opened.{Part, Fault, fault_in, and_then}
 use Rattle.krb_token.specs.Items.{entered, simple_item, simple_items}
 use Rattle.krb_token.specs.declared.simple.Simple.{Simple}
@@ -70,14 +70,14 @@ abbrev mutual
       (λ item. and_then (simple_items type path (length item.contents.octets) 0 item.contents item.contents.octets) (λ _. Ok token))
   held Token path token part = and_then (simple_item simple.Octets path true part) (λ item. Ok (Some item.contents))
   held (OctetsOr fields) path token part =
-      when (begin_with 0x30 part.octets)
+      when (begins_with 0x30 part.octets)
       (λ _. and_then (entered path 0x30 true part) (λ item. fields_read fields path token item.contents))
       (λ _. and_then (simple_item simple.Octets path true part) (λ item. Ok token))
 
   pub fields_read : Fields → List ℕ → Option Part → Part → Result (Option Part) Fault
   fields_read End path token part = ended path token part.place part.octets
   fields_read (Field tag own holds fields) path token part =
-      when (begin_with tag part.octets)
+      when (begins_with tag part.octets)
       (λ _. and_then (entered own tag false part)
       (λ item. and_then (held holds own token item.contents) (λ found. fields_read fields path found item.rest)))
       (λ _. fields_read fields path token part)

@@ -1,7 +1,7 @@
 //! The items of a token, all octets of which are there.
 
 ghost use Rattle.std.specs.Prelude.{◌≡◌, ◌+◌, ◌^◌, ◌<◌, ◌≤◌, length, IfOk, MatchResult, Ok, Err};
-ghost use Rattle.krb_judge.specs.Paths.{begin_with};
+ghost use Rattle.krb_msg.specs.ValueOfDer.{begins_with};
 ghost use Rattle.krb_token.specs.Items.{entered, expected, item_after};
 ghost use Rattle.krb_token.specs.Seen.{IsItemOf, IsShort, fault_of, item_of, part_of, path_text};
 
@@ -87,7 +87,7 @@ impl<'a> Part<'a> {
 
     /// Returns whether the octets begin with a tag.
     pub(crate) fn begins(self, tag: u8) -> bool
-        ensures { result ≡ begin_with tag self.entry.octets.now }
+        ensures { result ≡ begins_with tag self.entry.octets.now }
     {
         match self.octets {
             [first, ..] => *first == tag,

@@ -1,8 +1,8 @@
 -- KDC-REP (RFC 4120, 5.4.2): values of the type and of views of it, as values of its term, and back. asn1/generate wrote this from asn1/krb5.asn1
 use Rattle.std.specs.Prelude.{ℕ, pos, map}
 use Rattle.std.specs.Option.{option_map}
-use Rattle.krb_msg.specs.Term.{Value}
-use Rattle.krb_msg.specs.Viewed.{AreViewed, OfSome, items_of}
+use Rattle.krb_msg.specs.Term.{Value, IfPresent}
+use Rattle.krb_msg.specs.Viewed.{AreViewed, items_of}
 use Rattle.krb_msg.specs.Grammar.{as_rep, pa_data}
 use Rattle.krb_msg.specs.declared.kdc_rep.KdcRep.{KdcRep}
 use Rattle.krb_msg.specs.declared.kdc_rep.KdcRepView.{KdcRepView}
@@ -45,7 +45,7 @@ abbrev pub kdc_rep_of_view : KdcRepView → KdcRep
 kdc_rep_of_view m = kdc_rep_of (kdc_rep_view_value 11 m)
 
 pub record KdcRepLists (m : KdcRepView) : Type 0 where
-  pub padata : OfSome (λ items. AreViewed pa_data items.octets.now) m.padata
+  pub padata : IfPresent (λ items. AreViewed pa_data items.octets.now) m.padata
   pub cname : PrincipalNameLists m.cname
   pub ticket : TicketLists m.ticket
   pub enc_part : EncryptedDataLists m.enc_part

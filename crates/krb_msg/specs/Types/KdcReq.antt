@@ -1,8 +1,8 @@
 -- KDC-REQ (RFC 4120, 5.4.1): values of the type and of views of it, as values of its term, and back. asn1/generate wrote this from asn1/krb5.asn1
 use Rattle.std.specs.Prelude.{ℕ, pos, map}
 use Rattle.std.specs.Option.{option_map}
-use Rattle.krb_msg.specs.Term.{Value}
-use Rattle.krb_msg.specs.Viewed.{AreViewed, OfSome, items_of}
+use Rattle.krb_msg.specs.Term.{Value, IfPresent}
+use Rattle.krb_msg.specs.Viewed.{AreViewed, items_of}
 use Rattle.krb_msg.specs.Grammar.{as_req, pa_data}
 use Rattle.krb_msg.specs.declared.kdc_req.KdcReq.{KdcReq}
 use Rattle.krb_msg.specs.declared.kdc_req.KdcReqView.{KdcReqView}
@@ -28,4 +28,4 @@ abbrev pub kdc_req_of_view : KdcReqView → KdcReq
 kdc_req_of_view m = kdc_req_of (kdc_req_view_value 10 m)
 
 abbrev pub KdcReqLists : KdcReqView → Type 0
-KdcReqLists m = OfSome (λ items. AreViewed pa_data items.octets.now) m.padata × KdcReqBodyLists m.body
+KdcReqLists m = IfPresent (λ items. AreViewed pa_data items.octets.now) m.padata × KdcReqBodyLists m.body

@@ -1,9 +1,9 @@
 -- KDC-REQ-BODY (RFC 4120, 5.4.1): values of the type and of views of it, as values of its term, and back. asn1/generate wrote this from asn1/krb5.asn1
 use Rattle.std.specs.Prelude.{map}
 use Rattle.std.specs.Option.{option_map}
-use Rattle.krb_msg.specs.Term.{Value, IsTimeFrom}
+use Rattle.krb_msg.specs.Term.{Value, IfPresent, IsTimeFrom}
 use Rattle.krb_msg.specs.Basic.{flags_of_view}
-use Rattle.krb_msg.specs.Viewed.{AreViewed, OfSome, items_of}
+use Rattle.krb_msg.specs.Viewed.{AreViewed, items_of}
 use Rattle.krb_msg.specs.Grammar.{kdc_req_body, int32, host_address, ticket}
 use Rattle.krb_msg.specs.declared.kdc_req_body.KdcReqBody.{KdcReqBody}
 use Rattle.krb_msg.specs.declared.kdc_req_body.KdcReqBodyView.{KdcReqBodyView}
@@ -102,12 +102,12 @@ abbrev pub kdc_req_body_of_view : KdcReqBodyView → KdcReqBody
 kdc_req_body_of_view b = kdc_req_body_of (kdc_req_body_view_value b)
 
 pub record KdcReqBodyLists (b : KdcReqBodyView) : Type 0 where
-  pub cname : OfSome PrincipalNameLists b.cname
-  pub sname : OfSome PrincipalNameLists b.sname
-  pub from : OfSome (λ time. IsTimeFrom 14 time.now) b.from
+  pub cname : IfPresent PrincipalNameLists b.cname
+  pub sname : IfPresent PrincipalNameLists b.sname
+  pub from : IfPresent (λ time. IsTimeFrom 14 time.now) b.from
   pub till : IsTimeFrom 14 b.till.now
-  pub rtime : OfSome (λ time. IsTimeFrom 14 time.now) b.rtime
+  pub rtime : IfPresent (λ time. IsTimeFrom 14 time.now) b.rtime
   pub etype : AreViewed int32 b.etype.octets.now
-  pub addresses : OfSome (λ items. AreViewed host_address items.octets.now) b.addresses
-  pub enc_authorization_data : OfSome EncryptedDataLists b.enc_authorization_data
-  pub additional_tickets : OfSome (λ items. AreViewed ticket items.octets.now) b.additional_tickets
+  pub addresses : IfPresent (λ items. AreViewed host_address items.octets.now) b.addresses
+  pub enc_authorization_data : IfPresent EncryptedDataLists b.enc_authorization_data
+  pub additional_tickets : IfPresent (λ items. AreViewed ticket items.octets.now) b.additional_tickets

@@ -1,9 +1,8 @@
 -- KRB-ERROR (RFC 4120, 5.9.1): values of the type and of views of it, as values of its term, and back. asn1/generate wrote this from asn1/krb5.asn1
 use Rattle.std.specs.Prelude.{pos, ◌≤ℤ◌, ◌^◌, ◌<◌, length}
 use Rattle.std.specs.Option.{option_map}
-use Rattle.krb_msg.specs.Term.{Value, IsTimeFrom}
+use Rattle.krb_msg.specs.Term.{Value, IfPresent, IsTimeFrom}
 use Rattle.krb_msg.specs.Basic.{micros_of}
-use Rattle.krb_msg.specs.Viewed.{OfSome}
 use Rattle.krb_msg.specs.Grammar.{krb_error}
 use Rattle.krb_msg.specs.declared.krb_error.KrbError.{KrbError}
 use Rattle.krb_msg.specs.declared.krb_error.KrbErrorView.{KrbErrorView}
@@ -92,10 +91,10 @@ abbrev pub krb_error_of_view : KrbErrorView → KrbError
 krb_error_of_view m = krb_error_of (krb_error_view_value m)
 
 pub record KrbErrorLists (m : KrbErrorView) : Type 0 where
-  pub ctime : OfSome (λ time. IsTimeFrom 14 time.now) m.ctime
-  pub cusec : OfSome (λ number. pos 0 ≤ℤ number) m.cusec
+  pub ctime : IfPresent (λ time. IsTimeFrom 14 time.now) m.ctime
+  pub cusec : IfPresent (λ number. pos 0 ≤ℤ number) m.cusec
   pub stime : IsTimeFrom 14 m.stime.now
   pub susec : pos 0 ≤ℤ m.susec
-  pub cname : OfSome PrincipalNameLists m.cname
+  pub cname : IfPresent PrincipalNameLists m.cname
   pub sname : PrincipalNameLists m.sname
-  pub e_data : OfSome (λ octets. length octets.now < 2 ^ 31) m.e_data
+  pub e_data : IfPresent (λ octets. length octets.now < 2 ^ 31) m.e_data

@@ -1,9 +1,8 @@
 -- KRB-SAFE-BODY (RFC 4120, 5.6.1): values of the type and of views of it, as values of its term, and back. asn1/generate wrote this from asn1/krb5.asn1
 use Rattle.std.specs.Prelude.{pos, ◌≤ℤ◌, ◌^◌, ◌<◌, length}
 use Rattle.std.specs.Option.{option_map}
-use Rattle.krb_msg.specs.Term.{Value, IsTimeFrom}
+use Rattle.krb_msg.specs.Term.{Value, IfPresent, IsTimeFrom}
 use Rattle.krb_msg.specs.Basic.{micros_of}
-use Rattle.krb_msg.specs.Viewed.{OfSome}
 use Rattle.krb_msg.specs.Grammar.{krb_safe_body}
 use Rattle.krb_msg.specs.declared.krb_safe_body.KrbSafeBody.{KrbSafeBody}
 use Rattle.krb_msg.specs.declared.krb_safe_body.KrbSafeBodyView.{KrbSafeBodyView}
@@ -38,7 +37,7 @@ krb_safe_body_of_view b = krb_safe_body_of (krb_safe_body_view_value b)
 
 pub record KrbSafeBodyLists (b : KrbSafeBodyView) : Type 0 where
   pub user_data : length b.user_data.now < 2 ^ 31
-  pub timestamp : OfSome (λ time. IsTimeFrom 14 time.now) b.timestamp
-  pub usec : OfSome (λ number. pos 0 ≤ℤ number) b.usec
+  pub timestamp : IfPresent (λ time. IsTimeFrom 14 time.now) b.timestamp
+  pub usec : IfPresent (λ number. pos 0 ≤ℤ number) b.usec
   pub s_address : HostAddressLists b.s_address
-  pub r_address : OfSome HostAddressLists b.r_address
+  pub r_address : IfPresent HostAddressLists b.r_address

@@ -2,10 +2,10 @@
 
 ghost use Rattle.std.specs.Prelude.{⊤, ◌≡◌, ◌+◌, ◌^◌, ◌<◌, true, pos, length, MatchOption};
 ghost use Rattle.std.specs.Option.{option_map};
-ghost use Rattle.krb_msg.specs.Term.{Term, Fields as TermFields, Value, Values, Sequence as SequenceTerm, Application as ApplicationTerm, Tagged as TaggedTerm, End as NoField, Required as RequiredField, Optional as OptionalField, tag_of};
+ghost use Rattle.krb_msg.specs.Term.{Term, Fields as TermFields, Value, Values, Sequence as SequenceTerm, Application as ApplicationTerm, Tagged as TaggedTerm, End as NoField, Required as RequiredField, Optional as OptionalField, IfPresent, tag_of};
 ghost use Rattle.krb_msg.specs.Grammar.{exactly};
 ghost use Rattle.krb_msg.specs.Shape.{is_unambiguous, are_unambiguous, has_octet_tags, have_octet_tags};
-ghost use Rattle.krb_msg.specs.Viewed.{AreContents, AreNoContents, AreFields, AreNoFields, BeginsWithValue, BeginsWithNoValue, MayBeginWithValue, IsMalformedField, OfSome};
+ghost use Rattle.krb_msg.specs.Viewed.{AreContents, AreNoContents, AreFields, AreNoFields, BeginsWithValue, BeginsWithNoValue, MayBeginWithValue, IsMalformedField};
 
 use crate::fields::{Application, End, Fixed, Optional, Required, Sequence, Tagged};
 use crate::view::head::{first_field, only_item};
@@ -85,7 +85,7 @@ fn view_optional<'a, const INDEX: u8, T: View<'a>>(
     requires short { length octets.now < 2 ^ 31 }
     requires tags { has_octet_tags (TaggedTerm INDEX T.term) ≡ true }
     requires unambiguous { is_unambiguous T.term ≡ true }
-    ensures { MatchOption result (IsMalformedField (TaggedTerm INDEX T.term) octets.now) (λ (seen, rest). MayBeginWithValue (TaggedTerm INDEX T.term) octets.now (option_map T.value seen) rest.now × OfSome T.Lists seen) }
+    ensures { MatchOption result (IsMalformedField (TaggedTerm INDEX T.term) octets.now) (λ (seen, rest). MayBeginWithValue (TaggedTerm INDEX T.term) octets.now (option_map T.value seen) rest.now × IfPresent T.Lists seen) }
 {
     match octets.first() {
         Some(tag) if *tag == 0xA0 + INDEX => {
@@ -141,7 +141,7 @@ impl<'a, const INDEX: u8, T: View<'a>, F: ViewFields<'a>> ViewFields<'a> for Opt
 
     ghost values = { λ seen. (option_map T.value seen.0, F.values seen.1) };
 
-    ghost Lists = { λ seen. OfSome T.Lists seen.0 × F.Lists seen.1 };
+    ghost Lists = { λ seen. IfPresent T.Lists seen.0 × F.Lists seen.1 };
 
     #[inline(always)]
     fn view_fields(octets: &'a [u8]) -> Option<(Option<T::Of>, F::Of)> {

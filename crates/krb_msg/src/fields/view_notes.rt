@@ -3,7 +3,7 @@
 ghost use Rattle.std.specs.Prelude.{◌≡◌, ◌||◌};
 ghost use Rattle.std.specs.Option.{option_map};
 ghost use Rattle.krb_msg.specs.Notes.{EmptyList, is_list_that_has, option_any, has, any_has, notes_by};
-ghost use Rattle.krb_msg.specs.Viewed.{OfSome};
+ghost use Rattle.krb_msg.specs.Term.{IfPresent};
 
 use crate::fields::{Application, End, Fixed, Optional, Required, Sequence, View, ViewFields};
 use crate::notes::Notes;
@@ -33,7 +33,7 @@ pub trait NotedViewFields<'a>: ViewFields<'a> {
 /// Returns the notes on a field that may be left out, if it is there.
 #[inline(always)]
 fn optional_notes<'a, T: NotedView<'a>>(field: &Option<T::Of>) -> Notes
-    requires { OfSome T.View.Lists field.now }
+    requires { IfPresent T.View.Lists field.now }
     ensures { result ≡ notes_by (λ note. option_any (λ value. is_list_that_has note T.View.term value || has note T.View.term value) (option_map T.View.value field.now)) }
 {
     match field {

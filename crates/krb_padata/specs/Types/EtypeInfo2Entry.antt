@@ -1,8 +1,7 @@
 -- ETYPE-INFO2-ENTRY (RFC 4120, 5.2.7.5): values of the type and of views of it, as values of its term, and back. asn1/generate wrote this from asn1/padata.asn1
 use Rattle.std.specs.Prelude.{◌^◌, ◌<◌, length}
 use Rattle.std.specs.Option.{option_map}
-use Rattle.krb_msg.specs.Term.{Value}
-use Rattle.krb_msg.specs.Viewed.{OfSome}
+use Rattle.krb_msg.specs.Term.{Value, IfPresent}
 use Rattle.krb_padata.specs.Grammar.{etype_info2_entry}
 use Rattle.krb_padata.specs.declared.etype_info2_entry.EtypeInfo2Entry.{EtypeInfo2Entry}
 use Rattle.krb_padata.specs.declared.etype_info2_entry.EtypeInfo2EntryView.{EtypeInfo2EntryView}
@@ -21,4 +20,4 @@ abbrev pub etype_info2_entry_of_view : EtypeInfo2EntryView → EtypeInfo2Entry
 etype_info2_entry_of_view e = etype_info2_entry_of (etype_info2_entry_view_value e)
 
 abbrev pub EtypeInfo2EntryLists : EtypeInfo2EntryView → Type 0
-EtypeInfo2EntryLists e = OfSome (λ octets. length octets.now < 2 ^ 31) e.s2kparams
+EtypeInfo2EntryLists e = IfPresent (λ octets. length octets.now < 2 ^ 31) e.s2kparams

@@ -1,8 +1,7 @@
 -- ETYPE-INFO-ENTRY (RFC 4120, 5.2.7.4): values of the type and of views of it, as values of its term, and back. asn1/generate wrote this from asn1/padata.asn1
 use Rattle.std.specs.Prelude.{◌^◌, ◌<◌, length}
 use Rattle.std.specs.Option.{option_map}
-use Rattle.krb_msg.specs.Term.{Value}
-use Rattle.krb_msg.specs.Viewed.{OfSome}
+use Rattle.krb_msg.specs.Term.{Value, IfPresent}
 use Rattle.krb_padata.specs.Grammar.{etype_info_entry}
 use Rattle.krb_padata.specs.declared.etype_info_entry.EtypeInfoEntry.{EtypeInfoEntry}
 use Rattle.krb_padata.specs.declared.etype_info_entry.EtypeInfoEntryView.{EtypeInfoEntryView}
@@ -21,4 +20,4 @@ abbrev pub etype_info_entry_of_view : EtypeInfoEntryView → EtypeInfoEntry
 etype_info_entry_of_view e = etype_info_entry_of (etype_info_entry_view_value e)
 
 abbrev pub EtypeInfoEntryLists : EtypeInfoEntryView → Type 0
-EtypeInfoEntryLists e = OfSome (λ octets. length octets.now < 2 ^ 31) e.salt
+EtypeInfoEntryLists e = IfPresent (λ octets. length octets.now < 2 ^ 31) e.salt

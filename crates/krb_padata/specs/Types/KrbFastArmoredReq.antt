@@ -1,7 +1,6 @@
 -- KrbFastArmoredReq (RFC 6113, 5.4.2): values of the type and of views of it, as values of its term, and back. asn1/generate wrote this from asn1/padata.asn1
 use Rattle.std.specs.Option.{option_map}
-use Rattle.krb_msg.specs.Term.{Value}
-use Rattle.krb_msg.specs.Viewed.{OfSome}
+use Rattle.krb_msg.specs.Term.{Value, IfPresent}
 use Rattle.krb_padata.specs.Grammar.{krb_fast_armored_req}
 use Rattle.krb_padata.specs.declared.krb_fast_armored_req.KrbFastArmoredReq.{KrbFastArmoredReq}
 use Rattle.krb_padata.specs.declared.krb_fast_armored_req.KrbFastArmoredReqView.{KrbFastArmoredReqView}
@@ -28,6 +27,6 @@ abbrev pub krb_fast_armored_req_of_view : KrbFastArmoredReqView → KrbFastArmor
 krb_fast_armored_req_of_view r = krb_fast_armored_req_of (krb_fast_armored_req_view_value r)
 
 pub record KrbFastArmoredReqLists (r : KrbFastArmoredReqView) : Type 0 where
-  pub armor : OfSome KrbFastArmorLists r.armor
+  pub armor : IfPresent KrbFastArmorLists r.armor
   pub req_checksum : ChecksumLists r.req_checksum
   pub enc_fast_req : EncryptedDataLists r.enc_fast_req

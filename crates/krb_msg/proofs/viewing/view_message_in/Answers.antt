@@ -10,7 +10,7 @@ pub returns-in-Lenient : goal.returns-in-Lenient
 returns-in-Lenient c =
     let octets = c.args.octets.now in
     subst (λ profile. MatchOption c.view_message.result (judgement profile (length octets) octets ≡ Whole → ⊥) (λ m. IsMessageView octets m × (judgement profile (length octets) octets ≡ Whole))) (sym c.in-Lenient.is)
-    (match_map c.view_message.result _ _ _ _ (λ none. none) (λ m v. (v, v.whole)) c.view_message.ensures)
+    (match_map c.view_message.result _ _ _ _ (λ none. none c.requires.short) (λ m v. (v, v.whole)) c.view_message.ensures)
 
 pub returns-in-Strict : goal.returns-in-Strict
 returns-in-Strict c =

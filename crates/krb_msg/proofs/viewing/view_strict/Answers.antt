@@ -9,7 +9,7 @@ use Rattle.krb_msg.proofs.viewing.view_strict.Goals as goal
 pub returns-in_err-message : goal.returns-in_err-message
 returns-in_err-message c =
     let octets = c.args.octets.now in
-    match_none _ _ _ c.from_residual.ensures (λ whole. c.in_err-message.ensures (lenient_whole Strict _ octets c.requires.short (AreOctets-slice octets c.type_inv.octets) (omega arith) whole))
+    match_none _ _ _ c.from_residual.ensures (λ whole. c.in_err-message.ensures c.requires.short (lenient_whole Strict _ octets c.requires.short (AreOctets-slice octets c.type_inv.octets) (omega arith) whole))
 
 pub returns-then-is_strict_view : goal.returns-then-is_strict_view
 returns-then-is_strict_view c = (c.in_ok-message.ensures, strict_whole c.args.octets.now c.in_ok-message.message c.in_ok-message.ensures (sym c.is_strict_view.ensures ∙ c.if-is_strict_view.true))

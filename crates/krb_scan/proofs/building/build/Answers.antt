@@ -7,7 +7,7 @@ use Rattle.krb_scan.proofs.building.build.Goals as goal
 
 -- the octets are judged whole
 pub unreachable-requires : goal.unreachable-requires
-unreachable-requires c = c.in_default.ensures (lenient_whole c.requires.whole.profile _ c.args.octets.now c.requires.short (AreOctets-slice c.args.octets.now c.type_inv.octets) (omega arith) c.requires.whole.whole)
+unreachable-requires c = c.in_default.ensures c.requires.short (lenient_whole c.requires.whole.profile _ c.args.octets.now c.requires.short (AreOctets-slice c.args.octets.now c.type_inv.octets) (omega arith) c.requires.whole.whole)
 
 pub returns : goal.returns
 returns c = IfOk-weaker c.to_message.result _ _ (λ m e. ap message_der e ∙ c.in-Some.ensures.form) c.to_message.ensures

@@ -1,4 +1,4 @@
-use Rattle.std.proofs.Common.{◌≡◌, ◌++◌, length, ap, subst, sym, ◌∙◌}
+use Rattle.std.proofs.Common.{◌≡◌, ◌++◌, length, ap, subst, sym, ◌∙◌, arith}
 use Rattle.krb_der.specs.declared.profile.Profile.TheVariants.{Lenient}
 use Rattle.krb_der.specs.declared.verdict.Verdict.TheVariants.{Whole}
 use Rattle.krb_msg.specs.Judgement.{judgement}
@@ -13,7 +13,7 @@ use Rattle.krb_text.proofs.message.put_text_of.Goals as goal
 pub unreachable-requires : goal.unreachable-requires
 unreachable-requires c =
     let octets : c.as_slice.result.now ≡ message_der c.args.message.now = c.as_slice.ensures.value ∙ c.in-Ok.ensures.octets in
-    c.in_default-view_message.ensures (subst (λ l. judgement Lenient (length l) l ≡ Whole) (sym octets) (message_is_whole Lenient c.args.message.now c.in-Ok.ensures.in_profile))
+    c.in_default-view_message.ensures (omega (arith, ap length octets, c.in-Ok.ensures.in_profile.short)) (subst (λ l. judgement Lenient (length l) l ≡ Whole) (sym octets) (message_is_whole Lenient c.args.message.now c.in-Ok.ensures.in_profile))
 
 -- and what they are viewed as is what they are read as
 pub returns : goal.returns

@@ -1,6 +1,6 @@
 -- asn1/generate wrote this from asn1/krb5.asn1
 use Rattle.krb_msg.proofs.Puts.{message_short, message_capacity, message_put}
-use Rattle.krb_msg.proofs.message.put_octets.Goals as goal
+use Rattle.krb_msg.proofs.message.put.Goals as goal
 
 pub put-requires-clause-short : goal.put-requires-clause-short
 put-requires-clause-short c = message_short c.in-AsReq.is c.requires.short
