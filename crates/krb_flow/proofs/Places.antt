@@ -8,14 +8,6 @@ use Rattle.std.proofs.lemmas.Bool.{lt-ltb, le-ltb, eq-eqb, ne_eqb}
 use Rattle.krb_der.specs.Octets.{when}
 use Rattle.krb_flow.specs.Waiting.{Waiting, keep_one, keep, ready, early}
 
--- nothing is ready if the first octet that waits is at another place
-pub stops : (expected : ℕ) (waiting : Waiting) (first : ℕ × ℕ) → slice_get waiting 0 ≡ Some first → (first.0 ≡ expected → ⊥) → (ready expected waiting ≡ []) × (early expected waiting ≡ waiting)
-stops expected [] first is apart = (refl, refl)
-stops expected (entry ∷ entries) first is apart =
-    let same : entry ≡ first = cc in
-    let other : (entry.0 == expected) ≡ false = ne_eqb entry.0 expected (λ here. apart (ap (λ (e : ℕ × ℕ). e.0) (sym same) ∙ here)) in
-    (rw other refl, rw other refl)
-
 -- all octets that wait are at a place or after it
 unfoldable pub IsFrom : ℕ → Waiting → Type 0
 IsFrom place [] = Unit {0}

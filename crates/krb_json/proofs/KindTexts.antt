@@ -51,19 +51,6 @@ kind-back kind.KrbPriv = refl
 kind-back kind.KrbCred = refl
 kind-back kind.KrbError = refl
 
--- the first octet of a message says of which kind it is
-pub kind-of-first : (m : Message) → kind_with_tag (get_or (message_der m) 0 0) ≡ Some (kind_of m)
-kind-of-first (message.AsReq m) = refl
-kind-of-first (message.AsRep m) = refl
-kind-of-first (message.TgsReq m) = refl
-kind-of-first (message.TgsRep m) = refl
-kind-of-first (message.ApReq m) = refl
-kind-of-first (message.ApRep m) = refl
-kind-of-first (message.KrbSafe m) = refl
-kind-of-first (message.KrbPriv m) = refl
-kind-of-first (message.KrbCred m) = refl
-kind-of-first (message.KrbError m) = refl
-
 -- octets 20 to 7E
 abbrev pub is_printable : List ℕ → Bool
 is_printable text = list_all (λ c. nat_le 32 c && nat_le c 126) text

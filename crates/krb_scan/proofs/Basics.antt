@@ -17,11 +17,6 @@ pub when_same : {A : Type 0} (b : Bool) (x y x' y' : Unit {0} → A) → x tt �
 when_same true x y x' y' e f = e
 when_same false x y x' y' e f = f
 
--- a function of a choice is a choice
-pub when_apply : {A B : Type 0} (f : A → B) (b : Bool) (x y : Unit {0} → A) → f (when b x y) ≡ when b (λ _. f (x tt)) (λ _. f (y tt))
-when_apply f true x y = refl
-when_apply f false x y = refl
-
 abbrev pub IsFrom : ℕ → PartScan → Type 0
 IsFrom low (Within state) = Unit {0}
 IsFrom low (Fault place reason) = Unit {0}

@@ -108,10 +108,6 @@ pub enter_empty : (term : Term) (len start : ℕ) (expected : scan.Expected) (st
 enter_empty term len start expected stack marks h none all =
     enters_none term len start expected stack marks h none ∙ ap (λ b. when b (λ _. scan.Refusing (start - 1) why.Missing) (λ _. settle stack (with_mark marks term start 0) start)) all
 
-pub enter_missing : (term : Term) (len start : ℕ) (expected : scan.Expected) (stack : List Container) (marks : List Marked) → BeginsWith term expected → len ≡ 0 → requires_item expected ≡ true → enter term start len stack marks ≡ scan.Refusing (start - 1) why.Missing
-enter_missing term len start expected stack marks h none all =
-    enters_none term len start expected stack marks h none ∙ ap (λ b. when b (λ _. scan.Refusing (start - 1) why.Missing) (λ _. settle stack (with_mark marks term start 0) start)) all
-
 enters_some : (term : Term) (len start : ℕ) (expected : scan.Expected) (stack : List Container) (marks : List Marked) → BeginsWith term expected → 0 < len → enter term start len stack marks ≡ scan.Ongoing (state_of (with_mark marks term start len) (container_of (start + len) expected ∷ stack) (scan.Between start))
 enters_some term len start expected stack marks h some =
     enters_items term expected start len stack marks h

@@ -32,11 +32,11 @@ changes_to e before after (Whole marks) h c = subst (Changes e before) (sym h) c
 changes_to e before after (Refusing place reason) h c = tt {0}
 
 -- by the tip of a path
-changes_at : {terms : List Term} (path : Path) (octets : List ℕ) (given : Tip) (a : AtTip terms path octets given) (octet : ℕ) (e : Event) (after : List Mark) → HasMarks after (step_at given a.stack a.marks octet) → Changes e (marks_at given a.marks) after →
+changes_at : {terms : List Term} {path : Path} {octets : List ℕ} {given : Tip} (a : AtTip terms path octets given) (octet : ℕ) (e : Event) (after : List Mark) → HasMarks after (step_at given a.stack a.marks octet) → Changes e (marks_at given a.marks) after →
     ChangesTo e (marks_by terms path.size octets) (scan.scan terms path.size (octets ++ octet ∷ []))
-changes_at {terms = terms} path octets given a octet e after h c =
+changes_at {terms = terms} {path = path} {octets = octets} {given = given} a octet e after h c =
     let before : marks_by terms path.size octets ≡ marks_at given a.marks = ap (λ answer. marks_from answer (λ place. scan.scan terms path.size (take place octets))) a.reads in
-    subst (ChangesTo e (marks_by terms path.size octets)) (sym (stepped path octets given a octet))
+    subst (ChangesTo e (marks_by terms path.size octets)) (sym (stepped a octet))
     (subst (λ marks. ChangesTo e marks (step_at given a.stack a.marks octet)) (sym before) (changes_to e (marks_at given a.marks) after (step_at given a.stack a.marks octet) h c))
 
 settle_marks : (stack : List Container) (marks : List Mark) (place : ℕ) → HasMarks marks (settle stack marks place)
@@ -53,8 +53,8 @@ between_marks : (stack : List Container) (marks : List Mark) (place octet : ℕ)
 between_marks [] marks place octet = refl
 between_marks (container ∷ outer) marks place octet = picked_marks (pick octet container.expected) container.end outer marks place octet
 
-pub between_changes : {terms : List Term} (path : Path) (octets : List ℕ) (octet : ℕ) → BetweenAt terms path octets → ChangesTo event.None (marks_by terms path.size octets) (scan.scan terms path.size (octets ++ octet ∷ []))
-between_changes path octets octet b = changes_at path octets (Between path.looked) b.at octet event.None b.at.marks (between_marks b.at.stack b.at.marks path.looked octet) refl
+pub between_changes : {terms : List Term} {path : Path} {octets : List ℕ} (octet : ℕ) → BetweenAt terms path octets → ChangesTo event.None (marks_by terms path.size octets) (scan.scan terms path.size (octets ++ octet ∷ []))
+between_changes {path = path} octet b = changes_at b.at octet event.None b.at.marks (between_marks b.at.stack b.at.marks path.looked octet) refl
 
 -- ---- a length octet
 -- no length is whole
@@ -152,34 +152,34 @@ next_none room k seen value octet h = rw (lt-ltb (seen + 1) k h) (by_first ((see
     by_first true = tt {0}
     by_first false = tt {0}
 
-pub tagged_none : {terms : List Term} (path : Path) (octets : List ℕ) (node octet : ℕ) → TaggedAt terms path octets node → 128 ≤ octet → ChangesTo event.None (marks_by terms path.size octets) (scan.scan terms path.size (octets ++ octet ∷ []))
-tagged_none path octets node octet t h =
-    changes_at path octets (InHead (term_at node) t.from (t.tag ∷ [])) t.at octet event.None t.at.marks
+pub tagged_none : {terms : List Term} {path : Path} {octets : List ℕ} {node : ℕ} (octet : ℕ) → TaggedAt terms path octets node → 128 ≤ octet → ChangesTo event.None (marks_by terms path.size octets) (scan.scan terms path.size (octets ++ octet ∷ []))
+tagged_none {node = node} octet t h =
+    changes_at t.at octet event.None t.at.marks
     (none_marks (head (limit t.at.stack - t.from) (t.tag ∷ octet ∷ [])) (term_at node) t.at.stack t.at.marks t.from (t.tag ∷ octet ∷ []) (subst IsNone (sym (first_head_right (limit t.at.stack - t.from) t.tag octet)) (first_none (limit t.at.stack - t.from) octet h))) refl
 
-pub tagged_changes : {terms : List Term} (path : Path) (octets : List ℕ) (node octet : ℕ) (e : Event) → TaggedAt terms path octets node → octet < 128 → IsLengthOf e (term_at node) (path.looked + 1) octet → ChangesTo e (marks_by terms path.size octets) (scan.scan terms path.size (octets ++ octet ∷ []))
-tagged_changes path octets node octet e t h is =
-    changes_at path octets (InHead (term_at node) t.from (t.tag ∷ [])) t.at octet e (with_mark t.at.marks (term_at node) (path.looked + 1) octet)
+pub tagged_changes : {terms : List Term} {path : Path} {octets : List ℕ} {node : ℕ} (octet : ℕ) (e : Event) → TaggedAt terms path octets node → octet < 128 → IsLengthOf e (term_at node) (path.looked + 1) octet → ChangesTo e (marks_by terms path.size octets) (scan.scan terms path.size (octets ++ octet ∷ []))
+tagged_changes {path = path} {node = node} octet e t h is =
+    changes_at t.at octet e (with_mark t.at.marks (term_at node) (path.looked + 1) octet)
     (got_marks (head (limit t.at.stack - t.from) (t.tag ∷ octet ∷ [])) 2 octet (path.looked + 1) (term_at node) t.at.stack t.at.marks t.from (t.tag ∷ octet ∷ []) (omega (arith, t.looked)) (subst (IsOf 2 octet) (sym (first_head_right (limit t.at.stack - t.from) t.tag octet)) (first_is (limit t.at.stack - t.from) octet h)))
     (length_changes e (term_at node) (path.looked + 1) octet t.at.marks is)
 
-next_right : {terms : List Term} (path : Path) (octets : List ℕ) (node digits seen value octet : ℕ) (t : LongAt terms path octets node digits seen value) → head (limit t.at.stack - t.from) (t.tag ∷ t.first ∷ t.present ++ octet ∷ []) ≡ next_head (limit t.at.stack - t.from) digits seen value octet
-next_right path octets node digits seen value octet t =
+next_right : {terms : List Term} {path : Path} {octets : List ℕ} {node digits seen value : ℕ} (octet : ℕ) (t : LongAt terms path octets node digits seen value) → head (limit t.at.stack - t.from) (t.tag ∷ t.first ∷ t.present ++ octet ∷ []) ≡ next_head (limit t.at.stack - t.from) digits seen value octet
+next_right {digits = digits} {seen = seen} {value = value} octet t =
     next_head_right (limit t.at.stack - t.from) t.tag t.first t.present octet (subst IsPartial (sym t.at.reached) (tt {0}))
     ∙ ap (λ v. next_head (limit t.at.stack - t.from) (t.first - 0x80) (length t.present) v octet) (sym t.value_is) ∙ ap (λ k. next_head (limit t.at.stack - t.from) (t.first - 0x80) k value octet) (sym t.seen_are)
     ∙ ap (λ k. next_head (limit t.at.stack - t.from) k seen value octet) (sym t.digits_are)
 
-pub long_none : {terms : List Term} (path : Path) (octets : List ℕ) (node digits seen value octet : ℕ) → LongAt terms path octets node digits seen value → seen + 1 < digits → ChangesTo event.None (marks_by terms path.size octets) (scan.scan terms path.size (octets ++ octet ∷ []))
-long_none path octets node digits seen value octet t h =
-    changes_at path octets (InHead (term_at node) t.from (t.tag ∷ t.first ∷ t.present)) t.at octet event.None t.at.marks
-    (none_marks (head (limit t.at.stack - t.from) (t.tag ∷ t.first ∷ t.present ++ octet ∷ [])) (term_at node) t.at.stack t.at.marks t.from (t.tag ∷ t.first ∷ t.present ++ octet ∷ []) (subst IsNone (sym (next_right path octets node digits seen value octet t)) (next_none (limit t.at.stack - t.from) digits seen value octet h))) refl
+pub long_none : {terms : List Term} {path : Path} {octets : List ℕ} {node digits seen value : ℕ} (octet : ℕ) → LongAt terms path octets node digits seen value → seen + 1 < digits → ChangesTo event.None (marks_by terms path.size octets) (scan.scan terms path.size (octets ++ octet ∷ []))
+long_none {node = node} {digits = digits} {seen = seen} {value = value} octet t h =
+    changes_at t.at octet event.None t.at.marks
+    (none_marks (head (limit t.at.stack - t.from) (t.tag ∷ t.first ∷ t.present ++ octet ∷ [])) (term_at node) t.at.stack t.at.marks t.from (t.tag ∷ t.first ∷ t.present ++ octet ∷ []) (subst IsNone (sym (next_right octet t)) (next_none (limit t.at.stack - t.from) digits seen value octet h))) refl
 
-pub long_changes : {terms : List Term} (path : Path) (octets : List ℕ) (node digits seen value octet : ℕ) (e : Event) → LongAt terms path octets node digits seen value → digits ≤ seen + 1 → seen < digits → IsLengthOf e (term_at node) (path.looked + 1) (value * 256 + octet) →
+pub long_changes : {terms : List Term} {path : Path} {octets : List ℕ} {node digits seen value : ℕ} (octet : ℕ) (e : Event) → LongAt terms path octets node digits seen value → digits ≤ seen + 1 → seen < digits → IsLengthOf e (term_at node) (path.looked + 1) (value * 256 + octet) →
     ChangesTo e (marks_by terms path.size octets) (scan.scan terms path.size (octets ++ octet ∷ []))
-long_changes path octets node digits seen value octet e t h some is =
-    changes_at path octets (InHead (term_at node) t.from (t.tag ∷ t.first ∷ t.present)) t.at octet e (with_mark t.at.marks (term_at node) (path.looked + 1) (value * 256 + octet))
+long_changes {path = path} {node = node} {digits = digits} {seen = seen} {value = value} octet e t h some is =
+    changes_at t.at octet e (with_mark t.at.marks (term_at node) (path.looked + 1) (value * 256 + octet))
     (got_marks (head (limit t.at.stack - t.from) (t.tag ∷ t.first ∷ t.present ++ octet ∷ [])) (2 + digits) (value * 256 + octet) (path.looked + 1) (term_at node) t.at.stack t.at.marks t.from (t.tag ∷ t.first ∷ t.present ++ octet ∷ []) (omega (arith, t.looked, h, some))
-    (subst (IsOf (2 + digits) (value * 256 + octet)) (sym (next_right path octets node digits seen value octet t)) (next_is (limit t.at.stack - t.from) digits seen value octet h)))
+    (subst (IsOf (2 + digits) (value * 256 + octet)) (sym (next_right octet t)) (next_is (limit t.at.stack - t.from) digits seen value octet h)))
     (length_changes e (term_at node) (path.looked + 1) (value * 256 + octet) t.at.marks is)
 
 -- ---- a contents octet
@@ -204,20 +204,20 @@ number_is (SequenceOf empty term) value unused octet octets h small = refl
 number_is (Tagged index term) value unused octet octets h small = refl
 number_is (Application number term) value unused octet octets h small = refl
 
-leaf_after : {terms : List Term} (path : Path) (octets : List ℕ) (node start end : ℕ) (value : ℤ) (unused octet : ℕ) (l : LeafAt terms path octets node start end value unused) → Counts l.count (length l.present + 1) (leaf_outcome (term_at node) l.count (l.present ++ octet ∷ []))
-leaf_after path octets node start end value unused octet l = subst (λ k. Counts l.count k (leaf_outcome (term_at node) l.count (l.present ++ octet ∷ []))) (length_push l.present octet) (leaf_counts (term_at node) l.count (l.present ++ octet ∷ []) l.at.reached.0)
+leaf_after : {terms : List Term} {path : Path} {octets : List ℕ} {node start end : ℕ} {value : ℤ} {unused : ℕ} (octet : ℕ) (l : LeafAt terms path octets node start end value unused) → Counts l.count (length l.present + 1) (leaf_outcome (term_at node) l.count (l.present ++ octet ∷ []))
+leaf_after {node = node} octet l = subst (λ k. Counts l.count k (leaf_outcome (term_at node) l.count (l.present ++ octet ∷ []))) (length_push l.present octet) (leaf_counts (term_at node) l.count (l.present ++ octet ∷ []) l.at.reached.0)
 
-pub leaf_none : {terms : List Term} (path : Path) (octets : List ℕ) (node start end : ℕ) (value : ℤ) (unused octet : ℕ) → LeafAt terms path octets node start end value unused → path.looked + 1 < end → ChangesTo event.None (marks_by terms path.size octets) (scan.scan terms path.size (octets ++ octet ∷ []))
-leaf_none path octets node start end value unused octet l h =
-    changes_at path octets (InLeaf (term_at node) start l.count l.present) l.at octet event.None (with_mark l.at.marks (term_at node) start l.count)
-    (open_marks (leaf_outcome (term_at node) l.count (l.present ++ octet ∷ [])) (term_at node) start l.count (length l.present + 1) l.at.stack l.at.marks (l.present ++ octet ∷ []) (leaf_after path octets node start end value unused octet l) (omega (arith, h, l.looked, l.ends))) refl
+pub leaf_none : {terms : List Term} {path : Path} {octets : List ℕ} {node start end : ℕ} {value : ℤ} {unused : ℕ} (octet : ℕ) → LeafAt terms path octets node start end value unused → path.looked + 1 < end → ChangesTo event.None (marks_by terms path.size octets) (scan.scan terms path.size (octets ++ octet ∷ []))
+leaf_none {node = node} {start = start} octet l h =
+    changes_at l.at octet event.None (with_mark l.at.marks (term_at node) start l.count)
+    (open_marks (leaf_outcome (term_at node) l.count (l.present ++ octet ∷ [])) (term_at node) start l.count (length l.present + 1) l.at.stack l.at.marks (l.present ++ octet ∷ []) (leaf_after octet l) (omega (arith, h, l.looked, l.ends))) refl
 
-pub leaf_changes : {terms : List Term} (path : Path) (octets : List ℕ) (node start end : ℕ) (value : ℤ) (unused octet seen : ℕ) (number : ℤ) → LeafAt terms path octets node start end value unused → end ≤ path.looked + 1 → octet < 256 → seen ≡ path.looked - start → number ≡ number_with (term_at node) seen value octet →
+pub leaf_changes : {terms : List Term} {path : Path} {octets : List ℕ} {node start end : ℕ} {value : ℤ} {unused : ℕ} (octet seen : ℕ) (number : ℤ) → LeafAt terms path octets node start end value unused → end ≤ path.looked + 1 → octet < 256 → seen ≡ path.looked - start → number ≡ number_with (term_at node) seen value octet →
     ChangesTo (event.Number number) (marks_by terms path.size octets) (scan.scan terms path.size (octets ++ octet ∷ []))
-leaf_changes path octets node start end value unused octet seen number l h small e is =
+leaf_changes {node = node} {start = start} {value = value} {unused = unused} octet seen number l h small e is =
     let at : seen ≡ length l.present = omega (arith, e, l.looked) in
-    changes_at path octets (InLeaf (term_at node) start l.count l.present) l.at octet (event.Number number) (l.at.marks ++ mark_of (term_at node) start l.count (leaf_value (term_at node) (l.present ++ octet ∷ [])) ∷ [])
-    (done_marks (leaf_outcome (term_at node) l.count (l.present ++ octet ∷ [])) (term_at node) start l.count (length l.present + 1) l.at.stack l.at.marks (l.present ++ octet ∷ []) (leaf_after path octets node start end value unused octet l) (omega (arith, h, l.looked, l.ends)))
+    changes_at l.at octet (event.Number number) (l.at.marks ++ mark_of (term_at node) start l.count (leaf_value (term_at node) (l.present ++ octet ∷ [])) ∷ [])
+    (done_marks (leaf_outcome (term_at node) l.count (l.present ++ octet ∷ [])) (term_at node) start l.count (length l.present + 1) l.at.stack l.at.marks (l.present ++ octet ∷ []) (leaf_after octet l) (omega (arith, h, l.looked, l.ends)))
     (record {
       marks = l.at.marks;
       term = term_at node;

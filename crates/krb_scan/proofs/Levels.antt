@@ -50,11 +50,6 @@ fault_deep most = record { no_deeper = tt {0} }
 past_deep : (most : ℕ) {marks : List Mark} {place : ℕ} {rest : List ℕ} → IsNoDeeper most (Past marks place rest)
 past_deep most = record { no_deeper = tt {0} }
 
-deeper : (low high : ℕ) (seen : PartScan) → low ≤ high → IsNoDeeper low seen → IsNoDeeper high seen
-deeper low high (Within state) h k = within_deep high (le_trans k.no_deeper h)
-deeper low high (Fault place reason) h k = fault_deep high
-deeper low high (Past marks place rest) h k = past_deep high
-
 then_deep : (most : ℕ) (seen : PartScan) (next : List Mark → ℕ → List ℕ → PartScan) → IsNoDeeper most seen → ((marks : List Mark) (place : ℕ) (rest : List ℕ) → IsNoDeeper most (next marks place rest)) → IsNoDeeper most (scan_then seen next)
 then_deep most (Within state) next h k = within_deep most h.no_deeper
 then_deep most (Fault place reason) next h k = fault_deep most

@@ -278,10 +278,6 @@ each_next_from passes reason count place (first ∷ octets) octet h = by_test (p
 pub each_next_right : (passes : ℕ → ℕ → Bool) (reason : Why) (count : ℕ) (octets : List ℕ) (octet : ℕ) → each_contents passes reason count 0 octets ≡ Open → each_contents passes reason count 0 (octets ++ octet ∷ []) ≡ each_next passes reason count (length octets) octet
 each_next_right passes reason count octets octet e = let same : 0 + length octets ≡ length octets = omega arith in each_next_from passes reason count 0 octets octet e ∙ ap (λ p. each_next passes reason count p octet) same
 
--- a string's octets of any value all pass
-pub text_next_any : (count seen octet : ℕ) → octet < 256 → each_next (text_octet 255) why.Charset count seen octet ≡ any_next count seen
-text_next_any count seen octet h = ap (λ b. if b then (if nat_lt (seen + 1) count then Open else Done count) else Bad seen why.Charset) (le-leb octet 255 (omega arith))
-
 last_push : (octets : List ℕ) (octet : ℕ) → last_or_zero (octets ++ octet ∷ []) ≡ octet
 last_push [] octet = refl
 last_push (first ∷ []) octet = refl

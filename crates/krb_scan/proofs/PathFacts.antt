@@ -71,8 +71,8 @@ at_tip {terms = terms} path octets s =
     }
 
 -- one octet more is a step
-pub stepped : {terms : List Term} (path : Path) (octets : List ℕ) (given : Tip) (a : AtTip terms path octets given) (octet : ℕ) → scan.scan terms path.size (octets ++ octet ∷ []) ≡ step_at given a.stack a.marks octet
-stepped {terms = terms} path octets given a octet = scan_step terms path.size octets octet a.some ∙ ap (λ answer. go_on answer (λ state. step state octet)) a.reads
+pub stepped : {terms : List Term} {path : Path} {octets : List ℕ} {given : Tip} (a : AtTip terms path octets given) (octet : ℕ) → scan.scan terms path.size (octets ++ octet ∷ []) ≡ step_at given a.stack a.marks octet
+stepped {terms = terms} {path = path} {octets = octets} a octet = scan_step terms path.size octets octet a.some ∙ ap (λ answer. go_on answer (λ state. step state octet)) a.reads
 
 -- ---- each tip
 
@@ -107,16 +107,16 @@ pub record LeafAt (terms : List Term) (path : Path) (octets : List ℕ) (node st
   pub keeps : KeepsOf (term_at node) value unused present
   pub looked : path.looked ≡ start + length present
 
-pub between_at : {terms : List Term} (path : Path) (octets : List ℕ) → IsPathOf terms path octets → path.tip ≡ tip.Between → BetweenAt terms path octets
-between_at {terms = terms} path octets s e = by_tip s.state.tip (at_tip path octets s) (subst (λ kept. TipIs path.looked kept s.state.tip) e s.holds.tip)
+pub between_at : {terms : List Term} {path : Path} {octets : List ℕ} → IsPathOf terms path octets → path.tip ≡ tip.Between → BetweenAt terms path octets
+between_at {terms = terms} {path = path} {octets = octets} s e = by_tip s.state.tip (at_tip path octets s) (subst (λ kept. TipIs path.looked kept s.state.tip) e s.holds.tip)
   where
     by_tip : (given : Tip) → AtTip terms path octets given → TipIs path.looked tip.Between given → BetweenAt terms path octets
     by_tip (Between place) a h = record { at = subst (λ k. AtTip terms path octets (Between k)) (sym h) a }
     by_tip (InHead term from present) a h = absurd h
     by_tip (InLeaf term start count present) a h = absurd h
 
-pub tagged_at : {terms : List Term} (path : Path) (octets : List ℕ) (node : ℕ) → IsPathOf terms path octets → path.tip ≡ tip.Tagged node → TaggedAt terms path octets node
-tagged_at {terms = terms} path octets node s e = by_tip s.state.tip (at_tip path octets s) (subst (λ kept. TipIs path.looked kept s.state.tip) e s.holds.tip)
+pub tagged_at : {terms : List Term} {path : Path} {octets : List ℕ} {node : ℕ} → IsPathOf terms path octets → path.tip ≡ tip.Tagged node → TaggedAt terms path octets node
+tagged_at {terms = terms} {path = path} {octets = octets} {node = node} s e = by_tip s.state.tip (at_tip path octets s) (subst (λ kept. TipIs path.looked kept s.state.tip) e s.holds.tip)
   where
     by_tip : (given : Tip) → AtTip terms path octets given → TipIs path.looked (tip.Tagged node) given → TaggedAt terms path octets node
     by_tip (Between place) a h = absurd h
@@ -125,8 +125,8 @@ tagged_at {terms = terms} path octets node s e = by_tip s.state.tip (at_tip path
     by_tip (InHead term from (tag ∷ first ∷ present)) a h = absurd h
     by_tip (InLeaf term start count present) a h = absurd h
 
-pub long_at : {terms : List Term} (path : Path) (octets : List ℕ) (node digits seen value : ℕ) → IsPathOf terms path octets → path.tip ≡ tip.Long node digits seen value → LongAt terms path octets node digits seen value
-long_at {terms = terms} path octets node digits seen value s e = by_tip s.state.tip (at_tip path octets s) (subst (λ kept. TipIs path.looked kept s.state.tip) e s.holds.tip)
+pub long_at : {terms : List Term} {path : Path} {octets : List ℕ} {node digits seen value : ℕ} → IsPathOf terms path octets → path.tip ≡ tip.Long node digits seen value → LongAt terms path octets node digits seen value
+long_at {terms = terms} {path = path} {octets = octets} {node = node} {digits = digits} {seen = seen} {value = value} s e = by_tip s.state.tip (at_tip path octets s) (subst (λ kept. TipIs path.looked kept s.state.tip) e s.holds.tip)
   where
     by_tip : (given : Tip) → AtTip terms path octets given → TipIs path.looked (tip.Long node digits seen value) given → LongAt terms path octets node digits seen value
     by_tip (Between place) a h = absurd h
@@ -146,8 +146,8 @@ long_at {terms = terms} path octets node digits seen value s e = by_tip s.state.
     }
     by_tip (InLeaf term start count present) a h = absurd h
 
-pub leaf_at : {terms : List Term} (path : Path) (octets : List ℕ) (node start end : ℕ) (value : ℤ) (unused : ℕ) → IsPathOf terms path octets → path.tip ≡ tip.Leaf node start end value unused → LeafAt terms path octets node start end value unused
-leaf_at {terms = terms} path octets node start end value unused s e = by_tip s.state.tip (at_tip path octets s) (subst (λ kept. TipIs path.looked kept s.state.tip) e s.holds.tip)
+pub leaf_at : {terms : List Term} {path : Path} {octets : List ℕ} {node start end : ℕ} {value : ℤ} {unused : ℕ} → IsPathOf terms path octets → path.tip ≡ tip.Leaf node start end value unused → LeafAt terms path octets node start end value unused
+leaf_at {terms = terms} {path = path} {octets = octets} {node = node} {start = start} {end = end} {value = value} {unused = unused} s e = by_tip s.state.tip (at_tip path octets s) (subst (λ kept. TipIs path.looked kept s.state.tip) e s.holds.tip)
   where
     by_tip : (given : Tip) → AtTip terms path octets given → TipIs path.looked (tip.Leaf node start end value unused) given → LeafAt terms path octets node start end value unused
     by_tip (Between place) a h = absurd h
@@ -164,9 +164,9 @@ leaf_at {terms = terms} path octets node start end value unused s e = by_tip s.s
 
 -- ---- length octets
 
-pub head_ends : {terms : List Term} (path : Path) (octets : List ℕ) (term : Term) (from : ℕ) (present : List ℕ) (a : AtTip terms path octets (InHead term from present)) (octet : ℕ) → path.looked ≡ from + length present →
+pub head_ends : {terms : List Term} {path : Path} {octets : List ℕ} {term : Term} {from : ℕ} {present : List ℕ} (a : AtTip terms path octets (InHead term from present)) (octet : ℕ) → path.looked ≡ from + length present →
     HeadEnds from (path.looked + 1) (limit a.stack) (head (limit a.stack - from) (present ++ octet ∷ []))
-head_ends path octets term from present a octet at =
+head_ends {path = path} {from = from} {present = present} a octet at =
     by_head (head (limit a.stack - from) (present ++ octet ∷ []))
     (head_fault_at (limit a.stack - from) present octet a.roomy.1 (subst IsPartial (sym a.reached) (tt {0})))
     (head_fits (limit a.stack - from) (present ++ octet ∷ []))
@@ -180,20 +180,20 @@ head_ends path octets term from present a octet at =
         let room : from + length present < limit a.stack = a.roomy.0 in
         (omega arith, omega arith)
 
-pub is_short : {terms : List Term} (path : Path) (octets : List ℕ) (term : Term) (from : ℕ) (present : List ℕ) (a : AtTip terms path octets (InHead term from present)) (kept : Found) (got : Head) → HeadIs kept got → HeadEnds from (path.looked + 1) (limit a.stack) got → IsShort (path.looked + 1) kept
-is_short path octets term from present a found.Partial got is ends = tt {0}
-is_short path octets term from present a (found.Refused why) got is ends = tt {0}
-is_short path octets term from present a (found.Got size) Partial is ends = absurd is
-is_short path octets term from present a (found.Got size) (Refused offset reason) is ends = absurd is
-is_short path octets term from present a (found.Got size) (Got header count) is ends =
+pub is_short : {terms : List Term} {path : Path} {octets : List ℕ} {term : Term} {from : ℕ} {present : List ℕ} (a : AtTip terms path octets (InHead term from present)) (kept : Found) (got : Head) → HeadIs kept got → HeadEnds from (path.looked + 1) (limit a.stack) got → IsShort (path.looked + 1) kept
+is_short a found.Partial got is ends = tt {0}
+is_short a (found.Refused why) got is ends = tt {0}
+is_short a (found.Got size) Partial is ends = absurd is
+is_short a (found.Got size) (Refused offset reason) is ends = absurd is
+is_short {path = path} a (found.Got size) (Got header count) is ends =
     let same : size ≡ count = is in
     let le : path.looked + 1 + count ≤ limit a.stack = ends.1 in
     let whole : limit a.stack ≤ path.size = limit_within path.size a.stack a.nested in
     let short : path.size < 2 ^ 31 = a.short in
     omega arith
 
-pub has_place : {terms : List Term} (path : Path) (octets : List ℕ) (term : Term) (from : ℕ) (present : List ℕ) → AtTip terms path octets (InHead term from present) → length path.outer.items < 13
-has_place path octets term from present a =
+pub has_place : {terms : List Term} {path : Path} {octets : List ℕ} {term : Term} {from : ℕ} {present : List ℕ} → AtTip terms path octets (InHead term from present) → length path.outer.items < 13
+has_place {path = path} a =
     let size : length a.stack ≡ suc (length path.outer.items) = open_length path.inner path.outer.items a.stack a.containers in
     let deep : length a.stack + 1 ≤ 14 = a.deep in
     omega arith
@@ -294,8 +294,8 @@ pub record LeafReady (path : Path) (node start end : ℕ) (value : ℤ) (unused 
   pub small : IsSmall value
   pub few : unused < 8
 
-pub leaf_ready : {terms : List Term} (path : Path) (octets : List ℕ) (node start end : ℕ) (value : ℤ) (unused : ℕ) (given : Form) → IsFormOf nodes given (term_at node) → LeafAt terms path octets node start end value unused → LeafReady path node start end value unused
-leaf_ready path octets node start end value unused given are leaf =
+pub leaf_ready : {terms : List Term} {path : Path} {octets : List ℕ} {node start end : ℕ} {value : ℤ} {unused : ℕ} {given : Form} → IsFormOf nodes given (term_at node) → LeafAt terms path octets node start end value unused → LeafReady path node start end value unused
+leaf_ready {path = path} {node = node} {end = end} {start = start} {value = value} {unused = unused} {given = given} are leaf =
     let room : start + leaf.count ≤ limit leaf.at.stack = leaf.at.roomy.0 in
     let lt : length leaf.present < leaf.count = leaf.at.roomy.1 in
     let whole : limit leaf.at.stack ≤ path.size = limit_within path.size leaf.at.stack leaf.at.nested in
@@ -310,8 +310,8 @@ leaf_ready path octets node start end value unused given are leaf =
       few = unused_few (term_at node) leaf.count value unused leaf.present leaf.keeps leaf.at.reached.1;
     }
 
-pub leaf_reads : {terms : List Term} (path : Path) (octets : List ℕ) (node start end : ℕ) (value : ℤ) (unused : ℕ) (leaf : LeafAt terms path octets node start end value unused) → LeafReads (term_at node) (end - start) value unused leaf.present
-leaf_reads path octets node start end value unused leaf =
+pub leaf_reads : {terms : List Term} {path : Path} {octets : List ℕ} {node start end : ℕ} {value : ℤ} {unused : ℕ} (leaf : LeafAt terms path octets node start end value unused) → LeafReads (term_at node) (end - start) value unused leaf.present
+leaf_reads {node = node} {start = start} {end = end} leaf =
     let same : leaf.count ≡ end - start = omega (arith, leaf.ends) in
     record { are_octets = leaf.at.are_octets; open_still = subst (λ count. leaf_outcome (term_at node) count leaf.present ≡ OpenOutcome) same leaf.at.reached.1; keeps = leaf.keeps }
 

@@ -31,17 +31,6 @@ none_begins old new octet decided stack marks h none is kept =
     (subst (λ given. IsStep old new decided (picked given i.container.end i.others marks old.looked octet)) (sym none ∙ ap (pick octet) i.is.expected)
     (subst (λ v. IsStep old new v (scan.Refusing old.looked why.Tag)) (sym is) (record { steps = (refl, refl, kept) })))
 
--- an item without room for its length
-pub overrun_begins : (old new : Path) (octet : ℕ) (picked_is : Picked) (decided : Verdict) (stack : List Container) (marks : List Marked) → AreOpen old.inner old.outer.items stack → IsItem picked_is (pick octet (expected_of old.inner.expected)) → old.looked + 1 ≡ old.inner.end → decided ≡ verdict.Refused (record { place = old.looked; why = why.Overrun }) → IsUnchanged old new →
-    IsStep old new decided (step_between stack marks old.looked octet)
-overrun_begins old new octet picked_is decided stack marks h p room is kept =
-    let i : Innermost old.inner old.outer.items stack = innermost old.inner old.outer.items stack h in
-    let test : (i.container.end - old.looked == 1) ≡ true = eq-eqb (i.container.end - old.looked) 1 (omega (arith, i.is.end)) in
-    subst (λ all. IsStep old new decided (step_between all marks old.looked octet)) (sym i.same)
-    (subst (λ given. IsStep old new decided (picked given i.container.end i.others marks old.looked octet)) (sym p.is ∙ ap (pick octet) i.is.expected)
-    (subst (λ b. IsStep old new decided (when b (λ _. scan.Refusing old.looked why.Overrun) (λ _. scan.Ongoing (state_of marks (container_of i.container.end (expected_of picked_is.left) ∷ i.others) (scan.InHead (term_at picked_is.node) old.looked (octet ∷ [])))))) (sym test)
-    (subst (λ v. IsStep old new v (scan.Refusing old.looked why.Overrun)) (sym is) (record { steps = (refl, refl, kept) }))))
-
 -- an item begins
 pub some_begins : (old new : Path) (octet : ℕ) (picked_is : Picked) (stack : List Container) (marks : List Marked) → AreOpen old.inner old.outer.items stack → IsItem picked_is (pick octet (expected_of old.inner.expected)) → (old.looked + 1 ≡ old.inner.end → ⊥) →
     new.tip ≡ tip.Tagged picked_is.node → new.inner ≡ record { end = old.inner.end; expected = picked_is.left } → new.outer.items ≡ old.outer.items → IsStep old new verdict.Open (step_between stack marks old.looked octet)
@@ -78,14 +67,3 @@ headed_whole old new result size term stack marks (Got header count) from octets
     let test : (sole_in stack && nat_lt (header + count) (limit stack - from)) ≡ false = not_loose (sole_in stack) from header count (old.looked + 1) (limit stack) at ends.1 (λ sole. let le : limit stack ≤ old.looked + 1 + size = full sole in omega arith) in
     subst (λ b. IsStep old new result (when b (λ _. scan.Refusing (from + header - 1) why.Loose) (λ _. sized term (from + header) count stack marks))) (sym test)
     (subst (λ start. IsStep old new result (sized term start count stack marks)) (sym at) (subst (λ n. IsStep old new result (sized term (old.looked + 1) n stack marks)) same h))
-
-pub headed_loose : (old new : Path) (decided : Verdict) (size : ℕ) (term : Term) (stack : List Container) (marks : List Marked) (got : Head) (from : ℕ) (octets : List ℕ) → HeadIs (found.Got size) got → HeadEnds from (old.looked + 1) (limit stack) got → sole_in stack ≡ true → old.looked + 1 + size < limit stack →
-    decided ≡ verdict.Refused (record { place = old.looked; why = why.Loose }) → IsUnchanged old new → IsStep old new decided (headed got term stack marks from octets)
-headed_loose old new decided size term stack marks Partial from octets is ends sole lt refused kept = absurd is
-headed_loose old new decided size term stack marks (Refused offset reason) from octets is ends sole lt refused kept = absurd is
-headed_loose old new decided size term stack marks (Got header count) from octets is ends sole lt refused kept =
-    let same : size ≡ count = is in
-    let at : from + header ≡ old.looked + 1 = ends.0 in
-    let test : (sole_in stack && nat_lt (header + count) (limit stack - from)) ≡ true = ap (λ b. b && nat_lt (header + count) (limit stack - from)) sole ∙ lt-ltb (header + count) (limit stack - from) (omega arith) in
-    subst (λ b. IsStep old new decided (when b (λ _. scan.Refusing (from + header - 1) why.Loose) (λ _. sized term (from + header) count stack marks))) (sym test)
-    (subst (λ v. IsStep old new v (scan.Refusing (from + header - 1) why.Loose)) (sym refused) (record { steps = (omega arith, refl, kept) }))

@@ -18,27 +18,3 @@ run_append state (octet ∷ octets) more =
 pub scan_append : (terms : List Term) (n : ℕ) (octets more : List ℕ) → 0 < n → scan terms n (octets ++ more) ≡ go_on (scan terms n octets) (λ state. run state more)
 scan_append terms n octets more some =
     run_scan terms n (octets ++ more) some ∙ run_append (initial terms n) octets more ∙ ap (λ given. go_on given (λ state. run state more)) (sym (run_scan terms n octets some))
-
--- A refusal stays with more octets.
-pub refusal_stays : (terms : List Term) (n : ℕ) (octets more : List ℕ) (place : ℕ) (reason : Why) → 0 < n → scan terms n octets ≡ Refusing place reason → scan terms n (octets ++ more) ≡ Refusing place reason
-refusal_stays terms n octets more place reason some h = scan_append terms n octets more some ∙ ap (λ given. go_on given (λ state. run state more)) h
-
-abbrev pub IsOngoing : Answer → Type 0
-IsOngoing (Ongoing state) = Unit {0}
-IsOngoing (Refusing place reason) = ⊥
-IsOngoing (Whole marks) = ⊥
-
--- The octets before a refused one are open.
-pub open_before : (terms : List Term) (n : ℕ) (octets : List ℕ) (place : ℕ) (reason : Why) → 0 < n → scan terms n octets ≡ Refusing place reason → IsOngoing (scan terms n (take place octets))
-open_before terms n octets place reason some h = by_answer (scan terms n (take place octets)) (scan_placed terms n (take place octets) some) later
-  where
-    later : Refusing place reason ≡ go_on (scan terms n (take place octets)) (λ state. run state (drop place octets))
-    later = sym h ∙ ap (scan terms n) (sym (take-append-drop place octets)) ∙ scan_append terms n (take place octets) (drop place octets) some
-
-    by_answer : (given : Answer) → Placed (length (take place octets)) given → Refusing place reason ≡ go_on given (λ state. run state (drop place octets)) → IsOngoing given
-    by_answer (Ongoing state) p e = tt {0}
-    by_answer (Refusing other because) p e =
-        let same : place ≡ other = cc e in
-        let below : other < length (take place octets) = p in
-        absurd (omega (arith, length-take place octets))
-    by_answer (Whole marks) p e = absurd (cc e)

@@ -46,7 +46,7 @@ passed path count = record path { looked = path.looked + count }
 pub run_goes : {terms : List Term} (path : Path) (octets : List ℕ) (node start end : ℕ) (value : ℤ) (unused count : ℕ) (given : List ℕ) → IsPathOf terms path octets → path.tip ≡ tip.Leaf node start end value unused → is_string (term_at node) ≡ true →
     count ≡ min (length given) (end - 1 - path.looked) → AreOctets (take count given) → IsPathOf terms (passed path count) (octets ++ take count given)
 run_goes {terms = terms} path octets node start end value unused count given s e string is are =
-    let leaf : LeafAt terms path octets node start end value unused = leaf_at path octets node start end value unused s e in
+    let leaf : LeafAt terms path octets node start end value unused = leaf_at s e in
     let chunk : List ℕ = take count given in
     let size : length (take count given) ≡ count = omega (arith, length-take count given) in
     let lt : length leaf.present < leaf.count = leaf.at.roomy.1 in
@@ -105,30 +105,10 @@ pub some_run : (old new : Path) (decided : Verdict) (count : ℕ) (given : List 
 some_run old new decided count given r still size goes =
     ∥∥₁_map r (λ (k : (octets : List ℕ) × (terms : List Term) × IsScanOf terms old decided old.size octets). (k.0 ++ take count given, k.1, subst (λ n. IsScanOf k.1 new decided n (k.0 ++ take count given)) (sym size) (run_at old new decided old.size count k.0 given k.2 still size (goes k.1))))
 
--- how far an open string reaches
-pub leaf_left : {terms : List Term} (path : Path) (octets : List ℕ) (node start end : ℕ) (value : ℤ) (unused : ℕ) → IsPathOf terms path octets → path.tip ≡ tip.Leaf node start end value unused → string_left terms path.size octets ≡ (if is_string (term_at node) then end - 1 - path.looked else 0)
-leaf_left {terms = terms} path octets node start end value unused s e =
-    let leaf : LeafAt terms path octets node start end value unused = leaf_at path octets node start end value unused s e in
-    let same : leaf.count - 1 - length leaf.present ≡ end - 1 - path.looked = omega (arith, leaf.ends, leaf.looked) in
-    ap left_of leaf.at.reads ∙ ap (λ k. if is_string (term_at node) then k else 0) same
-
-pub leaf_some : {terms : List Term} (path : Path) (octets : List ℕ) (node start end : ℕ) (value : ℤ) (unused : ℕ) → IsPathOf terms path octets → path.tip ≡ tip.Leaf node start end value unused → path.looked < end
-leaf_some {terms = terms} path octets node start end value unused s e =
-    let leaf : LeafAt terms path octets node start end value unused = leaf_at path octets node start end value unused s e in
+pub leaf_some : {terms : List Term} {path : Path} {octets : List ℕ} {node start end : ℕ} {value : ℤ} {unused : ℕ} → LeafAt terms path octets node start end value unused → path.looked < end
+leaf_some leaf =
     let lt : length leaf.present < leaf.count = leaf.at.roomy.1 in
     omega (arith, leaf.looked, leaf.ends)
-
--- no string is open if no leaf is
-pub none_open : {terms : List Term} (path : Path) (octets : List ℕ) → IsPathOf terms path octets → ((node start end : ℕ) (value : ℤ) (unused : ℕ) → path.tip ≡ tip.Leaf node start end value unused → ⊥) → string_left terms path.size octets ≡ 0
-none_open path octets s not = ap left_of s.reads ∙ by_tips path.tip s.state.tip refl s.holds.tip
-  where
-    by_tips : (a : Kept) (b : scan.Tip) → path.tip ≡ a → TipIs path.looked a b → left_at b ≡ 0
-    by_tips a (scan.Between place) e h = refl
-    by_tips a (scan.InHead term from octets) e h = refl
-    by_tips tip.Between (scan.InLeaf term start count octets) e h = absurd h
-    by_tips (tip.Tagged node) (scan.InLeaf term start count octets) e h = absurd h
-    by_tips (tip.Long node digits seen value) (scan.InLeaf term start count octets) e h = absurd h
-    by_tips (tip.Leaf node start end value unused) (scan.InLeaf term begin count octets) e h = absurd (not node start end value unused e)
 
 -- octets inside an open string change no mark
 pub run_marks : (profile : Profile) (n : ℕ) (before chunk : List ℕ) → 0 < n → AreOctets before → AreOctets chunk → length chunk ≤ string_left (messages profile) n before → Marks profile n (before ++ chunk) ≡ Marks profile n before

@@ -10,11 +10,6 @@ use Rattle.krb_msg.specs.Judgement.{Outcome, Open, Bad, Done, Head, Partial, Ref
 use Rattle.krb_msg.proofs.TermsStable.{positive_from_size_bits}
 use Rattle.krb_scan.specs.Scan.{leaf_outcome}
 
-abbrev pub IsDecided : Head → Type 0
-IsDecided Partial = ⊥
-IsDecided (Refused offset reason) = Unit {0}
-IsDecided (Got header count) = Unit {0}
-
 -- the same header, unless it is partial
 abbrev pub SameOnce : Head → Head → Type 0
 SameOnce Partial later = Unit {0}
@@ -29,9 +24,6 @@ same_once (Got header count) = refl
 same_once_if : (b : Bool) (x y x' y' : Head) → SameOnce x x' → SameOnce y y' → SameOnce (if b then x else y) (if b then x' else y')
 same_once_if true x y x' y' p q = p
 same_once_if false x y x' y' p q = q
-
-same_along : (now later later' : Head) → later ≡ later' → SameOnce now later' → SameOnce now later
-same_along now later later' e h = rw e h
 
 long_tail : (room k : ℕ) (octets more : List ℕ) →
     SameOnce (if nat_lt (length octets) k then Partial else fitting room (2 + k) (number (take k octets)))

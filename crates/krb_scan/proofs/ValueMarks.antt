@@ -282,12 +282,6 @@ end_past end outer marks place room rest r e =
     ∙ ap (λ there. Past (marks ++ []) there rest) (omega arith)
 
 -- ---- every term
--- the outcome of the contents of a leaf
-leaf_read : (term : Term) (octets : List ℕ) (count : ℕ) → leaf_outcome term (length octets) octets ≡ Done count → leaf_value term octets ≡ pos 0 → (start : ℕ) (stack : List Container) (marks : List Mark) (rest : List ℕ) →
-    scan_leaf term start (length octets) stack marks (octets ++ rest) ≡ Past (marks ++ mark_of term start (length octets) (pos 0) ∷ []) (start + length octets) rest
-leaf_read term octets count done none start stack marks rest =
-    leaf_past term octets count done start stack marks rest ∙ ap (λ number. Past (marks ++ mark_of term start (length octets) number ∷ []) (start + length octets) rest) none
-
 -- a container's mark comes before those of the items in it
 own_first : (marks inner : List Mark) (term : Term) (start count end : ℕ) (rest : List ℕ) → Past (with_mark marks term start count ++ inner) end rest ≡ Past (marks ++ mark_of term start count (pos 0) ∷ inner) end rest
 own_first marks inner term start count end rest = ap (λ all. Past all end rest) (append_assoc marks (mark_of term start count (pos 0) ∷ []) inner)
