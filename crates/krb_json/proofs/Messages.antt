@@ -53,16 +53,12 @@ option-same f g h same (Some a) = ap Some (same a)
 
 mutual
   json-narrowed : (optional : Bool) (term : Term) (names : Names) (value : Value term) → json (narrowed optional term) names (narrowed_value optional term value) ≡ json term names value
-  json-narrowed optional (Integer low high) names value = refl
-  json-narrowed optional (Text greatest) names value = refl
-  json-narrowed optional Octets names value = refl
-  json-narrowed optional Time names value = refl
-  json-narrowed optional (Bits least) names value = refl
   json-narrowed optional (Sequence fields) names values = ap object (members-narrowed fields names 0 values)
   json-narrowed optional (SequenceOf empty term) names values =
       ap (λ js. Rattle.json.specs.Json.array (items_of js)) (map-same (narrowed_value false term) (json (narrowed false term) names) (json term names) (json-narrowed false term names) values)
   json-narrowed optional (Tagged index term) names value = json-narrowed optional term names value
   json-narrowed optional (Application tag term) names value = json-narrowed false term names value
+  json-narrowed optional other names value = refl
 
   members-narrowed : (fields : Fields) (names : Names) (index : ℕ) (values : Values fields) → members_of (narrowed_fields fields) names index (narrowed_values fields values) ≡ members_of fields names index values
   members-narrowed End names index values = refl

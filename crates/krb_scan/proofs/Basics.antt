@@ -46,9 +46,8 @@ at_least_then low middle (Fault place reason) next h k = fault_at low
 at_least_then low middle (Past marks place rest) next h k = k marks place rest h.is_from
 
 pub then_same : (low : ℕ) (seen : PartScan) (f g : List Mark → ℕ → List ℕ → PartScan) → AtLeast low seen → ((marks : List Mark) (place : ℕ) (rest : List ℕ) → low ≤ place → f marks place rest ≡ g marks place rest) → scan_then seen f ≡ scan_then seen g
-then_same low (Within state) f g h e = refl
-then_same low (Fault place reason) f g h e = refl
 then_same low (Past marks place rest) f g h e = e marks place rest h.is_from
+then_same low other f g h e = refl
 
 pub then_assoc : (seen : PartScan) (f g : List Mark → ℕ → List ℕ → PartScan) → scan_then (scan_then seen f) g ≡ scan_then seen (λ marks place rest. scan_then (f marks place rest) g)
 then_assoc (Within state) f g = refl

@@ -37,16 +37,14 @@ whole old new marks given is done = subst (IsStep old new verdict.Whole) (sym is
 pub leaf_stays : (old new : Path) (inner : Open) (left : ℕ) (stack : List Container) (marks : List Marked) (outcome : Outcome) (term : Term) (start size : ℕ) (octets : List ℕ) → LeafIs leaf.Done outcome → LeafEnds start size (old.looked + 1) outcome →
     ((all : List Marked) → ClosedIs old.outer.items all (old.looked + 1) (closed.Stays inner left) (settle stack all (old.looked + 1))) → new ≡ record old { inner = inner; outer = record { items = take left old.outer.items }; tip = tip.Between } →
     IsStep old new verdict.Open (leafed outcome term start size stack marks octets)
-leaf_stays old new inner left stack marks OpenOutcome term start size octets is ends closes done = absurd is
-leaf_stays old new inner left stack marks (Bad offset reason) term start size octets is ends closes done = absurd is
 leaf_stays old new inner left stack marks (Done total) term start size octets is ends closes done =
     let all : List Marked = marks ++ mark_of term start size (leaf_value term octets) ∷ [] in
     subst (IsStep old new verdict.Open) (sym (ap (settle stack all) ends)) (stays old new inner left all (settle stack all (old.looked + 1)) (closes all) done)
+leaf_stays old new inner left stack marks other term start size octets is ends closes done = absurd is
 
 pub leaf_whole : (old new : Path) (stack : List Container) (marks : List Marked) (outcome : Outcome) (term : Term) (start size : ℕ) (octets : List ℕ) → LeafIs leaf.Done outcome → LeafEnds start size (old.looked + 1) outcome →
     ((all : List Marked) → ClosedIs old.outer.items all (old.looked + 1) closed.Whole (settle stack all (old.looked + 1))) → new ≡ record old { outer = record { items = [] }; tip = tip.Between } → IsStep old new verdict.Whole (leafed outcome term start size stack marks octets)
-leaf_whole old new stack marks OpenOutcome term start size octets is ends closes done = absurd is
-leaf_whole old new stack marks (Bad offset reason) term start size octets is ends closes done = absurd is
 leaf_whole old new stack marks (Done total) term start size octets is ends closes done =
     let all : List Marked = marks ++ mark_of term start size (leaf_value term octets) ∷ [] in
     subst (IsStep old new verdict.Whole) (sym (ap (settle stack all) ends)) (whole old new all (settle stack all (old.looked + 1)) (closes all) done)
+leaf_whole old new stack marks other term start size octets is ends closes done = absurd is

@@ -27,9 +27,8 @@ HasMarks marks (Whole all) = all ≡ marks
 HasMarks marks (Refusing place reason) = Unit {0}
 
 changes_to : (e : Event) (before after : List Mark) (given : Answer) → HasMarks after given → Changes e before after → ChangesTo e before given
-changes_to e before after (Ongoing state) h c = subst (Changes e before) (sym h) c
-changes_to e before after (Whole marks) h c = subst (Changes e before) (sym h) c
 changes_to e before after (Refusing place reason) h c = tt {0}
+changes_to e before after other h c = subst (Changes e before) (sym h) c
 
 -- by the tip of a path
 changes_at : {terms : List Term} {path : Path} {octets : List ℕ} {given : Tip} (a : AtTip terms path octets given) (octet : ℕ) (e : Event) (after : List Mark) → HasMarks after (step_at given a.stack a.marks octet) → Changes e (marks_at given a.marks) after →
@@ -70,14 +69,7 @@ IsOf header count (Got other size) = (other ≡ header) × (size ≡ count)
 
 none_value : (term : Term) → leaf_value term [] ≡ pos 0
 none_value (Integer low high) = refl
-none_value (Text greatest) = refl
-none_value Octets = refl
-none_value Time = refl
-none_value (Bits least) = refl
-none_value (Sequence fields) = refl
-none_value (SequenceOf empty term) = refl
-none_value (Tagged index term) = refl
-none_value (Application number term) = refl
+none_value other = refl
 
 first_marks : (outcome : Outcome) (term : Term) (start count : ℕ) (stack : List Container) (marks : List Mark) → HasMarks (with_mark marks term start count) (leafed outcome term start count stack marks [])
 first_marks Open term start count stack marks = refl
@@ -89,15 +81,11 @@ opened_marks : (term : Term) (expected : Expected) (start count : ℕ) (stack : 
 opened_marks term expected start count stack marks = settle_marks (container_of (start + count) expected ∷ stack) (with_mark marks term start count) start
 
 enter_marks : (term : Term) (start count : ℕ) (stack : List Container) (marks : List Mark) → HasMarks (with_mark marks term start count) (enter term start count stack marks)
-enter_marks (Integer low high) start count stack marks = first_marks (leaf_outcome (Integer low high) count []) (Integer low high) start count stack marks
-enter_marks (Text greatest) start count stack marks = first_marks (leaf_outcome (Text greatest) count []) (Text greatest) start count stack marks
-enter_marks Octets start count stack marks = first_marks (leaf_outcome Octets count []) Octets start count stack marks
-enter_marks Time start count stack marks = first_marks (leaf_outcome Time count []) Time start count stack marks
-enter_marks (Bits least) start count stack marks = first_marks (leaf_outcome (Bits least) count []) (Bits least) start count stack marks
 enter_marks (Sequence fields) start count stack marks = opened_marks (Sequence fields) (Listed fields) start count stack marks
 enter_marks (SequenceOf empty term) start count stack marks = opened_marks (SequenceOf empty term) (Each term) start count stack marks
 enter_marks (Tagged index term) start count stack marks = opened_marks (Tagged index term) (OneOf (term ∷ [])) start count stack marks
 enter_marks (Application number term) start count stack marks = opened_marks (Application number term) (OneOf (term ∷ [])) start count stack marks
+enter_marks other start count stack marks = first_marks (leaf_outcome other count []) other start count stack marks
 
 none_marks : (got : Head) (term : Term) (stack : List Container) (marks : List Mark) (from : ℕ) (octets : List ℕ) → IsNone got → HasMarks marks (headed got term stack marks from octets)
 none_marks Partial term stack marks from octets h = refl
@@ -115,9 +103,8 @@ got_marks (Got other count) header size start term stack marks from octets e h =
     (when_holds (HasMarks (with_mark marks term (from + other) count)) (has_size term count) _ _ (enter_marks term (from + other) count stack marks) (tt {0}))))
 
 length_changes : (e : Event) (term : Term) (start count : ℕ) (before : List Mark) → IsLengthOf e term start count → Changes e before (with_mark before term start count)
-length_changes event.None term start count before h = absurd h
 length_changes (event.Length mark) term start count before h = (h.known, ap (λ m. before ++ m ∷ []) (sym h.is))
-length_changes (event.Number value) term start count before h = absurd h
+length_changes other term start count before h = absurd h
 
 fitting_is : (room header size : ℕ) → IsOf header size (fitting room header size)
 fitting_is room header size = by_fit (nat_lt room (header + size))
@@ -195,14 +182,7 @@ done_marks (Done total) term start count seen stack marks octets k le = settle_m
 
 number_is : (term : Term) (value : ℤ) (unused octet : ℕ) (octets : List ℕ) → KeepsOf term value unused octets → octet < 256 → number_with term (length octets) value octet ≡ leaf_value term (octets ++ octet ∷ [])
 number_is (Integer low high) value unused octet octets h small = ap (λ v. extended (length octets) v octet) h.0 ∙ sym (value_push octets octet small)
-number_is (Text greatest) value unused octet octets h small = refl
-number_is Octets value unused octet octets h small = refl
-number_is Time value unused octet octets h small = refl
-number_is (Bits least) value unused octet octets h small = refl
-number_is (Sequence fields) value unused octet octets h small = refl
-number_is (SequenceOf empty term) value unused octet octets h small = refl
-number_is (Tagged index term) value unused octet octets h small = refl
-number_is (Application number term) value unused octet octets h small = refl
+number_is other value unused octet octets h small = refl
 
 leaf_after : {terms : List Term} {path : Path} {octets : List ℕ} {node start end : ℕ} {value : ℤ} {unused : ℕ} (octet : ℕ) (l : LeafAt terms path octets node start end value unused) → Counts l.count (length l.present + 1) (leaf_outcome (term_at node) l.count (l.present ++ octet ∷ []))
 leaf_after {node = node} octet l = subst (λ k. Counts l.count k (leaf_outcome (term_at node) l.count (l.present ++ octet ∷ []))) (length_push l.present octet) (leaf_counts (term_at node) l.count (l.present ++ octet ∷ []) l.at.reached.0)

@@ -88,15 +88,11 @@ opened_placed : (before : ℕ) (term : Term) (expected : Expected) (start count 
 opened_placed before term expected start count stack marks e m = settle_placed before (container_of (start + count) expected ∷ stack) (with_mark marks term start count) start e (omega (arith, mark_more marks (mark_of term start count (pos 0))))
 
 enter_placed : (before : ℕ) (term : Term) (start count : ℕ) (stack : List Container) (marks : List Mark) → has_size term count ≡ true → start ≡ before + 1 → 2 * (length marks + 1) ≤ start → IsPlaced before (enter term start count stack marks)
-enter_placed before (Integer low high) start count stack marks size e m = in_leaf_placed before (Integer low high) start count stack marks size e m
-enter_placed before (Text greatest) start count stack marks size e m = in_leaf_placed before (Text greatest) start count stack marks size e m
-enter_placed before Octets start count stack marks size e m = in_leaf_placed before Octets start count stack marks size e m
-enter_placed before Time start count stack marks size e m = in_leaf_placed before Time start count stack marks size e m
-enter_placed before (Bits least) start count stack marks size e m = in_leaf_placed before (Bits least) start count stack marks size e m
 enter_placed before (Sequence fields) start count stack marks size e m = opened_placed before (Sequence fields) (Listed fields) start count stack marks e m
 enter_placed before (SequenceOf empty term) start count stack marks size e m = opened_placed before (SequenceOf empty term) (Each term) start count stack marks e m
 enter_placed before (Tagged index term) start count stack marks size e m = opened_placed before (Tagged index term) (OneOf (term ∷ [])) start count stack marks e m
 enter_placed before (Application number term) start count stack marks size e m = opened_placed before (Application number term) (OneOf (term ∷ [])) start count stack marks e m
+enter_placed before other start count stack marks size e m = in_leaf_placed before other start count stack marks size e m
 
 -- a header with an octet more
 headed_placed : (before present : ℕ) (got : Head) (term : Term) (stack : List Container) (marks : List Mark) (from : ℕ) (octets : List ℕ) → from + present ≡ before → 0 < present → length octets ≡ present + 1 → 2 * length marks ≤ from → IsHeadFaultAt present got →

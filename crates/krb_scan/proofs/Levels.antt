@@ -16,14 +16,7 @@ use Rattle.krb_scan.proofs.Basics.{when_holds}
 
 depth_some : (term : Term) → 1 ≤ depth term
 depth_some (Integer low high) = omega arith
-depth_some (Text greatest) = omega arith
-depth_some Octets = omega arith
-depth_some Time = omega arith
-depth_some (Bits least) = omega arith
-depth_some (Sequence fields) = omega arith
-depth_some (SequenceOf empty term) = omega arith
-depth_some (Tagged index term) = omega arith
-depth_some (Application number term) = omega arith
+depth_some other = omega arith
 
 -- the lengths that are open, and one that is being read
 abbrev pub levels_at : Tip → ℕ → ℕ
@@ -113,11 +106,6 @@ each_deep levels some contents reads term (suc bound) end outer marks place (suc
 
 mutual
   pub contents_deep : (term : Term) (start count : ℕ) (stack : List Container) (marks : List Mark) (octets : List ℕ) (most : ℕ) → length stack + depth term ≤ most → IsNoDeeper most (scan_contents term start count stack marks octets)
-  contents_deep (Integer low high) start count stack marks octets most le = leaf_deep (Integer low high) start count stack marks octets most le
-  contents_deep (Text greatest) start count stack marks octets most le = leaf_deep (Text greatest) start count stack marks octets most le
-  contents_deep Octets start count stack marks octets most le = leaf_deep Octets start count stack marks octets most le
-  contents_deep Time start count stack marks octets most le = leaf_deep Time start count stack marks octets most le
-  contents_deep (Bits least) start count stack marks octets most le = leaf_deep (Bits least) start count stack marks octets most le
   contents_deep (Sequence fields) start count stack marks octets most le = fields_deep fields (start + count) stack (with_mark marks (Sequence fields) start count) start count octets most (omega arith)
   contents_deep (SequenceOf empty term) start count stack marks octets most le =
       each_deep (depth term) (depth_some term) (scan_contents term) (contents_deep term) term count (start + count) stack (with_mark marks (SequenceOf empty term) start count) start count octets most (omega arith)
@@ -127,6 +115,7 @@ mutual
   contents_deep (Application number term) start count stack marks octets most le =
       required_deep (depth term) (depth_some term) (scan_contents term) (contents_deep term) term _ _ (start + count) stack (with_mark marks (Application number term) start count) start count octets _ most (omega arith)
       (λ marks_then there rest. ended_deep (OneOf []) (start + count) stack marks_then there (start + count - there) rest most (omega arith))
+  contents_deep other start count stack marks octets most le = leaf_deep other start count stack marks octets most le
 
   fields_deep : (fields : Fields) (end : ℕ) (outer : List Container) (marks : List Mark) (place room : ℕ) (octets : List ℕ) (most : ℕ) → length outer + 1 + depth_of_fields fields ≤ most → IsNoDeeper most (scan_fields fields end outer marks place room octets)
   fields_deep End end outer marks place room octets most le = ended_deep (Listed End) end outer marks place room octets most (omega arith)

@@ -71,9 +71,8 @@ event_marks {terms = terms} machine e n octets octet decided at still is not c =
     changed_marks terms e n octets octet (marks_by terms n octets) c (λ place reason f. not (record { place = place; why = reason }) (is ∙ judged terms n (octets ++ octet ∷ []) (Refusing place reason) at.some (longer machine n octets octet at still) f))
 
 pub length_more : (e : Event) (before after : List Marked) → IsLength e → Changes e before after → length after ≡ length before + 1
-length_more event.None before after h c = absurd h
 length_more (event.Length mark) before after h c = omega (arith, ap length c.1, length-append before (mark_value mark ∷ []))
-length_more (event.Number value) before after h c = absurd h
+length_more other before after h c = absurd h
 
 pub err_holds : {A E P : Type 0} (result : Result A E) → P → OnErr result P
 err_holds (Ok value) p = tt {0}

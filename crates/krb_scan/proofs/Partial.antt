@@ -39,15 +39,11 @@ leafed_octets (Bad offset reason) term start count stack marks octets a = refusi
 leafed_octets (Done total) term start count stack marks octets a = settle_octets stack _ (start + count)
 
 enter_octets : (term : Term) (start count : ℕ) (stack : List Container) (marks : List Mark) → KeepsOctets (enter term start count stack marks)
-enter_octets (Integer low high) start count stack marks = leafed_octets (leaf_outcome (Integer low high) count []) (Integer low high) start count stack marks [] (tt {0})
-enter_octets (Text greatest) start count stack marks = leafed_octets (leaf_outcome (Text greatest) count []) (Text greatest) start count stack marks [] (tt {0})
-enter_octets Octets start count stack marks = leafed_octets (leaf_outcome Octets count []) Octets start count stack marks [] (tt {0})
-enter_octets Time start count stack marks = leafed_octets (leaf_outcome Time count []) Time start count stack marks [] (tt {0})
-enter_octets (Bits least) start count stack marks = leafed_octets (leaf_outcome (Bits least) count []) (Bits least) start count stack marks [] (tt {0})
 enter_octets (Sequence fields) start count stack marks = settle_octets (container_of (start + count) (Listed fields) ∷ stack) (with_mark marks (Sequence fields) start count) start
 enter_octets (SequenceOf empty term) start count stack marks = settle_octets (container_of (start + count) (Each term) ∷ stack) (with_mark marks (SequenceOf empty term) start count) start
 enter_octets (Tagged index term) start count stack marks = settle_octets (container_of (start + count) (OneOf (term ∷ [])) ∷ stack) (with_mark marks (Tagged index term) start count) start
 enter_octets (Application number term) start count stack marks = settle_octets (container_of (start + count) (OneOf (term ∷ [])) ∷ stack) (with_mark marks (Application number term) start count) start
+enter_octets other start count stack marks = leafed_octets (leaf_outcome other count []) other start count stack marks [] (tt {0})
 
 headed_octets : (got : Head) (term : Term) (stack : List Container) (marks : List Mark) (from : ℕ) (octets : List ℕ) → AreOctets octets → KeepsOctets (headed got term stack marks from octets)
 headed_octets Partial term stack marks from octets a = record { keeps = a }

@@ -241,27 +241,14 @@ none_small value e = subst IsSmall (sym e) (omega (arith, ints), omega (arith, i
 
 narrow : (given : Form) (low high : ℤ) → IsFormOf nodes given (Integer low high) → max (length (integer_octets low)) (length (integer_octets high)) ≤ 5
 narrow (form.Integer from to widest) low high h = omega (arith, h.2, h.3)
-narrow (form.Text most) low high h = absurd h
-narrow form.Octets low high h = absurd h
-narrow form.Time low high h = absurd h
-narrow (form.Bits few) low high h = absurd h
-narrow (form.Items node none) low high h = absurd h
-narrow (form.Item node) low high h = absurd h
-narrow (form.Fields slots) low high h = absurd h
+narrow other low high h = absurd h
 
 value_small : (given : Form) (term : Term) (count : ℕ) (value : ℤ) (unused : ℕ) (present : List ℕ) → IsFormOf nodes given term → has_size term count ≡ true → KeepsOf term value unused present → AreOctets present → length present < count → IsSmall value
 value_small given (Integer low high) count value unused present is size keeps a lt =
     let le : count ≤ max (length (integer_octets low)) (length (integer_octets high)) = leb-true count (max (length (integer_octets low)) (length (integer_octets high))) (and_parts (nat_lt 0 count) (nat_le count (max (length (integer_octets low)) (length (integer_octets high)))) size).1 in
     let five : max (length (integer_octets low)) (length (integer_octets high)) ≤ 5 = narrow given low high is in
     subst IsSmall (sym keeps.0) (small_integer present a (omega arith))
-value_small given (Text greatest) count value unused present is size keeps a lt = none_small value keeps.0
-value_small given Octets count value unused present is size keeps a lt = none_small value keeps.0
-value_small given Time count value unused present is size keeps a lt = none_small value keeps.0
-value_small given (Bits least) count value unused present is size keeps a lt = none_small value keeps.0
-value_small given (Sequence fields) count value unused present is size keeps a lt = none_small value keeps.0
-value_small given (SequenceOf empty term) count value unused present is size keeps a lt = none_small value keeps.0
-value_small given (Tagged index term) count value unused present is size keeps a lt = none_small value keeps.0
-value_small given (Application number_of term) count value unused present is size keeps a lt = none_small value keeps.0
+value_small given other count value unused present is size keeps a lt = none_small value keeps.0
 
 either_false : (a b : Bool) → (a || b) ≡ false → a ≡ false
 either_false true b e = e
@@ -274,15 +261,8 @@ bits_few least count unused (first ∷ present) e h =
     omega arith
 
 unused_few : (term : Term) (count : ℕ) (value : ℤ) (unused : ℕ) (present : List ℕ) → KeepsOf term value unused present → leaf_outcome term count present ≡ OpenOutcome → unused < 8
-unused_few (Integer low high) count value unused present keeps h = omega (arith, keeps.1)
-unused_few (Text greatest) count value unused present keeps h = omega (arith, keeps.1)
-unused_few Octets count value unused present keeps h = omega (arith, keeps.1)
-unused_few Time count value unused present keeps h = omega (arith, keeps.1)
 unused_few (Bits least) count value unused present keeps h = bits_few least count unused present keeps.1 h
-unused_few (Sequence fields) count value unused present keeps h = omega (arith, keeps.1)
-unused_few (SequenceOf empty term) count value unused present keeps h = omega (arith, keeps.1)
-unused_few (Tagged index term) count value unused present keeps h = omega (arith, keeps.1)
-unused_few (Application number_of term) count value unused present keeps h = omega (arith, keeps.1)
+unused_few other count value unused present keeps h = omega (arith, keeps.1)
 
 -- the conditions of a step in the contents of a leaf
 pub record LeafReady (path : Path) (node start end : ℕ) (value : ℤ) (unused : ℕ) : Type 0 where

@@ -109,9 +109,8 @@ pub long_short : {terms : List Term} {path : Path} {octets : List ℕ} {node dig
 long_short {octet = octet} t kept is = is_short t.at kept _ (long_is t is) (head_ends t.at octet (omega (arith, t.looked, t.seen_are)))
 
 pub short-prop : (scanned : ℕ) (kept : Found) → IsProp (IsShort scanned kept)
-short-prop scanned found.Partial = Unit-prop
-short-prop scanned (found.Refused why) = Unit-prop
 short-prop scanned (found.Got size) = le_prop
+short-prop scanned other = Unit-prop
 
 -- ---- a proposition that follows from what a path has scanned, whatever that was
 pub has_containers : {path : Path} → IsReached path → HasContainers path.inner path.outer.items

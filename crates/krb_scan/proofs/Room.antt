@@ -76,15 +76,11 @@ in_leaf_roomy : (n : ℕ) (term : Term) (start count : ℕ) (stack : List Contai
 in_leaf_roomy n term start count stack marks octets size h le = leafed_roomy n (leaf_outcome term count octets) term start count stack marks octets h le (leaf_counts term count octets size)
 
 enter_roomy : (n : ℕ) (term : Term) (start count : ℕ) (stack : List Container) (marks : List Mark) → has_size term count ≡ true → IsNested n stack → start + count ≤ limit stack → AnswerIsRoomy n (enter term start count stack marks)
-enter_roomy n (Integer low high) start count stack marks size h le = in_leaf_roomy n (Integer low high) start count stack marks [] size h le
-enter_roomy n (Text greatest) start count stack marks size h le = in_leaf_roomy n (Text greatest) start count stack marks [] size h le
-enter_roomy n Octets start count stack marks size h le = in_leaf_roomy n Octets start count stack marks [] size h le
-enter_roomy n Time start count stack marks size h le = in_leaf_roomy n Time start count stack marks [] size h le
-enter_roomy n (Bits least) start count stack marks size h le = in_leaf_roomy n (Bits least) start count stack marks [] size h le
 enter_roomy n (Sequence fields) start count stack marks size h le = settle_roomy n (container_of (start + count) (Listed fields) ∷ stack) (with_mark marks (Sequence fields) start count) start (inner_nested n (container_of (start + count) (Listed fields)) stack h le)
 enter_roomy n (SequenceOf empty term) start count stack marks size h le = settle_roomy n (container_of (start + count) (Each term) ∷ stack) (with_mark marks (SequenceOf empty term) start count) start (inner_nested n (container_of (start + count) (Each term)) stack h le)
 enter_roomy n (Tagged index term) start count stack marks size h le = settle_roomy n (container_of (start + count) (OneOf (term ∷ [])) ∷ stack) (with_mark marks (Tagged index term) start count) start (inner_nested n (container_of (start + count) (OneOf (term ∷ []))) stack h le)
 enter_roomy n (Application number term) start count stack marks size h le = settle_roomy n (container_of (start + count) (OneOf (term ∷ [])) ∷ stack) (with_mark marks (Application number term) start count) start (inner_nested n (container_of (start + count) (OneOf (term ∷ []))) stack h le)
+enter_roomy n other start count stack marks size h le = in_leaf_roomy n other start count stack marks [] size h le
 
 partial_room : (room : ℕ) (octets : List ℕ) → 2 ≤ room → IsPartial (head room octets) → length octets < room
 partial_room room [] h p = omega arith

@@ -31,13 +31,7 @@ use Rattle.krb_scan.proofs.PathFacts.{LeafAt, leaf_at}
 keeps_still : (term : Term) (value : ℤ) (unused : ℕ) (octets more : List ℕ) → is_string term ≡ true → KeepsOf term value unused octets → KeepsOf term value unused more
 keeps_still (Text greatest) value unused octets more s h = h
 keeps_still Octets value unused octets more s h = h
-keeps_still (Integer low high) value unused octets more s h = absurd (cc s)
-keeps_still Time value unused octets more s h = absurd (cc s)
-keeps_still (Bits least) value unused octets more s h = absurd (cc s)
-keeps_still (Sequence fields) value unused octets more s h = absurd (cc s)
-keeps_still (SequenceOf empty term) value unused octets more s h = absurd (cc s)
-keeps_still (Tagged index term) value unused octets more s h = absurd (cc s)
-keeps_still (Application number term) value unused octets more s h = absurd (cc s)
+keeps_still other value unused octets more s h = absurd (cc s)
 
 -- the path after a number of octets more
 abbrev pub passed : Path → ℕ → Path
@@ -127,11 +121,9 @@ run_marks profile n before (first ∷ others) some are more le = by_answer (scan
         ∙ sym (ap (λ given. marks_from given (λ place. scan.scan (messages profile) n (take place before))) e)
 
     by_tip : (marks : List Mark) (stack : List Container) (given : scan.Tip) → scan.scan (messages profile) n before ≡ Ongoing (state_of marks stack given) → length chunk ≤ left_at given → Marks profile n (before ++ chunk) ≡ Marks profile n before
-    by_tip marks stack (scan.Between place) e room = absurd (omega (arith, room))
-    by_tip marks stack (scan.InHead term from octets) e room = absurd (omega (arith, room))
     by_tip marks stack (InLeaf term start count octets) e room = by_string (is_string term) term start count octets marks stack refl e room
+    by_tip marks stack other e room = absurd (omega (arith, room))
 
     by_answer : (given : Answer) → scan.scan (messages profile) n before ≡ given → length chunk ≤ left_of given → Marks profile n (before ++ chunk) ≡ Marks profile n before
     by_answer (Ongoing state) e room = by_tip state.marks state.stack state.tip e room
-    by_answer (scan.Refusing place reason) e room = absurd (omega (arith, room))
-    by_answer (scan.Whole marks) e room = absurd (omega (arith, room))
+    by_answer other e room = absurd (omega (arith, room))

@@ -2,7 +2,7 @@
 use Rattle.std.proofs.Common.{◌≡◌, ℕ, suc, ◌+◌, ◌-◌, ◌<◌, ◌≤◌, true, false, List, [], ◌∷◌, length, Result, Ok, Err, Option, refl, sym, ◌∙◌, ap, arith}
 use Rattle.krb_der.specs.declared.why.Why.TheVariants as why
 use Rattle.krb_judge.specs.Paths.{begin_with, element_path}
-use Rattle.krb_token.specs.Spnego.{Holds, Fields, End, Field, fields_read, held, ended}
+use Rattle.krb_token.specs.Spnego.{Holds, Fields, Field, fields_read, held}
 use Rattle.krb_token.specs.Items.{Item, entered, simple_tag, simple_item, simple_items}
 use Rattle.krb_token.specs.Opened.{Part, Fault, fault_in, and_then}
 use Rattle.krb_token.specs.declared.simple.Simple.{Simple}
