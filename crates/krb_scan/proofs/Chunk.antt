@@ -18,8 +18,7 @@ run_reached state (octet ∷ octets) h = by_answer (step state octet) (step_reac
   where
     by_answer : (given : Answer) → ReachedAnswer given → ((then_state : State) → Reached then_state → ReachedAnswer (run then_state octets)) → ReachedAnswer (go_on given (λ then_state. run then_state octets))
     by_answer (Ongoing then_state) r k = k then_state r.reached
-    by_answer (Refusing place reason) r k = record { reached = tt {0} }
-    by_answer (Whole marks) r k = record { reached = tt {0} }
+    by_answer other r k = record { reached = tt {0} }
 
 -- each state of a scan is one in which an octet is expected
 pub scan_reached : (terms : List Term) (n : ℕ) (octets : List ℕ) → 0 < n → ReachedAnswer (scan terms n octets)

@@ -16,7 +16,8 @@ use Rattle.krb_scan.specs.inner.Paths.{IsStep}
 use Rattle.krb_scan.specs.inner.Outcomes.{LeafIs, LeafReads, LeafEnds}
 use Rattle.krb_msg.specs.Nodes.{nodes, term_at}
 use Rattle.krb_msg.specs.Table.{IsNode}
-use Rattle.krb_scan.specs.State.{AreOpen, KeepsOf, TipIs, first_or_zero}
+use Rattle.krb_scan.specs.State.{AreOpen, KeepsOf, TipIs}
+use Rattle.krb_msg.specs.ValueOfDer.{first_or_zero}
 use Rattle.krb_msg.specs.Table.{IsFormOf}
 use Rattle.krb_msg.specs.declared.grammar.Slot.{Slot}
 use Rattle.std.specs.Borrow.{Bor}
@@ -136,9 +137,9 @@ LeafGoes old new result next partial =
     (stack : List scan.Container) (marks : List scan.Mark) (outcome : Outcome) (term : Term) (start count : ℕ) (octets : List ℕ) → AreOpen old.inner old.outer.items stack → LeafIs next outcome → LeafEnds start count (old.looked + 1) outcome →
     (outcome ≡ OpenOutcome → TipIs (old.looked + 1) partial (scan.InLeaf term start count octets)) → IsStep old new result (leafed outcome term start count stack marks octets)
 
-pub goes_to : {old new : Path} {result : Verdict} {next : Leaf} {node start end : ℕ} {value there with : ℤ} {unused first octet : ℕ} {octets : List ℕ} {stack : List scan.Container} {marks : List scan.Mark} → LeafGoes old new result next (tip.Leaf node start end there first) →
+pub goes_to : {old new : Path} {result : Verdict} {next : Leaf} {node start end : ℕ} {value there with : ℤ} {unused first octet : ℕ} {octets : List ℕ} {stack : List scan.Container} (marks : List scan.Mark) → LeafGoes old new result next (tip.Leaf node start end there first) →
     IsNode node → has_size (term_at node) (end - start) ≡ true → old.looked < end → AreOpen old.inner old.outer.items stack → LeafReads (term_at node) (end - start) value unused octets → old.looked ≡ start + length octets → there ≡ with →
     GoesOn (term_at node) (end - start) octets octet next with first → IsStep old new result (in_leaf (term_at node) start (end - start) stack marks (octets ++ octet ∷ []))
-goes_to {old = old} {node = node} {start = start} {end = end} {there = there} {with = with} {first = first} {octet = octet} {octets = octets} {stack = stack} {marks = marks} goes known size some containers reads at same on =
+goes_to {old = old} {node = node} {start = start} {end = end} {there = there} {with = with} {first = first} {octet = octet} {octets = octets} {stack = stack} marks goes known size some containers reads at same on =
     goes stack marks _ (term_at node) start (end - start) _ containers on.decides (reads_end (term_at node) start (end - start) (old.looked + 1) octets size reads.open_still octet (omega (arith, at)))
     (λ still. tip_on node start end (old.looked + 1) with there first octets octet same known (omega (arith, at)) (omega (arith, at)) on.keeps)

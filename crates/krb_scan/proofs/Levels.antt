@@ -12,6 +12,7 @@ use Rattle.krb_msg.specs.Shape.{depth, depth_of_fields, greatest_depth}
 use Rattle.krb_msg.specs.Judgement.{Outcome, Open, Bad, Done, Head, Partial, Refused, Got, head, has_size}
 use Rattle.krb_msg.specs.Nodes.{nodes, term_in, term_at}
 use Rattle.krb_scan.specs.Scan.{Mark, Expected, Listed, Each, OneOf, Container, Tip, InHead, State, PartScan, Within, Fault, Past, scan_then, limit, sole_in, container_of, with_mark, leaf_outcome, of_leaf, scan_leaf, scan_after_head, begun, between, scan_required, scan_optional, scan_end, scan_each, scan_contents, scan_fields, scan_one_of, scan_message, lengths_at, Answer, Ongoing, Refusing, Whole, answer, scan}
+use Rattle.krb_scan.proofs.Progress.{Reader}
 use Rattle.krb_scan.proofs.Basics.{when_holds}
 
 depth_some : (term : Term) → 1 ≤ depth term
@@ -47,9 +48,6 @@ then_deep : (most : ℕ) (seen : PartScan) (next : List Mark → ℕ → List �
 then_deep most (Within state) next h k = within_deep most h.no_deeper
 then_deep most (Fault place reason) next h k = fault_deep most
 then_deep most (Past marks place rest) next h k = k marks place rest
-
-abbrev pub Reader : Type 0
-Reader = ℕ → ℕ → List Container → List Mark → List ℕ → PartScan
 
 abbrev pub ReadsTo : ℕ → Reader → Type 0
 ReadsTo levels contents = (start count : ℕ) (stack : List Container) (marks : List Mark) (octets : List ℕ) (most : ℕ) → length stack + levels ≤ most → IsNoDeeper most (contents start count stack marks octets)
@@ -147,8 +145,7 @@ scan_deep terms shallow n octets = by_seen (scan_message terms n octets) (one_of
   where
     by_seen : (seen : PartScan) → IsNoDeeper 14 seen → OpenAtMost 14 (answer seen)
     by_seen (Within state) h = h.no_deeper
-    by_seen (Fault place reason) h = tt {0}
-    by_seen (Past marks place rest) h = tt {0}
+    by_seen other h = tt {0}
 
 pub messages_shallow : (profile : Profile) → greatest_depth (messages profile) ≤ 13
 messages_shallow profile = omega (arith, messages_nest profile)

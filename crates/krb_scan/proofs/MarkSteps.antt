@@ -61,9 +61,8 @@ pub changed_marks : (terms : List Term) (e : Event) (n : ℕ) (octets : List ℕ
 changed_marks terms e n octets octet before c not = by_answer (scan.scan terms n (octets ++ octet ∷ [])) refl c
   where
     by_answer : (given : Answer) → scan.scan terms n (octets ++ octet ∷ []) ≡ given → ChangesTo e before given → Changes e before (marks_by terms n (octets ++ octet ∷ []))
-    by_answer (Ongoing state) f h = subst (Changes e before) (sym (ap (λ given. marks_from given (λ place. scan.scan terms n (take place (octets ++ octet ∷ [])))) f)) h
-    by_answer (Whole marks) f h = subst (Changes e before) (sym (ap (λ given. marks_from given (λ place. scan.scan terms n (take place (octets ++ octet ∷ [])))) f)) h
     by_answer (Refusing place reason) f h = absurd (not place reason f)
+    by_answer other f h = subst (Changes e before) (sym (ap (λ given. marks_from given (λ place. scan.scan terms n (take place (octets ++ octet ∷ [])))) f)) h
 
 pub event_marks : {terms : List Term} (machine : Machine) (e : Event) (n : ℕ) (octets : List ℕ) (octet : ℕ) (decided : Verdict) → IsScanOf terms machine.path machine.verdict n octets → machine.verdict ≡ verdict.Open → decided ≡ judgement_by terms n (octets ++ octet ∷ []) → ((refusal : Refusal) → decided ≡ verdict.Refused refusal → ⊥) →
     ChangesTo e (marks_by terms n octets) (scan.scan terms n (octets ++ octet ∷ [])) → Changes e (marks_by terms n octets) (marks_by terms n (octets ++ octet ∷ []))

@@ -11,7 +11,7 @@ use Rattle.krb_msg.specs.Term.{Term, Integer, Text, Octets, Time, Bits, Sequence
 use Rattle.krb_msg.specs.Judgement.{Outcome, Open, Bad, Done, Head, Partial, Refused, Got, head, long_head, fitting, int_le, is_padded, integer_contents, each_contents, text_octet, time_octet, bits_contents, any_contents}
 use Rattle.krb_scan.specs.Scan.{leaf_outcome}
 use Rattle.krb_scan.specs.inner.Numbers.{first_head, next_head, extended, pads, in_range, integer_next, each_next, bits_next, any_next, leaf_next, first_or_zero}
-use Rattle.krb_scan.proofs.Stable.{IsPartial}
+use Rattle.krb_scan.proofs.Stable.{IsPartial, fitting_not_partial}
 
 pub number_push : (high : ℕ) (octets : List ℕ) (octet : ℕ) → number_from high (octets ++ octet ∷ []) ≡ number_from high octets * 256 + octet
 number_push high [] octet = refl
@@ -24,13 +24,6 @@ length_push octets octet = omega (arith, length-append octets (octet ∷ []))
 
 pub first_head_right : (room tag octet : ℕ) → head room (tag ∷ octet ∷ []) ≡ first_head room octet
 first_head_right room tag octet = refl
-
-fitting_not_partial : (room header contents : ℕ) → IsPartial (fitting room header contents) → ⊥
-fitting_not_partial room header contents = by_test (nat_lt room (header + contents))
-  where
-    by_test : (b : Bool) → IsPartial (if b then Refused (header - 1) why.Overrun else Got header contents) → ⊥
-    by_test true h = h
-    by_test false h = h
 
 long_short : (room k : ℕ) (octets : List ℕ) → 0 < k → IsPartial (long_head room k octets) → length octets < k
 long_short room k [] p h = p
@@ -84,13 +77,11 @@ next_head_right room tag octet octets next h = by_tests (nat_lt octet 0x80) (oct
         (if short then fitting room 2 octet else if indefinite then Refused 1 why.Indefinite else if wide then Refused 1 why.LengthWide else if over then Refused 1 why.Overrun else long_head room (octet - 0x80) (octets ++ next ∷ []))
         ≡ next_head room (octet - 0x80) (length octets) (number octets) next
     by_tests true indefinite wide over e f p = absurd (fitting_not_partial room 2 octet p)
-    by_tests false true wide over e f p = absurd p
-    by_tests false false true over e f p = absurd p
-    by_tests false false false true e f p = absurd p
     by_tests false false false false e f p =
         let big : 0x80 ≤ octet = ltb-false octet 0x80 e in
         let other : octet ≡ 0x80 → ⊥ = eqb-false octet 0x80 f in
         long_next room (octet - 0x80) octets next (omega arith) p
+    by_tests false other another third e f p = absurd p
 
 -- a header that is partly read after its first length octet waits for more octets
 pub partial_long : (room tag octet : ℕ) (octets : List ℕ) → IsPartial (head room (tag ∷ octet ∷ octets)) → (length octets < octet - 0x80) × (octet ≤ 0x84) × (2 + (octet - 0x80) ≤ room)
@@ -100,13 +91,11 @@ partial_long room tag octet octets h = by_tests (nat_lt octet 0x80) (octet == 0x
         IsPartial (if short then fitting room 2 octet else if indefinite then Refused 1 why.Indefinite else if wide then Refused 1 why.LengthWide else if over then Refused 1 why.Overrun else long_head room (octet - 0x80) octets) →
         (length octets < octet - 0x80) × (octet ≤ 0x84) × (2 + (octet - 0x80) ≤ room)
     by_tests true indefinite wide over e f g k p = absurd (fitting_not_partial room 2 octet p)
-    by_tests false true wide over e f g k p = absurd p
-    by_tests false false true over e f g k p = absurd p
-    by_tests false false false true e f g k p = absurd p
     by_tests false false false false e f g k p =
         let big : 0x80 ≤ octet = ltb-false octet 0x80 e in
         let other : octet ≡ 0x80 → ⊥ = eqb-false octet 0x80 f in
         (long_short room (octet - 0x80) octets (omega arith) p, ltb-false 0x84 octet g, ltb-false room (2 + (octet - 0x80)) k)
+    by_tests false other another third e f g k p = absurd p
 
 -- ---- leaves
 

@@ -11,7 +11,8 @@ use Rattle.krb_scan.specs.inner.Machine.{step, step_at, go_on}
 use Rattle.krb_scan.specs.inner.Outcomes.{HeadIs, HeadEnds, IsShort, LeafReads}
 use Rattle.krb_msg.specs.Nodes.{term_at}
 use Rattle.krb_msg.specs.Table.{IsNode}
-use Rattle.krb_scan.specs.State.{AreOpen, TipIs, KeepsOf, first_or_zero}
+use Rattle.krb_scan.specs.State.{AreOpen, TipIs, KeepsOf}
+use Rattle.krb_msg.specs.ValueOfDer.{first_or_zero}
 use Rattle.krb_msg.specs.Nodes.{nodes}
 use Rattle.krb_msg.specs.Table.{IsFormOf}
 use Rattle.krb_msg.specs.declared.grammar.Form.{Form}
@@ -112,8 +113,7 @@ between_at {terms = terms} {path = path} {octets = octets} s e = by_tip s.state.
   where
     by_tip : (given : Tip) → AtTip terms path octets given → TipIs path.looked tip.Between given → BetweenAt terms path octets
     by_tip (Between place) a h = record { at = subst (λ k. AtTip terms path octets (Between k)) (sym h) a }
-    by_tip (InHead term from present) a h = absurd h
-    by_tip (InLeaf term start count present) a h = absurd h
+    by_tip other a h = absurd h
 
 pub tagged_at : {terms : List Term} {path : Path} {octets : List ℕ} {node : ℕ} → IsPathOf terms path octets → path.tip ≡ tip.Tagged node → TaggedAt terms path octets node
 tagged_at {terms = terms} {path = path} {octets = octets} {node = node} s e = by_tip s.state.tip (at_tip path octets s) (subst (λ kept. TipIs path.looked kept s.state.tip) e s.holds.tip)
@@ -150,8 +150,6 @@ pub leaf_at : {terms : List Term} {path : Path} {octets : List ℕ} {node start 
 leaf_at {terms = terms} {path = path} {octets = octets} {node = node} {start = start} {end = end} {value = value} {unused = unused} s e = by_tip s.state.tip (at_tip path octets s) (subst (λ kept. TipIs path.looked kept s.state.tip) e s.holds.tip)
   where
     by_tip : (given : Tip) → AtTip terms path octets given → TipIs path.looked (tip.Leaf node start end value unused) given → LeafAt terms path octets node start end value unused
-    by_tip (Between place) a h = absurd h
-    by_tip (InHead term from present) a h = absurd h
     by_tip (InLeaf term begin count present) a h = record {
       count = count;
       present = present;
@@ -161,6 +159,7 @@ leaf_at {terms = terms} {path = path} {octets = octets} {node = node} {start = s
       keeps = subst (λ t. KeepsOf t value unused present) (sym h.1) h.4;
       looked = h.5 ∙ ap (λ k. k + length present) (sym h.2);
     }
+    by_tip other a h = absurd h
 
 -- ---- length octets
 
@@ -172,13 +171,12 @@ head_ends {path = path} {from = from} {present = present} a octet at =
     (head_fits (limit a.stack - from) (present ++ octet ∷ []))
   where
     by_head : (got : Head) → IsHeadFaultAt (length present) got → HeadFits (limit a.stack - from) got → HeadEnds from (path.looked + 1) (limit a.stack) got
-    by_head Partial f g = tt {0}
-    by_head (Refused offset reason) f g = tt {0}
     by_head (Got header count) f g =
         let ends : header ≡ length present + 1 = f.at in
         let le : header + count ≤ limit a.stack - from = g.fits.1 in
         let room : from + length present < limit a.stack = a.roomy.0 in
         (omega arith, omega arith)
+    by_head other f g = tt {0}
 
 pub is_short : {terms : List Term} {path : Path} {octets : List ℕ} {term : Term} {from : ℕ} {present : List ℕ} (a : AtTip terms path octets (InHead term from present)) (kept : Found) (got : Head) → HeadIs kept got → HeadEnds from (path.looked + 1) (limit a.stack) got → IsShort (path.looked + 1) kept
 is_short a found.Partial got is ends = tt {0}
@@ -274,8 +272,8 @@ pub record LeafReady (path : Path) (node start end : ℕ) (value : ℤ) (unused 
   pub small : IsSmall value
   pub few : unused < 8
 
-pub leaf_ready : {terms : List Term} {path : Path} {octets : List ℕ} {node start end : ℕ} {value : ℤ} {unused : ℕ} {given : Form} → IsFormOf nodes given (term_at node) → LeafAt terms path octets node start end value unused → LeafReady path node start end value unused
-leaf_ready {path = path} {node = node} {end = end} {start = start} {value = value} {unused = unused} {given = given} are leaf =
+pub leaf_ready : {terms : List Term} {path : Path} {octets : List ℕ} {node start end : ℕ} {value : ℤ} {unused : ℕ} (given : Form) → IsFormOf nodes given (term_at node) → LeafAt terms path octets node start end value unused → LeafReady path node start end value unused
+leaf_ready {path = path} {node = node} {start = start} {end = end} {value = value} {unused = unused} given are leaf =
     let room : start + leaf.count ≤ limit leaf.at.stack = leaf.at.roomy.0 in
     let lt : length leaf.present < leaf.count = leaf.at.roomy.1 in
     let whole : limit leaf.at.stack ≤ path.size = limit_within path.size leaf.at.stack leaf.at.nested in

@@ -24,10 +24,10 @@ use Rattle.krb_scan.proofs.Stable.{IsPartial}
 use Rattle.krb_scan.proofs.Containers.{limit_is}
 use Rattle.krb_scan.proofs.PathFacts.{BetweenAt, TaggedAt, LongAt, LeafAt, between_at, tagged_at, long_at, leaf_at, stepped, head_ends, is_short, leaf_reads, small_number}
 
-pub between_taken : {terms : List Term} {old new : Path} {octets : List ℕ} {octet : ℕ} {decided : Verdict} → BetweenAt terms old octets →
+pub between_taken : {terms : List Term} {old new : Path} {octets : List ℕ} (octet : ℕ) {decided : Verdict} → BetweenAt terms old octets →
     ((stack : List Container) (marks : List Marked) → AreOpen old.inner old.outer.items stack → IsStep old new decided (step_between stack marks old.looked octet)) →
     IsStep old new decided (scan.scan terms old.size (octets ++ octet ∷ []))
-between_taken {old = old} {new = new} {octet = octet} {decided = decided} s goes = subst (IsStep old new decided) (sym (stepped s.at octet)) (goes s.at.stack s.at.marks s.at.containers)
+between_taken {old = old} {new = new} octet {decided = decided} s goes = subst (IsStep old new decided) (sym (stepped s.at octet)) (goes s.at.stack s.at.marks s.at.containers)
 
 -- the result of a step by the head after it
 abbrev pub HeadGoes : Path → Path → Verdict → Found → Kept → ℕ → Type 0
@@ -35,21 +35,21 @@ HeadGoes old new result kept partial node =
     (stack : List Container) (marks : List Marked) (got : Head) (from : ℕ) (octets : List ℕ) → AreOpen old.inner old.outer.items stack → HeadIs kept got → HeadEnds from (old.looked + 1) (limit stack) got →
     (got ≡ Partial → TipIs (old.looked + 1) partial (InHead (term_at node) from octets)) → IsStep old new result (headed got (term_at node) stack marks from octets)
 
-tagged_is : {terms : List Term} {path : Path} {octets : List ℕ} {node octet : ℕ} (t : TaggedAt terms path octets node) {kept : Found} → HeadIs kept (first_head (path.inner.end - path.looked + 1) octet) → HeadIs kept (head (limit t.at.stack - t.from) (t.tag ∷ octet ∷ []))
-tagged_is {path = path} {octet = octet} t {kept = kept} h =
+tagged_is : {terms : List Term} {path : Path} {octets : List ℕ} {node : ℕ} (octet : ℕ) (t : TaggedAt terms path octets node) (kept : Found) → HeadIs kept (first_head (path.inner.end - path.looked + 1) octet) → HeadIs kept (head (limit t.at.stack - t.from) (t.tag ∷ octet ∷ []))
+tagged_is {path = path} octet t kept h =
     let lt : t.from + 1 < limit t.at.stack = t.at.roomy.0 in
     let same : path.inner.end - path.looked + 1 ≡ limit t.at.stack - t.from = omega (arith, t.looked, limit_is path.inner path.outer.items t.at.stack t.at.containers) in
     subst (HeadIs kept) (ap (λ r. first_head r octet) same ∙ sym (first_head_right (limit t.at.stack - t.from) t.tag octet)) h
 
-pub tagged_taken : {terms : List Term} {old new : Path} {octets : List ℕ} {node octet digits : ℕ} {result : Verdict} {kept : Found} → TaggedAt terms old octets node → HeadIs kept (first_head (old.inner.end - old.looked + 1) octet) → digits ≡ octet - 0x80 →
+pub tagged_taken : {terms : List Term} {old new : Path} {octets : List ℕ} {node digits : ℕ} {result : Verdict} (octet : ℕ) (kept : Found) → TaggedAt terms old octets node → HeadIs kept (first_head (old.inner.end - old.looked + 1) octet) → digits ≡ octet - 0x80 →
     HeadGoes old new result kept (tip.Long node digits 0 0) node → IsStep old new result (scan.scan terms old.size (octets ++ octet ∷ []))
-tagged_taken {old = old} {new = new} {octet = octet} {result = result} t is e goes =
+tagged_taken {old = old} {new = new} {result = result} octet kept t is e goes =
     subst (IsStep old new result) (sym (stepped t.at octet))
-    (goes t.at.stack t.at.marks (head (limit t.at.stack - t.from) (t.tag ∷ octet ∷ [])) t.from (t.tag ∷ octet ∷ []) t.at.containers (tagged_is t is) (head_ends t.at octet t.looked) (λ partial. (t.known, refl, e, refl, refl, omega (arith, t.looked))))
+    (goes t.at.stack t.at.marks (head (limit t.at.stack - t.from) (t.tag ∷ octet ∷ [])) t.from (t.tag ∷ octet ∷ []) t.at.containers (tagged_is octet t kept is) (head_ends t.at octet t.looked) (λ partial. (t.known, refl, e, refl, refl, omega (arith, t.looked))))
 
-long_is : {terms : List Term} {path : Path} {octets : List ℕ} {node digits seen value octet : ℕ} (t : LongAt terms path octets node digits seen value) {kept : Found} → HeadIs kept (next_head (path.inner.end - path.looked + (2 + seen)) digits seen value octet) →
+long_is : {terms : List Term} {path : Path} {octets : List ℕ} {node digits seen value : ℕ} (octet : ℕ) (t : LongAt terms path octets node digits seen value) (kept : Found) → HeadIs kept (next_head (path.inner.end - path.looked + (2 + seen)) digits seen value octet) →
     HeadIs kept (head (limit t.at.stack - t.from) (t.tag ∷ t.first ∷ t.present ++ octet ∷ []))
-long_is {path = path} {digits = digits} {seen = seen} {value = value} {octet = octet} t {kept = kept} h =
+long_is {path = path} {digits = digits} {seen = seen} {value = value} octet t kept h =
     let lt : t.from + length (t.tag ∷ t.first ∷ t.present) < limit t.at.stack = t.at.roomy.0 in
     let same : path.inner.end - path.looked + (2 + seen) ≡ limit t.at.stack - t.from = omega (arith, t.looked, t.seen_are, limit_is path.inner path.outer.items t.at.stack t.at.containers) in
     subst (HeadIs kept)
@@ -57,19 +57,19 @@ long_is {path = path} {digits = digits} {seen = seen} {value = value} {octet = o
     ∙ ap (λ k. next_head (limit t.at.stack - t.from) (t.first - 0x80) k value octet) t.seen_are ∙ ap (λ v. next_head (limit t.at.stack - t.from) (t.first - 0x80) (length t.present) v octet) t.value_is
     ∙ sym (next_head_right (limit t.at.stack - t.from) t.tag t.first t.present octet (subst IsPartial (sym t.at.reached) (tt {0})))) h
 
-pub long_taken : {terms : List Term} {old new : Path} {octets : List ℕ} {node digits seen value octet seen_next value_next : ℕ} {result : Verdict} {kept : Found} → LongAt terms old octets node digits seen value → HeadIs kept (next_head (old.inner.end - old.looked + (2 + seen)) digits seen value octet) →
+pub long_taken : {terms : List Term} {old new : Path} {octets : List ℕ} {node digits seen value seen_next value_next : ℕ} {result : Verdict} (octet : ℕ) (kept : Found) → LongAt terms old octets node digits seen value → HeadIs kept (next_head (old.inner.end - old.looked + (2 + seen)) digits seen value octet) →
     seen_next ≡ seen + 1 → value_next ≡ value * 256 + octet → HeadGoes old new result kept (tip.Long node digits seen_next value_next) node → IsStep old new result (scan.scan terms old.size (octets ++ octet ∷ []))
-long_taken {old = old} {new = new} {octet = octet} {result = result} t is e f goes =
+long_taken {old = old} {new = new} {result = result} octet kept t is e f goes =
     let present : List ℕ = t.tag ∷ t.first ∷ t.present in
     subst (IsStep old new result) (sym (stepped t.at octet))
-    (goes t.at.stack t.at.marks (head (limit t.at.stack - t.from) (present ++ octet ∷ [])) t.from (present ++ octet ∷ []) t.at.containers (long_is t is) (head_ends t.at octet (omega (arith, t.looked, t.seen_are)))
+    (goes t.at.stack t.at.marks (head (limit t.at.stack - t.from) (present ++ octet ∷ [])) t.from (present ++ octet ∷ []) t.at.containers (long_is octet t kept is) (head_ends t.at octet (omega (arith, t.looked, t.seen_are)))
     (λ partial. (t.known, refl, t.digits_are, omega (arith, t.seen_are, length_push t.present octet), f ∙ ap (λ v. v * 256 + octet) t.value_is ∙ sym (number_push 0 t.present octet), omega (arith, t.looked))))
 
-pub leaf_taken : {terms : List Term} {old new : Path} {octets : List ℕ} {node start end : ℕ} {value : ℤ} {unused octet : ℕ} {decided : Verdict} → LeafAt terms old octets node start end value unused →
+pub leaf_taken : {terms : List Term} {old new : Path} {octets : List ℕ} {node start end : ℕ} {value : ℤ} {unused : ℕ} {decided : Verdict} (octet : ℕ) → LeafAt terms old octets node start end value unused →
     ((stack : List Container) (marks : List Marked) (present : List ℕ) → AreOpen old.inner old.outer.items stack → LeafReads (term_at node) (end - start) value unused present → old.looked ≡ start + length present →
     IsStep old new decided (in_leaf (term_at node) start (end - start) stack marks (present ++ octet ∷ []))) →
     IsStep old new decided (scan.scan terms old.size (octets ++ octet ∷ []))
-leaf_taken {old = old} {new = new} {node = node} {start = start} {end = end} {octet = octet} {decided = decided} leaf goes =
+leaf_taken {old = old} {new = new} {node = node} {start = start} {end = end} {decided = decided} octet leaf goes =
     let same : leaf.count ≡ end - start = omega (arith, leaf.ends) in
     subst (IsStep old new decided) (sym (stepped leaf.at octet))
     (subst (λ count. IsStep old new decided (in_leaf (term_at node) start count leaf.at.stack leaf.at.marks (leaf.present ++ octet ∷ []))) (sym same)
@@ -102,11 +102,11 @@ tagged_within {path = path} t =
     let room : t.from + 1 < limit t.at.stack = t.at.roomy.0 in
     omega (arith, t.looked, limit_is path.inner path.outer.items t.at.stack t.at.containers)
 
-pub tagged_short : {terms : List Term} {path : Path} {octets : List ℕ} {node octet : ℕ} → TaggedAt terms path octets node → (kept : Found) → HeadIs kept (first_head (path.inner.end - path.looked + 1) octet) → IsShort (path.looked + 1) kept
-tagged_short {octet = octet} t kept is = is_short t.at kept _ (tagged_is t is) (head_ends t.at octet t.looked)
+pub tagged_short : {terms : List Term} {path : Path} {octets : List ℕ} {node : ℕ} (octet : ℕ) → TaggedAt terms path octets node → (kept : Found) → HeadIs kept (first_head (path.inner.end - path.looked + 1) octet) → IsShort (path.looked + 1) kept
+tagged_short octet t kept is = is_short t.at kept _ (tagged_is octet t kept is) (head_ends t.at octet t.looked)
 
-pub long_short : {terms : List Term} {path : Path} {octets : List ℕ} {node digits seen value octet : ℕ} → LongAt terms path octets node digits seen value → (kept : Found) → HeadIs kept (next_head (path.inner.end - path.looked + (2 + seen)) digits seen value octet) → IsShort (path.looked + 1) kept
-long_short {octet = octet} t kept is = is_short t.at kept _ (long_is t is) (head_ends t.at octet (omega (arith, t.looked, t.seen_are)))
+pub long_short : {terms : List Term} {path : Path} {octets : List ℕ} {node digits seen value : ℕ} (octet : ℕ) → LongAt terms path octets node digits seen value → (kept : Found) → HeadIs kept (next_head (path.inner.end - path.looked + (2 + seen)) digits seen value octet) → IsShort (path.looked + 1) kept
+long_short octet t kept is = is_short t.at kept _ (long_is octet t kept is) (head_ends t.at octet (omega (arith, t.looked, t.seen_are)))
 
 pub short-prop : (scanned : ℕ) (kept : Found) → IsProp (IsShort scanned kept)
 short-prop scanned (found.Got size) = le_prop

@@ -420,7 +420,8 @@ expected_none (OneOf terms) end outer marks place h = by_room (end - place) (ome
 take_past : (count : ℕ) (octets : List ℕ) → length octets ≤ count → take count octets ≡ octets
 take_past zero (octet ∷ octets) le = absurd (omega arith)
 take_past (suc count) (octet ∷ octets) le = ap (λ rest. octet ∷ rest) (take_past count octets (omega arith))
-take_past other [] le = refl
+take_past zero [] le = refl
+take_past (suc count) [] le = refl
 
 -- no octet
 pub resume_none : (state : State) → Reached state → resume state [] ≡ Ongoing state

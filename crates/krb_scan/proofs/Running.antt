@@ -87,8 +87,7 @@ none_left {terms = terms} path decided n octets at not = by_answer (scan.scan te
   where
     by_answer : (given : Answer) → scan.scan terms n octets ≡ given → left_of (scan.scan terms n octets) ≡ 0
     by_answer (Ongoing state) e = absurd (not (at.decides ∙ ap verdict_of (scan_outcome terms n octets at.some at.fits ∙ ap (outcome_of n) e)))
-    by_answer (scan.Refusing place reason) e = ap left_of e
-    by_answer (scan.Whole marks) e = ap left_of e
+    by_answer other e = ap left_of e
 
 pub run_at : {terms : List Term} (old new : Path) (decided : Verdict) (n count : ℕ) (before given : List ℕ) → IsScanOf terms old decided n before → decided ≡ verdict.Open → new.size ≡ old.size → ((octets : List ℕ) → IsPathOf terms old octets → IsPathOf terms new (octets ++ take count given)) → IsScanOf terms new decided n (before ++ take count given)
 run_at {terms = terms} old new decided n count before given at still size goes =

@@ -70,7 +70,7 @@ fitting_ends room header contents count e = by_test (nat_lt room (header + conte
     by_test true = tt {0}
     by_test false = e
 
-fitting_not_partial : (room header contents : ℕ) → IsPartial (fitting room header contents) → ⊥
+pub fitting_not_partial : (room header contents : ℕ) → IsPartial (fitting room header contents) → ⊥
 fitting_not_partial room header contents = by_test (nat_lt room (header + contents))
   where
     by_test : (b : Bool) → IsPartial (if b then Refused (header - 1) why.Overrun else Got header contents) → ⊥

@@ -2,6 +2,7 @@
 use Rattle.std.specs.Prelude.{ℕ, ℤ, pos, ◌+◌, ◌-◌, ◌≡◌, List, [], ◌∷◌, length, map, reverse}
 use Rattle.std.specs.List.{AllByRecursion}
 use Rattle.krb_der.specs.Octets.{number, integer_value}
+use Rattle.krb_msg.specs.ValueOfDer.{first_or_zero}
 use Rattle.krb_msg.specs.Term.{Term, Integer, Bits}
 use Rattle.krb_msg.specs.Nodes.{term_at}
 use Rattle.krb_msg.specs.Table.{IsNode}
@@ -36,10 +37,6 @@ AreContainers (inner ∷ outer) [] = ⊥
 -- the containers that are not complete: the innermost, and those round it, of which the outermost is first
 pub record AreOpen (inner : Open) (outer : List Open) (stack : List scan.Container) : Type 0 where
   pub containers : AreContainers (inner ∷ reverse outer) stack
-
-abbrev pub first_or_zero : List ℕ → ℕ
-first_or_zero [] = 0
-first_or_zero (octet ∷ octets) = octet
 
 -- the number of an INTEGER so far, and the number of unused bits of a BIT STRING if it is read
 abbrev pub KeepsOf : Term → ℤ → ℕ → List ℕ → Type 0

@@ -2,7 +2,7 @@
 use Rattle.std.specs.Prelude.{ℕ, zero, suc, ℤ, pos, negsuc, ◌+◌, ◌-◌, ◌*◌, ◌%◌, ◌^◌, ◌+ℤ◌, ◌*ℤ◌, Bool, ◌&&◌, ◌||◌, ◌==◌, nat_lt, nat_le, if◌then◌else◌}
 use Rattle.krb_der.specs.declared.why.Why.{Why}
 use Rattle.krb_der.specs.declared.why.Why.TheVariants as why
-pub use Rattle.krb_scan.specs.State.{first_or_zero}
+pub use Rattle.krb_msg.specs.ValueOfDer.{first_or_zero}
 use Rattle.krb_msg.specs.Term.{Term, Integer, Text, Time, Bits}
 use Rattle.krb_msg.specs.Judgement.{Outcome, Open, Bad, Done, Head, Partial, Refused, fitting, int_le, text_octet, time_octet}
 

@@ -36,13 +36,13 @@ pub overflow_add-self : goal.overflow_add-self
 overflow_add-self c = if_leaf (hlevel props) c.requires c.in-Leaf.is (λ terms octets leaf. omega (arith, leaf.at.near))
 
 pub overflow_sub-self : goal.overflow_sub-self
-overflow_sub-self c = if_leaf (hlevel props) c.requires c.in-Leaf.is (λ terms octets leaf. (leaf_ready c.form_of-form.ensures leaf).begun)
+overflow_sub-self c = if_leaf (hlevel props) c.requires c.in-Leaf.is (λ terms octets leaf. (leaf_ready _ c.form_of-form.ensures leaf).begun)
 
 pub number_of-requires-clause-above : goal.number_of-requires-clause-above
-number_of-requires-clause-above c = if_leaf (hlevel props) c.requires c.in-Leaf.is (λ terms octets leaf. subst (λ v. negsuc 549755813887 ≤ℤ v) (sym (to_z-of_z w64 c.in-Leaf.value (small_fits (leaf_ready c.form_of-form.ensures leaf).small))) (leaf_ready c.form_of-form.ensures leaf).small.0)
+number_of-requires-clause-above c = if_leaf (hlevel props) c.requires c.in-Leaf.is (λ terms octets leaf. subst (λ v. negsuc 549755813887 ≤ℤ v) (sym (to_z-of_z w64 c.in-Leaf.value (small_fits (leaf_ready _ c.form_of-form.ensures leaf).small))) (leaf_ready _ c.form_of-form.ensures leaf).small.0)
 
 pub number_of-requires-clause-below : goal.number_of-requires-clause-below
-number_of-requires-clause-below c = if_leaf (hlevel props) c.requires c.in-Leaf.is (λ terms octets leaf. subst (λ v. v <ℤ pos 549755813888) (sym (to_z-of_z w64 c.in-Leaf.value (small_fits (leaf_ready c.form_of-form.ensures leaf).small))) (leaf_ready c.form_of-form.ensures leaf).small.1)
+number_of-requires-clause-below c = if_leaf (hlevel props) c.requires c.in-Leaf.is (λ terms octets leaf. subst (λ v. v <ℤ pos 549755813888) (sym (to_z-of_z w64 c.in-Leaf.value (small_fits (leaf_ready _ c.form_of-form.ensures leaf).small))) (leaf_ready _ c.form_of-form.ensures leaf).small.1)
 
 pub returns-in-Between : goal.returns-in-Between
 returns-in-Between c = λ terms octets s. between_changes c.args.octet (between_at s c.in-Between.is)
@@ -71,4 +71,4 @@ returns-else-self-end c = λ terms octets s.
     let fits : FitsSigned w64 c.number_of.result = search rules in
     leaf_changes c.args.octet (c.args.self.now.looked - c.in-Leaf.start) _ (leaf_at s c.in-Leaf.is) (omega arith) (omega arith) refl
     (to_z-of_z w64 c.number_of.result fits ∙ c.number_of.ensures (term_at c.in-Leaf.node) are
-    ∙ ap (λ v. number_with (term_at c.in-Leaf.node) (c.args.self.now.looked - c.in-Leaf.start) v c.args.octet) (to_z-of_z w64 c.in-Leaf.value (small_fits (leaf_ready are (leaf_at s c.in-Leaf.is)).small)))
+    ∙ ap (λ v. number_with (term_at c.in-Leaf.node) (c.args.self.now.looked - c.in-Leaf.start) v c.args.octet) (to_z-of_z w64 c.in-Leaf.value (small_fits (leaf_ready _ are (leaf_at s c.in-Leaf.is)).small)))
