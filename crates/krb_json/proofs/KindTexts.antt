@@ -1,11 +1,11 @@
 -- The kinds of messages and the types, one by one, for the laws about texts. asn1/generate wrote this from asn1/krb5.asn1
-use Rattle.std.proofs.Common.{◌≡◌, ℕ, true, ◌&&◌, Bool, List, get_or, Some, refl}
+use Rattle.std.proofs.Common.{◌≡◌, ℕ, true, ◌&&◌, Bool, List, Some, refl}
 use Rattle.std.specs.Prelude.{nat_le}
 use Rattle.std.specs.List.{list_all}
 use Rattle.krb_der.specs.declared.profile.Profile.{Profile}
 use Rattle.krb_der.specs.declared.profile.Profile.TheVariants as profiles
 use Rattle.krb_msg.specs.Shape as shape
-use Rattle.krb_msg.specs.Views.{kind_of, kind_name, kind_term, kind_term_in, kind_with_tag, message_der}
+use Rattle.krb_msg.specs.Views.{kind_name, kind_term, kind_term_in}
 use Rattle.krb_msg.specs.declared.message.Kind.{Kind}
 use Rattle.krb_msg.specs.declared.message.Kind.TheVariants as kind
 use Rattle.krb_msg.specs.declared.message.Message.{Message}

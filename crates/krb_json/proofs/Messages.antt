@@ -21,7 +21,7 @@ use Rattle.krb_msg.specs.Grammar.{messages}
 use Rattle.krb_msg.specs.Judgement.{judgement}
 use Rattle.krb_msg.specs.Profiles.{narrowed, narrowed_fields, narrowed_value, narrowed_values}
 use Rattle.krb_msg.specs.Views.{message_of_der}
-use Rattle.krb_msg.specs.Term.{Term, Fields, Integer, Text, Octets, Time, Bits, Sequence, SequenceOf, Tagged, Application, End, Required, Optional, Value, Values, Fits, der}
+use Rattle.krb_msg.specs.Term.{Term, Fields, Sequence, SequenceOf, Tagged, Application, End, Required, Optional, Value, Values, Fits, der}
 use Rattle.krb_msg.specs.Views.{kind_of, kind_name, kind_term, kind_term_in, message_value, message_value_in, message_der, IsInProfile}
 use Rattle.krb_msg.specs.declared.message.Kind.{Kind}
 use Rattle.krb_msg.specs.declared.message.Message.{Message}

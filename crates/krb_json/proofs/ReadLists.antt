@@ -9,7 +9,7 @@ use Rattle.std.proofs.Math.Dec.{eqb-suc-zero}
 use Rattle.std.proofs.lemmas.List.{take_more}
 use Rattle.std.proofs.lemmas.List.Folds.{list_any-append}
 use Rattle.std.proofs.lemmas.Grind.{flat_map-append}
-use Rattle.json.specs.Json.{Json, null, boolean, number, string, array, object, Items, no_items, item, Members, no_members, member}
+use Rattle.json.specs.Json.{Json, null, boolean, number, string, array, object, Items, item, Members, member}
 use Rattle.json.specs.Find.{as_array, as_object, get, get_member}
 use Rattle.json.specs.Tree.{HasNumbers, ItemsHaveNumbers}
 use Rattle.json.specs.Value.{value_view, items_view, members_view}
@@ -142,14 +142,11 @@ members-read is_field j ms (Err Memory) e r = tt
 -- what an object has for a name is what its members have
 pub get-member : (name : List ℕ) (j : Json) (ms : Members) → as_object j ≡ Some ms → get name j ≡ get_member name ms
 get-member name null ms e = cc e
-get-member name (boolean b) ms e = cc e
-get-member name (number s) ms e = cc e
-get-member name (string s) ms e = cc e
-get-member name (array js) ms e = cc e
 get-member name (object own) ms e = ap (get_member name) (same-some own ms e)
   where
     same-some : (a b : Members) → Some a ≡ Some b → a ≡ b
     same-some a b e = cc e
+get-member name other ms e = cc e
 
 -- each item of an array has numbers that are numbers
 pub item-numbers : {A : Type 0} (vs : List (Value A)) (i : ℕ) (d : Value A) → i < length vs → ItemsHaveNumbers (items_view vs) → HasNumbers (value_view (get_or vs i d))

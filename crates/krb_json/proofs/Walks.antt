@@ -1,5 +1,5 @@
 -- What is appended for octets is the JSON of their value.
-use Rattle.std.proofs.Common.{◌≡◌, ℕ, ℤ, ◌+◌, ◌<◌, ◌≤◌, max, true, not, Bool, List, [], ◌∷◌, ◌++◌, length, take, drop, get_or, ◌-◌, append_assoc, append-nil, map, Option, Some, None, Result, Ok, Err, refl, sym, ◌∙◌, ap, ap₂, subst, arith}
+use Rattle.std.proofs.Common.{◌≡◌, ℕ, ℤ, ◌+◌, ◌≤◌, max, true, not, Bool, List, [], ◌∷◌, ◌++◌, length, take, drop, get_or, ◌-◌, append_assoc, append-nil, map, Option, Some, None, Result, Ok, Err, sym, ◌∙◌, ap, subst, arith}
 use Rattle.std.specs.Prelude.{OnOk}
 use Rattle.std.specs.Borrow.{Bor}
 use Rattle.std.proofs.lemmas.Bool.{and_parts, leb-true, true≢false, not-true}
@@ -13,10 +13,10 @@ use Rattle.json.specs.Json.{member}
 use Rattle.json.specs.Tree.{json_tokens, items_tokens, members_tokens}
 use Rattle.json.specs.Value.{items_of}
 use Rattle.krb_der.specs.Octets.{item, integer_octets, integer_value}
-use Rattle.krb_der.specs.inner.Items.{same_from_cons, same_from_item}
+use Rattle.krb_der.specs.inner.Items.{same_from_item}
 use Rattle.krb_der.specs.inner.Numbers.{integer_value-integer_octets}
 use Rattle.krb_der.proofs.Shapes.{ascii-from_time}
-use Rattle.krb_msg.specs.Shape.{is_unambiguous, are_unambiguous, may_begin}
+use Rattle.krb_msg.specs.Shape.{are_unambiguous, may_begin}
 use Rattle.krb_msg.specs.Nodes.{nodes, term_at}
 use Rattle.krb_msg.specs.Table.{IsFormOf, fields_from, with_slot}
 use Rattle.krb_msg.specs.declared.grammar.Form.TheVariants as form
@@ -28,15 +28,13 @@ use Rattle.krb_msg.specs.inner.Values.{contents, der_is, may_begin_from_der}
 use Rattle.krb_msg.proofs.FieldViews.{same_contents}
 use Rattle.krb_msg.proofs.Integers.{size_integer-between}
 use Rattle.std.proofs.lemmas.List.{take_all}
-use Rattle.krb_msg.specs.Views.{kind_of, kind_name, kind_term, kind_with_tag, message_value, message_der}
+use Rattle.krb_msg.specs.Views.{kind_of, kind_name, kind_term, message_value, message_der}
 use Rattle.krb_msg.specs.declared.message.Kind.{Kind}
-use Rattle.krb_msg.specs.declared.message.Message.{Message}
 use Rattle.krb_judge.specs.FieldNames.{Named, field_at, names_of_kind}
 use Rattle.krb_judge.specs.declared.locating.names.Names.{Names}
 use Rattle.krb_json.specs.Spelling.{shown}
-use Rattle.krb_json.specs.Objects.{json, members_of, bits_json, message_json}
+use Rattle.krb_json.specs.Objects.{json, members_of, message_json}
 use Rattle.krb_json.specs.inner.Writing.{Puts, PutsItems, PutsFields, PutsBits, PutsMessage, slot_node}
-use Rattle.krb_json.proofs.KindTexts.{kind-of-first}
 
 -- ---- results
 pub on-ok : {E P Q : Type 0} (r : Result (Unit {0}) E) → (P → Q) → OnOk r P → OnOk r Q

@@ -2,10 +2,10 @@
 use Rattle.std.proofs.Common.{◌≡◌, ℕ, ℤ, pos, ◌+◌, ◌-◌, ◌*◌, ◌<◌, ◌≤◌, ◌&&◌, ◌||◌, ◌==◌, nat_lt, Bool, true, false, if◌then◌else◌, List, [], ◌∷◌, ◌++◌, length, take, Some, None, refl, sym, ap, ◌∙◌, subst, arith}
 use Rattle.std.proofs.lemmas.Bool.{lt-ltb, le-ltb}
 use Rattle.krb_der.specs.declared.why.Why.TheVariants as why
-use Rattle.krb_msg.specs.Term.{Term, Integer, Text, Octets, Time, Bits, Sequence, SequenceOf, Tagged, Application}
+use Rattle.krb_msg.specs.Term.{Term, Integer}
 use Rattle.krb_msg.specs.Judgement.{Outcome, Open, Bad, Done, Head, Partial, Refused, Got, head, has_size, fitting}
 use Rattle.krb_scan.specs.Scan as scan
-use Rattle.krb_scan.specs.Scan.{Mark, Expected, Listed, Each, OneOf, Container, Tip, Between, InHead, InLeaf, limit, sole_in, container_of, mark_of, with_mark, leaf_outcome, leaf_value, marks_at, Answer, Ongoing, Refusing, Whole}
+use Rattle.krb_scan.specs.Scan.{Mark, Expected, Container, Tip, limit, sole_in, container_of, mark_of, with_mark, leaf_outcome, leaf_value, marks_at, Answer, Ongoing, Refusing, Whole}
 use Rattle.krb_msg.specs.Nodes.{term_at}
 use Rattle.krb_scan.specs.State.{KeepsOf}
 use Rattle.krb_scan.specs.Scanned.{marks_by, marks_from}
@@ -15,7 +15,7 @@ use Rattle.krb_scan.specs.inner.Paths.{Changes, ChangesTo, IsLengthOf, number_wi
 use Rattle.krb_scan.specs.declared.event.Event.{Event}
 use Rattle.krb_scan.specs.declared.event.Event.TheVariants as event
 use Rattle.krb_scan.specs.declared.path.Path.{Path}
-use Rattle.krb_scan.proofs.Basics.{when_holds}
+use Rattle.krb_scan.proofs.Basics.{enters_holds, when_holds}
 use Rattle.krb_scan.proofs.Numbers.{first_head_right, next_head_right, value_push, length_push}
 use Rattle.krb_scan.proofs.Stable.{IsPartial, Counts, leaf_counts}
 use Rattle.krb_scan.proofs.PathFacts.{AtTip, BetweenAt, TaggedAt, LongAt, LeafAt, stepped}
@@ -81,11 +81,8 @@ opened_marks : (term : Term) (expected : Expected) (start count : ℕ) (stack : 
 opened_marks term expected start count stack marks = settle_marks (container_of (start + count) expected ∷ stack) (with_mark marks term start count) start
 
 enter_marks : (term : Term) (start count : ℕ) (stack : List Container) (marks : List Mark) → HasMarks (with_mark marks term start count) (enter term start count stack marks)
-enter_marks (Sequence fields) start count stack marks = opened_marks (Sequence fields) (Listed fields) start count stack marks
-enter_marks (SequenceOf empty term) start count stack marks = opened_marks (SequenceOf empty term) (Each term) start count stack marks
-enter_marks (Tagged index term) start count stack marks = opened_marks (Tagged index term) (OneOf (term ∷ [])) start count stack marks
-enter_marks (Application number term) start count stack marks = opened_marks (Application number term) (OneOf (term ∷ [])) start count stack marks
-enter_marks other start count stack marks = first_marks (leaf_outcome other count []) other start count stack marks
+enter_marks term start count stack marks =
+    enters_holds (HasMarks (with_mark marks term start count)) term start count stack marks (first_marks (leaf_outcome term count []) term start count stack marks) (λ expected. opened_marks term expected start count stack marks)
 
 none_marks : (got : Head) (term : Term) (stack : List Container) (marks : List Mark) (from : ℕ) (octets : List ℕ) → IsNone got → HasMarks marks (headed got term stack marks from octets)
 none_marks Partial term stack marks from octets h = refl

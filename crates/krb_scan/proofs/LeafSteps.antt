@@ -4,7 +4,7 @@ use Rattle.std.proofs.lemmas.Bool.{eqb-true}
 use Rattle.krb_der.specs.Octets.{integer_value}
 use Rattle.krb_der.specs.declared.why.Why.TheVariants as why
 use Rattle.krb_msg.specs.Term.{Term, Integer, Text, Octets, Time, Bits, Sequence, SequenceOf, Tagged, Application}
-use Rattle.krb_msg.specs.Judgement.{Outcome, Open as OpenOutcome, Bad, Done, has_size, text_octet, time_octet}
+use Rattle.krb_msg.specs.Judgement.{Outcome, Open as OpenOutcome, Done, has_size, text_octet, time_octet}
 use Rattle.krb_scan.specs.Scan as scan
 use Rattle.krb_scan.specs.Scan.{leaf_outcome}
 use Rattle.krb_scan.specs.inner.Numbers.{extended, in_range, integer_with, integer_next, each_next, bits_next, any_next, leaf_next}

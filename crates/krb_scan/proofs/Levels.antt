@@ -1,5 +1,5 @@
 -- How many lengths are open at once.
-use Rattle.std.proofs.Common.{◌≡◌, ℕ, zero, suc, ◌+◌, ◌-◌, ◌≤◌, ◌&&◌, ◌==◌, nat_lt, true, refl, get_or, List, [], ◌∷◌, length, take, drop, arith, le_trans}
+use Rattle.std.proofs.Common.{◌≡◌, ℕ, zero, suc, ◌+◌, ◌-◌, ◌≤◌, ◌&&◌, ◌==◌, nat_lt, true, refl, get_or, List, [], ◌∷◌, length, take, drop, arith}
 use Rattle.krb_der.specs.declared.profile.Profile.{Profile}
 use Rattle.krb_der.specs.declared.why.Why.{Why}
 use Rattle.krb_msg.specs.Basic.{int32}
@@ -7,7 +7,7 @@ use Rattle.krb_msg.specs.Grammar.{messages}
 use Rattle.krb_msg.proofs.Judged.{messages_nest}
 use Rattle.std.proofs.Math.Dec.{leb}
 use Rattle.std.proofs.lemmas.Bool.{leb-true}
-use Rattle.krb_msg.specs.Term.{Term, Fields, Integer, Text, Octets, Time, Bits, Sequence, SequenceOf, Tagged, Application, End, Required, Optional, tag_of}
+use Rattle.krb_msg.specs.Term.{Term, Fields, Integer, Sequence, SequenceOf, Tagged, Application, End, Required, Optional, tag_of}
 use Rattle.krb_msg.specs.Shape.{depth, depth_of_fields, greatest_depth}
 use Rattle.krb_msg.specs.Judgement.{Outcome, Open, Bad, Done, Head, Partial, Refused, Got, head, has_size}
 use Rattle.krb_msg.specs.Nodes.{nodes, term_in, term_at}

@@ -5,7 +5,7 @@ use Rattle.std.proofs.lemmas.Bool.{ltb-false, eqb-false, le-ltb, cases_lt}
 use Rattle.krb_der.specs.Octets.{when, number, integer_value, last_or_zero}
 use Rattle.krb_der.specs.declared.why.Why.{Why}
 use Rattle.krb_der.specs.declared.why.Why.TheVariants as why
-use Rattle.krb_msg.specs.Term.{Term, Fields, Integer, Text, Octets, Time, Bits, Sequence, SequenceOf, Tagged, Application, End, Required, Optional, tag_of}
+use Rattle.krb_msg.specs.Term.{Term, Fields, Integer, Text, Time, Bits, Sequence, SequenceOf, Tagged, Application, End, Required, Optional, tag_of}
 use Rattle.krb_msg.specs.Judgement.{Outcome, Open, Bad, Done, after, then_after, Head, Partial, Refused, Got, head, long_head, fitting, has_size, int_le, is_padded, integer_contents, each_contents, text_octet, time_octet, bits_contents, any_contents, items_contents, only_contents, of_head, item_with, contents_outcome, fields_outcome, message_outcome, verdict_of}
 use Rattle.krb_scan.specs.Scan.{Mark, Expected, Listed, Each, OneOf, Container, State, PartScan, Within, Fault, Past, scan_then, limit, is_sole, sole_in, container_of, with_mark, leaf_outcome, of_leaf, scan_leaf, scan_after_head, scan_head, begun, scan_required, scan_optional, scan_end, scan_only, scan_each, scan_contents, scan_fields, scan_one_of, scan_message, Answer, Ongoing, Refusing, Whole, answer, scan}
 use Rattle.krb_scan.specs.inner.Machine.{outcome_of}
@@ -193,13 +193,7 @@ then_agree base before whole from room sole octets other another next next' e h 
 from_contents : (from room : ℕ) (sole : Bool) (octets : List ℕ) (header count : ℕ) (seen : PartScan) (outcome : Outcome) → 0 < header → header + count ≤ room → (sole && nat_lt (header + count) room) ≡ false →
     ContentsAgree from header count (drop header octets) seen outcome → ItemAgree from room sole octets seen outcome
 from_contents from room sole octets header count (Within state) Open p q loose h = record { agree = tt {0} }
-from_contents from room sole octets header count (Within state) (Bad offset because) p q loose h = absurd h.agree
-from_contents from room sole octets header count (Within state) (Done total) p q loose h = absurd h.agree
-from_contents from room sole octets header count (Fault place reason) Open p q loose h = absurd h.agree
 from_contents from room sole octets header count (Fault place reason) (Bad offset because) p q loose h = record { agree = (h.agree.0, h.agree.1) }
-from_contents from room sole octets header count (Fault place reason) (Done total) p q loose h = absurd h.agree
-from_contents from room sole octets header count (Past marks place rest) Open p q loose h = absurd h.agree
-from_contents from room sole octets header count (Past marks place rest) (Bad offset because) p q loose h = absurd h.agree
 from_contents from room sole octets header count (Past marks place rest) (Done total) p q loose h =
     let at : place ≡ from + header + count = h.agree.0 in
     let size : total ≡ header + count = h.agree.1 in
@@ -212,6 +206,7 @@ from_contents from room sole octets header count (Past marks place rest) (Done t
 
     fill : sole ≡ true → total ≡ header + count → total ≡ room
     fill is_sole size = let le : room ≤ header + count = ltb-false (header + count) room (full sole is_sole loose) in omega arith
+from_contents from room sole octets header count other another p q loose h = absurd h.agree
 
 -- an item's outcome from its identifier octet on, the tag being right
 abbrev pub begun_outcome : Term → ℕ → Bool → List ℕ → Outcome

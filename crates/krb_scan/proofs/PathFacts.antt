@@ -3,7 +3,7 @@ use Rattle.std.proofs.Common.{◌≡◌, ℕ, suc, ℤ, pos, negsuc, ◌+◌, �
 use Rattle.std.proofs.lemmas.Bool.{ltb-false, leb-true, and_parts}
 use Rattle.std.proofs.lemmas.Int.{ints}
 use Rattle.krb_der.specs.Octets.{AreOctets, number, complement, integer_octets, integer_value}
-use Rattle.krb_msg.specs.Term.{Term, Integer, Text, Octets, Time, Bits, Sequence, SequenceOf, Tagged, Application}
+use Rattle.krb_msg.specs.Term.{Term, Integer, Bits, Tagged}
 use Rattle.krb_msg.specs.Judgement.{Head, Partial, Refused, Got, Open as OpenOutcome, head, has_size, bits_contents}
 use Rattle.krb_scan.specs.Scan as scan
 use Rattle.krb_scan.specs.Scan.{Container, Mark as Marked, Tip, Between, InHead, InLeaf, Ongoing, limit, leaf_outcome}

@@ -13,7 +13,7 @@ use Rattle.krb_scan.specs.inner.Numbers.{first_head, next_head}
 use Rattle.krb_scan.specs.inner.Outcomes.{HasContainers, HeadIs, HeadEnds, IsShort, LeafReads}
 use Rattle.krb_msg.specs.Nodes.{term_at}
 use Rattle.krb_scan.specs.State.{AreOpen, TipIs}
-use Rattle.krb_scan.specs.inner.Paths.{IsStep, IsReached, IsPathOf}
+use Rattle.krb_scan.specs.inner.Paths.{IsStep, IsReached}
 use Rattle.krb_scan.specs.declared.head.Head.{Head as Found}
 use Rattle.krb_scan.specs.declared.head.Head.TheVariants as found
 use Rattle.krb_scan.specs.declared.path.Path.{Path}

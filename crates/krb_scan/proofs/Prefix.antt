@@ -1,12 +1,9 @@
 -- What is decided on a prefix stays decided, and is open before it.
-use Rattle.std.proofs.Common.{◌≡◌, ℕ, ◌<◌, List, [], ◌∷◌, ◌++◌, length, take, drop, refl, sym, ap, ◌∙◌, arith}
-use Rattle.std.proofs.lemmas.List.{take-append-drop, length-take}
-use Rattle.krb_der.specs.declared.why.Why.{Why}
+use Rattle.std.proofs.Common.{◌≡◌, ℕ, ◌<◌, List, [], ◌∷◌, ◌++◌, refl, sym, ap, ◌∙◌}
 use Rattle.krb_msg.specs.Term.{Term}
-use Rattle.krb_scan.specs.Scan.{State, Answer, Ongoing, Refusing, Whole, scan}
+use Rattle.krb_scan.specs.Scan.{State, scan}
 use Rattle.krb_scan.specs.inner.Machine.{step, go_on, initial}
 use Rattle.krb_scan.proofs.Resume.{run, run_scan, go_on_each, go_on_assoc}
-use Rattle.krb_scan.proofs.Faults.{Placed, scan_placed}
 
 pub run_append : (state : State) (octets more : List ℕ) → run state (octets ++ more) ≡ go_on (run state octets) (λ then_state. run then_state more)
 run_append state [] more = refl

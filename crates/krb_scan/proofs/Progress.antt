@@ -2,7 +2,7 @@
 use Rattle.std.proofs.Common.{ℕ, zero, suc, ◌+◌, ◌-◌, ◌<◌, ◌≤◌, Bool, true, false, ◌&&◌, ◌||◌, ◌==◌, nat_lt, if◌then◌else◌, List, [], ◌∷◌, length, take, drop, arith}
 use Rattle.krb_der.specs.Octets.{number}
 use Rattle.krb_der.specs.declared.why.Why.{Why}
-use Rattle.krb_msg.specs.Term.{Term, Fields, Integer, Text, Octets, Time, Bits, Sequence, SequenceOf, Tagged, Application, End, Required, Optional, tag_of}
+use Rattle.krb_msg.specs.Term.{Term, Fields, Sequence, SequenceOf, Tagged, Application, End, Required, Optional, tag_of}
 use Rattle.krb_msg.specs.Judgement.{Outcome, Open, Bad, Done, Head, Partial, Refused, Got, head, long_head, fitting, has_size}
 use Rattle.krb_scan.specs.Scan.{Mark, Expected, Listed, Each, OneOf, Container, PartScan, scan_then, limit, sole_in, container_of, with_mark, leaf_outcome, of_leaf, scan_leaf, scan_after_head, begun, scan_required, scan_optional, scan_end, scan_each, scan_contents, scan_fields}
 use Rattle.krb_scan.proofs.Basics.{when_holds, within_at, fault_at, past_at, AtLeast, at_least_weaken, at_least_then}

@@ -6,11 +6,11 @@ use Rattle.std.proofs.lemmas.Bool.{ltb-true, ltb-false}
 use Rattle.krb_der.specs.Octets.{when}
 use Rattle.krb_der.specs.declared.why.Why.{Why}
 use Rattle.krb_der.specs.declared.why.Why.TheVariants as why
-use Rattle.krb_msg.specs.Term.{Term, Fields, Integer, Text, Octets, Time, Bits, Sequence, SequenceOf, Tagged, Application, End, Required, Optional, tag_of}
+use Rattle.krb_msg.specs.Term.{Term, Fields, Sequence, SequenceOf, Tagged, Application, End, Required, Optional, tag_of}
 use Rattle.krb_msg.specs.Judgement.{Outcome, Open, Bad, Done, Head, Partial, Refused, Got, head, has_size}
 use Rattle.krb_scan.specs.Scan.{Mark, Expected, Listed, Each, OneOf, Container, Tip, Between, InHead, InLeaf, State, PartScan, Within, Fault, Past, scan_then, limit, sole_in, container_of, mark_of, state_of, with_mark, leaf_outcome, leaf_value, of_leaf, scan_leaf, scan_after_head, scan_head, begun, between, scan_only, scan_each, scan_contents, scan_fields, scan_one_of, scan_message, Answer, Ongoing, Refusing, Whole, answer, scan}
 use Rattle.krb_scan.specs.inner.Machine.{Pick, pick_field, pick_one_of, pick, requires_field, requires_item, settle, leafed, in_leaf, opened, enter, headed, tagged, picked, step_between, step_at, step, go_on, initial}
-use Rattle.krb_scan.proofs.Basics.{when_holds, when_knows, when_same, then_same, then_assoc}
+use Rattle.krb_scan.proofs.Basics.{enters_holds, when_holds, when_knows, when_same, then_same, then_assoc}
 use Rattle.krb_scan.proofs.Progress.{ItemReader, ItemAdvances, begun_advances, contents_advance}
 use Rattle.krb_scan.proofs.Stable.{SameOnce, head_stays, EndsAt, IsPartial, head_ends, Counts, leaf_counts, SameFault, leaf_fault}
 
@@ -325,11 +325,8 @@ in_leaf_reached term start count stack marks octets size = by_outcome (leaf_outc
     by_outcome (Done total) e = settle_reached stack _ (start + count)
 
 enter_reached : (term : Term) (start count : ℕ) (stack : List Container) (marks : List Mark) → has_size term count ≡ true → ReachedAnswer (enter term start count stack marks)
-enter_reached (Sequence fields) start count stack marks size = settle_reached (container_of (start + count) (Listed fields) ∷ stack) (with_mark marks (Sequence fields) start count) start
-enter_reached (SequenceOf empty term) start count stack marks size = settle_reached (container_of (start + count) (Each term) ∷ stack) (with_mark marks (SequenceOf empty term) start count) start
-enter_reached (Tagged index term) start count stack marks size = settle_reached (container_of (start + count) (OneOf (term ∷ [])) ∷ stack) (with_mark marks (Tagged index term) start count) start
-enter_reached (Application number term) start count stack marks size = settle_reached (container_of (start + count) (OneOf (term ∷ [])) ∷ stack) (with_mark marks (Application number term) start count) start
-enter_reached other start count stack marks size = in_leaf_reached other start count stack marks [] size
+enter_reached term start count stack marks size =
+    enters_holds ReachedAnswer term start count stack marks (in_leaf_reached term start count stack marks [] size) (λ expected. settle_reached (container_of (start + count) expected ∷ stack) (with_mark marks term start count) start)
 
 headed_reached : (term : Term) (stack : List Container) (marks : List Mark) (from : ℕ) (octets : List ℕ) → ReachedAnswer (headed (head (limit stack - from) octets) term stack marks from octets)
 headed_reached term stack marks from octets = by_head (head (limit stack - from) octets) refl

@@ -9,7 +9,7 @@ use Rattle.krb_der.specs.declared.verdict.Verdict.{Verdict}
 use Rattle.krb_der.specs.declared.verdict.Verdict.TheVariants as verdict
 use Rattle.krb_msg.specs.Grammar.{messages}
 use Rattle.krb_msg.specs.Judgement.{verdict_of}
-use Rattle.krb_msg.specs.Term.{Term, Integer, Text, Octets, Time, Bits, Sequence, SequenceOf, Tagged, Application}
+use Rattle.krb_msg.specs.Term.{Term, Text, Octets}
 use Rattle.krb_scan.specs.Scan as scan
 use Rattle.krb_scan.specs.Scan.{Mark, Container, InLeaf, Answer, Ongoing, state_of}
 use Rattle.krb_scan.specs.inner.Machine.{outcome_of}
@@ -19,7 +19,6 @@ use Rattle.krb_scan.specs.State.{TipIs, KeepsOf}
 use Rattle.krb_scan.specs.inner.Paths.{IsPathOf, IsReached}
 use Rattle.krb_scan.specs.Scanned.{IsScanOf, Keeps, Marks, marks_from, lengths_from}
 use Rattle.krb_scan.specs.declared.path.Path.{Path}
-use Rattle.krb_scan.specs.declared.tip.Tip.{Tip as Kept}
 use Rattle.krb_scan.specs.declared.tip.Tip.TheVariants as tip
 use Rattle.krb_scan.proofs.Chunk.{chunk_right}
 use Rattle.krb_scan.proofs.Outcome.{scan_outcome}

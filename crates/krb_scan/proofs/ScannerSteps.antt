@@ -90,8 +90,7 @@ unchanged_at {terms = terms} old new decided n octets at same size looked = reco
       subst (λ items. AreOpen new.inner items state.stack) (sym same.outer) (subst (λ top. AreOpen top old.outer.items state.stack) (sym same.inner) h.0),
       subst (λ k. TipIs k new.tip state.tip) (sym looked) (subst (λ t. TipIs old.looked t state.tip) (sym same.tip) h.1),
     )
-    by_answer (Refusing place reason) h = tt {0}
-    by_answer (Whole marks) h = tt {0}
+    by_answer other h = tt {0}
 
 -- the path after the octet of the step
 abbrev pub counted : Path → Path
@@ -191,8 +190,7 @@ lengths_deep (Ongoing state) h = by_tip state.tip (length state.stack) h
     by_tip (scan.Between place) count k = omega (arith, k)
     by_tip (scan.InHead term from octets) count k = omega (arith, k)
     by_tip (scan.InLeaf term start size octets) count k = omega (arith, k)
-lengths_deep (Refusing place reason) h = zero-le
-lengths_deep (Whole marks) h = zero-le
+lengths_deep other h = zero-le
 
 open_few : (given : Answer) (before : ℕ → Answer) → OpenAtMost 14 given → ((place : ℕ) → OpenAtMost 14 (before place)) → lengths_from given before ≤ 13
 open_few (Ongoing state) before h k = lengths_deep (Ongoing state) h

@@ -5,7 +5,7 @@ use Rattle.std.proofs.lemmas.Bool.{ltb-true, ltb-false, eqb-false, lt-ltb, le-lt
 use Rattle.krb_der.specs.Octets.{number, integer_value, last_or_zero}
 use Rattle.krb_der.specs.declared.why.Why.{Why}
 use Rattle.krb_der.specs.declared.why.Why.TheVariants as why
-use Rattle.krb_msg.specs.Term.{Term, Integer, Text, Octets, Time, Bits, Sequence, SequenceOf, Tagged, Application}
+use Rattle.krb_msg.specs.Term.{Term, Integer, Text, Time, Bits}
 use Rattle.krb_msg.specs.Judgement.{Outcome, Open, Bad, Done, Head, Partial, Refused, Got, head, long_head, fitting, has_size, int_le, is_padded, integer_contents, each_contents, text_octet, time_octet, bits_contents, any_contents}
 use Rattle.krb_msg.proofs.TermsStable.{positive_from_size_bits}
 use Rattle.krb_scan.specs.Scan.{leaf_outcome}
