@@ -47,14 +47,12 @@ digit_digits octet text is others = ap (λ b. (b || is_blank octet) && are_digit
 both_ok : (first : Result ℕ FromHexError) (rest : Result (List ℕ) FromHexError) (octets : List ℕ) → (first >>= λ byte. rest >>= λ bytes. Ok (byte ∷ bytes)) ≡ Ok octets →
     (byte : ℕ) × (bytes : List ℕ) × (first ≡ Ok byte) × (rest ≡ Ok bytes) × (byte ∷ bytes ≡ octets)
 both_ok (Ok byte) (Ok bytes) octets is = (byte, bytes, refl, refl, cc)
-both_ok (Ok byte) (Err fault) octets is = absurd (cc)
-both_ok (Err fault) rest octets is = absurd (cc)
+both_ok other another octets is = absurd (cc)
 
 pair_of : (high low i : ℕ) (h l : Option ℕ) (byte : ℕ) → (digit_or_error high i h >>= λ a. digit_or_error low (i + 1) l >>= λ b. Ok (a * 16 + b)) ≡ Ok byte →
     (option_and_then (λ a. option_map (λ b. 16 * a + b) l) h ≡ Some byte) × (is_some h ≡ true) × (is_some l ≡ true)
 pair_of high low i (Some a) (Some b) byte is = let same : a * 16 + b ≡ byte = cc in (let e : 16 * a + b ≡ byte = omega (arith, same) in ap Some e, refl, refl)
-pair_of high low i (Some a) None byte is = absurd (cc)
-pair_of high low i None l byte is = absurd (cc)
+pair_of high low i other another byte is = absurd (cc)
 
 blank_before : (octet : ℕ) (text : List ℕ) → is_blank octet ≡ true → IsDecoded text → IsDecoded (octet ∷ text)
 blank_before octet text is decoded = record {

@@ -1,5 +1,5 @@
 -- Octets before readings.
-use Rattle.std.proofs.Common.{ℕ, ◌≡◌, List, [], ◌∷◌, ◌++◌, Ok, Err, refl, sym, ap, append_assoc, append-nil}
+use Rattle.std.proofs.Common.{ℕ, ◌≡◌, List, [], ◌++◌, Ok, Err, refl, sym, ap, append_assoc, append-nil}
 use Rattle.krb_input.specs.Readings.{Reading, prepend}
 
 pub prepend_none : (reading : Reading) → prepend [] reading ≡ reading

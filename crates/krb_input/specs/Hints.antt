@@ -1,5 +1,5 @@
 -- What may help where a source is refused at once: what its first octets say that it is, and the command that reads it.
-use Rattle.std.specs.Prelude.{ℕ, ◌||◌, ◌&&◌, ◌==◌, not, nat_lt, nat_eq, if◌then◌else◌, is_some, is_none, Bool, true, false, List, [], ◌∷◌, ◌++◌, length, take, codes, Option, Some, None}
+use Rattle.std.specs.Prelude.{ℕ, ◌||◌, ◌&&◌, ◌==◌, not, nat_eq, if◌then◌else◌, is_none, Bool, true, false, List, [], ◌∷◌, ◌++◌, take, codes, Option, Some, None}
 use Rattle.std.specs.List.{list_any, starts_with}
 use Rattle.std.specs.Option.{option_or}
 use Rattle.krb_input.specs.Octets.{first_no_text, is_tag}

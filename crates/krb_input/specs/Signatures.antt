@@ -1,5 +1,5 @@
 -- What files begin with.
-use Rattle.std.specs.Prelude.{ℕ, Bool, true, false, nat_eq, if◌then◌else◌, List, [], ◌∷◌, ◌++◌, codes, Option, Some, None}
+use Rattle.std.specs.Prelude.{ℕ, nat_eq, if◌then◌else◌, List, [], ◌∷◌, ◌++◌, codes, Option, Some, None}
 use Rattle.std.specs.List.{starts_with}
 use Rattle.krb_input.specs.declared.hint.Hint.{Hint}
 use Rattle.krb_input.specs.declared.hint.Hint.TheVariants as hint

@@ -2,7 +2,7 @@
 
 ghost use Rattle.std.specs.Prelude.{◌≡◌, ◌+◌, ◌*◌, ◌<◌, ◌≤◌, ◌^◌, length};
 ghost use Rattle.krb_input.specs.Characters.{is_x};
-ghost use Rattle.krb_input.specs.Dumps.{after_digits, after_offset, is_number, is_offset, is_offset_long, is_prefixed, number_from, offset_base, without_prefix};
+ghost use Rattle.krb_input.specs.Dumps.{after_offset, is_number, is_offset, is_offset_long, is_prefixed, number_from, offset_base, without_prefix};
 ghost use Rattle.krb_input.specs.inner.Results.{IsPart};
 
 use crate::characters::{begins_with, count_digits, digit_value};

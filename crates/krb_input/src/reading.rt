@@ -3,7 +3,7 @@
 ghost use Rattle.std.specs.Prelude.{◌≡◌, None, Ok, Err, IfErr, IfOk};
 ghost use Rattle.krb_input.specs.Base64.{first_octet};
 ghost use Rattle.krb_input.specs.Readings.{Reading};
-ghost use Rattle.krb_input.specs.Inputs.{IsFaultOf, as_form, is_first, is_first_of, line_spelled, spelled, spelled_in_braces, spelled_in_field, spelled_in_octets, spelled_in_text, spelled_in_tokens, spelled_otherwise, spelled_plainly};
+ghost use Rattle.krb_input.specs.Inputs.{IsFaultOf, as_form, is_first, is_first_of, line_spelled, spelled, spelled_in_braces, spelled_in_field, spelled_in_octets, spelled_in_text, spelled_otherwise, spelled_plainly};
 ghost use Rattle.krb_input.specs.inner.Results.{IsSpelled, Reads};
 
 use crate::base64::{first_octet, read_base64};

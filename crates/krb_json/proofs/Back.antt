@@ -138,9 +138,8 @@ items-back term names path index comes (v ∷ vs) fit short =
     rw (comes (element_path path index) v fit.0 (omega (arith, both, short)), items-back term names path (index + 1) comes vs fit.1 (omega (arith, both, short))) refl
 
 not-empty : (empty : Bool) (term : Term) (names : Names) (values : List (Value term)) → (empty || nat_lt 0 (length values)) ≡ true → (not empty && is_empty (items_of (map (json term names) values))) ≡ false
-not-empty true term names values some = refl
 not-empty false term names [] some = cc some
-not-empty false term names (v ∷ vs) some = refl
+not-empty other term names another some = refl
 
 -- ---- fields
 -- what is found of a field, after others

@@ -25,12 +25,8 @@ kept (Ok done) given ms e = cc e
 kept (Err found) given ms e = cc e
 
 found-in : (j : Json) (members : Members) → members_spelled (is_allowed allowed.Bits) [] j ≡ Ok members → (name : List ℕ) → get_member name members ≡ get name j
-found-in json.null ms e name = cc e
-found-in (json.boolean b) ms e name = cc e
-found-in (json.number s) ms e name = cc e
-found-in (json.string s) ms e name = cc e
-found-in (json.array js) ms e name = cc e
 found-in (json.object given) ms e name = ap (get_member name) (sym (kept (checked_members (is_allowed allowed.Bits) [] [] given) given ms e))
+found-in other ms e name = cc e
 
 -- ---- what they spell
 abbrev pub SpellsOctets : Json → List ℕ → Type 0

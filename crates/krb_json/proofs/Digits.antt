@@ -29,9 +29,8 @@ even-digits text octets e =
 -- ---- of either case
 -- an octet of two digits before others
 before : (path : List ℕ) (high low : Option ℕ) (others : Result (List ℕ) Fault) → Result (List ℕ) Fault
-before path None low others = fault path NotHexadecimal
-before path (Some h) None others = fault path NotHexadecimal
 before path (Some h) (Some l) others = others >>= λ octets. Ok ((h * 16 + l) ∷ octets)
+before path other another others = fault path NotHexadecimal
 
 cons-decoded : (path : List ℕ) (octet : ℕ) (others : Result (List ℕ) FromHexError) → decoded path (cons_byte octet others) ≡ (decoded path others >>= λ octets. Ok (octet ∷ octets))
 cons-decoded path octet (Ok octets) = refl

@@ -21,9 +21,6 @@ use Rattle.krb_json.specs.Objects.{bits_json}
 use Rattle.krb_json.specs.Spelled.{number_spelled, integer_spelled, text_spelled, octets_spelled, time_spelled, bits_spelled, bits_from, decoded}
 
 -- ---- numbers
-is_mark : ℕ → Bool
-is_mark c = c == 0x2E || c == 0x65 || c == 0x45
-
 no_mark : (ds : List ℕ) → AllDigits 10 ds → list_any (λ c. c == 0x2E || c == 0x65 || c == 0x45) ds ≡ false
 no_mark [] digits = refl
 no_mark (d ∷ ds) digits =

@@ -2,7 +2,7 @@
 use Rattle.std.proofs.Common.{◌≡◌, ℕ, ◌+◌, Bool, true, false, List, [], ◌∷◌, map, Option, Some, None, refl, sym, ◌∙◌, ap}
 use Rattle.std.specs.Prelude.{◌&&◌, if◌then◌else◌, option_map}
 use Rattle.std.specs.Option.{option_and_then}
-use Rattle.krb_msg.specs.Term.{Term, Fields, Integer, Text, Octets, Time, Bits, Sequence, SequenceOf, Tagged, Application, End, Required, Optional, Value, Values}
+use Rattle.krb_msg.specs.Term.{Term, Fields, Sequence, SequenceOf, Tagged, Application, End, Required, Optional, Value, Values}
 use Rattle.krb_msg.specs.Views.{kind_of, kind_name, kind_term, message_value}
 use Rattle.krb_msg.specs.declared.message.Kind.{Kind}
 use Rattle.krb_msg.specs.declared.message.Message.{Message}
@@ -20,36 +20,22 @@ use Rattle.krb_json.specs.Unsealed.{begin_with_zero, first_of, is_encrypted_data
 
 -- ---- the number 0 is not masked
 zero-zeroed : (term : Term) (value : Value term) → is_zero term (zeroed term value) ≡ is_zero term value
-zero-zeroed (Integer low high) value = refl
-zero-zeroed (Text greatest) value = refl
-zero-zeroed Octets value = refl
-zero-zeroed Time value = refl
-zero-zeroed (Bits least) value = refl
-zero-zeroed (Sequence fields) value = refl
-zero-zeroed (SequenceOf empty term) value = refl
 zero-zeroed (Tagged index term) value = zero-zeroed term value
 zero-zeroed (Application number term) value = zero-zeroed term value
+zero-zeroed other value = refl
 
 begin-zeroed : (fields : Fields) (values : Values fields) → begin_with_zero fields (zeroed_fields fields values) ≡ begin_with_zero fields values
-begin-zeroed End values = refl
 begin-zeroed (Required term fields) values = zero-zeroed term values.0
-begin-zeroed (Optional term fields) values = refl
+begin-zeroed other values = refl
 
 zero-masked : (term : Term) (names : Names) (value : Value term) → is_zero term (masked term names value) ≡ is_zero term value
-zero-masked (Integer low high) names value = refl
-zero-masked (Text greatest) names value = refl
-zero-masked Octets names value = refl
-zero-masked Time names value = refl
-zero-masked (Bits least) names value = refl
-zero-masked (Sequence fields) names value = refl
-zero-masked (SequenceOf empty term) names value = refl
 zero-masked (Tagged index term) names value = zero-masked term names value
 zero-masked (Application number term) names value = zero-masked term names value
+zero-masked other names value = refl
 
 begin-masked : (fields : Fields) (names : Names) (values : Values fields) → begin_with_zero fields (masked_fields fields names 0 values) ≡ begin_with_zero fields values
-begin-masked End names values = refl
 begin-masked (Required term fields) names values = zero-masked term (field_at names 0).inside values.0
-begin-masked (Optional term fields) names values = refl
+begin-masked other names values = refl
 
 -- ---- the same paths
 -- of a SEQUENCE, by whether it is an EncryptedData of encryption type 0
@@ -72,15 +58,11 @@ module _ {A : Type 0} (find : (path : List ℕ) → A → Option (List ℕ)) (ma
 
 mutual
   term-same : (term : Term) (names : Names) (path : List ℕ) (value : Value term) → unsealed term names path (masked term names value) ≡ unsealed term names path value
-  term-same (Integer low high) names path value = refl
-  term-same (Text greatest) names path value = refl
-  term-same Octets names path value = refl
-  term-same Time names path value = refl
-  term-same (Bits least) names path value = refl
   term-same (Sequence fields) names path values = sequence-same fields names path values (is_encrypted_data names && begin_with_zero fields values) refl (fields-same fields names path 0 values)
   term-same (SequenceOf empty term) names path values = items-same (unsealed term names) (masked term names) (term-same term names) path 0 values
   term-same (Tagged index term) names path value = term-same term names path value
   term-same (Application number term) names path value = term-same term names path value
+  term-same other names path value = refl
 
   fields-same : (fields : Fields) (names : Names) (path : List ℕ) (index : ℕ) (values : Values fields) → unsealed_fields fields names path index (masked_fields fields names index values) ≡ unsealed_fields fields names path index values
   fields-same End names path index values = refl
@@ -114,15 +96,11 @@ module _ {A : Type 0} (find : (path : List ℕ) → A → Option (List ℕ)) (ma
 
 mutual
   term-kept : (term : Term) (names : Names) (path : List ℕ) (value : Value term) → unsealed term names path value ≡ None → masked term names value ≡ value
-  term-kept (Integer low high) names path value e = refl
-  term-kept (Text greatest) names path value e = refl
-  term-kept Octets names path value e = refl
-  term-kept Time names path value e = refl
-  term-kept (Bits least) names path value e = refl
   term-kept (Sequence fields) names path values e = sequence-kept fields names path values (is_encrypted_data names && begin_with_zero fields values) (fields-kept fields names path 0 values) e
   term-kept (SequenceOf empty term) names path values e = items-kept (unsealed term names) (masked term names) (term-kept term names) path 0 values e
   term-kept (Tagged index term) names path value e = term-kept term names path value e
   term-kept (Application number term) names path value e = term-kept term names path value e
+  term-kept other names path value e = refl
 
   fields-kept : (fields : Fields) (names : Names) (path : List ℕ) (index : ℕ) (values : Values fields) → unsealed_fields fields names path index values ≡ None → masked_fields fields names index values ≡ values
   fields-kept End names path index values e = refl

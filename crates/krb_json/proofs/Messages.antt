@@ -21,7 +21,7 @@ use Rattle.krb_msg.specs.Grammar.{messages}
 use Rattle.krb_msg.specs.Judgement.{judgement}
 use Rattle.krb_msg.specs.Profiles.{narrowed, narrowed_fields, narrowed_value, narrowed_values}
 use Rattle.krb_msg.specs.Views.{message_of_der}
-use Rattle.krb_msg.specs.Term.{Term, Fields, Integer, Text, Octets, Time, Bits, Sequence, SequenceOf, Tagged, Application, End, Required, Optional, Value, Values, Fits, der}
+use Rattle.krb_msg.specs.Term.{Term, Fields, Sequence, SequenceOf, Tagged, Application, End, Required, Optional, Value, Values, Fits, der}
 use Rattle.krb_msg.specs.Views.{kind_of, kind_name, kind_term, kind_term_in, message_value, message_value_in, message_der, IsInProfile}
 use Rattle.krb_msg.specs.declared.message.Kind.{Kind}
 use Rattle.krb_msg.specs.declared.message.Message.{Message}
@@ -53,16 +53,12 @@ option-same f g h same (Some a) = ap Some (same a)
 
 mutual
   json-narrowed : (optional : Bool) (term : Term) (names : Names) (value : Value term) → json (narrowed optional term) names (narrowed_value optional term value) ≡ json term names value
-  json-narrowed optional (Integer low high) names value = refl
-  json-narrowed optional (Text greatest) names value = refl
-  json-narrowed optional Octets names value = refl
-  json-narrowed optional Time names value = refl
-  json-narrowed optional (Bits least) names value = refl
   json-narrowed optional (Sequence fields) names values = ap object (members-narrowed fields names 0 values)
   json-narrowed optional (SequenceOf empty term) names values =
       ap (λ js. Rattle.json.specs.Json.array (items_of js)) (map-same (narrowed_value false term) (json (narrowed false term) names) (json term names) (json-narrowed false term names) values)
   json-narrowed optional (Tagged index term) names value = json-narrowed optional term names value
   json-narrowed optional (Application tag term) names value = json-narrowed false term names value
+  json-narrowed optional other names value = refl
 
   members-narrowed : (fields : Fields) (names : Names) (index : ℕ) (values : Values fields) → members_of (narrowed_fields fields) names index (narrowed_values fields values) ≡ members_of fields names index values
   members-narrowed End names index values = refl

@@ -16,10 +16,9 @@ name names index = (field_at names index).name
 
 -- ---- tests of lists
 pub all_before : {A : Type 0} (p : A → Bool) (xs : List A) (d : A) (index other : ℕ) → list_all p (take index xs) ≡ true → other < index → other < length xs → p (get_or xs other d) ≡ true
-all_before p [] d index other all below within = absurd (omega arith)
-all_before p (x ∷ xs) d zero other all below within = absurd (omega arith)
 all_before p (x ∷ xs) d (suc index) zero all below within = (and_parts (p x) _ all).0
 all_before p (x ∷ xs) d (suc index) (suc other) all below within = all_before p xs d index other (and_parts (p x) _ all).1 (omega arith) (omega arith)
+all_before p another d third other all below within = absurd (omega arith)
 
 pub any_at : {A : Type 0} (p : A → Bool) (xs : List A) (d : A) (index : ℕ) → index < length xs → p (get_or xs index d) ≡ true → list_any p xs ≡ true
 any_at p [] d index within is = absurd (omega arith)

@@ -31,9 +31,8 @@ abbrev pub NoMark : List ℕ → Type 0
 NoMark text = list_any is_mark text ≡ false
 
 no-mark-drop : (k : ℕ) (text : List ℕ) → NoMark text → NoMark (drop k text)
-no-mark-drop zero text none = none
-no-mark-drop (suc k) [] none = none
 no-mark-drop (suc k) (c ∷ text) none = no-mark-drop k text (neither (is_mark c) _ none).1
+no-mark-drop other another none = none
 
 record IsPlain (c : ℕ) : Type 0 where
   dot : c == 46 ≡ false
@@ -120,10 +119,9 @@ IsNotWithin low high None = Unit {0}
 IsNotWithin low high (Some number) = (int_le low number && int_le number high) ≡ false
 
 between : (low number high : ℤ) → FitsSigned w64 low → FitsSigned w64 high → low ≤ℤ number → number ≤ℤ high → FitsSigned w64 number
-between low (pos n) (pos high) from to above below = omega (arith, ints, from, to, above, below)
 between low (pos n) (negsuc high) from to above below = absurd (omega (arith, ints, below))
 between (pos low) (negsuc n) high from to above below = absurd (omega (arith, ints, above))
-between (negsuc low) (negsuc n) high from to above below = omega (arith, ints, from, to, above, below)
+between other another third from to above below = omega (arith, ints, from, to, above, below)
 
 outside-range : (low number high : ℤ) → FitsSigned w64 low → FitsSigned w64 high → ¬ (FitsSigned w64 number) → (int_le low number && int_le number high) ≡ false
 outside-range low number high from to not_fits = by (int_le low number && int_le number high) refl
@@ -142,12 +140,8 @@ outside low high path text None is none parses from to not_within =
     rw (none, outside-range low (signed_digits_value 10 text) high from to not_fits) refl
 
 is-number : (j : Json) (text : List ℕ) → HasNumbers j → as_number j ≡ Some text → IsNumber text
-is-number json.null text numbers e = cc e
-is-number (json.boolean b) text numbers e = cc e
 is-number (json.number s) text numbers e = let same : s ≡ text = cc e in subst IsNumber same numbers
-is-number (json.string s) text numbers e = cc e
-is-number (json.array js) text numbers e = cc e
-is-number (json.object ms) text numbers e = cc e
+is-number other text numbers e = cc e
 
 pub outside-spelled : (low high : ℤ) (j : Json) (text : List ℕ) (number : Option ℤ) → HasNumbers j → as_number j ≡ Some text → NoMark text → MatchOption (as_number j) (number ≡ None) (λ s. ParsesSigned w64 10 s (ok_or number s)) → FitsSigned w64 low → FitsSigned w64 high → IsNotWithin low high number
     → (path : List ℕ) → integer_spelled low high path j ≡ fault path (Outside low high)

@@ -28,15 +28,13 @@ Same {A} related read = (a b : A) → related a b → read a ≡ read b
 
 found-same : {A B : Type 0} (related : A → A → Type 0) (path : List ℕ) (wrong : Wrong) (next : A → Result B Fault) (found other : Option A) → Same related next → AreAlike related found other → (or_fault path wrong found >>= next) ≡ (or_fault path wrong other >>= next)
 found-same related path wrong next None None same a = refl
-found-same related path wrong next None (Some y) same a = absurd a
-found-same related path wrong next (Some x) None same a = absurd a
 found-same related path wrong next (Some x) (Some y) same a = same x y a
+found-same related path wrong next other another same a = absurd a
 
 if-there-same : {A : Type 0} (related : Json → Json → Type 0) (read : Json → Result A Fault) (found other : Option Json) → Same related read → AreAlike related found other → if_there read found ≡ if_there read other
 if-there-same related read None None same a = refl
-if-there-same related read None (Some k) same a = absurd a
-if-there-same related read (Some j) None same a = absurd a
 if-there-same related read (Some j) (Some k) same a = ap (λ r. r >>= λ value. Ok (Some value)) (same j k a)
+if-there-same related read other another same a = absurd a
 
 -- ---- strings
 text-same : (greatest : ℕ) (path : List ℕ) → Same (MeanTheSame unshown) (text_spelled greatest path)
@@ -72,11 +70,10 @@ object-same {A} is_allowed path related next same j k = by (as_object j) (as_obj
 
     by : (found other : Option Members) → AreAlike (λ given others. (keys given ≡ keys others) × related given others) found other → ((or_fault path NotAnObject found >>= checked is_allowed path) >>= next) ≡ ((or_fault path NotAnObject other >>= checked is_allowed path) >>= next)
     by None None a = refl
-    by None (Some others) a = absurd a
-    by (Some given) None a = absurd a
     by (Some given) (Some others) a =
         ap (λ c. (c >>= λ _. Ok given) >>= next) (by-names is_allowed path [] given ∙ ap (checked_names is_allowed path []) a.0 ∙ sym (by-names is_allowed path [] others))
         ∙ then given others (checked_members is_allowed path [] others) a.1
+    by other another a = absurd a
 
 required-same : {A : Type 0} (related : Json → Json → Type 0) (read : List ℕ → Json → Result A Fault) (path name : List ℕ) → ((p : List ℕ) → Same related (read p)) → Same (AreAlikeAt name related) (required read path name)
 required-same related read path name same given others a =

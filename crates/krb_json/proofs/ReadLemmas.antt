@@ -1,5 +1,5 @@
 -- What functions return that read values, put together.
-use Rattle.std.proofs.Common.{◌≡◌, ℕ, ℤ, pos, negsuc, inl, inr, to_z, of_z, w64, ◌<◌, ◌+◌, ◌-◌, ◌≤◌, List, [], ◌∷◌, ◌++◌, length, length-append, take, drop, get_or, append_assoc, append-nil, Bool, Some, None, Result, Ok, Err, refl, sym, ◌∙◌, ap, ap₂, subst, arith}
+use Rattle.std.proofs.Common.{◌≡◌, ℕ, ℤ, pos, negsuc, inl, inr, to_z, of_z, w64, ◌<◌, ◌+◌, ◌-◌, ◌≤◌, List, [], ◌∷◌, ◌++◌, length, length-append, take, drop, get_or, append_assoc, append-nil, Bool, Some, Result, Ok, Err, refl, sym, ◌∙◌, ap, ap₂, subst, arith}
 use Rattle.std.specs.Prelude.{codes, decimal, string_bytes}
 use Rattle.std.specs.Int.RustNames.{FitsSigned}
 use Rattle.std.specs.Borrow.{Bor}
@@ -44,15 +44,6 @@ fault-read read octets_of old new more wrong Memory is at = tt
 pub fault-here : {A : Type 0} (read : (path : List ℕ) → Result A Fault) (octets_of : A → List ℕ) (old new : List ℕ) (wrong : Wrong) (found : ValueFault) → ((path : List ℕ) → read path ≡ fault path wrong) → IsFaultAt [] wrong found → Reads read octets_of old new (Err found)
 fault-here read octets_of old new wrong found is at =
     fault-read read octets_of old new [] wrong found (λ path. is path ∙ ap (λ p. fault p wrong) (sym (append-nil path))) at
-
--- a fault, whatever octets there are
-pub still-fault : {A : Type 0} (read : (path : List ℕ) → Result A Fault) (octets_of others_of : A → List ℕ) (old new older newer : List ℕ) (found : ValueFault) → Reads read octets_of old new (Err found) → Reads read others_of older newer (Err found)
-still-fault read octets_of others_of old new older newer (At found) r = r
-still-fault read octets_of others_of old new older newer Memory r = tt
-
--- and out of memory nothing is said
-pub no-memory : {A : Type 0} (read : (path : List ℕ) → Result A Fault) (octets_of : A → List ℕ) (old new : List ℕ) (found : ValueFault) → found ≡ Memory → Reads read octets_of old new (Err found)
-no-memory read octets_of old new found e = subst (λ f. Reads read octets_of old new (Err f)) (sym e) tt
 
 -- ---- the same by other words
 pub same-read : {A : Type 0} (read other : (path : List ℕ) → Result A Fault) (octets_of : A → List ℕ) (old new : List ℕ) (outcome : Result (Unit {0}) ValueFault) → ((path : List ℕ) → other path ≡ read path) → Reads read octets_of old new outcome → Reads other octets_of old new outcome
@@ -232,19 +223,6 @@ there-read (slot.Optional node) named members j old new outcome e r =
     same-read (λ path. spelled (term_at node) named.inside (field_path path named.name) j >>= λ value. Ok (Some value)) (λ path. optional (spelled (term_at node) named.inside) path named.name members) (octets_of_option (der (term_at node))) old new outcome
     (λ path. ap (if_there (spelled (term_at node) named.inside (field_path path named.name))) e)
     (some-read (λ path. spelled (term_at node) named.inside (field_path path named.name) j) (der (term_at node)) old new outcome r)
-
--- of which there is none
-pub absent-read : (node : ℕ) (named : Named) (given : Members) (old : List ℕ) → get_member named.name given ≡ None → ReadsField (slot.Optional node) named given old old (Ok tt)
-absent-read node named given old e = record {
-  value = None;
-  spelled = λ path. ap (if_there (spelled (term_at node) named.inside (field_path path named.name))) e;
-  octets = sym (append-nil old);
-}
-
-pub missing-read : (node : ℕ) (named : Named) (members : Members) (old new : List ℕ) (found : ValueFault) → get_member named.name members ≡ None → IsFaultAt (codes "." ++ named.name) Missing found → ReadsField (slot.Required node) named members old new (Err found)
-missing-read node named members old new found e at =
-    fault-read (λ path. required (spelled (term_at node) named.inside) path named.name members) (der (term_at node)) old new (codes "." ++ named.name) Missing found
-    (λ path. ap (λ o. or_fault (field_path path named.name) Missing o >>= spelled (term_at node) named.inside (field_path path named.name)) e ∙ ap (λ p. fault p Missing) (append_assoc path (codes ".") named.name)) at
 
 -- ---- fields
 with-slot : (field : Slot) (fields : Fields) (names : Names) (index : ℕ) (members : Members) (old mid new : List ℕ) (outcome : Result (Unit {0}) ValueFault) → ReadsField field (field_at names index) members old mid (Ok tt) → ReadsFields fields names (index + 1) members mid new outcome → ReadsFields (with_slot nodes field fields) names index members old new outcome

@@ -9,7 +9,7 @@ use Rattle.std.proofs.Math.Dec.{eqb-suc-zero}
 use Rattle.std.proofs.lemmas.List.{take_more}
 use Rattle.std.proofs.lemmas.List.Folds.{list_any-append}
 use Rattle.std.proofs.lemmas.Grind.{flat_map-append}
-use Rattle.json.specs.Json.{Json, null, boolean, number, string, array, object, Items, no_items, item, Members, no_members, member}
+use Rattle.json.specs.Json.{Json, null, boolean, number, string, array, object, Items, item, Members, member}
 use Rattle.json.specs.Find.{as_array, as_object, get, get_member}
 use Rattle.json.specs.Tree.{HasNumbers, ItemsHaveNumbers}
 use Rattle.json.specs.Value.{value_view, items_view, members_view}
@@ -31,10 +31,6 @@ use Rattle.krb_json.proofs.Fit.{steps, same_ok}
 abbrev after : {A : Type 0} → List A → Result (List A) Fault → Result (List A) Fault
 after values others = others >>= λ more. Ok (values ++ more)
 
-after-none : {A : Type 0} (others : Result (List A) Fault) → others ≡ after [] others
-after-none (Ok more) = refl
-after-none (Err found) = refl
-
 after-one : {A : Type 0} (values : List A) (value : A) (others : Result (List A) Fault) → after values (others >>= λ more. Ok (value ∷ more)) ≡ after (values ++ value ∷ []) others
 after-one values value (Ok more) = ap Ok (sym (append_assoc values (value ∷ []) more))
 after-one values value (Err found) = refl
@@ -44,9 +40,6 @@ pub record AreReadTo {A : Type 0} (read : (path : List ℕ) → Json → Result 
   pub values : List A
   pub left : (path : List ℕ) → items_spelled read path 0 all ≡ after values (items_spelled read path index rest)
   pub octets : now ≡ old ++ flat_map octets_of values
-
-pub none-read : {A : Type 0} (read : (path : List ℕ) → Json → Result A Fault) (octets_of : A → List ℕ) (all : Items) (old : List ℕ) → AreReadTo read octets_of all all 0 old old
-none-read read octets_of all old = record { values = []; left = λ path. after-none (items_spelled read path 0 all); octets = sym (append-nil old) }
 
 pub one-read : {A : Type 0} (read : (path : List ℕ) → Json → Result A Fault) (octets_of : A → List ℕ) (all rest : Items) (j : Json) (index : ℕ) (old mid now : List ℕ) → AreReadTo read octets_of all (item j rest) index old mid → IsRead (λ path. read (element_path path index) j) octets_of mid now → AreReadTo read octets_of all rest (index + 1) old now
 one-read read octets_of all rest j index old mid now a r = record {
@@ -59,9 +52,6 @@ one-read read octets_of all rest j index old mid now a r = record {
       r.octets ∙ ap (λ l. l ++ octets_of r.value) a.octets ∙ append_assoc old (flat_map octets_of a.values) (octets_of r.value)
       ∙ ap (λ l. old ++ l) (ap (λ l. flat_map octets_of a.values ++ l) (sym (append-nil (octets_of r.value))) ∙ sym (flat_map-append octets_of a.values (r.value ∷ [])));
 }
-
-pub all-read : {A : Type 0} (read : (path : List ℕ) → Json → Result A Fault) (octets_of : A → List ℕ) (all : Items) (index : ℕ) (old now : List ℕ) → AreReadTo read octets_of all no_items index old now → IsRead (λ path. items_spelled read path 0 all) (flat_map octets_of) old now
-all-read read octets_of all index old now a = record { value = a.values; spelled = λ path. a.left path ∙ ap Ok (append-nil a.values); octets = a.octets }
 
 -- an item has a fault
 pub item-stopped : {A : Type 0} (read : (path : List ℕ) → Json → Result A Fault) (octets_of : A → List ℕ) (all rest : Items) (j : Json) (index : ℕ) (old mid older new now : List ℕ) (found : ValueFault) → AreReadTo read octets_of all (item j rest) index old mid → Reads (λ path. read (element_path path index) j) octets_of mid now (Err found) → Reads (λ path. items_spelled read path 0 all) (flat_map octets_of) older new (Err found)
@@ -76,9 +66,6 @@ pub record AreCheckedTo (is_field : List ℕ → Bool) (all rest : Members) (has
   pub among : (name : List ℕ) → is_among name before ≡ has_name name
   pub left : (path : List ℕ) → checked_members is_field path [] all ≡ checked_members is_field path before rest
 
-pub none-checked : (is_field : List ℕ → Bool) (all : Members) → AreCheckedTo is_field all all (λ name. false)
-none-checked is_field all = record { before = []; among = λ name. refl; left = λ path. refl }
-
 pub one-checked : (is_field : List ℕ → Bool) (all rest : Members) (name : List ℕ) (j : Json) (has_name more : List ℕ → Bool) → is_field name ≡ true → has_name name ≡ false → ((other : List ℕ) → more other ≡ (has_name other || bytes_eq name other)) → AreCheckedTo is_field all (member name j rest) has_name → AreCheckedTo is_field all rest more
 one-checked is_field all rest name j has_name more allowed single same a = record {
   before = name ∷ a.before;
@@ -87,9 +74,6 @@ one-checked is_field all rest name j has_name more allowed single same a = recor
       a.left path
       ∙ ap₂ (λ b d. unless (not b) (field_path path (shown name)) NoSuchField (unless d (field_path path (shown name)) Twice (checked_members is_field path (name ∷ a.before) rest))) allowed (a.among name ∙ single);
 }
-
-pub all-checked : (is_field : List ℕ → Bool) (all : Members) (has_name : List ℕ → Bool) (old : List ℕ) → AreCheckedTo is_field all no_members has_name → IsRead (λ path. checked_members is_field path [] all) (λ _. []) old old
-all-checked is_field all has_name old a = record { value = tt; spelled = a.left; octets = sym (append-nil old) }
 
 -- a member is not allowed
 pub not-allowed : (is_field : List ℕ → Bool) (all rest : Members) (name : List ℕ) (j : Json) (has_name : List ℕ → Bool) (old : List ℕ) (found : ValueFault) → is_field name ≡ false → IsFaultAt (codes "." ++ shown name) NoSuchField found → AreCheckedTo is_field all (member name j rest) has_name → Reads (λ path. checked_members is_field path [] all) (λ _. []) old old (Err found)
@@ -158,14 +142,11 @@ members-read is_field j ms (Err Memory) e r = tt
 -- what an object has for a name is what its members have
 pub get-member : (name : List ℕ) (j : Json) (ms : Members) → as_object j ≡ Some ms → get name j ≡ get_member name ms
 get-member name null ms e = cc e
-get-member name (boolean b) ms e = cc e
-get-member name (number s) ms e = cc e
-get-member name (string s) ms e = cc e
-get-member name (array js) ms e = cc e
 get-member name (object own) ms e = ap (get_member name) (same-some own ms e)
   where
     same-some : (a b : Members) → Some a ≡ Some b → a ≡ b
     same-some a b e = cc e
+get-member name other ms e = cc e
 
 -- each item of an array has numbers that are numbers
 pub item-numbers : {A : Type 0} (vs : List (Value A)) (i : ℕ) (d : Value A) → i < length vs → ItemsHaveNumbers (items_view vs) → HasNumbers (value_view (get_or vs i d))

@@ -106,9 +106,6 @@ pub line-fault : (spells other : Result Message lines.LineFault) (r : Result (Ve
 line-fault spells other (Ok octets) e r = tt
 line-fault spells other (Err fault) e r = subst (λ s. IsFaultOf s fault) e r
 
-pub same-line : (spells other : Result Message lines.LineFault) (r : Result (Vec ℕ) LineFault) → spells ≡ other → ReadsLine spells r → ReadsLine other r
-same-line spells other r e h = subst (λ s. ReadsLine s r) e h
-
 pub value-there : (text : List ℕ) (j : Json) → IsUtf8 text → document text ≡ Some j → value_of_line text ≡ Some j
 value-there text j utf8 e = rw (is_utf8-from_IsUtf8 text utf8) e
 

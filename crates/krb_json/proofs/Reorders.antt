@@ -5,7 +5,7 @@ use Rattle.std.specs.Option.{option_and_then}
 use Rattle.std.specs.Result.{result_unwrap_or}
 use Rattle.std.specs.Str.{bytes_eq}
 use Rattle.std.proofs.lemmas.Slice.Eq.{bytes_eq-Decides}
-use Rattle.json.specs.Json.{Json, null, boolean, number, string, array, object, Items, no_items, item, Members, no_members, member}
+use Rattle.json.specs.Json.{Json, null, array, object, Items, no_items, item, Members, no_members, member}
 use Rattle.json.specs.Find.{as_array, as_object, get_member, later_or}
 use Rattle.krb_der.specs.declared.profile.Profile.{Profile}
 use Rattle.krb_msg.specs.Term.{Term, Fields, Integer, Text, Octets, Time, Bits, Sequence, SequenceOf, Tagged, Application, End, Required, Optional, Values, der}
@@ -139,9 +139,8 @@ module _ (name : List ℕ) (k : Json) where
 later-alike : (found others : Option Json) (j k : Json) (b : Bool) → AreAlike Reordered found others → Reordered j k → AreAlike Reordered (later_or found (cond b (Some j) None)) (later_or others (cond b (Some k) None))
 later-alike None None j k true a r = r
 later-alike None None j k false a r = tt
-later-alike None (Some other) j k b a r = absurd a
-later-alike (Some value) None j k b a r = absurd a
 later-alike (Some value) (Some other) j k b a r = a
+later-alike another third j k b a r = absurd a
 
 order-none : (name : List ℕ) (members others : Members) → NotIn name members → HaveOtherOrder members others → NotIn name others
 order-none name no_members others none o = subst (NotIn name) (sym o) tt
@@ -166,11 +165,9 @@ Keeps {A} read = (j k : Json) (value : A) → Reordered j k → read j ≡ Ok va
 -- of values that have no members
 scalar-kept : {A : Type 0} (read : Json → Result A Fault) → ((items : Items) (value : A) → read (array items) ≡ Ok value → ⊥) → ((members : Members) (value : A) → read (object members) ≡ Ok value → ⊥) → Keeps read
 scalar-kept read no_array no_object null k value r e = ap read (sym r) ∙ e
-scalar-kept read no_array no_object (boolean b) k value r e = ap read (sym r) ∙ e
-scalar-kept read no_array no_object (number text) k value r e = ap read (sym r) ∙ e
-scalar-kept read no_array no_object (string text) k value r e = ap read (sym r) ∙ e
 scalar-kept read no_array no_object (array items) k value r e = absurd (no_array items value e)
 scalar-kept read no_array no_object (object members) k value r e = absurd (no_object members value e)
+scalar-kept read no_array no_object other k value r e = ap read (sym r) ∙ e
 
 integer-kept : (low high : ℤ) (path : List ℕ) → Keeps (integer_spelled low high path)
 integer-kept low high path = scalar-kept (integer_spelled low high path) (λ items value e. cc e) (λ given value e. cc e)
@@ -186,10 +183,6 @@ record HasMembers (is_allowed : List ℕ → Bool) (path : List ℕ) (k : Json) 
 
 object-kept : (is_allowed : List ℕ → Bool) (path : List ℕ) (j k : Json) (found : Members) → Reordered j k → members_spelled is_allowed path j ≡ Ok found → HasMembers is_allowed path k found
 object-kept is_allowed path null k found r e = cc e
-object-kept is_allowed path (boolean b) k found r e = cc e
-object-kept is_allowed path (number text) k found r e = cc e
-object-kept is_allowed path (string text) k found r e = cc e
-object-kept is_allowed path (array items) k found r e = cc e
 object-kept is_allowed path (object given) k found r e =
     let s = steps (checked_members is_allowed path [] given) (λ _. Ok given) found e in
     let a : Allowed is_allowed [] given = allowed-checked is_allowed path [] given s.is in
@@ -199,20 +192,19 @@ object-kept is_allowed path (object given) k found r e =
       spelled_others = ap (members_spelled is_allowed path) r.1 ∙ ap (λ x. x >>= λ _. Ok r.0) (checked-allowed is_allowed path [] r.0 (order-allowed is_allowed [] given r.0 a r.2));
       alike = λ x. subst (λ m. AreAlike Reordered (get_member x m) (get_member x r.0)) same (order-found is_allowed [] x given r.0 a r.2);
     }
+object-kept is_allowed path other k found r e = cc e
 
 required-of : {A : Type 0} (read : List ℕ → Json → Result A Fault) (path name : List ℕ) (found others : Option Json) (wrong : Wrong) (value : A) → ((p : List ℕ) → Keeps (read p)) → AreAlike Reordered found others → (or_fault (field_path path name) wrong found >>= read (field_path path name)) ≡ Ok value → (or_fault (field_path path name) wrong others >>= read (field_path path name)) ≡ Ok value
 required-of read path name None None wrong value keeps a e = e
-required-of read path name None (Some k) wrong value keeps a e = absurd a
-required-of read path name (Some j) None wrong value keeps a e = absurd a
 required-of read path name (Some j) (Some k) wrong value keeps a e = keeps (field_path path name) j k value a e
+required-of read path name other another wrong value keeps a e = absurd a
 
 optional-of : {A : Type 0} (read : Json → Result A Fault) (found others : Option Json) (value : Option A) → Keeps read → AreAlike Reordered found others → if_there read found ≡ Ok value → if_there read others ≡ Ok value
 optional-of read None None value keeps a e = e
-optional-of read None (Some k) value keeps a e = absurd a
-optional-of read (Some j) None value keeps a e = absurd a
 optional-of read (Some j) (Some k) value keeps a e =
     let s = steps (read j) (λ v. Ok (Some v)) value e in
     both-steps (read k) (λ v. Ok (Some v)) s.value value (keeps j k s.value a s.is) s.then
+optional-of read other another value keeps a e = absurd a
 
 bits-kept : (least : ℕ) (path : List ℕ) → Keeps (bits_spelled least path)
 bits-kept least path j k value r e =
@@ -242,15 +234,12 @@ same-empty (item j items) others r = ap is_empty r.2
 
 array-kept : {A : Type 0} (empty : Bool) (read : List ℕ → Json → Result A Fault) (path : List ℕ) → ((p : List ℕ) → Keeps (read p)) → Keeps (λ j. or_fault path NotAnArray (as_array j) >>= λ items. unless (not empty && is_empty items) path Empty (items_spelled read path 0 items))
 array-kept empty read path keeps null k value r e = cc e
-array-kept empty read path keeps (boolean b) k value r e = cc e
-array-kept empty read path keeps (number text) k value r e = cc e
-array-kept empty read path keeps (string text) k value r e = cc e
-array-kept empty read path keeps (object given) k value r e = cc e
 array-kept empty read path keeps (array items) k value r e =
     let p = passed (not empty && is_empty items) path _ _ value e in
     ap (λ x. or_fault path NotAnArray (as_array x) >>= λ is. unless (not empty && is_empty is) path Empty (items_spelled read path 0 is)) r.1
     ∙ ap (λ b. unless b path Empty (items_spelled read path 0 r.0)) (ap (λ b. not empty && b) (same-empty items r.0 r.2) ∙ p.0)
     ∙ items-kept read keeps path 0 items r.0 value r.2 p.1
+array-kept empty read path keeps other k value r e = cc e
 
 mutual
   term-kept : (term : Term) (names : Names) (path : List ℕ) → Keeps (spelled term names path)
@@ -313,12 +302,9 @@ member-kept profile limit (member name j (member next i given)) others m o e = c
 
 value-kept : (profile : Profile) (limit : ℕ) (j k : Json) (m : Message) → Reordered j k → value_spells profile limit (Some j) ≡ Ok m → value_spells profile limit (Some k) ≡ Ok m
 value-kept profile limit null k m r e = cc e
-value-kept profile limit (boolean b) k m r e = cc e
-value-kept profile limit (number text) k m r e = cc e
-value-kept profile limit (string text) k m r e = cc e
-value-kept profile limit (array items) k m r e = cc e
 value-kept profile limit (object members) k m r e =
     ap (λ x. member_spells profile limit (option_and_then sole_member (as_object x))) r.1 ∙ member-kept profile limit members r.0 m r.2 e
+value-kept profile limit other k m r e = cc e
 
 line-kept : (profile : Profile) (limit : ℕ) (line other : List ℕ) (j k : Json) (m : Message) → value_of_line line ≡ Some j → value_of_line other ≡ Some k → Reordered j k → line_spells profile limit line ≡ Ok m → line_spells profile limit other ≡ Ok m
 line-kept profile limit line other j k m is also r e = ap (value_spells profile limit) also ∙ value-kept profile limit j k m r (ap (value_spells profile limit) (sym is) ∙ e)

@@ -246,9 +246,6 @@ pub record IsSearched (term : Term) (names : Names) (values : List (Value term))
 abbrev pub AreSearched : Term → Names → (octets rest : List ℕ) → ℕ → Type 0
 AreSearched term names octets rest index = (values : List (Value term)) → AllByRecursion (Fits term) values → octets ≡ flat_map (der term) values → IsSearched term names values rest index
 
-pub none-searched : (term : Term) (names : Names) (octets : List ℕ) → AreSearched term names octets octets 0
-none-searched term names octets values fit form = record { left = values; fit = fit; form = form; same = λ path. refl }
-
 module _ (term : Term) (names : Names) (octets rest own after : List ℕ) (index : ℕ) (parts : rest ≡ item (tag_of term) own ++ after) (searched : AreSearched term names octets rest index) where
   pub one-searched : Finds term names own None → AreSearched term names octets after (index + 1)
   one-searched none values fit form = by (searched values fit form)

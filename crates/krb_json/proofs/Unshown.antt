@@ -11,14 +11,12 @@ use Rattle.krb_json.specs.Spelling.{octet_of, unshown}
 by-digits : (a b : Option ℕ) (high low : ℕ) (r : Result (Unit {0}) FromHexError) (out : List ℕ)
     → MatchResult ((digit_or_error high 0 a >>= λ h. digit_or_error low 1 b >>= λ l. Ok (h * 16 + l)) >>= λ octet. Ok (octet ∷ [])) (λ octets. (r ≡ Ok tt) × (out ≡ octets)) (λ e. r ≡ Err e)
     → MatchResult r (λ _. Some (get_or out 0 0) ≡ option_and_then (λ h. option_map (λ l. 16 * h + l) b) a) (λ _. None ≡ option_and_then (λ h. option_map (λ l. 16 * h + l) b) a)
-by-digits None b high low (Ok done) out is = cc is
-by-digits None b high low (Err e) out is = refl
-by-digits (Some h) None high low (Ok done) out is = cc is
-by-digits (Some h) None high low (Err e) out is = refl
 by-digits (Some h) (Some l) high low (Ok done) out is =
     let same : h * 16 + l ≡ 16 * h + l = omega arith in
     ap (λ octets. Some (get_or octets 0 0)) is.1 ∙ ap Some same
 by-digits (Some h) (Some l) high low (Err e) out is = cc is.0
+by-digits other another high low (Ok done) out is = cc is
+by-digits other another high low (Err e) out is = refl
 
 pub two-digits : (high low : ℕ) (r : Result (Unit {0}) FromHexError) (out : List ℕ)
     → MatchResult (decode_sized (high ∷ low ∷ []) 1) (λ octets. (r ≡ Ok tt) × (out ≡ octets)) (λ e. r ≡ Err e)

@@ -1,5 +1,5 @@
 -- What is appended for octets is the JSON of their value.
-use Rattle.std.proofs.Common.{◌≡◌, ℕ, ℤ, ◌+◌, ◌<◌, ◌≤◌, max, true, not, Bool, List, [], ◌∷◌, ◌++◌, length, take, drop, get_or, ◌-◌, append_assoc, append-nil, map, Option, Some, None, Result, Ok, Err, refl, sym, ◌∙◌, ap, ap₂, subst, arith}
+use Rattle.std.proofs.Common.{◌≡◌, ℕ, ℤ, ◌+◌, ◌≤◌, max, true, not, Bool, List, [], ◌∷◌, ◌++◌, length, take, drop, get_or, ◌-◌, append_assoc, append-nil, map, Option, Some, None, Result, Ok, Err, sym, ◌∙◌, ap, subst, arith}
 use Rattle.std.specs.Prelude.{OnOk}
 use Rattle.std.specs.Borrow.{Bor}
 use Rattle.std.proofs.lemmas.Bool.{and_parts, leb-true, true≢false, not-true}
@@ -13,10 +13,10 @@ use Rattle.json.specs.Json.{member}
 use Rattle.json.specs.Tree.{json_tokens, items_tokens, members_tokens}
 use Rattle.json.specs.Value.{items_of}
 use Rattle.krb_der.specs.Octets.{item, integer_octets, integer_value}
-use Rattle.krb_der.specs.inner.Items.{same_from_cons, same_from_item}
+use Rattle.krb_der.specs.inner.Items.{same_from_item}
 use Rattle.krb_der.specs.inner.Numbers.{integer_value-integer_octets}
 use Rattle.krb_der.proofs.Shapes.{ascii-from_time}
-use Rattle.krb_msg.specs.Shape.{is_unambiguous, are_unambiguous, may_begin}
+use Rattle.krb_msg.specs.Shape.{are_unambiguous, may_begin}
 use Rattle.krb_msg.specs.Nodes.{nodes, term_at}
 use Rattle.krb_msg.specs.Table.{IsFormOf, fields_from, with_slot}
 use Rattle.krb_msg.specs.declared.grammar.Form.TheVariants as form
@@ -28,15 +28,13 @@ use Rattle.krb_msg.specs.inner.Values.{contents, der_is, may_begin_from_der}
 use Rattle.krb_msg.proofs.FieldViews.{same_contents}
 use Rattle.krb_msg.proofs.Integers.{size_integer-between}
 use Rattle.std.proofs.lemmas.List.{take_all}
-use Rattle.krb_msg.specs.Views.{kind_of, kind_name, kind_term, kind_with_tag, message_value, message_der}
+use Rattle.krb_msg.specs.Views.{kind_of, kind_name, kind_term, message_value, message_der}
 use Rattle.krb_msg.specs.declared.message.Kind.{Kind}
-use Rattle.krb_msg.specs.declared.message.Message.{Message}
 use Rattle.krb_judge.specs.FieldNames.{Named, field_at, names_of_kind}
 use Rattle.krb_judge.specs.declared.locating.names.Names.{Names}
 use Rattle.krb_json.specs.Spelling.{shown}
-use Rattle.krb_json.specs.Objects.{json, members_of, bits_json, message_json}
+use Rattle.krb_json.specs.Objects.{json, members_of, message_json}
 use Rattle.krb_json.specs.inner.Writing.{Puts, PutsItems, PutsFields, PutsBits, PutsMessage, slot_node}
-use Rattle.krb_json.proofs.KindTexts.{kind-of-first}
 
 -- ---- results
 pub on-ok : {E P Q : Type 0} (r : Result (Unit {0}) E) → (P → Q) → OnOk r P → OnOk r Q
@@ -187,15 +185,6 @@ pub puts-no_member : (field : Slot) (slots : List Slot) (names : Names) (index :
 puts-no_member (slot.Required node) slots names index octets t0 t3 none put = missing-required node slots names index octets t0 t3 none
 puts-no_member (slot.Optional node) slots names index octets t0 t3 none put = missing-optional node slots names index octets t0 t3 none put
 
--- the terms of fields are unambiguous
-pub unambiguous-first : (field : Slot) (fields : Fields) → are_unambiguous (with_slot nodes field fields) ≡ true → is_unambiguous (term_at (slot_node field)) ≡ true
-unambiguous-first (slot.Required node) fields u = (and_parts (is_unambiguous (term_at node)) _ u).0
-unambiguous-first (slot.Optional node) fields u = (and_parts (is_unambiguous (term_at node)) _ (and_parts (not (may_begin (tag_of (term_at node)) fields)) _ u).1).0
-
-pub unambiguous-others : (field : Slot) (fields : Fields) → are_unambiguous (with_slot nodes field fields) ≡ true → are_unambiguous fields ≡ true
-unambiguous-others (slot.Required node) fields u = (and_parts (is_unambiguous (term_at node)) _ u).1
-unambiguous-others (slot.Optional node) fields u = (and_parts (is_unambiguous (term_at node)) _ (and_parts (not (may_begin (tag_of (term_at node)) fields)) _ u).1).1
-
 -- ---- items one after another
 -- the tokens so far, and those of the values that are left, are those of all
 pub record IsPassed (term : Term) (names : Names) (values : List (Value term)) (rest : List ℕ) (old now : List Token) : Type 0 where
@@ -206,9 +195,6 @@ pub record IsPassed (term : Term) (names : Names) (values : List (Value term)) (
 
 abbrev pub ArePassed : Term → Names → (octets rest : List ℕ) → (old now : List Token) → Type 0
 ArePassed term names octets rest old now = (values : List (Value term)) → AllByRecursion (Fits term) values → octets ≡ flat_map (der term) values → IsPassed term names values rest old now
-
-pub none-passed : (term : Term) (names : Names) (octets : List ℕ) (old : List Token) → ArePassed term names octets octets old old
-none-passed term names octets old values fit form = record { left = values; fit = fit; form = form; tokens = refl }
 
 pub one-passed : (term : Term) (names : Names) (octets rest own after : List ℕ) (old now next : List Token) → rest ≡ item (tag_of term) own ++ after → Puts term names own now next → ArePassed term names octets rest old now → ArePassed term names octets after old next
 one-passed term names octets rest own after old now next e put passed values fit form = by (passed values fit form)
@@ -248,12 +234,6 @@ six-put t0 t1 t2 t3 t4 t5 t6 a b c d e f p q r s t u =
     more : (l : List Token) (x y z : Token) → ((l ++ x ∷ []) ++ y ∷ []) ++ z ∷ [] ≡ l ++ x ∷ y ∷ z ∷ []
     more l x y z = append_assoc (l ++ x ∷ []) (y ∷ []) (z ∷ []) ∙ append_assoc l (x ∷ []) (y ∷ z ∷ [])
 
--- flags, of which the first octet is the number of unused bits
-pub bits-of : (octets : List ℕ) (first : ℕ) (others : List ℕ) (old new : List Token) → octets ≡ first ∷ others → new ≡ old ++ json_tokens (bits_json (first, others)) → PutsBits octets old new
-bits-of octets first others old new e put unused bits is =
-    let p = same_from_cons _ _ _ _ (sym e ∙ is) in
-    put ∙ ap₂ (λ n l. old ++ json_tokens (bits_json (n, l))) p.0 p.1
-
 -- ---- a field of slots
 pub slots-split : (slots : List Slot) (none : Slot) → 1 ≤ length slots → slots ≡ get_or slots 0 none ∷ take (length slots - 1) (drop 1 slots)
 slots-split [] none some = absurd (omega arith)
@@ -284,12 +264,6 @@ none-member slots names index octets t0 t3 node tag some slotted tagged none oth
     (puts-no_member first more names index octets t0 t3 (subst (λ n. HasNoItem n octets) (tagged ∙ ap (λ n. tag_of (term_at n)) slotted) none) others)
 
 -- ---- a message
-pub kind-found : (m : Message) (octets : List ℕ) → message_der m ≡ octets → kind_with_tag (get_or octets 0 0) ≡ Some (kind_of m)
-kind-found m octets form = ap (λ l. kind_with_tag (get_or l 0 0)) (sym form) ∙ kind-of-first m
-
-pub message-some : (m : Message) (octets : List ℕ) → message_der m ≡ octets → length octets < 1 → ⊥
-message-some m octets form short = omega (arith, short, ap length (sym (der_is (kind_term (kind_of m)) (message_value m)) ∙ form))
-
 pub puts-message : (kind : Kind) (node tag : ℕ) (octets own rest : List ℕ) (t0 t1 t2 t3 t4 : List Token) → term_at node ≡ kind_term kind → tag ≡ tag_of (term_at node) → octets ≡ item tag own ++ rest → t1 ≡ t0 ++ token.begin_object ∷ [] → t2 ≡ t1 ++ token.key (kind_name kind) ∷ [] → Puts (term_at node) (names_of_kind kind) own t2 t3 → t4 ≡ t3 ++ token.end_object ∷ [] → PutsMessage kind octets t0 t4
 puts-message kind node tag octets own rest t0 t1 t2 t3 t4 termed tagged parts begins key put ends m i same form =
     of (termed ∙ ap kind_term (sym same)) (key ∙ ap (λ k. t1 ++ token.key (kind_name k) ∷ []) (sym same)) (subst (λ k. Puts (term_at node) (names_of_kind k) own t2 t3) (sym same) put)

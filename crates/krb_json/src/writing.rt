@@ -1,6 +1,6 @@
 //! The text of a message, from its octets.
 
-ghost use Rattle.std.specs.Prelude.{◌≡◌, ◌^◌, ◌<◌, ◌+◌, ◌≤◌, ◌++◌, ◌∷◌, [], length, map, true, IfOk, OnOk};
+ghost use Rattle.std.specs.Prelude.{◌≡◌, ◌^◌, ◌<◌, ◌+◌, ◌≤◌, ◌++◌, ◌∷◌, [], length, true, IfOk, OnOk};
 ghost use Rattle.std.specs.Fmt.{signed_decimal};
 ghost use Rattle.std.specs.List.{AllByRecursion};
 ghost use Rattle.std.specs.Str.{IsAscii};
@@ -11,7 +11,7 @@ ghost use Rattle.krb_der.specs.Octets.{integer_value};
 ghost use Rattle.krb_msg.specs.Nodes.{nodes, term_at};
 ghost use Rattle.krb_msg.specs.Shape.{is_unambiguous, are_unambiguous};
 ghost use Rattle.krb_msg.specs.Table.{IsNode, IsSlot, fields_from};
-ghost use Rattle.krb_msg.specs.Views.{message_der, kind_term, IsInProfile};
+ghost use Rattle.krb_msg.specs.Views.{message_der, IsInProfile};
 ghost use Rattle.krb_msg.specs.declared.message.Message.{Message};
 ghost use Rattle.krb_json.specs.Lines.{message_text};
 ghost use Rattle.krb_json.specs.Objects.{bits_json};

@@ -4,9 +4,9 @@ use Rattle.std.proofs.lemmas.List.{length-append, take_all}
 use Rattle.std.proofs.lemmas.Bool.{lt-ltb, le-leb, leb-true}
 use Rattle.krb_der.specs.Octets.{AreOctets}
 use Rattle.krb_der.specs.declared.why.Why.TheVariants as why
-use Rattle.krb_msg.specs.Term.{Term, Integer, Text, Octets, Time, Bits, Sequence, SequenceOf, Tagged, Application}
+use Rattle.krb_msg.specs.Term.{Term, Text, Octets}
 use Rattle.krb_msg.specs.Judgement.{Open, Bad, Done, each_contents, text_octet}
-use Rattle.krb_scan.specs.Scan.{Mark, Container, State, state_of, InLeaf, scan_then, leaf_outcome, of_leaf, Answer, Ongoing, Refusing, Whole, answer, scan}
+use Rattle.krb_scan.specs.Scan.{Mark, Container, State, state_of, InLeaf, scan_then, leaf_outcome, of_leaf, Answer, Ongoing, answer, scan}
 use Rattle.krb_scan.specs.Runs.{is_string}
 use Rattle.krb_scan.specs.inner.Machine.{step, go_on, initial}
 use Rattle.krb_scan.proofs.Resume.{Reached, ReachedAnswer, run, run_scan, run_right, step_reached, initial_reached, ongoing_reached, scan_rest}
@@ -18,8 +18,7 @@ run_reached state (octet ∷ octets) h = by_answer (step state octet) (step_reac
   where
     by_answer : (given : Answer) → ReachedAnswer given → ((then_state : State) → Reached then_state → ReachedAnswer (run then_state octets)) → ReachedAnswer (go_on given (λ then_state. run then_state octets))
     by_answer (Ongoing then_state) r k = k then_state r.reached
-    by_answer (Refusing place reason) r k = record { reached = tt {0} }
-    by_answer (Whole marks) r k = record { reached = tt {0} }
+    by_answer other r k = record { reached = tt {0} }
 
 -- each state of a scan is one in which an octet is expected
 pub scan_reached : (terms : List Term) (n : ℕ) (octets : List ℕ) → 0 < n → ReachedAnswer (scan terms n octets)
@@ -36,13 +35,7 @@ string_open (Text greatest) count octets h are le = text_open greatest count 0 o
         ap (λ b. if b then each_contents (text_octet greatest) why.Charset count (place + 1) octets else Bad place why.Charset) (le-leb octet greatest (omega arith))
         ∙ text_open greatest count (place + 1) octets h are.1 (omega arith)
 string_open Octets count octets h are le = ap (λ b. if b then Open else Done count) (lt-ltb (length octets) count le)
-string_open (Integer low high) count octets h are le = absurd (cc h)
-string_open Time count octets h are le = absurd (cc h)
-string_open (Bits least) count octets h are le = absurd (cc h)
-string_open (Sequence fields) count octets h are le = absurd (cc h)
-string_open (SequenceOf empty term) count octets h are le = absurd (cc h)
-string_open (Tagged index term) count octets h are le = absurd (cc h)
-string_open (Application number term) count octets h are le = absurd (cc h)
+string_open other count octets h are le = absurd (cc h)
 
 -- Octets inside an open string that stop short of its last one change nothing but how many were scanned.
 pub chunk_right : (terms : List Term) (n : ℕ) (octets chunk : List ℕ) (term : Term) (start count : ℕ) (present : List ℕ) (stack : List Container) (marks : List Mark) → 0 < n → is_string term ≡ true → AreOctets (present ++ chunk) → length present + length chunk < count →

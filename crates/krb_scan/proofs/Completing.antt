@@ -1,15 +1,15 @@
 -- Items that are complete.
 use Rattle.std.proofs.Common.{◌≡◌, ℕ, ◌+◌, List, [], ◌∷◌, ◌++◌, take, refl, sym, ap, subst}
+use Rattle.krb_der.specs.declared.verdict.Verdict.{Verdict}
 use Rattle.krb_der.specs.declared.verdict.Verdict.TheVariants as verdict
 use Rattle.krb_msg.specs.Term.{Term}
-use Rattle.krb_msg.specs.Judgement.{Outcome, Open as OpenOutcome, Bad, Done}
+use Rattle.krb_msg.specs.Judgement.{Outcome, Done}
 use Rattle.krb_scan.specs.Scan as scan
 use Rattle.krb_scan.specs.Scan.{Container, Mark as Marked, Answer, mark_of, leaf_value}
 use Rattle.krb_scan.specs.State.{AreOpen}
 use Rattle.krb_scan.specs.inner.Machine.{settle, leafed}
-use Rattle.krb_scan.specs.inner.Outcomes.{LeafIs, LeafEnds, StaysOpen, ClosedIs}
+use Rattle.krb_scan.specs.inner.Outcomes.{LeafIs, LeafEnds, StaysOpen}
 use Rattle.krb_scan.specs.inner.Paths.{IsStep}
-use Rattle.krb_scan.specs.declared.closing.Closed.TheVariants as closed
 use Rattle.krb_scan.specs.declared.leaf.Leaf.TheVariants as leaf
 use Rattle.krb_scan.specs.declared.open.Open.{Open}
 use Rattle.krb_scan.specs.declared.path.Path.{Path}
@@ -34,19 +34,9 @@ pub whole : (old new : Path) (marks : List Marked) (given : Answer) → given �
 whole old new marks given is done = subst (IsStep old new verdict.Whole) (sym is) (record { steps = record { tip = ap (λ path. path.tip) done; outer = ap (λ path. path.outer.items) done } })
 
 -- ---- leaves
-pub leaf_stays : (old new : Path) (inner : Open) (left : ℕ) (stack : List Container) (marks : List Marked) (outcome : Outcome) (term : Term) (start size : ℕ) (octets : List ℕ) → LeafIs leaf.Done outcome → LeafEnds start size (old.looked + 1) outcome →
-    ((all : List Marked) → ClosedIs old.outer.items all (old.looked + 1) (closed.Stays inner left) (settle stack all (old.looked + 1))) → new ≡ record old { inner = inner; outer = record { items = take left old.outer.items }; tip = tip.Between } →
-    IsStep old new verdict.Open (leafed outcome term start size stack marks octets)
-leaf_stays old new inner left stack marks OpenOutcome term start size octets is ends closes done = absurd is
-leaf_stays old new inner left stack marks (Bad offset reason) term start size octets is ends closes done = absurd is
-leaf_stays old new inner left stack marks (Done total) term start size octets is ends closes done =
+pub leaf_done : (old new : Path) (decided : Verdict) (stack : List Container) (marks : List Marked) (outcome : Outcome) (term : Term) (start size : ℕ) (octets : List ℕ) → LeafIs leaf.Done outcome → LeafEnds start size (old.looked + 1) outcome →
+    ((all : List Marked) → IsStep old new decided (settle stack all (old.looked + 1))) → IsStep old new decided (leafed outcome term start size stack marks octets)
+leaf_done old new decided stack marks (Done total) term start size octets is ends closes =
     let all : List Marked = marks ++ mark_of term start size (leaf_value term octets) ∷ [] in
-    subst (IsStep old new verdict.Open) (sym (ap (settle stack all) ends)) (stays old new inner left all (settle stack all (old.looked + 1)) (closes all) done)
-
-pub leaf_whole : (old new : Path) (stack : List Container) (marks : List Marked) (outcome : Outcome) (term : Term) (start size : ℕ) (octets : List ℕ) → LeafIs leaf.Done outcome → LeafEnds start size (old.looked + 1) outcome →
-    ((all : List Marked) → ClosedIs old.outer.items all (old.looked + 1) closed.Whole (settle stack all (old.looked + 1))) → new ≡ record old { outer = record { items = [] }; tip = tip.Between } → IsStep old new verdict.Whole (leafed outcome term start size stack marks octets)
-leaf_whole old new stack marks OpenOutcome term start size octets is ends closes done = absurd is
-leaf_whole old new stack marks (Bad offset reason) term start size octets is ends closes done = absurd is
-leaf_whole old new stack marks (Done total) term start size octets is ends closes done =
-    let all : List Marked = marks ++ mark_of term start size (leaf_value term octets) ∷ [] in
-    subst (IsStep old new verdict.Whole) (sym (ap (settle stack all) ends)) (whole old new all (settle stack all (old.looked + 1)) (closes all) done)
+    subst (IsStep old new decided) (sym (ap (settle stack all) ends)) (closes all)
+leaf_done old new decided stack marks other term start size octets is ends closes = absurd is

@@ -34,9 +34,8 @@ innermost inner outer stack h = by_stack stack h.containers
 
 containers_length : (entries : List Open) (stack : List Container) → AreContainers entries stack → length stack ≡ length entries
 containers_length [] [] h = refl
-containers_length [] (container ∷ stack) h = absurd h
-containers_length (entry ∷ entries) [] h = absurd h
 containers_length (entry ∷ entries) (container ∷ stack) h = ap suc (containers_length entries stack h.1)
+containers_length other another h = absurd h
 
 pub open_length : (inner : Open) (outer : List Open) (stack : List Container) → AreOpen inner outer stack → length stack ≡ suc (length outer)
 open_length inner outer stack h = containers_length (inner ∷ reverse outer) stack h.containers ∙ ap suc (length-reverse outer)
@@ -47,11 +46,9 @@ limit_is inner outer stack h = let i : Innermost inner outer stack = innermost i
 
 -- that what is expected is known
 known-prop : (given : Expected) → IsProp (IsKnown given)
-known-prop (expected.Fields from sequence) = le_prop
-known-prop (expected.Each node) = le_prop
-known-prop (expected.Only node) = le_prop
 known-prop (expected.Message profile) = Unit-prop
 known-prop expected.Nothing = Unit-prop
+known-prop other = le_prop
 
 pub known_expected : (inner : Open) (outer : List Open) → HasContainers inner outer → IsKnown inner.expected
 known_expected inner outer h = ∥∥₁_elim h (known-prop inner.expected) (λ (k : (stack : List Container) × AreOpen inner outer stack). (innermost inner outer k.0 k.1).is.known)

@@ -28,10 +28,7 @@ leaf_is_empty (Text greatest) start stack marks h fits = let same : start + 0 �
 leaf_is_empty Octets start stack marks h fits = let same : start + 0 ≡ start = omega arith in ap (λ place. settle stack (with_mark marks Octets start 0) place) same
 leaf_is_empty Time start stack marks h fits = absurd (cc fits)
 leaf_is_empty (Bits least) start stack marks h fits = absurd (cc fits)
-leaf_is_empty (Sequence fields) start stack marks h fits = absurd h
-leaf_is_empty (SequenceOf empty term) start stack marks h fits = absurd h
-leaf_is_empty (Tagged index term) start stack marks h fits = absurd h
-leaf_is_empty (Application number term) start stack marks h fits = absurd h
+leaf_is_empty other start stack marks h fits = absurd h
 
 pub enter_empty_leaf : (term : Term) (len start : ℕ) (stack : List Container) (marks : List Marked) → IsLeaf term → has_size term len ≡ true → len ≡ 0 → enter term start len stack marks ≡ settle stack (with_mark marks term start 0) start
 enter_empty_leaf term len start stack marks h fits none = ap (λ count. enter term start count stack marks) none ∙ leaf_is_empty term start stack marks h (rw none at fits)
@@ -39,36 +36,19 @@ enter_empty_leaf term len start stack marks h fits none = ap (λ count. enter te
 -- contents of which no octet is present are open
 pub open_at_first : (term : Term) (count : ℕ) → 0 < count → leaf_outcome term count [] ≡ OpenOutcome
 open_at_first (Integer low high) count h = ap (λ b. if b then OpenOutcome else if int_le low (integer_value []) && int_le (integer_value []) high then Done count else Bad (count - 1) why.Range) (lt-ltb 0 count h)
-open_at_first (Text greatest) count h = ap (λ b. if b then OpenOutcome else Done count) (lt-ltb 0 count h)
-open_at_first Octets count h = ap (λ b. if b then OpenOutcome else Done count) (lt-ltb 0 count h)
-open_at_first Time count h = ap (λ b. if b then OpenOutcome else Done count) (lt-ltb 0 count h)
 open_at_first (Bits least) count h = refl
-open_at_first (Sequence fields) count h = ap (λ b. if b then OpenOutcome else Done count) (lt-ltb 0 count h)
-open_at_first (SequenceOf empty term) count h = ap (λ b. if b then OpenOutcome else Done count) (lt-ltb 0 count h)
-open_at_first (Tagged index term) count h = ap (λ b. if b then OpenOutcome else Done count) (lt-ltb 0 count h)
-open_at_first (Application number term) count h = ap (λ b. if b then OpenOutcome else Done count) (lt-ltb 0 count h)
+open_at_first other count h = ap (λ b. if b then OpenOutcome else Done count) (lt-ltb 0 count h)
 
 none_kept : (term : Term) → KeepsOf term (pos 0) 0 []
 none_kept (Integer low high) = (refl, refl)
-none_kept (Text greatest) = (refl, refl)
-none_kept Octets = (refl, refl)
-none_kept Time = (refl, refl)
-none_kept (Bits least) = (refl, refl)
-none_kept (Sequence fields) = (refl, refl)
-none_kept (SequenceOf empty term) = (refl, refl)
-none_kept (Tagged index term) = (refl, refl)
-none_kept (Application number term) = (refl, refl)
+none_kept other = (refl, refl)
 
 leaf_enters : (term : Term) (start count : ℕ) (stack : List Container) (marks : List Marked) → IsLeaf term → enter term start count stack marks ≡ in_leaf term start count stack marks []
-leaf_enters (Integer low high) start count stack marks h = refl
-leaf_enters (Text greatest) start count stack marks h = refl
-leaf_enters Octets start count stack marks h = refl
-leaf_enters Time start count stack marks h = refl
-leaf_enters (Bits least) start count stack marks h = refl
 leaf_enters (Sequence fields) start count stack marks h = absurd h
 leaf_enters (SequenceOf empty term) start count stack marks h = absurd h
 leaf_enters (Tagged index term) start count stack marks h = absurd h
 leaf_enters (Application number term) start count stack marks h = absurd h
+leaf_enters other start count stack marks h = refl
 
 leaf_begins : (term : Term) (start len : ℕ) (stack : List Container) (marks : List Marked) → IsLeaf term → 0 < len → enter term start len stack marks ≡ scan.Ongoing (state_of marks stack (scan.InLeaf term start len []))
 leaf_begins term start len stack marks leaf some =
@@ -86,15 +66,11 @@ leaf_taken old node len stack marks here leaf some containers =
     })
 
 enters_items : (term : Term) (expected : scan.Expected) (start count : ℕ) (stack : List Container) (marks : List Marked) → BeginsWith term expected → enter term start count stack marks ≡ opened term expected start count stack marks
-enters_items (Integer low high) expected start count stack marks h = absurd h
-enters_items (Text greatest) expected start count stack marks h = absurd h
-enters_items Octets expected start count stack marks h = absurd h
-enters_items Time expected start count stack marks h = absurd h
-enters_items (Bits least) expected start count stack marks h = absurd h
 enters_items (Sequence fields) expected start count stack marks h = ap (λ d. opened (Sequence fields) d start count stack marks) (sym h)
 enters_items (SequenceOf empty term) expected start count stack marks h = ap (λ d. opened (SequenceOf empty term) d start count stack marks) (sym h)
 enters_items (Tagged index term) expected start count stack marks h = ap (λ d. opened (Tagged index term) d start count stack marks) (sym h)
 enters_items (Application number term) expected start count stack marks h = ap (λ d. opened (Application number term) d start count stack marks) (sym h)
+enters_items other expected start count stack marks h = absurd h
 
 opened_empty : (term : Term) (start : ℕ) (expected : scan.Expected) (stack : List Container) (marks : List Marked) → opened term expected start 0 stack marks ≡ when (requires_item expected) (λ _. scan.Refusing (start - 1) why.Missing) (λ _. settle stack (with_mark marks term start 0) start)
 opened_empty term start expected stack marks =

@@ -2,10 +2,10 @@
 use Rattle.std.proofs.Common.{◌≡◌, ℕ, ℤ, pos, ◌+◌, ◌-◌, ◌*◌, ◌<◌, ◌≤◌, ◌&&◌, ◌||◌, ◌==◌, nat_lt, Bool, true, false, if◌then◌else◌, List, [], ◌∷◌, ◌++◌, length, take, Some, None, refl, sym, ap, ◌∙◌, subst, arith}
 use Rattle.std.proofs.lemmas.Bool.{lt-ltb, le-ltb}
 use Rattle.krb_der.specs.declared.why.Why.TheVariants as why
-use Rattle.krb_msg.specs.Term.{Term, Integer, Text, Octets, Time, Bits, Sequence, SequenceOf, Tagged, Application}
+use Rattle.krb_msg.specs.Term.{Term, Integer}
 use Rattle.krb_msg.specs.Judgement.{Outcome, Open, Bad, Done, Head, Partial, Refused, Got, head, has_size, fitting}
 use Rattle.krb_scan.specs.Scan as scan
-use Rattle.krb_scan.specs.Scan.{Mark, Expected, Listed, Each, OneOf, Container, Tip, Between, InHead, InLeaf, limit, sole_in, container_of, mark_of, with_mark, leaf_outcome, leaf_value, marks_at, Answer, Ongoing, Refusing, Whole}
+use Rattle.krb_scan.specs.Scan.{Mark, Expected, Container, Tip, limit, sole_in, container_of, mark_of, with_mark, leaf_outcome, leaf_value, marks_at, Answer, Ongoing, Refusing, Whole}
 use Rattle.krb_msg.specs.Nodes.{term_at}
 use Rattle.krb_scan.specs.State.{KeepsOf}
 use Rattle.krb_scan.specs.Scanned.{marks_by, marks_from}
@@ -15,7 +15,7 @@ use Rattle.krb_scan.specs.inner.Paths.{Changes, ChangesTo, IsLengthOf, number_wi
 use Rattle.krb_scan.specs.declared.event.Event.{Event}
 use Rattle.krb_scan.specs.declared.event.Event.TheVariants as event
 use Rattle.krb_scan.specs.declared.path.Path.{Path}
-use Rattle.krb_scan.proofs.Basics.{when_holds}
+use Rattle.krb_scan.proofs.Basics.{enters_holds, when_holds}
 use Rattle.krb_scan.proofs.Numbers.{first_head_right, next_head_right, value_push, length_push}
 use Rattle.krb_scan.proofs.Stable.{IsPartial, Counts, leaf_counts}
 use Rattle.krb_scan.proofs.PathFacts.{AtTip, BetweenAt, TaggedAt, LongAt, LeafAt, stepped}
@@ -27,16 +27,15 @@ HasMarks marks (Whole all) = all ≡ marks
 HasMarks marks (Refusing place reason) = Unit {0}
 
 changes_to : (e : Event) (before after : List Mark) (given : Answer) → HasMarks after given → Changes e before after → ChangesTo e before given
-changes_to e before after (Ongoing state) h c = subst (Changes e before) (sym h) c
-changes_to e before after (Whole marks) h c = subst (Changes e before) (sym h) c
 changes_to e before after (Refusing place reason) h c = tt {0}
+changes_to e before after other h c = subst (Changes e before) (sym h) c
 
 -- by the tip of a path
-changes_at : {terms : List Term} (path : Path) (octets : List ℕ) (given : Tip) (a : AtTip terms path octets given) (octet : ℕ) (e : Event) (after : List Mark) → HasMarks after (step_at given a.stack a.marks octet) → Changes e (marks_at given a.marks) after →
+changes_at : {terms : List Term} {path : Path} {octets : List ℕ} {given : Tip} (a : AtTip terms path octets given) (octet : ℕ) (e : Event) (after : List Mark) → HasMarks after (step_at given a.stack a.marks octet) → Changes e (marks_at given a.marks) after →
     ChangesTo e (marks_by terms path.size octets) (scan.scan terms path.size (octets ++ octet ∷ []))
-changes_at {terms = terms} path octets given a octet e after h c =
+changes_at {terms = terms} {path = path} {octets = octets} {given = given} a octet e after h c =
     let before : marks_by terms path.size octets ≡ marks_at given a.marks = ap (λ answer. marks_from answer (λ place. scan.scan terms path.size (take place octets))) a.reads in
-    subst (ChangesTo e (marks_by terms path.size octets)) (sym (stepped path octets given a octet))
+    subst (ChangesTo e (marks_by terms path.size octets)) (sym (stepped a octet))
     (subst (λ marks. ChangesTo e marks (step_at given a.stack a.marks octet)) (sym before) (changes_to e (marks_at given a.marks) after (step_at given a.stack a.marks octet) h c))
 
 settle_marks : (stack : List Container) (marks : List Mark) (place : ℕ) → HasMarks marks (settle stack marks place)
@@ -53,8 +52,8 @@ between_marks : (stack : List Container) (marks : List Mark) (place octet : ℕ)
 between_marks [] marks place octet = refl
 between_marks (container ∷ outer) marks place octet = picked_marks (pick octet container.expected) container.end outer marks place octet
 
-pub between_changes : {terms : List Term} (path : Path) (octets : List ℕ) (octet : ℕ) → BetweenAt terms path octets → ChangesTo event.None (marks_by terms path.size octets) (scan.scan terms path.size (octets ++ octet ∷ []))
-between_changes path octets octet b = changes_at path octets (Between path.looked) b.at octet event.None b.at.marks (between_marks b.at.stack b.at.marks path.looked octet) refl
+pub between_changes : {terms : List Term} {path : Path} {octets : List ℕ} (octet : ℕ) → BetweenAt terms path octets → ChangesTo event.None (marks_by terms path.size octets) (scan.scan terms path.size (octets ++ octet ∷ []))
+between_changes {path = path} octet b = changes_at b.at octet event.None b.at.marks (between_marks b.at.stack b.at.marks path.looked octet) refl
 
 -- ---- a length octet
 -- no length is whole
@@ -70,14 +69,7 @@ IsOf header count (Got other size) = (other ≡ header) × (size ≡ count)
 
 none_value : (term : Term) → leaf_value term [] ≡ pos 0
 none_value (Integer low high) = refl
-none_value (Text greatest) = refl
-none_value Octets = refl
-none_value Time = refl
-none_value (Bits least) = refl
-none_value (Sequence fields) = refl
-none_value (SequenceOf empty term) = refl
-none_value (Tagged index term) = refl
-none_value (Application number term) = refl
+none_value other = refl
 
 first_marks : (outcome : Outcome) (term : Term) (start count : ℕ) (stack : List Container) (marks : List Mark) → HasMarks (with_mark marks term start count) (leafed outcome term start count stack marks [])
 first_marks Open term start count stack marks = refl
@@ -89,15 +81,8 @@ opened_marks : (term : Term) (expected : Expected) (start count : ℕ) (stack : 
 opened_marks term expected start count stack marks = settle_marks (container_of (start + count) expected ∷ stack) (with_mark marks term start count) start
 
 enter_marks : (term : Term) (start count : ℕ) (stack : List Container) (marks : List Mark) → HasMarks (with_mark marks term start count) (enter term start count stack marks)
-enter_marks (Integer low high) start count stack marks = first_marks (leaf_outcome (Integer low high) count []) (Integer low high) start count stack marks
-enter_marks (Text greatest) start count stack marks = first_marks (leaf_outcome (Text greatest) count []) (Text greatest) start count stack marks
-enter_marks Octets start count stack marks = first_marks (leaf_outcome Octets count []) Octets start count stack marks
-enter_marks Time start count stack marks = first_marks (leaf_outcome Time count []) Time start count stack marks
-enter_marks (Bits least) start count stack marks = first_marks (leaf_outcome (Bits least) count []) (Bits least) start count stack marks
-enter_marks (Sequence fields) start count stack marks = opened_marks (Sequence fields) (Listed fields) start count stack marks
-enter_marks (SequenceOf empty term) start count stack marks = opened_marks (SequenceOf empty term) (Each term) start count stack marks
-enter_marks (Tagged index term) start count stack marks = opened_marks (Tagged index term) (OneOf (term ∷ [])) start count stack marks
-enter_marks (Application number term) start count stack marks = opened_marks (Application number term) (OneOf (term ∷ [])) start count stack marks
+enter_marks term start count stack marks =
+    enters_holds (HasMarks (with_mark marks term start count)) term start count stack marks (first_marks (leaf_outcome term count []) term start count stack marks) (λ expected. opened_marks term expected start count stack marks)
 
 none_marks : (got : Head) (term : Term) (stack : List Container) (marks : List Mark) (from : ℕ) (octets : List ℕ) → IsNone got → HasMarks marks (headed got term stack marks from octets)
 none_marks Partial term stack marks from octets h = refl
@@ -115,9 +100,8 @@ got_marks (Got other count) header size start term stack marks from octets e h =
     (when_holds (HasMarks (with_mark marks term (from + other) count)) (has_size term count) _ _ (enter_marks term (from + other) count stack marks) (tt {0}))))
 
 length_changes : (e : Event) (term : Term) (start count : ℕ) (before : List Mark) → IsLengthOf e term start count → Changes e before (with_mark before term start count)
-length_changes event.None term start count before h = absurd h
 length_changes (event.Length mark) term start count before h = (h.known, ap (λ m. before ++ m ∷ []) (sym h.is))
-length_changes (event.Number value) term start count before h = absurd h
+length_changes other term start count before h = absurd h
 
 fitting_is : (room header size : ℕ) → IsOf header size (fitting room header size)
 fitting_is room header size = by_fit (nat_lt room (header + size))
@@ -152,34 +136,34 @@ next_none room k seen value octet h = rw (lt-ltb (seen + 1) k h) (by_first ((see
     by_first true = tt {0}
     by_first false = tt {0}
 
-pub tagged_none : {terms : List Term} (path : Path) (octets : List ℕ) (node octet : ℕ) → TaggedAt terms path octets node → 128 ≤ octet → ChangesTo event.None (marks_by terms path.size octets) (scan.scan terms path.size (octets ++ octet ∷ []))
-tagged_none path octets node octet t h =
-    changes_at path octets (InHead (term_at node) t.from (t.tag ∷ [])) t.at octet event.None t.at.marks
+pub tagged_none : {terms : List Term} {path : Path} {octets : List ℕ} {node : ℕ} (octet : ℕ) → TaggedAt terms path octets node → 128 ≤ octet → ChangesTo event.None (marks_by terms path.size octets) (scan.scan terms path.size (octets ++ octet ∷ []))
+tagged_none {node = node} octet t h =
+    changes_at t.at octet event.None t.at.marks
     (none_marks (head (limit t.at.stack - t.from) (t.tag ∷ octet ∷ [])) (term_at node) t.at.stack t.at.marks t.from (t.tag ∷ octet ∷ []) (subst IsNone (sym (first_head_right (limit t.at.stack - t.from) t.tag octet)) (first_none (limit t.at.stack - t.from) octet h))) refl
 
-pub tagged_changes : {terms : List Term} (path : Path) (octets : List ℕ) (node octet : ℕ) (e : Event) → TaggedAt terms path octets node → octet < 128 → IsLengthOf e (term_at node) (path.looked + 1) octet → ChangesTo e (marks_by terms path.size octets) (scan.scan terms path.size (octets ++ octet ∷ []))
-tagged_changes path octets node octet e t h is =
-    changes_at path octets (InHead (term_at node) t.from (t.tag ∷ [])) t.at octet e (with_mark t.at.marks (term_at node) (path.looked + 1) octet)
+pub tagged_changes : {terms : List Term} {path : Path} {octets : List ℕ} {node : ℕ} (octet : ℕ) (e : Event) → TaggedAt terms path octets node → octet < 128 → IsLengthOf e (term_at node) (path.looked + 1) octet → ChangesTo e (marks_by terms path.size octets) (scan.scan terms path.size (octets ++ octet ∷ []))
+tagged_changes {path = path} {node = node} octet e t h is =
+    changes_at t.at octet e (with_mark t.at.marks (term_at node) (path.looked + 1) octet)
     (got_marks (head (limit t.at.stack - t.from) (t.tag ∷ octet ∷ [])) 2 octet (path.looked + 1) (term_at node) t.at.stack t.at.marks t.from (t.tag ∷ octet ∷ []) (omega (arith, t.looked)) (subst (IsOf 2 octet) (sym (first_head_right (limit t.at.stack - t.from) t.tag octet)) (first_is (limit t.at.stack - t.from) octet h)))
     (length_changes e (term_at node) (path.looked + 1) octet t.at.marks is)
 
-next_right : {terms : List Term} (path : Path) (octets : List ℕ) (node digits seen value octet : ℕ) (t : LongAt terms path octets node digits seen value) → head (limit t.at.stack - t.from) (t.tag ∷ t.first ∷ t.present ++ octet ∷ []) ≡ next_head (limit t.at.stack - t.from) digits seen value octet
-next_right path octets node digits seen value octet t =
+next_right : {terms : List Term} {path : Path} {octets : List ℕ} {node digits seen value : ℕ} (octet : ℕ) (t : LongAt terms path octets node digits seen value) → head (limit t.at.stack - t.from) (t.tag ∷ t.first ∷ t.present ++ octet ∷ []) ≡ next_head (limit t.at.stack - t.from) digits seen value octet
+next_right {digits = digits} {seen = seen} {value = value} octet t =
     next_head_right (limit t.at.stack - t.from) t.tag t.first t.present octet (subst IsPartial (sym t.at.reached) (tt {0}))
     ∙ ap (λ v. next_head (limit t.at.stack - t.from) (t.first - 0x80) (length t.present) v octet) (sym t.value_is) ∙ ap (λ k. next_head (limit t.at.stack - t.from) (t.first - 0x80) k value octet) (sym t.seen_are)
     ∙ ap (λ k. next_head (limit t.at.stack - t.from) k seen value octet) (sym t.digits_are)
 
-pub long_none : {terms : List Term} (path : Path) (octets : List ℕ) (node digits seen value octet : ℕ) → LongAt terms path octets node digits seen value → seen + 1 < digits → ChangesTo event.None (marks_by terms path.size octets) (scan.scan terms path.size (octets ++ octet ∷ []))
-long_none path octets node digits seen value octet t h =
-    changes_at path octets (InHead (term_at node) t.from (t.tag ∷ t.first ∷ t.present)) t.at octet event.None t.at.marks
-    (none_marks (head (limit t.at.stack - t.from) (t.tag ∷ t.first ∷ t.present ++ octet ∷ [])) (term_at node) t.at.stack t.at.marks t.from (t.tag ∷ t.first ∷ t.present ++ octet ∷ []) (subst IsNone (sym (next_right path octets node digits seen value octet t)) (next_none (limit t.at.stack - t.from) digits seen value octet h))) refl
+pub long_none : {terms : List Term} {path : Path} {octets : List ℕ} {node digits seen value : ℕ} (octet : ℕ) → LongAt terms path octets node digits seen value → seen + 1 < digits → ChangesTo event.None (marks_by terms path.size octets) (scan.scan terms path.size (octets ++ octet ∷ []))
+long_none {node = node} {digits = digits} {seen = seen} {value = value} octet t h =
+    changes_at t.at octet event.None t.at.marks
+    (none_marks (head (limit t.at.stack - t.from) (t.tag ∷ t.first ∷ t.present ++ octet ∷ [])) (term_at node) t.at.stack t.at.marks t.from (t.tag ∷ t.first ∷ t.present ++ octet ∷ []) (subst IsNone (sym (next_right octet t)) (next_none (limit t.at.stack - t.from) digits seen value octet h))) refl
 
-pub long_changes : {terms : List Term} (path : Path) (octets : List ℕ) (node digits seen value octet : ℕ) (e : Event) → LongAt terms path octets node digits seen value → digits ≤ seen + 1 → seen < digits → IsLengthOf e (term_at node) (path.looked + 1) (value * 256 + octet) →
+pub long_changes : {terms : List Term} {path : Path} {octets : List ℕ} {node digits seen value : ℕ} (octet : ℕ) (e : Event) → LongAt terms path octets node digits seen value → digits ≤ seen + 1 → seen < digits → IsLengthOf e (term_at node) (path.looked + 1) (value * 256 + octet) →
     ChangesTo e (marks_by terms path.size octets) (scan.scan terms path.size (octets ++ octet ∷ []))
-long_changes path octets node digits seen value octet e t h some is =
-    changes_at path octets (InHead (term_at node) t.from (t.tag ∷ t.first ∷ t.present)) t.at octet e (with_mark t.at.marks (term_at node) (path.looked + 1) (value * 256 + octet))
+long_changes {path = path} {node = node} {digits = digits} {seen = seen} {value = value} octet e t h some is =
+    changes_at t.at octet e (with_mark t.at.marks (term_at node) (path.looked + 1) (value * 256 + octet))
     (got_marks (head (limit t.at.stack - t.from) (t.tag ∷ t.first ∷ t.present ++ octet ∷ [])) (2 + digits) (value * 256 + octet) (path.looked + 1) (term_at node) t.at.stack t.at.marks t.from (t.tag ∷ t.first ∷ t.present ++ octet ∷ []) (omega (arith, t.looked, h, some))
-    (subst (IsOf (2 + digits) (value * 256 + octet)) (sym (next_right path octets node digits seen value octet t)) (next_is (limit t.at.stack - t.from) digits seen value octet h)))
+    (subst (IsOf (2 + digits) (value * 256 + octet)) (sym (next_right octet t)) (next_is (limit t.at.stack - t.from) digits seen value octet h)))
     (length_changes e (term_at node) (path.looked + 1) (value * 256 + octet) t.at.marks is)
 
 -- ---- a contents octet
@@ -195,29 +179,22 @@ done_marks (Done total) term start count seen stack marks octets k le = settle_m
 
 number_is : (term : Term) (value : ℤ) (unused octet : ℕ) (octets : List ℕ) → KeepsOf term value unused octets → octet < 256 → number_with term (length octets) value octet ≡ leaf_value term (octets ++ octet ∷ [])
 number_is (Integer low high) value unused octet octets h small = ap (λ v. extended (length octets) v octet) h.0 ∙ sym (value_push octets octet small)
-number_is (Text greatest) value unused octet octets h small = refl
-number_is Octets value unused octet octets h small = refl
-number_is Time value unused octet octets h small = refl
-number_is (Bits least) value unused octet octets h small = refl
-number_is (Sequence fields) value unused octet octets h small = refl
-number_is (SequenceOf empty term) value unused octet octets h small = refl
-number_is (Tagged index term) value unused octet octets h small = refl
-number_is (Application number term) value unused octet octets h small = refl
+number_is other value unused octet octets h small = refl
 
-leaf_after : {terms : List Term} (path : Path) (octets : List ℕ) (node start end : ℕ) (value : ℤ) (unused octet : ℕ) (l : LeafAt terms path octets node start end value unused) → Counts l.count (length l.present + 1) (leaf_outcome (term_at node) l.count (l.present ++ octet ∷ []))
-leaf_after path octets node start end value unused octet l = subst (λ k. Counts l.count k (leaf_outcome (term_at node) l.count (l.present ++ octet ∷ []))) (length_push l.present octet) (leaf_counts (term_at node) l.count (l.present ++ octet ∷ []) l.at.reached.0)
+leaf_after : {terms : List Term} {path : Path} {octets : List ℕ} {node start end : ℕ} {value : ℤ} {unused : ℕ} (octet : ℕ) (l : LeafAt terms path octets node start end value unused) → Counts l.count (length l.present + 1) (leaf_outcome (term_at node) l.count (l.present ++ octet ∷ []))
+leaf_after {node = node} octet l = subst (λ k. Counts l.count k (leaf_outcome (term_at node) l.count (l.present ++ octet ∷ []))) (length_push l.present octet) (leaf_counts (term_at node) l.count (l.present ++ octet ∷ []) l.at.reached.0)
 
-pub leaf_none : {terms : List Term} (path : Path) (octets : List ℕ) (node start end : ℕ) (value : ℤ) (unused octet : ℕ) → LeafAt terms path octets node start end value unused → path.looked + 1 < end → ChangesTo event.None (marks_by terms path.size octets) (scan.scan terms path.size (octets ++ octet ∷ []))
-leaf_none path octets node start end value unused octet l h =
-    changes_at path octets (InLeaf (term_at node) start l.count l.present) l.at octet event.None (with_mark l.at.marks (term_at node) start l.count)
-    (open_marks (leaf_outcome (term_at node) l.count (l.present ++ octet ∷ [])) (term_at node) start l.count (length l.present + 1) l.at.stack l.at.marks (l.present ++ octet ∷ []) (leaf_after path octets node start end value unused octet l) (omega (arith, h, l.looked, l.ends))) refl
+pub leaf_none : {terms : List Term} {path : Path} {octets : List ℕ} {node start end : ℕ} {value : ℤ} {unused : ℕ} (octet : ℕ) → LeafAt terms path octets node start end value unused → path.looked + 1 < end → ChangesTo event.None (marks_by terms path.size octets) (scan.scan terms path.size (octets ++ octet ∷ []))
+leaf_none {node = node} {start = start} octet l h =
+    changes_at l.at octet event.None (with_mark l.at.marks (term_at node) start l.count)
+    (open_marks (leaf_outcome (term_at node) l.count (l.present ++ octet ∷ [])) (term_at node) start l.count (length l.present + 1) l.at.stack l.at.marks (l.present ++ octet ∷ []) (leaf_after octet l) (omega (arith, h, l.looked, l.ends))) refl
 
-pub leaf_changes : {terms : List Term} (path : Path) (octets : List ℕ) (node start end : ℕ) (value : ℤ) (unused octet seen : ℕ) (number : ℤ) → LeafAt terms path octets node start end value unused → end ≤ path.looked + 1 → octet < 256 → seen ≡ path.looked - start → number ≡ number_with (term_at node) seen value octet →
+pub leaf_changes : {terms : List Term} {path : Path} {octets : List ℕ} {node start end : ℕ} {value : ℤ} {unused : ℕ} (octet seen : ℕ) (number : ℤ) → LeafAt terms path octets node start end value unused → end ≤ path.looked + 1 → octet < 256 → seen ≡ path.looked - start → number ≡ number_with (term_at node) seen value octet →
     ChangesTo (event.Number number) (marks_by terms path.size octets) (scan.scan terms path.size (octets ++ octet ∷ []))
-leaf_changes path octets node start end value unused octet seen number l h small e is =
+leaf_changes {node = node} {start = start} {value = value} {unused = unused} octet seen number l h small e is =
     let at : seen ≡ length l.present = omega (arith, e, l.looked) in
-    changes_at path octets (InLeaf (term_at node) start l.count l.present) l.at octet (event.Number number) (l.at.marks ++ mark_of (term_at node) start l.count (leaf_value (term_at node) (l.present ++ octet ∷ [])) ∷ [])
-    (done_marks (leaf_outcome (term_at node) l.count (l.present ++ octet ∷ [])) (term_at node) start l.count (length l.present + 1) l.at.stack l.at.marks (l.present ++ octet ∷ []) (leaf_after path octets node start end value unused octet l) (omega (arith, h, l.looked, l.ends)))
+    changes_at l.at octet (event.Number number) (l.at.marks ++ mark_of (term_at node) start l.count (leaf_value (term_at node) (l.present ++ octet ∷ [])) ∷ [])
+    (done_marks (leaf_outcome (term_at node) l.count (l.present ++ octet ∷ [])) (term_at node) start l.count (length l.present + 1) l.at.stack l.at.marks (l.present ++ octet ∷ []) (leaf_after octet l) (omega (arith, h, l.looked, l.ends)))
     (record {
       marks = l.at.marks;
       term = term_at node;

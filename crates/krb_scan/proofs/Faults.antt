@@ -4,11 +4,11 @@ use Rattle.std.proofs.lemmas.List.{length-append}
 use Rattle.krb_der.specs.Octets.{integer_value}
 use Rattle.krb_der.specs.declared.why.Why.{Why}
 use Rattle.krb_der.specs.declared.why.Why.TheVariants as why
-use Rattle.krb_msg.specs.Term.{Term, Integer, Text, Octets, Time, Bits, Sequence, SequenceOf, Tagged, Application}
+use Rattle.krb_msg.specs.Term.{Term, Integer, Bits}
 use Rattle.krb_msg.specs.Judgement.{Outcome, Open, Bad, Done, Head, Partial, Refused, Got, head, has_size, int_le}
-use Rattle.krb_scan.specs.Scan.{Mark, Expected, Listed, Each, OneOf, Container, Tip, Between, InHead, InLeaf, State, limit, sole_in, container_of, mark_of, with_mark, leaf_outcome, leaf_value, Answer, Ongoing, Refusing, Whole, scan, scanned, scanned_at}
+use Rattle.krb_scan.specs.Scan.{Mark, Expected, Container, Tip, Between, InHead, InLeaf, State, limit, sole_in, container_of, mark_of, with_mark, leaf_outcome, leaf_value, Answer, Ongoing, Refusing, Whole, scan, scanned, scanned_at}
 use Rattle.krb_scan.specs.inner.Machine.{Pick, pick, requires_item, settle, leafed, in_leaf, opened, enter, headed, tagged, picked, step_between, step_at, step, go_on, initial}
-use Rattle.krb_scan.proofs.Basics.{when_holds, when_knows}
+use Rattle.krb_scan.proofs.Basics.{enters_holds, when_holds, when_knows}
 use Rattle.krb_scan.proofs.Stable.{IsPartial, Counts, leaf_counts}
 use Rattle.krb_scan.proofs.Numbers.{both, IsFaultAt, leaf_fault_at, IsHeadFaultAt, head_fault_at}
 use Rattle.krb_scan.proofs.Resume.{IsReached, Reached, ReachedAnswer, HasRoom, step_reached, run, run_scan, initial_reached}
@@ -64,14 +64,8 @@ none_faultless (Integer low high) count h = by_some (nat_lt 0 count) (both (nat_
     by_some : (b : Bool) → b ≡ true → IsFaultless (if b then Open else if int_le low (integer_value []) && int_le (integer_value []) high then Done count else Bad (count - 1) why.Range)
     by_some true e = tt {0}
     by_some false e = cc
-none_faultless (Text greatest) count h = any_faultless (nat_lt 0 count) count
-none_faultless Octets count h = any_faultless (nat_lt 0 count) count
-none_faultless Time count h = any_faultless (nat_lt 0 count) count
 none_faultless (Bits least) count h = tt {0}
-none_faultless (Sequence fields) count h = any_faultless (nat_lt 0 count) count
-none_faultless (SequenceOf empty term) count h = any_faultless (nat_lt 0 count) count
-none_faultless (Tagged index term) count h = any_faultless (nat_lt 0 count) count
-none_faultless (Application number term) count h = any_faultless (nat_lt 0 count) count
+none_faultless other count h = any_faultless (nat_lt 0 count) count
 
 -- a leaf that is entered
 entered_placed : (before : ℕ) (outcome : Outcome) (term : Term) (start count : ℕ) (stack : List Container) (marks : List Mark) → start ≡ before + 1 → 2 * (length marks + 1) ≤ start → IsFaultless outcome → Counts count 0 outcome →
@@ -88,15 +82,8 @@ opened_placed : (before : ℕ) (term : Term) (expected : Expected) (start count 
 opened_placed before term expected start count stack marks e m = settle_placed before (container_of (start + count) expected ∷ stack) (with_mark marks term start count) start e (omega (arith, mark_more marks (mark_of term start count (pos 0))))
 
 enter_placed : (before : ℕ) (term : Term) (start count : ℕ) (stack : List Container) (marks : List Mark) → has_size term count ≡ true → start ≡ before + 1 → 2 * (length marks + 1) ≤ start → IsPlaced before (enter term start count stack marks)
-enter_placed before (Integer low high) start count stack marks size e m = in_leaf_placed before (Integer low high) start count stack marks size e m
-enter_placed before (Text greatest) start count stack marks size e m = in_leaf_placed before (Text greatest) start count stack marks size e m
-enter_placed before Octets start count stack marks size e m = in_leaf_placed before Octets start count stack marks size e m
-enter_placed before Time start count stack marks size e m = in_leaf_placed before Time start count stack marks size e m
-enter_placed before (Bits least) start count stack marks size e m = in_leaf_placed before (Bits least) start count stack marks size e m
-enter_placed before (Sequence fields) start count stack marks size e m = opened_placed before (Sequence fields) (Listed fields) start count stack marks e m
-enter_placed before (SequenceOf empty term) start count stack marks size e m = opened_placed before (SequenceOf empty term) (Each term) start count stack marks e m
-enter_placed before (Tagged index term) start count stack marks size e m = opened_placed before (Tagged index term) (OneOf (term ∷ [])) start count stack marks e m
-enter_placed before (Application number term) start count stack marks size e m = opened_placed before (Application number term) (OneOf (term ∷ [])) start count stack marks e m
+enter_placed before term start count stack marks size e m =
+    enters_holds (IsPlaced before) term start count stack marks (in_leaf_placed before term start count stack marks size e m) (λ expected. opened_placed before term expected start count stack marks e m)
 
 -- a header with an octet more
 headed_placed : (before present : ℕ) (got : Head) (term : Term) (stack : List Container) (marks : List Mark) (from : ℕ) (octets : List ℕ) → from + present ≡ before → 0 < present → length octets ≡ present + 1 → 2 * length marks ≤ from → IsHeadFaultAt present got →

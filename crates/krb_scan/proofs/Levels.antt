@@ -1,5 +1,5 @@
 -- How many lengths are open at once.
-use Rattle.std.proofs.Common.{◌≡◌, ℕ, zero, suc, ◌+◌, ◌-◌, ◌≤◌, ◌&&◌, ◌==◌, nat_lt, true, refl, get_or, List, [], ◌∷◌, length, take, drop, arith, le_trans}
+use Rattle.std.proofs.Common.{◌≡◌, ℕ, zero, suc, ◌+◌, ◌-◌, ◌≤◌, ◌&&◌, ◌==◌, nat_lt, true, refl, get_or, List, [], ◌∷◌, length, take, drop, arith}
 use Rattle.krb_der.specs.declared.profile.Profile.{Profile}
 use Rattle.krb_der.specs.declared.why.Why.{Why}
 use Rattle.krb_msg.specs.Basic.{int32}
@@ -7,23 +7,17 @@ use Rattle.krb_msg.specs.Grammar.{messages}
 use Rattle.krb_msg.proofs.Judged.{messages_nest}
 use Rattle.std.proofs.Math.Dec.{leb}
 use Rattle.std.proofs.lemmas.Bool.{leb-true}
-use Rattle.krb_msg.specs.Term.{Term, Fields, Integer, Text, Octets, Time, Bits, Sequence, SequenceOf, Tagged, Application, End, Required, Optional, tag_of}
+use Rattle.krb_msg.specs.Term.{Term, Fields, Integer, Sequence, SequenceOf, Tagged, Application, End, Required, Optional, tag_of}
 use Rattle.krb_msg.specs.Shape.{depth, depth_of_fields, greatest_depth}
 use Rattle.krb_msg.specs.Judgement.{Outcome, Open, Bad, Done, Head, Partial, Refused, Got, head, has_size}
 use Rattle.krb_msg.specs.Nodes.{nodes, term_in, term_at}
 use Rattle.krb_scan.specs.Scan.{Mark, Expected, Listed, Each, OneOf, Container, Tip, InHead, State, PartScan, Within, Fault, Past, scan_then, limit, sole_in, container_of, with_mark, leaf_outcome, of_leaf, scan_leaf, scan_after_head, begun, between, scan_required, scan_optional, scan_end, scan_each, scan_contents, scan_fields, scan_one_of, scan_message, lengths_at, Answer, Ongoing, Refusing, Whole, answer, scan}
+use Rattle.krb_scan.proofs.Progress.{Reader}
 use Rattle.krb_scan.proofs.Basics.{when_holds}
 
 depth_some : (term : Term) → 1 ≤ depth term
 depth_some (Integer low high) = omega arith
-depth_some (Text greatest) = omega arith
-depth_some Octets = omega arith
-depth_some Time = omega arith
-depth_some (Bits least) = omega arith
-depth_some (Sequence fields) = omega arith
-depth_some (SequenceOf empty term) = omega arith
-depth_some (Tagged index term) = omega arith
-depth_some (Application number term) = omega arith
+depth_some other = omega arith
 
 -- the lengths that are open, and one that is being read
 abbrev pub levels_at : Tip → ℕ → ℕ
@@ -50,18 +44,10 @@ fault_deep most = record { no_deeper = tt {0} }
 past_deep : (most : ℕ) {marks : List Mark} {place : ℕ} {rest : List ℕ} → IsNoDeeper most (Past marks place rest)
 past_deep most = record { no_deeper = tt {0} }
 
-deeper : (low high : ℕ) (seen : PartScan) → low ≤ high → IsNoDeeper low seen → IsNoDeeper high seen
-deeper low high (Within state) h k = within_deep high (le_trans k.no_deeper h)
-deeper low high (Fault place reason) h k = fault_deep high
-deeper low high (Past marks place rest) h k = past_deep high
-
 then_deep : (most : ℕ) (seen : PartScan) (next : List Mark → ℕ → List ℕ → PartScan) → IsNoDeeper most seen → ((marks : List Mark) (place : ℕ) (rest : List ℕ) → IsNoDeeper most (next marks place rest)) → IsNoDeeper most (scan_then seen next)
 then_deep most (Within state) next h k = within_deep most h.no_deeper
 then_deep most (Fault place reason) next h k = fault_deep most
 then_deep most (Past marks place rest) next h k = k marks place rest
-
-abbrev pub Reader : Type 0
-Reader = ℕ → ℕ → List Container → List Mark → List ℕ → PartScan
 
 abbrev pub ReadsTo : ℕ → Reader → Type 0
 ReadsTo levels contents = (start count : ℕ) (stack : List Container) (marks : List Mark) (octets : List ℕ) (most : ℕ) → length stack + levels ≤ most → IsNoDeeper most (contents start count stack marks octets)
@@ -118,11 +104,6 @@ each_deep levels some contents reads term (suc bound) end outer marks place (suc
 
 mutual
   pub contents_deep : (term : Term) (start count : ℕ) (stack : List Container) (marks : List Mark) (octets : List ℕ) (most : ℕ) → length stack + depth term ≤ most → IsNoDeeper most (scan_contents term start count stack marks octets)
-  contents_deep (Integer low high) start count stack marks octets most le = leaf_deep (Integer low high) start count stack marks octets most le
-  contents_deep (Text greatest) start count stack marks octets most le = leaf_deep (Text greatest) start count stack marks octets most le
-  contents_deep Octets start count stack marks octets most le = leaf_deep Octets start count stack marks octets most le
-  contents_deep Time start count stack marks octets most le = leaf_deep Time start count stack marks octets most le
-  contents_deep (Bits least) start count stack marks octets most le = leaf_deep (Bits least) start count stack marks octets most le
   contents_deep (Sequence fields) start count stack marks octets most le = fields_deep fields (start + count) stack (with_mark marks (Sequence fields) start count) start count octets most (omega arith)
   contents_deep (SequenceOf empty term) start count stack marks octets most le =
       each_deep (depth term) (depth_some term) (scan_contents term) (contents_deep term) term count (start + count) stack (with_mark marks (SequenceOf empty term) start count) start count octets most (omega arith)
@@ -132,6 +113,7 @@ mutual
   contents_deep (Application number term) start count stack marks octets most le =
       required_deep (depth term) (depth_some term) (scan_contents term) (contents_deep term) term _ _ (start + count) stack (with_mark marks (Application number term) start count) start count octets _ most (omega arith)
       (λ marks_then there rest. ended_deep (OneOf []) (start + count) stack marks_then there (start + count - there) rest most (omega arith))
+  contents_deep other start count stack marks octets most le = leaf_deep other start count stack marks octets most le
 
   fields_deep : (fields : Fields) (end : ℕ) (outer : List Container) (marks : List Mark) (place room : ℕ) (octets : List ℕ) (most : ℕ) → length outer + 1 + depth_of_fields fields ≤ most → IsNoDeeper most (scan_fields fields end outer marks place room octets)
   fields_deep End end outer marks place room octets most le = ended_deep (Listed End) end outer marks place room octets most (omega arith)
@@ -163,8 +145,7 @@ scan_deep terms shallow n octets = by_seen (scan_message terms n octets) (one_of
   where
     by_seen : (seen : PartScan) → IsNoDeeper 14 seen → OpenAtMost 14 (answer seen)
     by_seen (Within state) h = h.no_deeper
-    by_seen (Fault place reason) h = tt {0}
-    by_seen (Past marks place rest) h = tt {0}
+    by_seen other h = tt {0}
 
 pub messages_shallow : (profile : Profile) → greatest_depth (messages profile) ≤ 13
 messages_shallow profile = omega (arith, messages_nest profile)

@@ -16,8 +16,7 @@ few_before count (Ongoing state) h = by_tip state.tip state.marks h.0 h.1
     by_tip (scan.Between place) marks e k = omega (arith, k)
     by_tip (scan.InHead term from octets) marks e k = omega (arith, k.0)
     by_tip (scan.InLeaf term start size octets) marks e k = omega (arith, k, length-append marks (mark_of term start size (pos 0) ∷ []))
-few_before count (Refusing place reason) h = omega arith
-few_before count (Whole marks) h = omega arith
+few_before count other h = omega arith
 
 few_from : (profile : Profile) (n : ℕ) (octets : List ℕ) (given : Answer) → 0 < n → Placed (length octets) given → 2 * length (marks_from given (λ place. scan.scan (messages profile) n (take place octets))) ≤ length octets
 few_from profile n octets (Ongoing state) some h = few_before (length octets) (Ongoing state) h

@@ -61,9 +61,8 @@ pub changed_marks : (terms : List Term) (e : Event) (n : ℕ) (octets : List ℕ
 changed_marks terms e n octets octet before c not = by_answer (scan.scan terms n (octets ++ octet ∷ [])) refl c
   where
     by_answer : (given : Answer) → scan.scan terms n (octets ++ octet ∷ []) ≡ given → ChangesTo e before given → Changes e before (marks_by terms n (octets ++ octet ∷ []))
-    by_answer (Ongoing state) f h = subst (Changes e before) (sym (ap (λ given. marks_from given (λ place. scan.scan terms n (take place (octets ++ octet ∷ [])))) f)) h
-    by_answer (Whole marks) f h = subst (Changes e before) (sym (ap (λ given. marks_from given (λ place. scan.scan terms n (take place (octets ++ octet ∷ [])))) f)) h
     by_answer (Refusing place reason) f h = absurd (not place reason f)
+    by_answer other f h = subst (Changes e before) (sym (ap (λ given. marks_from given (λ place. scan.scan terms n (take place (octets ++ octet ∷ [])))) f)) h
 
 pub event_marks : {terms : List Term} (machine : Machine) (e : Event) (n : ℕ) (octets : List ℕ) (octet : ℕ) (decided : Verdict) → IsScanOf terms machine.path machine.verdict n octets → machine.verdict ≡ verdict.Open → decided ≡ judgement_by terms n (octets ++ octet ∷ []) → ((refusal : Refusal) → decided ≡ verdict.Refused refusal → ⊥) →
     ChangesTo e (marks_by terms n octets) (scan.scan terms n (octets ++ octet ∷ [])) → Changes e (marks_by terms n octets) (marks_by terms n (octets ++ octet ∷ []))
@@ -71,9 +70,8 @@ event_marks {terms = terms} machine e n octets octet decided at still is not c =
     changed_marks terms e n octets octet (marks_by terms n octets) c (λ place reason f. not (record { place = place; why = reason }) (is ∙ judged terms n (octets ++ octet ∷ []) (Refusing place reason) at.some (longer machine n octets octet at still) f))
 
 pub length_more : (e : Event) (before after : List Marked) → IsLength e → Changes e before after → length after ≡ length before + 1
-length_more event.None before after h c = absurd h
 length_more (event.Length mark) before after h c = omega (arith, ap length c.1, length-append before (mark_value mark ∷ []))
-length_more (event.Number value) before after h c = absurd h
+length_more other before after h c = absurd h
 
 pub err_holds : {A E P : Type 0} (result : Result A E) → P → OnErr result P
 err_holds (Ok value) p = tt {0}

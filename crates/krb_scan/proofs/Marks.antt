@@ -69,7 +69,3 @@ numbered marks before after last there value kept at same are n is =
     subst (λ v. AreMarks (set marks (last - 1) (with_number there v)) after) (sym same)
     (subst (λ all. AreMarks all after) (sym (set_last marks last there value some at is))
     (subst (AreMarks (with_value marks value)) (sym n.new) (marks_with_value marks n.marks n.term n.start n.count value here)))
-
-nodes_push : (marks : List Mark) (mark : Mark) → AllByRecursion (λ m. IsNode m.node) marks → IsNode mark.node → AllByRecursion (λ m. IsNode m.node) (marks ++ mark ∷ [])
-nodes_push [] mark h k = (k, tt {0})
-nodes_push (first ∷ marks) mark h k = (h.0, nodes_push marks mark h.1 k)

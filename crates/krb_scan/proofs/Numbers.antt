@@ -7,11 +7,11 @@ use Rattle.std.proofs.Math.Nat.{zero-mod}
 use Rattle.krb_der.specs.Octets.{number, number_from, complement, integer_value, last_or_zero, AreOctets}
 use Rattle.krb_der.specs.declared.why.Why.{Why}
 use Rattle.krb_der.specs.declared.why.Why.TheVariants as why
-use Rattle.krb_msg.specs.Term.{Term, Integer, Text, Octets, Time, Bits, Sequence, SequenceOf, Tagged, Application}
+use Rattle.krb_msg.specs.Term.{Term, Integer, Text, Time, Bits}
 use Rattle.krb_msg.specs.Judgement.{Outcome, Open, Bad, Done, Head, Partial, Refused, Got, head, long_head, fitting, int_le, is_padded, integer_contents, each_contents, text_octet, time_octet, bits_contents, any_contents}
 use Rattle.krb_scan.specs.Scan.{leaf_outcome}
 use Rattle.krb_scan.specs.inner.Numbers.{first_head, next_head, extended, pads, in_range, integer_next, each_next, bits_next, any_next, leaf_next, first_or_zero}
-use Rattle.krb_scan.proofs.Stable.{IsPartial}
+use Rattle.krb_scan.proofs.Stable.{IsPartial, fitting_not_partial}
 
 pub number_push : (high : ℕ) (octets : List ℕ) (octet : ℕ) → number_from high (octets ++ octet ∷ []) ≡ number_from high octets * 256 + octet
 number_push high [] octet = refl
@@ -24,13 +24,6 @@ length_push octets octet = omega (arith, length-append octets (octet ∷ []))
 
 pub first_head_right : (room tag octet : ℕ) → head room (tag ∷ octet ∷ []) ≡ first_head room octet
 first_head_right room tag octet = refl
-
-fitting_not_partial : (room header contents : ℕ) → IsPartial (fitting room header contents) → ⊥
-fitting_not_partial room header contents = by_test (nat_lt room (header + contents))
-  where
-    by_test : (b : Bool) → IsPartial (if b then Refused (header - 1) why.Overrun else Got header contents) → ⊥
-    by_test true h = h
-    by_test false h = h
 
 long_short : (room k : ℕ) (octets : List ℕ) → 0 < k → IsPartial (long_head room k octets) → length octets < k
 long_short room k [] p h = p
@@ -84,13 +77,11 @@ next_head_right room tag octet octets next h = by_tests (nat_lt octet 0x80) (oct
         (if short then fitting room 2 octet else if indefinite then Refused 1 why.Indefinite else if wide then Refused 1 why.LengthWide else if over then Refused 1 why.Overrun else long_head room (octet - 0x80) (octets ++ next ∷ []))
         ≡ next_head room (octet - 0x80) (length octets) (number octets) next
     by_tests true indefinite wide over e f p = absurd (fitting_not_partial room 2 octet p)
-    by_tests false true wide over e f p = absurd p
-    by_tests false false true over e f p = absurd p
-    by_tests false false false true e f p = absurd p
     by_tests false false false false e f p =
         let big : 0x80 ≤ octet = ltb-false octet 0x80 e in
         let other : octet ≡ 0x80 → ⊥ = eqb-false octet 0x80 f in
         long_next room (octet - 0x80) octets next (omega arith) p
+    by_tests false other another third e f p = absurd p
 
 -- a header that is partly read after its first length octet waits for more octets
 pub partial_long : (room tag octet : ℕ) (octets : List ℕ) → IsPartial (head room (tag ∷ octet ∷ octets)) → (length octets < octet - 0x80) × (octet ≤ 0x84) × (2 + (octet - 0x80) ≤ room)
@@ -100,13 +91,11 @@ partial_long room tag octet octets h = by_tests (nat_lt octet 0x80) (octet == 0x
         IsPartial (if short then fitting room 2 octet else if indefinite then Refused 1 why.Indefinite else if wide then Refused 1 why.LengthWide else if over then Refused 1 why.Overrun else long_head room (octet - 0x80) octets) →
         (length octets < octet - 0x80) × (octet ≤ 0x84) × (2 + (octet - 0x80) ≤ room)
     by_tests true indefinite wide over e f g k p = absurd (fitting_not_partial room 2 octet p)
-    by_tests false true wide over e f g k p = absurd p
-    by_tests false false true over e f g k p = absurd p
-    by_tests false false false true e f g k p = absurd p
     by_tests false false false false e f g k p =
         let big : 0x80 ≤ octet = ltb-false octet 0x80 e in
         let other : octet ≡ 0x80 → ⊥ = eqb-false octet 0x80 f in
         (long_short room (octet - 0x80) octets (omega arith) p, ltb-false 0x84 octet g, ltb-false room (2 + (octet - 0x80)) k)
+    by_tests false other another third e f g k p = absurd p
 
 -- ---- leaves
 
@@ -206,7 +195,6 @@ leaf_next_fault (Integer low high) count seen value unused octet h =
     (λ e. if_knows (IsFaultAt seen) (nat_lt (seen + 1) count) _ _ (λ f. open_here seen)
     (λ f. if_knows (IsFaultAt seen) (in_range low high (extended seen value octet)) _ _ (λ g. done_here seen count) (λ g. fault_here seen (count - 1) why.Range (let le : count ≤ seen + 1 = ltb-false (seen + 1) count f in omega arith))))
 leaf_next_fault (Text greatest) count seen value unused octet h = each_next_fault (text_octet greatest) why.Charset count seen octet
-leaf_next_fault Octets count seen value unused octet h = if_knows (IsFaultAt seen) (nat_lt (seen + 1) count) _ _ (λ e. open_here seen) (λ e. done_here seen count)
 leaf_next_fault Time count seen value unused octet h = each_next_fault time_octet why.Time count seen octet
 leaf_next_fault (Bits least) count zero value unused octet h =
     if_knows (IsFaultAt 0) (nat_lt 7 octet || nat_lt (8 * (count - 1)) (least + octet)) _ _ (λ e. fault_here 0 0 why.Bits refl)
@@ -214,10 +202,7 @@ leaf_next_fault (Bits least) count zero value unused octet h =
 leaf_next_fault (Bits least) count (suc seen) value unused octet h =
     if_knows (IsFaultAt (suc seen)) (nat_lt (suc seen + 1) count) _ _ (λ e. open_here (suc seen))
     (λ e. if_knows (IsFaultAt (suc seen)) (octet % 2 ^ unused == 0) _ _ (λ f. done_here (suc seen) count) (λ f. fault_here (suc seen) (count - 1) why.Bits (let le : count ≤ suc seen + 1 = ltb-false (suc seen + 1) count e in omega arith)))
-leaf_next_fault (Sequence fields) count seen value unused octet h = if_knows (IsFaultAt seen) (nat_lt (seen + 1) count) _ _ (λ e. open_here seen) (λ e. done_here seen count)
-leaf_next_fault (SequenceOf empty term) count seen value unused octet h = if_knows (IsFaultAt seen) (nat_lt (seen + 1) count) _ _ (λ e. open_here seen) (λ e. done_here seen count)
-leaf_next_fault (Tagged index term) count seen value unused octet h = if_knows (IsFaultAt seen) (nat_lt (seen + 1) count) _ _ (λ e. open_here seen) (λ e. done_here seen count)
-leaf_next_fault (Application number term) count seen value unused octet h = if_knows (IsFaultAt seen) (nat_lt (seen + 1) count) _ _ (λ e. open_here seen) (λ e. done_here seen count)
+leaf_next_fault other count seen value unused octet h = if_knows (IsFaultAt seen) (nat_lt (seen + 1) count) _ _ (λ e. open_here seen) (λ e. done_here seen count)
 
 -- a header's fault is at its new octet, too
 abbrev pub HeadFaultAt : ℕ → Head → Type 0
@@ -309,13 +294,9 @@ pub leaf_next_right : (term : Term) (count : ℕ) (octets : List ℕ) (octet : �
     leaf_outcome term count (octets ++ octet ∷ []) ≡ leaf_next term count (length octets) (integer_value octets) (first_or_zero octets) octet
 leaf_next_right (Integer low high) count octets octet fit h e = integer_next_right low high count octets octet fit h e
 leaf_next_right (Text greatest) count octets octet fit h e = each_next_right (text_octet greatest) why.Charset count octets octet e
-leaf_next_right Octets count octets octet fit h e = any_next_right count octets octet
 leaf_next_right Time count octets octet fit h e = each_next_right time_octet why.Time count octets octet e
 leaf_next_right (Bits least) count octets octet fit h e = bits_next_right least count octets octet e
-leaf_next_right (Sequence fields) count octets octet fit h e = any_next_right count octets octet
-leaf_next_right (SequenceOf empty term) count octets octet fit h e = any_next_right count octets octet
-leaf_next_right (Tagged index term) count octets octet fit h e = any_next_right count octets octet
-leaf_next_right (Application number term) count octets octet fit h e = any_next_right count octets octet
+leaf_next_right other count octets octet fit h e = any_next_right count octets octet
 
 -- ---- the place of a fault
 
@@ -338,13 +319,9 @@ leaf_fault_by term count octets value unused octet outcome e h = subst (IsFaultA
 pub leaf_fault_at : (term : Term) (count : ℕ) (octets : List ℕ) (octet : ℕ) → leaf_outcome term count octets ≡ Open → length octets < count → IsFaultAt (length octets) (leaf_outcome term count (octets ++ octet ∷ []))
 leaf_fault_at (Integer low high) count octets octet e h = integer_fault_at low high count octets octet e h
 leaf_fault_at (Text greatest) count octets octet e h = leaf_fault_by (Text greatest) count octets (pos 0) 0 octet _ (each_next_right (text_octet greatest) why.Charset count octets octet e) h
-leaf_fault_at Octets count octets octet e h = leaf_fault_by Octets count octets (pos 0) 0 octet _ (any_next_right count octets octet) h
 leaf_fault_at Time count octets octet e h = leaf_fault_by Time count octets (pos 0) 0 octet _ (each_next_right time_octet why.Time count octets octet e) h
 leaf_fault_at (Bits least) count octets octet e h = leaf_fault_by (Bits least) count octets (pos 0) (first_or_zero octets) octet _ (bits_next_right least count octets octet e) h
-leaf_fault_at (Sequence fields) count octets octet e h = leaf_fault_by (Sequence fields) count octets (pos 0) 0 octet _ (any_next_right count octets octet) h
-leaf_fault_at (SequenceOf empty term) count octets octet e h = leaf_fault_by (SequenceOf empty term) count octets (pos 0) 0 octet _ (any_next_right count octets octet) h
-leaf_fault_at (Tagged index term) count octets octet e h = leaf_fault_by (Tagged index term) count octets (pos 0) 0 octet _ (any_next_right count octets octet) h
-leaf_fault_at (Application number term) count octets octet e h = leaf_fault_by (Application number term) count octets (pos 0) 0 octet _ (any_next_right count octets octet) h
+leaf_fault_at other count octets octet e h = leaf_fault_by other count octets (pos 0) 0 octet _ (any_next_right count octets octet) h
 
 -- A header's fault lies at the octet that is new, and a header that is whole ends in it.
 pub head_fault_at : (room : ℕ) (octets : List ℕ) (octet : ℕ) → 0 < length octets → IsPartial (head room octets) → IsHeadFaultAt (length octets) (head room (octets ++ octet ∷ []))

@@ -5,7 +5,7 @@ use Rattle.std.proofs.lemmas.Bool.{ltb-false, eqb-false, le-ltb, cases_lt}
 use Rattle.krb_der.specs.Octets.{when, number, integer_value, last_or_zero}
 use Rattle.krb_der.specs.declared.why.Why.{Why}
 use Rattle.krb_der.specs.declared.why.Why.TheVariants as why
-use Rattle.krb_msg.specs.Term.{Term, Fields, Integer, Text, Octets, Time, Bits, Sequence, SequenceOf, Tagged, Application, End, Required, Optional, tag_of}
+use Rattle.krb_msg.specs.Term.{Term, Fields, Integer, Text, Time, Bits, Sequence, SequenceOf, Tagged, Application, End, Required, Optional, tag_of}
 use Rattle.krb_msg.specs.Judgement.{Outcome, Open, Bad, Done, after, then_after, Head, Partial, Refused, Got, head, long_head, fitting, has_size, int_le, is_padded, integer_contents, each_contents, text_octet, time_octet, bits_contents, any_contents, items_contents, only_contents, of_head, item_with, contents_outcome, fields_outcome, message_outcome, verdict_of}
 use Rattle.krb_scan.specs.Scan.{Mark, Expected, Listed, Each, OneOf, Container, State, PartScan, Within, Fault, Past, scan_then, limit, is_sole, sole_in, container_of, with_mark, leaf_outcome, of_leaf, scan_leaf, scan_after_head, scan_head, begun, scan_required, scan_optional, scan_end, scan_only, scan_each, scan_contents, scan_fields, scan_one_of, scan_message, Answer, Ongoing, Refusing, Whole, answer, scan}
 use Rattle.krb_scan.specs.inner.Machine.{outcome_of}
@@ -42,15 +42,12 @@ head_tests : (room octet : ℕ) (octets octets' : List ℕ) (short indefinite wi
     (0 < octet - 0x80 → 2 + (octet - 0x80) ≤ room → long_head room (octet - 0x80) octets ≡ long_head room (octet - 0x80) octets') →
     (if short then fitting room 2 octet else if indefinite then Refused 1 why.Indefinite else if wide then Refused 1 why.LengthWide else if over then Refused 1 why.Overrun else long_head room (octet - 0x80) octets)
     ≡ (if short then fitting room 2 octet else if indefinite then Refused 1 why.Indefinite else if wide then Refused 1 why.LengthWide else if over then Refused 1 why.Overrun else long_head room (octet - 0x80) octets')
-head_tests room octet octets octets' true indefinite wide over e f g h = refl
-head_tests room octet octets octets' false true wide over e f g h = refl
-head_tests room octet octets octets' false false true over e f g h = refl
-head_tests room octet octets octets' false false false true e f g h = refl
 head_tests room octet octets octets' false false false false e f g h =
     let big : 0x80 ≤ octet = ltb-false octet 0x80 e in
     let other : octet ≡ 0x80 → ⊥ = eqb-false octet 0x80 f in
     let fits : 2 + (octet - 0x80) ≤ room = ltb-false room (2 + (octet - 0x80)) g in
     h (omega arith) fits
+head_tests room octet octets octets' other another third fourth e f g h = refl
 
 head_take : (room : ℕ) (octets : List ℕ) → 2 ≤ room → head room (take room octets) ≡ head room octets
 head_take room octets h = by_room room octets (omega arith)
@@ -136,13 +133,9 @@ integer_done low high count octets =
 pub leaf_done_at : (term : Term) (count : ℕ) (octets : List ℕ) → IsDoneAt count (leaf_outcome term count octets)
 leaf_done_at (Integer low high) count octets = integer_done low high count octets
 leaf_done_at (Text greatest) count octets = each_done (text_octet greatest) why.Charset count 0 octets
-leaf_done_at Octets count octets = any_done count octets
 leaf_done_at Time count octets = each_done time_octet why.Time count 0 octets
 leaf_done_at (Bits least) count octets = bits_done least count octets
-leaf_done_at (Sequence fields) count octets = any_done count octets
-leaf_done_at (SequenceOf empty term) count octets = any_done count octets
-leaf_done_at (Tagged index term) count octets = any_done count octets
-leaf_done_at (Application number term) count octets = any_done count octets
+leaf_done_at other count octets = any_done count octets
 
 -- ---- agreement
 
@@ -190,28 +183,17 @@ then_agree : (base before whole from room : ℕ) (sole : Bool) (octets : List �
     ((marks : List Mark) (there : ℕ) (rest : List ℕ) (count : ℕ) → there ≡ from + count → 0 < count → count ≤ room → (sole ≡ true → count ≡ room) → rest ≡ drop count octets → ContentsAgree base before whole octets (next marks there rest) (next' count)) →
     ContentsAgree base before whole octets (scan_then seen next) (then_after before outcome next')
 then_agree base before whole from room sole octets (Within state) Open next next' e h k = contents_open base before whole octets state
-then_agree base before whole from room sole octets (Within state) (Bad offset because) next next' e h k = absurd h.agree
-then_agree base before whole from room sole octets (Within state) (Done count) next next' e h k = absurd h.agree
-then_agree base before whole from room sole octets (Fault place reason) Open next next' e h k = absurd h.agree
 then_agree base before whole from room sole octets (Fault place reason) (Bad offset because) next next' e h k =
     let at : place ≡ from + offset = h.agree.0 in
     record { agree = (omega arith, h.agree.1) }
-then_agree base before whole from room sole octets (Fault place reason) (Done count) next next' e h k = absurd h.agree
-then_agree base before whole from room sole octets (Past marks place rest) Open next next' e h k = absurd h.agree
-then_agree base before whole from room sole octets (Past marks place rest) (Bad offset because) next next' e h k = absurd h.agree
 then_agree base before whole from room sole octets (Past marks place rest) (Done count) next next' e h k = k marks place rest count h.agree.0 h.agree.1 h.agree.2 h.agree.3 h.agree.4
+then_agree base before whole from room sole octets other another next next' e h k = absurd h.agree
 
 -- contents that agree are the contents of an item that agrees
 from_contents : (from room : ℕ) (sole : Bool) (octets : List ℕ) (header count : ℕ) (seen : PartScan) (outcome : Outcome) → 0 < header → header + count ≤ room → (sole && nat_lt (header + count) room) ≡ false →
     ContentsAgree from header count (drop header octets) seen outcome → ItemAgree from room sole octets seen outcome
 from_contents from room sole octets header count (Within state) Open p q loose h = record { agree = tt {0} }
-from_contents from room sole octets header count (Within state) (Bad offset because) p q loose h = absurd h.agree
-from_contents from room sole octets header count (Within state) (Done total) p q loose h = absurd h.agree
-from_contents from room sole octets header count (Fault place reason) Open p q loose h = absurd h.agree
 from_contents from room sole octets header count (Fault place reason) (Bad offset because) p q loose h = record { agree = (h.agree.0, h.agree.1) }
-from_contents from room sole octets header count (Fault place reason) (Done total) p q loose h = absurd h.agree
-from_contents from room sole octets header count (Past marks place rest) Open p q loose h = absurd h.agree
-from_contents from room sole octets header count (Past marks place rest) (Bad offset because) p q loose h = absurd h.agree
 from_contents from room sole octets header count (Past marks place rest) (Done total) p q loose h =
     let at : place ≡ from + header + count = h.agree.0 in
     let size : total ≡ header + count = h.agree.1 in
@@ -224,6 +206,7 @@ from_contents from room sole octets header count (Past marks place rest) (Done t
 
     fill : sole ≡ true → total ≡ header + count → total ≡ room
     fill is_sole size = let le : room ≤ header + count = ltb-false (header + count) room (full sole is_sole loose) in omega arith
+from_contents from room sole octets header count other another p q loose h = absurd h.agree
 
 -- an item's outcome from its identifier octet on, the tag being right
 abbrev pub begun_outcome : Term → ℕ → Bool → List ℕ → Outcome
@@ -283,17 +266,12 @@ item_agree term right stack marks from octets room_pos = by_one (limit stack - f
 shift_agree : (base before count whole room : ℕ) (octets rest : List ℕ) (seen : PartScan) (outcome : Outcome) → count + room ≡ whole → rest ≡ drop count octets →
     ContentsAgree base (before + count) room rest seen outcome → ContentsAgree base before whole octets seen outcome
 shift_agree base before count whole room octets rest (Within state) Open e f h = contents_open base before whole octets state
-shift_agree base before count whole room octets rest (Within state) (Bad offset because) e f h = absurd h.agree
-shift_agree base before count whole room octets rest (Within state) (Done total) e f h = absurd h.agree
-shift_agree base before count whole room octets rest (Fault place reason) Open e f h = absurd h.agree
 shift_agree base before count whole room octets rest (Fault place reason) (Bad offset because) e f h = record { agree = (h.agree.0, h.agree.1) }
-shift_agree base before count whole room octets rest (Fault place reason) (Done total) e f h = absurd h.agree
-shift_agree base before count whole room octets rest (Past marks place rest') Open e f h = absurd h.agree
-shift_agree base before count whole room octets rest (Past marks place rest') (Bad offset because) e f h = absurd h.agree
 shift_agree base before count whole room octets rest (Past marks place rest') (Done total) e f h =
     let at : place ≡ base + (before + count) + room = h.agree.0 in
     let size : total ≡ before + count + room = h.agree.1 in
     record { agree = (omega arith, omega arith, h.agree.2 ∙ ap (drop room) f ∙ drop-drop room count octets ∙ ap (λ k. drop k octets) e) }
+shift_agree base before count whole room octets rest other another e f h = absurd h.agree
 
 -- the room and the octets that an item leaves, by its outcome
 next_agree : (base before count whole finish there : ℕ) (octets rest : List ℕ) (seen : PartScan) (f : ℕ → List ℕ → Outcome) → finish - there ≡ whole - count → count ≤ whole → rest ≡ drop count octets →
@@ -412,11 +390,6 @@ each_agree term right (suc bound) end base before place (suc room) outer marks o
 mutual
   pub contents_agree : (term : Term) (start count base before : ℕ) (stack : List Container) (marks : List Mark) (octets : List ℕ) → start ≡ base + before → 0 < before →
       ContentsAgree base before count octets (scan_contents term start count stack marks octets) (contents_outcome term before count (take count octets))
-  contents_agree (Integer low high) start count base before stack marks octets e p = leaf_agree (Integer low high) start count base before stack marks octets e
-  contents_agree (Text greatest) start count base before stack marks octets e p = leaf_agree (Text greatest) start count base before stack marks octets e
-  contents_agree Octets start count base before stack marks octets e p = leaf_agree Octets start count base before stack marks octets e
-  contents_agree Time start count base before stack marks octets e p = leaf_agree Time start count base before stack marks octets e
-  contents_agree (Bits least) start count base before stack marks octets e p = leaf_agree (Bits least) start count base before stack marks octets e
   contents_agree (Sequence fields) start count base before stack marks octets e p =
       fields_agree fields (start + count) base before start count stack (with_mark marks (Sequence fields) start count) octets e (omega arith) p
   contents_agree (SequenceOf empty term) start count base before stack marks octets e p =
@@ -425,6 +398,7 @@ mutual
       only_agree term (contents_agree term) start count base before stack (with_mark marks (Tagged index term) start count) octets e p
   contents_agree (Application number term) start count base before stack marks octets e p =
       only_agree term (contents_agree term) start count base before stack (with_mark marks (Application number term) start count) octets e p
+  contents_agree other start count base before stack marks octets e p = leaf_agree other start count base before stack marks octets e
 
   fields_agree : (fields : Fields) (end base before place room : ℕ) (outer : List Container) (marks : List Mark) (octets : List ℕ) → place ≡ base + before → room ≡ end - place → 0 < before →
       ContentsAgree base before room octets (scan_fields fields end outer marks place room octets) (fields_outcome fields before room (take room octets))
@@ -482,20 +456,15 @@ message_agree (term ∷ terms) expected room (octet ∷ octets) h = by_tag (octe
 
 agreed_outcome : (n : ℕ) (octets : List ℕ) (seen : PartScan) (outcome : Outcome) → ContentsAgree 0 0 n octets seen outcome → outcome ≡ outcome_of n (answer seen)
 agreed_outcome n octets (Within state) Open h = refl
-agreed_outcome n octets (Within state) (Bad offset because) h = absurd h.agree
-agreed_outcome n octets (Within state) (Done total) h = absurd h.agree
-agreed_outcome n octets (Fault place reason) Open h = absurd h.agree
 agreed_outcome n octets (Fault place reason) (Bad offset because) h =
     let at : place ≡ 0 + offset = h.agree.0 in
     let same : offset ≡ place = omega arith in
     ap (λ o. Bad o because) same ∙ ap (λ w. Bad place w) (sym h.agree.1)
-agreed_outcome n octets (Fault place reason) (Done total) h = absurd h.agree
-agreed_outcome n octets (Past marks place rest) Open h = absurd h.agree
-agreed_outcome n octets (Past marks place rest) (Bad offset because) h = absurd h.agree
 agreed_outcome n octets (Past marks place rest) (Done total) h =
     let size : total ≡ 0 + 0 + n = h.agree.1 in
     let same : total ≡ n = omega arith in
     ap Done same
+agreed_outcome n octets other another h = absurd h.agree
 
 -- The outcome of the scan is that of the judgement.
 pub scan_outcome : (terms : List Term) (n : ℕ) (octets : List ℕ) → 0 < n → length octets ≤ n → message_outcome terms n octets ≡ outcome_of n (scan terms n octets)

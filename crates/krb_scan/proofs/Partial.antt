@@ -4,11 +4,11 @@ use Rattle.krb_der.specs.Octets.{AreOctets}
 use Rattle.krb_der.specs.inner.Numbers.{AreOctets-append}
 use Rattle.krb_der.specs.declared.why.Why.{Why}
 use Rattle.krb_der.specs.declared.why.Why.TheVariants as why
-use Rattle.krb_msg.specs.Term.{Term, Integer, Text, Octets, Time, Bits, Sequence, SequenceOf, Tagged, Application}
+use Rattle.krb_msg.specs.Term.{Term}
 use Rattle.krb_msg.specs.Judgement.{Outcome, Open, Bad, Done, Head, Partial, Refused, Got, head, has_size}
-use Rattle.krb_scan.specs.Scan.{Mark, Listed, Each, OneOf, Container, Tip, Between, InHead, InLeaf, State, limit, sole_in, container_of, with_mark, leaf_outcome, Answer, Ongoing, Refusing, Whole, scan}
+use Rattle.krb_scan.specs.Scan.{Mark, Container, Tip, Between, InHead, InLeaf, State, limit, sole_in, container_of, with_mark, leaf_outcome, Answer, Ongoing, Refusing, Whole, scan}
 use Rattle.krb_scan.specs.inner.Machine.{Pick, pick, requires_item, settle, leafed, enter, headed, tagged, picked, step_between, step_at, step, go_on, initial}
-use Rattle.krb_scan.proofs.Basics.{when_holds}
+use Rattle.krb_scan.proofs.Basics.{enters_holds, when_holds}
 use Rattle.krb_scan.proofs.Resume.{run, run_scan}
 
 abbrev pub octets_of : Tip → List ℕ
@@ -39,15 +39,8 @@ leafed_octets (Bad offset reason) term start count stack marks octets a = refusi
 leafed_octets (Done total) term start count stack marks octets a = settle_octets stack _ (start + count)
 
 enter_octets : (term : Term) (start count : ℕ) (stack : List Container) (marks : List Mark) → KeepsOctets (enter term start count stack marks)
-enter_octets (Integer low high) start count stack marks = leafed_octets (leaf_outcome (Integer low high) count []) (Integer low high) start count stack marks [] (tt {0})
-enter_octets (Text greatest) start count stack marks = leafed_octets (leaf_outcome (Text greatest) count []) (Text greatest) start count stack marks [] (tt {0})
-enter_octets Octets start count stack marks = leafed_octets (leaf_outcome Octets count []) Octets start count stack marks [] (tt {0})
-enter_octets Time start count stack marks = leafed_octets (leaf_outcome Time count []) Time start count stack marks [] (tt {0})
-enter_octets (Bits least) start count stack marks = leafed_octets (leaf_outcome (Bits least) count []) (Bits least) start count stack marks [] (tt {0})
-enter_octets (Sequence fields) start count stack marks = settle_octets (container_of (start + count) (Listed fields) ∷ stack) (with_mark marks (Sequence fields) start count) start
-enter_octets (SequenceOf empty term) start count stack marks = settle_octets (container_of (start + count) (Each term) ∷ stack) (with_mark marks (SequenceOf empty term) start count) start
-enter_octets (Tagged index term) start count stack marks = settle_octets (container_of (start + count) (OneOf (term ∷ [])) ∷ stack) (with_mark marks (Tagged index term) start count) start
-enter_octets (Application number term) start count stack marks = settle_octets (container_of (start + count) (OneOf (term ∷ [])) ∷ stack) (with_mark marks (Application number term) start count) start
+enter_octets term start count stack marks =
+    enters_holds KeepsOctets term start count stack marks (leafed_octets (leaf_outcome term count []) term start count stack marks [] (tt {0})) (λ expected. settle_octets (container_of (start + count) expected ∷ stack) (with_mark marks term start count) start)
 
 headed_octets : (got : Head) (term : Term) (stack : List Container) (marks : List Mark) (from : ℕ) (octets : List ℕ) → AreOctets octets → KeepsOctets (headed got term stack marks from octets)
 headed_octets Partial term stack marks from octets a = record { keeps = a }

@@ -5,7 +5,7 @@ use Rattle.std.proofs.lemmas.Int.{ints}
 use Rattle.krb_der.specs.Octets.{AreOctets, number, complement, integer_octets, integer_value}
 use Rattle.krb_der.specs.inner.Numbers.{AreOctets-complement}
 use Rattle.krb_der.proofs.Sizes.{length-complement}
-use Rattle.krb_msg.specs.Term.{Term, Integer, Text, Octets, Time, Bits, Sequence, SequenceOf, Tagged, Application}
+use Rattle.krb_msg.specs.Term.{Term, Integer, Bits, Tagged}
 use Rattle.krb_msg.specs.Judgement.{Head, Partial, Refused, Got, Open as OpenOutcome, head, has_size, bits_contents}
 use Rattle.krb_scan.specs.Scan as scan
 use Rattle.krb_scan.specs.Scan.{Container, Mark as Marked, Tip, Between, InHead, InLeaf, Ongoing, limit, leaf_outcome}
@@ -74,8 +74,8 @@ at_tip {terms = terms} path octets s =
     }
 
 -- one octet more is a step
-pub stepped : {terms : List Term} (path : Path) (octets : List ℕ) (given : Tip) (a : AtTip terms path octets given) (octet : ℕ) → scan.scan terms path.size (octets ++ octet ∷ []) ≡ step_at given a.stack a.marks octet
-stepped {terms = terms} path octets given a octet = scan_step terms path.size octets octet a.some ∙ ap (λ answer. go_on answer (λ state. step state octet)) a.reads
+pub stepped : {terms : List Term} {path : Path} {octets : List ℕ} {given : Tip} (a : AtTip terms path octets given) (octet : ℕ) → scan.scan terms path.size (octets ++ octet ∷ []) ≡ step_at given a.stack a.marks octet
+stepped {terms = terms} {path = path} {octets = octets} a octet = scan_step terms path.size octets octet a.some ∙ ap (λ answer. go_on answer (λ state. step state octet)) a.reads
 
 -- ---- each tip
 
@@ -110,16 +110,15 @@ pub record LeafAt (terms : List Term) (path : Path) (octets : List ℕ) (node st
   pub keeps : KeepsOf (term_at node) value unused present
   pub looked : path.looked ≡ start + length present
 
-pub between_at : {terms : List Term} (path : Path) (octets : List ℕ) → IsPathOf terms path octets → path.tip ≡ tip.Between → BetweenAt terms path octets
-between_at {terms = terms} path octets s e = by_tip s.state.tip (at_tip path octets s) (subst (λ kept. TipIs path.looked kept s.state.tip) e s.holds.tip)
+pub between_at : {terms : List Term} {path : Path} {octets : List ℕ} → IsPathOf terms path octets → path.tip ≡ tip.Between → BetweenAt terms path octets
+between_at {terms = terms} {path = path} {octets = octets} s e = by_tip s.state.tip (at_tip path octets s) (subst (λ kept. TipIs path.looked kept s.state.tip) e s.holds.tip)
   where
     by_tip : (given : Tip) → AtTip terms path octets given → TipIs path.looked tip.Between given → BetweenAt terms path octets
     by_tip (Between place) a h = record { at = subst (λ k. AtTip terms path octets (Between k)) (sym h) a }
-    by_tip (InHead term from present) a h = absurd h
-    by_tip (InLeaf term start count present) a h = absurd h
+    by_tip other a h = absurd h
 
-pub tagged_at : {terms : List Term} (path : Path) (octets : List ℕ) (node : ℕ) → IsPathOf terms path octets → path.tip ≡ tip.Tagged node → TaggedAt terms path octets node
-tagged_at {terms = terms} path octets node s e = by_tip s.state.tip (at_tip path octets s) (subst (λ kept. TipIs path.looked kept s.state.tip) e s.holds.tip)
+pub tagged_at : {terms : List Term} {path : Path} {octets : List ℕ} {node : ℕ} → IsPathOf terms path octets → path.tip ≡ tip.Tagged node → TaggedAt terms path octets node
+tagged_at {terms = terms} {path = path} {octets = octets} {node = node} s e = by_tip s.state.tip (at_tip path octets s) (subst (λ kept. TipIs path.looked kept s.state.tip) e s.holds.tip)
   where
     by_tip : (given : Tip) → AtTip terms path octets given → TipIs path.looked (tip.Tagged node) given → TaggedAt terms path octets node
     by_tip (Between place) a h = absurd h
@@ -128,8 +127,8 @@ tagged_at {terms = terms} path octets node s e = by_tip s.state.tip (at_tip path
     by_tip (InHead term from (tag ∷ first ∷ present)) a h = absurd h
     by_tip (InLeaf term start count present) a h = absurd h
 
-pub long_at : {terms : List Term} (path : Path) (octets : List ℕ) (node digits seen value : ℕ) → IsPathOf terms path octets → path.tip ≡ tip.Long node digits seen value → LongAt terms path octets node digits seen value
-long_at {terms = terms} path octets node digits seen value s e = by_tip s.state.tip (at_tip path octets s) (subst (λ kept. TipIs path.looked kept s.state.tip) e s.holds.tip)
+pub long_at : {terms : List Term} {path : Path} {octets : List ℕ} {node digits seen value : ℕ} → IsPathOf terms path octets → path.tip ≡ tip.Long node digits seen value → LongAt terms path octets node digits seen value
+long_at {terms = terms} {path = path} {octets = octets} {node = node} {digits = digits} {seen = seen} {value = value} s e = by_tip s.state.tip (at_tip path octets s) (subst (λ kept. TipIs path.looked kept s.state.tip) e s.holds.tip)
   where
     by_tip : (given : Tip) → AtTip terms path octets given → TipIs path.looked (tip.Long node digits seen value) given → LongAt terms path octets node digits seen value
     by_tip (Between place) a h = absurd h
@@ -149,12 +148,10 @@ long_at {terms = terms} path octets node digits seen value s e = by_tip s.state.
     }
     by_tip (InLeaf term start count present) a h = absurd h
 
-pub leaf_at : {terms : List Term} (path : Path) (octets : List ℕ) (node start end : ℕ) (value : ℤ) (unused : ℕ) → IsPathOf terms path octets → path.tip ≡ tip.Leaf node start end value unused → LeafAt terms path octets node start end value unused
-leaf_at {terms = terms} path octets node start end value unused s e = by_tip s.state.tip (at_tip path octets s) (subst (λ kept. TipIs path.looked kept s.state.tip) e s.holds.tip)
+pub leaf_at : {terms : List Term} {path : Path} {octets : List ℕ} {node start end : ℕ} {value : ℤ} {unused : ℕ} → IsPathOf terms path octets → path.tip ≡ tip.Leaf node start end value unused → LeafAt terms path octets node start end value unused
+leaf_at {terms = terms} {path = path} {octets = octets} {node = node} {start = start} {end = end} {value = value} {unused = unused} s e = by_tip s.state.tip (at_tip path octets s) (subst (λ kept. TipIs path.looked kept s.state.tip) e s.holds.tip)
   where
     by_tip : (given : Tip) → AtTip terms path octets given → TipIs path.looked (tip.Leaf node start end value unused) given → LeafAt terms path octets node start end value unused
-    by_tip (Between place) a h = absurd h
-    by_tip (InHead term from present) a h = absurd h
     by_tip (InLeaf term begin count present) a h = record {
       count = count;
       present = present;
@@ -164,39 +161,39 @@ leaf_at {terms = terms} path octets node start end value unused s e = by_tip s.s
       keeps = subst (λ t. KeepsOf t value unused present) (sym h.1) h.4;
       looked = h.5 ∙ ap (λ k. k + length present) (sym h.2);
     }
+    by_tip other a h = absurd h
 
 -- ---- length octets
 
-pub head_ends : {terms : List Term} (path : Path) (octets : List ℕ) (term : Term) (from : ℕ) (present : List ℕ) (a : AtTip terms path octets (InHead term from present)) (octet : ℕ) → path.looked ≡ from + length present →
+pub head_ends : {terms : List Term} {path : Path} {octets : List ℕ} {term : Term} {from : ℕ} {present : List ℕ} (a : AtTip terms path octets (InHead term from present)) (octet : ℕ) → path.looked ≡ from + length present →
     HeadEnds from (path.looked + 1) (limit a.stack) (head (limit a.stack - from) (present ++ octet ∷ []))
-head_ends path octets term from present a octet at =
+head_ends {path = path} {from = from} {present = present} a octet at =
     by_head (head (limit a.stack - from) (present ++ octet ∷ []))
     (head_fault_at (limit a.stack - from) present octet a.roomy.1 (subst IsPartial (sym a.reached) (tt {0})))
     (head_fits (limit a.stack - from) (present ++ octet ∷ []))
   where
     by_head : (got : Head) → IsHeadFaultAt (length present) got → HeadFits (limit a.stack - from) got → HeadEnds from (path.looked + 1) (limit a.stack) got
-    by_head Partial f g = tt {0}
-    by_head (Refused offset reason) f g = tt {0}
     by_head (Got header count) f g =
         let ends : header ≡ length present + 1 = f.at in
         let le : header + count ≤ limit a.stack - from = g.fits.1 in
         let room : from + length present < limit a.stack = a.roomy.0 in
         (omega arith, omega arith)
+    by_head other f g = tt {0}
 
-pub is_short : {terms : List Term} (path : Path) (octets : List ℕ) (term : Term) (from : ℕ) (present : List ℕ) (a : AtTip terms path octets (InHead term from present)) (kept : Found) (got : Head) → HeadIs kept got → HeadEnds from (path.looked + 1) (limit a.stack) got → IsShort (path.looked + 1) kept
-is_short path octets term from present a found.Partial got is ends = tt {0}
-is_short path octets term from present a (found.Refused why) got is ends = tt {0}
-is_short path octets term from present a (found.Got size) Partial is ends = absurd is
-is_short path octets term from present a (found.Got size) (Refused offset reason) is ends = absurd is
-is_short path octets term from present a (found.Got size) (Got header count) is ends =
+pub is_short : {terms : List Term} {path : Path} {octets : List ℕ} {term : Term} {from : ℕ} {present : List ℕ} (a : AtTip terms path octets (InHead term from present)) (kept : Found) (got : Head) → HeadIs kept got → HeadEnds from (path.looked + 1) (limit a.stack) got → IsShort (path.looked + 1) kept
+is_short a found.Partial got is ends = tt {0}
+is_short a (found.Refused why) got is ends = tt {0}
+is_short a (found.Got size) Partial is ends = absurd is
+is_short a (found.Got size) (Refused offset reason) is ends = absurd is
+is_short {path = path} a (found.Got size) (Got header count) is ends =
     let same : size ≡ count = is in
     let le : path.looked + 1 + count ≤ limit a.stack = ends.1 in
     let whole : limit a.stack ≤ path.size = limit_within path.size a.stack a.nested in
     let short : path.size < 2 ^ 31 = a.short in
     omega arith
 
-pub has_place : {terms : List Term} (path : Path) (octets : List ℕ) (term : Term) (from : ℕ) (present : List ℕ) → AtTip terms path octets (InHead term from present) → length path.outer.items < 13
-has_place path octets term from present a =
+pub has_place : {terms : List Term} {path : Path} {octets : List ℕ} {term : Term} {from : ℕ} {present : List ℕ} → AtTip terms path octets (InHead term from present) → length path.outer.items < 13
+has_place {path = path} a =
     let size : length a.stack ≡ suc (length path.outer.items) = open_length path.inner path.outer.items a.stack a.containers in
     let deep : length a.stack + 1 ≤ 14 = a.deep in
     omega arith
@@ -236,27 +233,14 @@ none_small value e = subst IsSmall (sym e) (omega (arith, ints), omega (arith, i
 
 narrow : (given : Form) (low high : ℤ) → IsFormOf nodes given (Integer low high) → max (length (integer_octets low)) (length (integer_octets high)) ≤ 5
 narrow (form.Integer from to widest) low high h = omega (arith, h.2, h.3)
-narrow (form.Text most) low high h = absurd h
-narrow form.Octets low high h = absurd h
-narrow form.Time low high h = absurd h
-narrow (form.Bits few) low high h = absurd h
-narrow (form.Items node none) low high h = absurd h
-narrow (form.Item node) low high h = absurd h
-narrow (form.Fields slots) low high h = absurd h
+narrow other low high h = absurd h
 
 value_small : (given : Form) (term : Term) (count : ℕ) (value : ℤ) (unused : ℕ) (present : List ℕ) → IsFormOf nodes given term → has_size term count ≡ true → KeepsOf term value unused present → AreOctets present → length present < count → IsSmall value
 value_small given (Integer low high) count value unused present is size keeps a lt =
     let le : count ≤ max (length (integer_octets low)) (length (integer_octets high)) = leb-true count (max (length (integer_octets low)) (length (integer_octets high))) (and_parts (nat_lt 0 count) (nat_le count (max (length (integer_octets low)) (length (integer_octets high)))) size).1 in
     let five : max (length (integer_octets low)) (length (integer_octets high)) ≤ 5 = narrow given low high is in
     subst IsSmall (sym keeps.0) (small_integer present a (omega arith))
-value_small given (Text greatest) count value unused present is size keeps a lt = none_small value keeps.0
-value_small given Octets count value unused present is size keeps a lt = none_small value keeps.0
-value_small given Time count value unused present is size keeps a lt = none_small value keeps.0
-value_small given (Bits least) count value unused present is size keeps a lt = none_small value keeps.0
-value_small given (Sequence fields) count value unused present is size keeps a lt = none_small value keeps.0
-value_small given (SequenceOf empty term) count value unused present is size keeps a lt = none_small value keeps.0
-value_small given (Tagged index term) count value unused present is size keeps a lt = none_small value keeps.0
-value_small given (Application number_of term) count value unused present is size keeps a lt = none_small value keeps.0
+value_small given other count value unused present is size keeps a lt = none_small value keeps.0
 
 either_false : (a b : Bool) → (a || b) ≡ false → a ≡ false
 either_false true b e = e
@@ -269,15 +253,8 @@ bits_few least count unused (first ∷ present) e h =
     omega arith
 
 unused_few : (term : Term) (count : ℕ) (value : ℤ) (unused : ℕ) (present : List ℕ) → KeepsOf term value unused present → leaf_outcome term count present ≡ OpenOutcome → unused < 8
-unused_few (Integer low high) count value unused present keeps h = omega (arith, keeps.1)
-unused_few (Text greatest) count value unused present keeps h = omega (arith, keeps.1)
-unused_few Octets count value unused present keeps h = omega (arith, keeps.1)
-unused_few Time count value unused present keeps h = omega (arith, keeps.1)
 unused_few (Bits least) count value unused present keeps h = bits_few least count unused present keeps.1 h
-unused_few (Sequence fields) count value unused present keeps h = omega (arith, keeps.1)
-unused_few (SequenceOf empty term) count value unused present keeps h = omega (arith, keeps.1)
-unused_few (Tagged index term) count value unused present keeps h = omega (arith, keeps.1)
-unused_few (Application number_of term) count value unused present keeps h = omega (arith, keeps.1)
+unused_few other count value unused present keeps h = omega (arith, keeps.1)
 
 -- the conditions of a step in the contents of a leaf
 pub record LeafReady (path : Path) (node start end : ℕ) (value : ℤ) (unused : ℕ) : Type 0 where
@@ -289,8 +266,8 @@ pub record LeafReady (path : Path) (node start end : ℕ) (value : ℤ) (unused 
   pub small : IsSmall value
   pub few : unused < 8
 
-pub leaf_ready : {terms : List Term} (path : Path) (octets : List ℕ) (node start end : ℕ) (value : ℤ) (unused : ℕ) (given : Form) → IsFormOf nodes given (term_at node) → LeafAt terms path octets node start end value unused → LeafReady path node start end value unused
-leaf_ready path octets node start end value unused given are leaf =
+pub leaf_ready : {terms : List Term} {path : Path} {octets : List ℕ} {node start end : ℕ} {value : ℤ} {unused : ℕ} (given : Form) → IsFormOf nodes given (term_at node) → LeafAt terms path octets node start end value unused → LeafReady path node start end value unused
+leaf_ready {path = path} {node = node} {start = start} {end = end} {value = value} {unused = unused} given are leaf =
     let room : start + leaf.count ≤ limit leaf.at.stack = leaf.at.roomy.0 in
     let lt : length leaf.present < leaf.count = leaf.at.roomy.1 in
     let whole : limit leaf.at.stack ≤ path.size = limit_within path.size leaf.at.stack leaf.at.nested in
@@ -305,8 +282,8 @@ leaf_ready path octets node start end value unused given are leaf =
       few = unused_few (term_at node) leaf.count value unused leaf.present leaf.keeps leaf.at.reached.1;
     }
 
-pub leaf_reads : {terms : List Term} (path : Path) (octets : List ℕ) (node start end : ℕ) (value : ℤ) (unused : ℕ) (leaf : LeafAt terms path octets node start end value unused) → LeafReads (term_at node) (end - start) value unused leaf.present
-leaf_reads path octets node start end value unused leaf =
+pub leaf_reads : {terms : List Term} {path : Path} {octets : List ℕ} {node start end : ℕ} {value : ℤ} {unused : ℕ} (leaf : LeafAt terms path octets node start end value unused) → LeafReads (term_at node) (end - start) value unused leaf.present
+leaf_reads {node = node} {start = start} {end = end} leaf =
     let same : leaf.count ≡ end - start = omega (arith, leaf.ends) in
     record { are_octets = leaf.at.are_octets; open_still = subst (λ count. leaf_outcome (term_at node) count leaf.present ≡ OpenOutcome) same leaf.at.reached.1; keeps = leaf.keeps }
 

@@ -6,7 +6,7 @@ use Rattle.krb_der.specs.declared.verdict.Verdict.{Verdict}
 use Rattle.krb_der.specs.declared.verdict.Verdict.TheVariants as verdict
 use Rattle.krb_der.specs.declared.why.Why.TheVariants as why
 use Rattle.krb_msg.specs.Term.{Term}
-use Rattle.krb_msg.specs.Judgement.{Head, Partial, Refused, Got}
+use Rattle.krb_msg.specs.Judgement.{Head, Refused, Got}
 use Rattle.krb_scan.specs.Scan as scan
 use Rattle.krb_scan.specs.Scan.{Container, Mark as Marked, container_of, state_of, limit, sole_in}
 use Rattle.krb_msg.specs.Nodes.{term_at}
@@ -59,11 +59,10 @@ not_loose true from header count scanned limit e le full = let h : limit ≤ sca
 
 pub headed_whole : (old new : Path) (result : Verdict) (size : ℕ) (term : Term) (stack : List Container) (marks : List Marked) (got : Head) (from : ℕ) (octets : List ℕ) → HeadIs (found.Got size) got → HeadEnds from (old.looked + 1) (limit stack) got → (sole_in stack ≡ true → limit stack ≤ old.looked + 1 + size) →
     IsStep old new result (sized term (old.looked + 1) size stack marks) → IsStep old new result (headed got term stack marks from octets)
-headed_whole old new result size term stack marks Partial from octets is ends full h = absurd is
-headed_whole old new result size term stack marks (Refused offset reason) from octets is ends full h = absurd is
 headed_whole old new result size term stack marks (Got header count) from octets is ends full h =
     let same : size ≡ count = is in
     let at : from + header ≡ old.looked + 1 = ends.0 in
     let test : (sole_in stack && nat_lt (header + count) (limit stack - from)) ≡ false = not_loose (sole_in stack) from header count (old.looked + 1) (limit stack) at ends.1 (λ sole. let le : limit stack ≤ old.looked + 1 + size = full sole in omega arith) in
     subst (λ b. IsStep old new result (when b (λ _. scan.Refusing (from + header - 1) why.Loose) (λ _. sized term (from + header) count stack marks))) (sym test)
     (subst (λ start. IsStep old new result (sized term start count stack marks)) (sym at) (subst (λ n. IsStep old new result (sized term (old.looked + 1) n stack marks)) same h))
+headed_whole old new result size term stack marks other from octets is ends full h = absurd is

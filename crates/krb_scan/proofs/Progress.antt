@@ -2,7 +2,7 @@
 use Rattle.std.proofs.Common.{ℕ, zero, suc, ◌+◌, ◌-◌, ◌<◌, ◌≤◌, Bool, true, false, ◌&&◌, ◌||◌, ◌==◌, nat_lt, if◌then◌else◌, List, [], ◌∷◌, length, take, drop, arith}
 use Rattle.krb_der.specs.Octets.{number}
 use Rattle.krb_der.specs.declared.why.Why.{Why}
-use Rattle.krb_msg.specs.Term.{Term, Fields, Integer, Text, Octets, Time, Bits, Sequence, SequenceOf, Tagged, Application, End, Required, Optional, tag_of}
+use Rattle.krb_msg.specs.Term.{Term, Fields, Sequence, SequenceOf, Tagged, Application, End, Required, Optional, tag_of}
 use Rattle.krb_msg.specs.Judgement.{Outcome, Open, Bad, Done, Head, Partial, Refused, Got, head, long_head, fitting, has_size}
 use Rattle.krb_scan.specs.Scan.{Mark, Expected, Listed, Each, OneOf, Container, PartScan, scan_then, limit, sole_in, container_of, with_mark, leaf_outcome, of_leaf, scan_leaf, scan_after_head, begun, scan_required, scan_optional, scan_end, scan_each, scan_contents, scan_fields}
 use Rattle.krb_scan.proofs.Basics.{when_holds, within_at, fault_at, past_at, AtLeast, at_least_weaken, at_least_then}
@@ -110,11 +110,6 @@ each_advances one h term (suc bound) end outer marks place (suc room) octets =
 
 mutual
   pub contents_advance : (term : Term) (start count : ℕ) (outer : List Container) (marks : List Mark) (octets : List ℕ) → AtLeast start (scan_contents term start count outer marks octets)
-  contents_advance (Integer low high) start count outer marks octets = leaf_advances (Integer low high) start count outer marks octets
-  contents_advance (Text greatest) start count outer marks octets = leaf_advances (Text greatest) start count outer marks octets
-  contents_advance Octets start count outer marks octets = leaf_advances Octets start count outer marks octets
-  contents_advance Time start count outer marks octets = leaf_advances Time start count outer marks octets
-  contents_advance (Bits least) start count outer marks octets = leaf_advances (Bits least) start count outer marks octets
   contents_advance (Sequence fields) start count outer marks octets = fields_advance fields (start + count) outer (with_mark marks (Sequence fields) start count) start count octets
   contents_advance (SequenceOf empty term) start count outer marks octets =
       each_advances _ (begun_advances (scan_contents term) (contents_advance term) term) term count (start + count) outer (with_mark marks (SequenceOf empty term) start count) start count octets
@@ -124,6 +119,7 @@ mutual
   contents_advance (Application number term) start count outer marks octets =
       required_advances _ (begun_advances (scan_contents term) (contents_advance term) term) term _ _ (start + count) outer (with_mark marks (Application number term) start count) start count octets _
       (λ marks_then there rest le. at_least_weaken start there _ le (ended_advances (OneOf []) (start + count) outer marks_then there (start + count - there) rest))
+  contents_advance other start count outer marks octets = leaf_advances other start count outer marks octets
 
   pub fields_advance : (fields : Fields) (end : ℕ) (outer : List Container) (marks : List Mark) (place room : ℕ) (octets : List ℕ) → AtLeast place (scan_fields fields end outer marks place room octets)
   fields_advance End end outer marks place room octets = ended_advances (Listed End) end outer marks place room octets

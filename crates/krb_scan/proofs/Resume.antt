@@ -6,11 +6,11 @@ use Rattle.std.proofs.lemmas.Bool.{ltb-true, ltb-false}
 use Rattle.krb_der.specs.Octets.{when}
 use Rattle.krb_der.specs.declared.why.Why.{Why}
 use Rattle.krb_der.specs.declared.why.Why.TheVariants as why
-use Rattle.krb_msg.specs.Term.{Term, Fields, Integer, Text, Octets, Time, Bits, Sequence, SequenceOf, Tagged, Application, End, Required, Optional, tag_of}
+use Rattle.krb_msg.specs.Term.{Term, Fields, Sequence, SequenceOf, Tagged, Application, End, Required, Optional, tag_of}
 use Rattle.krb_msg.specs.Judgement.{Outcome, Open, Bad, Done, Head, Partial, Refused, Got, head, has_size}
 use Rattle.krb_scan.specs.Scan.{Mark, Expected, Listed, Each, OneOf, Container, Tip, Between, InHead, InLeaf, State, PartScan, Within, Fault, Past, scan_then, limit, sole_in, container_of, mark_of, state_of, with_mark, leaf_outcome, leaf_value, of_leaf, scan_leaf, scan_after_head, scan_head, begun, between, scan_only, scan_each, scan_contents, scan_fields, scan_one_of, scan_message, Answer, Ongoing, Refusing, Whole, answer, scan}
 use Rattle.krb_scan.specs.inner.Machine.{Pick, pick_field, pick_one_of, pick, requires_field, requires_item, settle, leafed, in_leaf, opened, enter, headed, tagged, picked, step_between, step_at, step, go_on, initial}
-use Rattle.krb_scan.proofs.Basics.{when_holds, when_knows, when_same, then_same, then_assoc}
+use Rattle.krb_scan.proofs.Basics.{enters_holds, when_holds, when_knows, when_same, then_same, then_assoc}
 use Rattle.krb_scan.proofs.Progress.{ItemReader, ItemAdvances, begun_advances, contents_advance}
 use Rattle.krb_scan.proofs.Stable.{SameOnce, head_stays, EndsAt, IsPartial, head_ends, Counts, leaf_counts, SameFault, leaf_fault}
 
@@ -69,15 +69,14 @@ only_right term end outer marks place (suc room) (octet ∷ octets) = refl
 -- the bound on how many items there are does not matter
 each_bound : (one : ItemReader) → ItemAdvances one → (term : Term) (b c : ℕ) (end : ℕ) (outer : List Container) (marks : List Mark) (place room : ℕ) (octets : List ℕ) →
     room ≡ end - place → room ≤ b → room ≤ c → scan_each one term b end outer marks place room octets ≡ scan_each one term c end outer marks place room octets
-each_bound one h term b c end outer marks place zero octets e p q = refl
 each_bound one h term zero c end outer marks place (suc room) octets e p q = absurd (omega arith)
 each_bound one h term (suc b) zero end outer marks place (suc room) octets e p q = absurd (omega arith)
-each_bound one h term (suc b) (suc c) end outer marks place (suc room) [] e p q = refl
 each_bound one h term (suc b) (suc c) end outer marks place (suc room) (octet ∷ octets) e p q =
     when_same (octet == tag_of term) _ _ _ _
     (then_same (suc place) (one (container_of end (Each term) ∷ outer) marks place (octet ∷ octets)) _ _ (h (container_of end (Each term) ∷ outer) marks place (octet ∷ octets))
     (λ marks_then there rest le. each_bound one h term b c end outer marks_then there (end - there) rest refl (omega arith) (omega arith)))
     refl
+each_bound one h term other another end outer marks place third fourth e p q = refl
 
 each_pick : (term : Term) (bound : ℕ) (end : ℕ) (outer : List Container) (marks : List Mark) (place room octet : ℕ) (octets : List ℕ) →
     room ≡ end - place → 0 < room → room ≤ bound →
@@ -110,9 +109,8 @@ expected_pick (OneOf terms) end outer marks place octet octets h = by_room (end 
 
 fields_full : (fields : Fields) (end : ℕ) (outer : List Container) (marks : List Mark) (place : ℕ) (octets : List ℕ) →
     scan_fields fields end outer marks place zero octets ≡ when (requires_field fields) (λ _. Fault (place - 1) why.Missing) (λ _. Past marks place octets)
-fields_full End end outer marks place octets = refl
-fields_full (Required term fields) end outer marks place octets = refl
 fields_full (Optional term fields) end outer marks place octets = fields_full fields end outer marks place octets
+fields_full other end outer marks place octets = refl
 
 one_of_full : (terms : List Term) (expected : Expected) (end : ℕ) (outer : List Container) (marks : List Mark) (place : ℕ) (octets : List ℕ) →
     scan_one_of terms expected end outer marks place zero octets ≡ when (requires_item (OneOf terms)) (λ _. Fault (place - 1) why.Missing) (λ _. Past marks place octets)
@@ -237,11 +235,6 @@ tag_right tag term start count stack marks octets =
 
 pub enter_right : (term : Term) (start count : ℕ) (stack : List Container) (marks : List Mark) (octets : List ℕ) → has_size term count ≡ true →
     answer (scan_then (scan_contents term start count stack marks octets) (scan_rest stack)) ≡ go_on (enter term start count stack marks) (λ state. resume state octets)
-enter_right (Integer low high) start count stack marks octets size = leaf_right (Integer low high) start count stack marks [] octets size (omega arith)
-enter_right (Text greatest) start count stack marks octets size = leaf_right (Text greatest) start count stack marks [] octets size (omega arith)
-enter_right Octets start count stack marks octets size = leaf_right Octets start count stack marks [] octets size (omega arith)
-enter_right Time start count stack marks octets size = leaf_right Time start count stack marks [] octets size (omega arith)
-enter_right (Bits least) start count stack marks octets size = leaf_right (Bits least) start count stack marks [] octets size (omega arith)
 enter_right (Sequence fields) start count stack marks octets size =
     subst (λ room. answer (scan_then (scan_fields fields (start + count) stack (with_mark marks (Sequence fields) start count) start room octets) (scan_rest stack)) ≡ go_on (enter (Sequence fields) start count stack marks) (λ state. resume state octets))
     (add_back start count) (settle_right (container_of (start + count) (Listed fields) ∷ stack) (with_mark marks (Sequence fields) start count) start octets)
@@ -250,6 +243,7 @@ enter_right (SequenceOf empty term) start count stack marks octets size =
     (add_back start count) (settle_right (container_of (start + count) (Each term) ∷ stack) (with_mark marks (SequenceOf empty term) start count) start octets)
 enter_right (Tagged index term) start count stack marks octets size = tag_right (Tagged index term) term start count stack marks octets
 enter_right (Application number term) start count stack marks octets size = tag_right (Application number term) term start count stack marks octets
+enter_right other start count stack marks octets size = leaf_right other start count stack marks [] octets size (omega arith)
 
 -- an item's header that is longer by an octet
 headed_right : (term : Term) (stack : List Container) (marks : List Mark) (from : ℕ) (present octets : List ℕ) →
@@ -331,15 +325,8 @@ in_leaf_reached term start count stack marks octets size = by_outcome (leaf_outc
     by_outcome (Done total) e = settle_reached stack _ (start + count)
 
 enter_reached : (term : Term) (start count : ℕ) (stack : List Container) (marks : List Mark) → has_size term count ≡ true → ReachedAnswer (enter term start count stack marks)
-enter_reached (Integer low high) start count stack marks size = in_leaf_reached (Integer low high) start count stack marks [] size
-enter_reached (Text greatest) start count stack marks size = in_leaf_reached (Text greatest) start count stack marks [] size
-enter_reached Octets start count stack marks size = in_leaf_reached Octets start count stack marks [] size
-enter_reached Time start count stack marks size = in_leaf_reached Time start count stack marks [] size
-enter_reached (Bits least) start count stack marks size = in_leaf_reached (Bits least) start count stack marks [] size
-enter_reached (Sequence fields) start count stack marks size = settle_reached (container_of (start + count) (Listed fields) ∷ stack) (with_mark marks (Sequence fields) start count) start
-enter_reached (SequenceOf empty term) start count stack marks size = settle_reached (container_of (start + count) (Each term) ∷ stack) (with_mark marks (SequenceOf empty term) start count) start
-enter_reached (Tagged index term) start count stack marks size = settle_reached (container_of (start + count) (OneOf (term ∷ [])) ∷ stack) (with_mark marks (Tagged index term) start count) start
-enter_reached (Application number term) start count stack marks size = settle_reached (container_of (start + count) (OneOf (term ∷ [])) ∷ stack) (with_mark marks (Application number term) start count) start
+enter_reached term start count stack marks size =
+    enters_holds ReachedAnswer term start count stack marks (in_leaf_reached term start count stack marks [] size) (λ expected. settle_reached (container_of (start + count) expected ∷ stack) (with_mark marks term start count) start)
 
 headed_reached : (term : Term) (stack : List Container) (marks : List Mark) (from : ℕ) (octets : List ℕ) → ReachedAnswer (headed (head (limit stack - from) octets) term stack marks from octets)
 headed_reached term stack marks from octets = by_head (head (limit stack - from) octets) refl
@@ -428,10 +415,10 @@ expected_none (OneOf terms) end outer marks place h = by_room (end - place) (ome
     by_room (suc room) p = one_of_none terms (OneOf terms) end outer marks place room
 
 take_past : (count : ℕ) (octets : List ℕ) → length octets ≤ count → take count octets ≡ octets
-take_past zero [] le = refl
 take_past zero (octet ∷ octets) le = absurd (omega arith)
-take_past (suc count) [] le = refl
 take_past (suc count) (octet ∷ octets) le = ap (λ rest. octet ∷ rest) (take_past count octets (omega arith))
+take_past zero [] le = refl
+take_past (suc count) [] le = refl
 
 -- no octet
 pub resume_none : (state : State) → Reached state → resume state [] ≡ Ongoing state
@@ -456,13 +443,11 @@ run state (octet ∷ octets) = go_on (step state octet) (λ then_state. run then
 
 pub go_on_same : (given : Answer) (f g : State → Answer) → ReachedAnswer given → ((state : State) → Reached state → f state ≡ g state) → go_on given f ≡ go_on given g
 go_on_same (Ongoing state) f g h e = e state h.reached
-go_on_same (Refusing place reason) f g h e = refl
-go_on_same (Whole marks) f g h e = refl
+go_on_same other f g h e = refl
 
 pub go_on_each : (given : Answer) (f g : State → Answer) → ((state : State) → f state ≡ g state) → go_on given f ≡ go_on given g
 go_on_each (Ongoing state) f g e = e state
-go_on_each (Refusing place reason) f g e = refl
-go_on_each (Whole marks) f g e = refl
+go_on_each other f g e = refl
 
 pub go_on_assoc : (given : Answer) (f g : State → Answer) → go_on (go_on given f) g ≡ go_on given (λ state. go_on (f state) g)
 go_on_assoc (Ongoing state) f g = refl

@@ -4,11 +4,11 @@ use Rattle.std.proofs.lemmas.List.{length-append}
 use Rattle.std.proofs.lemmas.Bool.{eqb-false, ltb-true}
 use Rattle.krb_der.specs.declared.why.Why.{Why}
 use Rattle.krb_der.specs.declared.why.Why.TheVariants as why
-use Rattle.krb_msg.specs.Term.{Term, Integer, Text, Octets, Time, Bits, Sequence, SequenceOf, Tagged, Application}
+use Rattle.krb_msg.specs.Term.{Term}
 use Rattle.krb_msg.specs.Judgement.{Outcome, Open, Bad, Done, Head, Partial, Refused, Got, head, has_size}
-use Rattle.krb_scan.specs.Scan.{Mark, Expected, Listed, Each, OneOf, Container, Tip, Between, InHead, InLeaf, State, limit, sole_in, container_of, state_of, with_mark, leaf_outcome, Answer, Ongoing, Refusing, Whole, scan, scanned, scanned_at}
+use Rattle.krb_scan.specs.Scan.{Mark, Expected, Container, Tip, Between, InHead, InLeaf, State, limit, sole_in, container_of, state_of, with_mark, leaf_outcome, Answer, Ongoing, Refusing, Whole, scan, scanned, scanned_at}
 use Rattle.krb_scan.specs.inner.Machine.{Pick, pick, requires_item, settle, leafed, in_leaf, enter, headed, tagged, picked, step_between, step_at, step, go_on, initial}
-use Rattle.krb_scan.proofs.Basics.{when_holds, when_knows}
+use Rattle.krb_scan.proofs.Basics.{enters_holds, when_holds, when_knows}
 use Rattle.krb_scan.proofs.Stable.{IsPartial, Counts, leaf_counts}
 use Rattle.krb_scan.proofs.Numbers.{partial_long}
 use Rattle.krb_scan.proofs.Outcome.{HeadFits, head_fits}
@@ -76,15 +76,9 @@ in_leaf_roomy : (n : ℕ) (term : Term) (start count : ℕ) (stack : List Contai
 in_leaf_roomy n term start count stack marks octets size h le = leafed_roomy n (leaf_outcome term count octets) term start count stack marks octets h le (leaf_counts term count octets size)
 
 enter_roomy : (n : ℕ) (term : Term) (start count : ℕ) (stack : List Container) (marks : List Mark) → has_size term count ≡ true → IsNested n stack → start + count ≤ limit stack → AnswerIsRoomy n (enter term start count stack marks)
-enter_roomy n (Integer low high) start count stack marks size h le = in_leaf_roomy n (Integer low high) start count stack marks [] size h le
-enter_roomy n (Text greatest) start count stack marks size h le = in_leaf_roomy n (Text greatest) start count stack marks [] size h le
-enter_roomy n Octets start count stack marks size h le = in_leaf_roomy n Octets start count stack marks [] size h le
-enter_roomy n Time start count stack marks size h le = in_leaf_roomy n Time start count stack marks [] size h le
-enter_roomy n (Bits least) start count stack marks size h le = in_leaf_roomy n (Bits least) start count stack marks [] size h le
-enter_roomy n (Sequence fields) start count stack marks size h le = settle_roomy n (container_of (start + count) (Listed fields) ∷ stack) (with_mark marks (Sequence fields) start count) start (inner_nested n (container_of (start + count) (Listed fields)) stack h le)
-enter_roomy n (SequenceOf empty term) start count stack marks size h le = settle_roomy n (container_of (start + count) (Each term) ∷ stack) (with_mark marks (SequenceOf empty term) start count) start (inner_nested n (container_of (start + count) (Each term)) stack h le)
-enter_roomy n (Tagged index term) start count stack marks size h le = settle_roomy n (container_of (start + count) (OneOf (term ∷ [])) ∷ stack) (with_mark marks (Tagged index term) start count) start (inner_nested n (container_of (start + count) (OneOf (term ∷ []))) stack h le)
-enter_roomy n (Application number term) start count stack marks size h le = settle_roomy n (container_of (start + count) (OneOf (term ∷ [])) ∷ stack) (with_mark marks (Application number term) start count) start (inner_nested n (container_of (start + count) (OneOf (term ∷ []))) stack h le)
+enter_roomy n term start count stack marks size h le =
+    enters_holds (AnswerIsRoomy n) term start count stack marks (in_leaf_roomy n term start count stack marks [] size h le)
+    (λ expected. settle_roomy n (container_of (start + count) expected ∷ stack) (with_mark marks term start count) start (inner_nested n (container_of (start + count) expected) stack h le))
 
 partial_room : (room : ℕ) (octets : List ℕ) → 2 ≤ room → IsPartial (head room octets) → length octets < room
 partial_room room [] h p = omega arith

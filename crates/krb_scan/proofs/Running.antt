@@ -9,7 +9,7 @@ use Rattle.krb_der.specs.declared.verdict.Verdict.{Verdict}
 use Rattle.krb_der.specs.declared.verdict.Verdict.TheVariants as verdict
 use Rattle.krb_msg.specs.Grammar.{messages}
 use Rattle.krb_msg.specs.Judgement.{verdict_of}
-use Rattle.krb_msg.specs.Term.{Term, Integer, Text, Octets, Time, Bits, Sequence, SequenceOf, Tagged, Application}
+use Rattle.krb_msg.specs.Term.{Term, Text, Octets}
 use Rattle.krb_scan.specs.Scan as scan
 use Rattle.krb_scan.specs.Scan.{Mark, Container, InLeaf, Answer, Ongoing, state_of}
 use Rattle.krb_scan.specs.inner.Machine.{outcome_of}
@@ -19,7 +19,6 @@ use Rattle.krb_scan.specs.State.{TipIs, KeepsOf}
 use Rattle.krb_scan.specs.inner.Paths.{IsPathOf, IsReached}
 use Rattle.krb_scan.specs.Scanned.{IsScanOf, Keeps, Marks, marks_from, lengths_from}
 use Rattle.krb_scan.specs.declared.path.Path.{Path}
-use Rattle.krb_scan.specs.declared.tip.Tip.{Tip as Kept}
 use Rattle.krb_scan.specs.declared.tip.Tip.TheVariants as tip
 use Rattle.krb_scan.proofs.Chunk.{chunk_right}
 use Rattle.krb_scan.proofs.Outcome.{scan_outcome}
@@ -31,13 +30,7 @@ use Rattle.krb_scan.proofs.PathFacts.{LeafAt, leaf_at}
 keeps_still : (term : Term) (value : ℤ) (unused : ℕ) (octets more : List ℕ) → is_string term ≡ true → KeepsOf term value unused octets → KeepsOf term value unused more
 keeps_still (Text greatest) value unused octets more s h = h
 keeps_still Octets value unused octets more s h = h
-keeps_still (Integer low high) value unused octets more s h = absurd (cc s)
-keeps_still Time value unused octets more s h = absurd (cc s)
-keeps_still (Bits least) value unused octets more s h = absurd (cc s)
-keeps_still (Sequence fields) value unused octets more s h = absurd (cc s)
-keeps_still (SequenceOf empty term) value unused octets more s h = absurd (cc s)
-keeps_still (Tagged index term) value unused octets more s h = absurd (cc s)
-keeps_still (Application number term) value unused octets more s h = absurd (cc s)
+keeps_still other value unused octets more s h = absurd (cc s)
 
 -- the path after a number of octets more
 abbrev pub passed : Path → ℕ → Path
@@ -46,7 +39,7 @@ passed path count = record path { looked = path.looked + count }
 pub run_goes : {terms : List Term} (path : Path) (octets : List ℕ) (node start end : ℕ) (value : ℤ) (unused count : ℕ) (given : List ℕ) → IsPathOf terms path octets → path.tip ≡ tip.Leaf node start end value unused → is_string (term_at node) ≡ true →
     count ≡ min (length given) (end - 1 - path.looked) → AreOctets (take count given) → IsPathOf terms (passed path count) (octets ++ take count given)
 run_goes {terms = terms} path octets node start end value unused count given s e string is are =
-    let leaf : LeafAt terms path octets node start end value unused = leaf_at path octets node start end value unused s e in
+    let leaf : LeafAt terms path octets node start end value unused = leaf_at s e in
     let chunk : List ℕ = take count given in
     let size : length (take count given) ≡ count = omega (arith, length-take count given) in
     let lt : length leaf.present < leaf.count = leaf.at.roomy.1 in
@@ -93,8 +86,7 @@ none_left {terms = terms} path decided n octets at not = by_answer (scan.scan te
   where
     by_answer : (given : Answer) → scan.scan terms n octets ≡ given → left_of (scan.scan terms n octets) ≡ 0
     by_answer (Ongoing state) e = absurd (not (at.decides ∙ ap verdict_of (scan_outcome terms n octets at.some at.fits ∙ ap (outcome_of n) e)))
-    by_answer (scan.Refusing place reason) e = ap left_of e
-    by_answer (scan.Whole marks) e = ap left_of e
+    by_answer other e = ap left_of e
 
 pub run_at : {terms : List Term} (old new : Path) (decided : Verdict) (n count : ℕ) (before given : List ℕ) → IsScanOf terms old decided n before → decided ≡ verdict.Open → new.size ≡ old.size → ((octets : List ℕ) → IsPathOf terms old octets → IsPathOf terms new (octets ++ take count given)) → IsScanOf terms new decided n (before ++ take count given)
 run_at {terms = terms} old new decided n count before given at still size goes =
@@ -105,23 +97,10 @@ pub some_run : (old new : Path) (decided : Verdict) (count : ℕ) (given : List 
 some_run old new decided count given r still size goes =
     ∥∥₁_map r (λ (k : (octets : List ℕ) × (terms : List Term) × IsScanOf terms old decided old.size octets). (k.0 ++ take count given, k.1, subst (λ n. IsScanOf k.1 new decided n (k.0 ++ take count given)) (sym size) (run_at old new decided old.size count k.0 given k.2 still size (goes k.1))))
 
-pub leaf_some : {terms : List Term} (path : Path) (octets : List ℕ) (node start end : ℕ) (value : ℤ) (unused : ℕ) → IsPathOf terms path octets → path.tip ≡ tip.Leaf node start end value unused → path.looked < end
-leaf_some {terms = terms} path octets node start end value unused s e =
-    let leaf : LeafAt terms path octets node start end value unused = leaf_at path octets node start end value unused s e in
+pub leaf_some : {terms : List Term} {path : Path} {octets : List ℕ} {node start end : ℕ} {value : ℤ} {unused : ℕ} → LeafAt terms path octets node start end value unused → path.looked < end
+leaf_some leaf =
     let lt : length leaf.present < leaf.count = leaf.at.roomy.1 in
     omega (arith, leaf.looked, leaf.ends)
-
--- no string is open if no leaf is
-pub none_open : {terms : List Term} (path : Path) (octets : List ℕ) → IsPathOf terms path octets → ((node start end : ℕ) (value : ℤ) (unused : ℕ) → path.tip ≡ tip.Leaf node start end value unused → ⊥) → string_left terms path.size octets ≡ 0
-none_open path octets s not = ap left_of s.reads ∙ by_tips path.tip s.state.tip refl s.holds.tip
-  where
-    by_tips : (a : Kept) (b : scan.Tip) → path.tip ≡ a → TipIs path.looked a b → left_at b ≡ 0
-    by_tips a (scan.Between place) e h = refl
-    by_tips a (scan.InHead term from octets) e h = refl
-    by_tips tip.Between (scan.InLeaf term start count octets) e h = absurd h
-    by_tips (tip.Tagged node) (scan.InLeaf term start count octets) e h = absurd h
-    by_tips (tip.Long node digits seen value) (scan.InLeaf term start count octets) e h = absurd h
-    by_tips (tip.Leaf node start end value unused) (scan.InLeaf term begin count octets) e h = absurd (not node start end value unused e)
 
 -- octets inside an open string change no mark
 pub run_marks : (profile : Profile) (n : ℕ) (before chunk : List ℕ) → 0 < n → AreOctets before → AreOctets chunk → length chunk ≤ string_left (messages profile) n before → Marks profile n (before ++ chunk) ≡ Marks profile n before
@@ -140,11 +119,9 @@ run_marks profile n before (first ∷ others) some are more le = by_answer (scan
         ∙ sym (ap (λ given. marks_from given (λ place. scan.scan (messages profile) n (take place before))) e)
 
     by_tip : (marks : List Mark) (stack : List Container) (given : scan.Tip) → scan.scan (messages profile) n before ≡ Ongoing (state_of marks stack given) → length chunk ≤ left_at given → Marks profile n (before ++ chunk) ≡ Marks profile n before
-    by_tip marks stack (scan.Between place) e room = absurd (omega (arith, room))
-    by_tip marks stack (scan.InHead term from octets) e room = absurd (omega (arith, room))
     by_tip marks stack (InLeaf term start count octets) e room = by_string (is_string term) term start count octets marks stack refl e room
+    by_tip marks stack other e room = absurd (omega (arith, room))
 
     by_answer : (given : Answer) → scan.scan (messages profile) n before ≡ given → length chunk ≤ left_of given → Marks profile n (before ++ chunk) ≡ Marks profile n before
     by_answer (Ongoing state) e room = by_tip state.marks state.stack state.tip e room
-    by_answer (scan.Refusing place reason) e room = absurd (omega (arith, room))
-    by_answer (scan.Whole marks) e room = absurd (omega (arith, room))
+    by_answer other e room = absurd (omega (arith, room))

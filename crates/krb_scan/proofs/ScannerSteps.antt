@@ -59,17 +59,10 @@ is_path_of {terms = terms} path decided n octets at still = by_answer (scan.scan
 
 same_tip : (scanned : ℕ) (a : Kept) (b : Tip) (count : ℕ) → TipIs scanned a b → kept.lengths_at a count ≡ lengths_at b count
 same_tip scanned tip.Between (scan.Between place) count h = refl
-same_tip scanned tip.Between (scan.InHead term from octets) count h = absurd h
-same_tip scanned tip.Between (scan.InLeaf term start size octets) count h = absurd h
-same_tip scanned (tip.Tagged node) (scan.Between at) count h = absurd h
 same_tip scanned (tip.Tagged node) (scan.InHead term from octets) count h = refl
-same_tip scanned (tip.Tagged node) (scan.InLeaf term start size octets) count h = absurd h
-same_tip scanned (tip.Long node digits seen value) (scan.Between at) count h = absurd h
 same_tip scanned (tip.Long node digits seen value) (scan.InHead term from octets) count h = refl
-same_tip scanned (tip.Long node digits seen value) (scan.InLeaf term start size octets) count h = absurd h
-same_tip scanned (tip.Leaf node start end value unused) (scan.Between at) count h = absurd h
-same_tip scanned (tip.Leaf node start end value unused) (scan.InHead term from octets) count h = absurd h
 same_tip scanned (tip.Leaf node start end value unused) (scan.InLeaf term begin size octets) count h = refl
+same_tip scanned other another count h = absurd h
 
 pub same_lengths : (path : Path) (scanned : ℕ) (state : State) → HasState path scanned state → open_lengths_of path ≡ open_lengths state
 same_lengths path scanned state h =
@@ -97,8 +90,7 @@ unchanged_at {terms = terms} old new decided n octets at same size looked = reco
       subst (λ items. AreOpen new.inner items state.stack) (sym same.outer) (subst (λ top. AreOpen top old.outer.items state.stack) (sym same.inner) h.0),
       subst (λ k. TipIs k new.tip state.tip) (sym looked) (subst (λ t. TipIs old.looked t state.tip) (sym same.tip) h.1),
     )
-    by_answer (Refusing place reason) h = tt {0}
-    by_answer (Whole marks) h = tt {0}
+    by_answer other h = tt {0}
 
 -- the path after the octet of the step
 abbrev pub counted : Path → Path
@@ -156,20 +148,15 @@ scanned_at {terms = terms} old new decided before n octets octet at still small 
     by_answer : (verdict_now : Verdict) (given : Answer) → scan.scan terms n (octets ++ octet ∷ []) ≡ given → Becomes old new verdict_now given → IsScanOf terms (counted new) verdict_now n (octets ++ octet ∷ [])
     by_answer verdict.Open (Ongoing state) e h =
         made verdict.Open (Ongoing state) e refl (same_lengths new (old.looked + 1) state h) (h.containers, subst (λ k. TipIs k new.tip state.tip) (sym here) h.tip)
-    by_answer verdict.Open (Refusing place reason) e h = absurd h
-    by_answer verdict.Open (Whole marks) e h = absurd h
-    by_answer (verdict.Refused refusal) (Ongoing state) e h = absurd h
     by_answer (verdict.Refused refusal) (Refusing place reason) e h =
         let there : place ≡ length octets = refused_here old octets octet place reason s (ap (λ k. scan.scan terms k (octets ++ octet ∷ [])) at.size ∙ e) in
         made (verdict.Refused refusal) (Refusing place reason) e
         (ap (λ k. verdict.Refused (record { place = k; why = refusal.why })) (h.0 ∙ at.looked ∙ sym there) ∙ ap (λ w. verdict.Refused (record { place = place; why = w })) h.1)
         (ap (λ t. kept.lengths_at t (length new.outer.items)) h.2.tip ∙ ap (λ items. kept.lengths_at old.tip (length items)) h.2.outer ∙ same_lengths old old.looked s.state s.holds ∙ ap lengths_before (sym (prefix place there)))
         (tt {0})
-    by_answer (verdict.Refused refusal) (Whole marks) e h = absurd h
-    by_answer verdict.Whole (Ongoing state) e h = absurd h
-    by_answer verdict.Whole (Refusing place reason) e h = absurd h
     by_answer verdict.Whole (Whole marks) e h =
         made verdict.Whole (Whole marks) e refl (ap (λ t. kept.lengths_at t (length new.outer.items)) h.tip ∙ ap length h.outer) (tt {0})
+    by_answer other another e h = absurd h
 
 -- ---- some octets
 
@@ -203,8 +190,7 @@ lengths_deep (Ongoing state) h = by_tip state.tip (length state.stack) h
     by_tip (scan.Between place) count k = omega (arith, k)
     by_tip (scan.InHead term from octets) count k = omega (arith, k)
     by_tip (scan.InLeaf term start size octets) count k = omega (arith, k)
-lengths_deep (Refusing place reason) h = zero-le
-lengths_deep (Whole marks) h = zero-le
+lengths_deep other h = zero-le
 
 open_few : (given : Answer) (before : ℕ → Answer) → OpenAtMost 14 given → ((place : ℕ) → OpenAtMost 14 (before place)) → lengths_from given before ≤ 13
 open_few (Ongoing state) before h k = lengths_deep (Ongoing state) h

@@ -5,15 +5,10 @@ use Rattle.std.proofs.lemmas.Bool.{ltb-true, ltb-false, eqb-false, lt-ltb, le-lt
 use Rattle.krb_der.specs.Octets.{number, integer_value, last_or_zero}
 use Rattle.krb_der.specs.declared.why.Why.{Why}
 use Rattle.krb_der.specs.declared.why.Why.TheVariants as why
-use Rattle.krb_msg.specs.Term.{Term, Integer, Text, Octets, Time, Bits, Sequence, SequenceOf, Tagged, Application}
+use Rattle.krb_msg.specs.Term.{Term, Integer, Text, Time, Bits}
 use Rattle.krb_msg.specs.Judgement.{Outcome, Open, Bad, Done, Head, Partial, Refused, Got, head, long_head, fitting, has_size, int_le, is_padded, integer_contents, each_contents, text_octet, time_octet, bits_contents, any_contents}
 use Rattle.krb_msg.proofs.TermsStable.{positive_from_size_bits}
 use Rattle.krb_scan.specs.Scan.{leaf_outcome}
-
-abbrev pub IsDecided : Head → Type 0
-IsDecided Partial = ⊥
-IsDecided (Refused offset reason) = Unit {0}
-IsDecided (Got header count) = Unit {0}
 
 -- the same header, unless it is partial
 abbrev pub SameOnce : Head → Head → Type 0
@@ -23,8 +18,7 @@ SameOnce (Got header count) later = later ≡ Got header count
 
 same_once : (now : Head) → SameOnce now now
 same_once Partial = tt
-same_once (Refused offset reason) = refl
-same_once (Got header count) = refl
+same_once other = refl
 
 same_once_if : (b : Bool) (x y x' y' : Head) → SameOnce x x' → SameOnce y y' → SameOnce (if b then x else y) (if b then x' else y')
 same_once_if true x y x' y' p q = p
@@ -76,7 +70,7 @@ fitting_ends room header contents count e = by_test (nat_lt room (header + conte
     by_test true = tt {0}
     by_test false = e
 
-fitting_not_partial : (room header contents : ℕ) → IsPartial (fitting room header contents) → ⊥
+pub fitting_not_partial : (room header contents : ℕ) → IsPartial (fitting room header contents) → ⊥
 fitting_not_partial room header contents = by_test (nat_lt room (header + contents))
   where
     by_test : (b : Bool) → IsPartial (if b then Refused (header - 1) why.Overrun else Got header contents) → ⊥
@@ -117,13 +111,11 @@ first_ends : (room tag octet last : ℕ) (octets : List ℕ) (short indefinite w
     IsPartial (if short then fitting room 2 octet else if indefinite then Refused 1 why.Indefinite else if wide then Refused 1 why.LengthWide else if over then Refused 1 why.Overrun else long_head room (octet - 0x80) octets)
     → EndsAt (2 + length (octets ++ last ∷ [])) (if short then fitting room 2 octet else if indefinite then Refused 1 why.Indefinite else if wide then Refused 1 why.LengthWide else if over then Refused 1 why.Overrun else long_head room (octet - 0x80) (octets ++ last ∷ []))
 first_ends room tag octet last octets true indefinite wide over e f p = absurd (fitting_not_partial room 2 octet p)
-first_ends room tag octet last octets false true wide over e f p = absurd p
-first_ends room tag octet last octets false false true over e f p = absurd p
-first_ends room tag octet last octets false false false true e f p = absurd p
 first_ends room tag octet last octets false false false false e f p =
     let big : 0x80 ≤ octet = ltb-false octet 0x80 e in
     let other : octet ≡ 0x80 → ⊥ = eqb-false octet 0x80 f in
     long_ends room (octet - 0x80) octets last (omega arith) p
+first_ends room tag octet last octets false other another third e f p = absurd p
 
 short_ends : (room tag octet : ℕ) (short indefinite wide over : Bool) →
     EndsAt 2 (if short then fitting room 2 octet else if indefinite then Refused 1 why.Indefinite else if wide then Refused 1 why.LengthWide else if over then Refused 1 why.Overrun else Partial)
@@ -207,13 +199,9 @@ integer_counts low high count octets = by_first (is_padded octets)
 pub leaf_counts : (term : Term) (count : ℕ) (octets : List ℕ) → has_size term count ≡ true → Counts count (length octets) (leaf_outcome term count octets)
 leaf_counts (Integer low high) count octets h = integer_counts low high count octets
 leaf_counts (Text greatest) count octets h = each_counts_all (text_octet greatest) why.Charset count octets
-leaf_counts Octets count octets h = any_counts count octets
 leaf_counts Time count octets h = each_counts_all time_octet why.Time count octets
 leaf_counts (Bits least) count octets h = bits_counts least count octets (positive_from_size_bits least count h)
-leaf_counts (Sequence fields) count octets h = any_counts count octets
-leaf_counts (SequenceOf empty term) count octets h = any_counts count octets
-leaf_counts (Tagged index term) count octets h = any_counts count octets
-leaf_counts (Application number term) count octets h = any_counts count octets
+leaf_counts other count octets h = any_counts count octets
 
 -- the same fault, if it is one
 abbrev pub SameFault : Outcome → Outcome → Type 0
@@ -222,9 +210,8 @@ SameFault (Bad offset reason) later = later ≡ Bad offset reason
 SameFault (Done count) later = Unit {0}
 
 same_fault : (now : Outcome) → SameFault now now
-same_fault Open = tt {0}
 same_fault (Bad offset reason) = refl
-same_fault (Done count) = tt {0}
+same_fault other = tt {0}
 
 same_fault_if : (b : Bool) (x y x' y' : Outcome) → SameFault x x' → SameFault y y' → SameFault (if b then x else y) (if b then x' else y')
 same_fault_if true x y x' y' p q = p
@@ -270,13 +257,9 @@ integer_fault low high count octets more short = by_first (is_padded octets) ref
 leaf_fault_short : (term : Term) (count : ℕ) (octets more : List ℕ) → length octets < count → SameFault (leaf_outcome term count octets) (leaf_outcome term count (octets ++ more))
 leaf_fault_short (Integer low high) count octets more short = integer_fault low high count octets more short
 leaf_fault_short (Text greatest) count octets more short = each_fault (text_octet greatest) why.Charset count 0 octets more
-leaf_fault_short Octets count octets more short = any_fault count octets _
 leaf_fault_short Time count octets more short = each_fault time_octet why.Time count 0 octets more
 leaf_fault_short (Bits least) count octets more short = bits_fault least count octets more short
-leaf_fault_short (Sequence fields) count octets more short = any_fault count octets _
-leaf_fault_short (SequenceOf empty term) count octets more short = any_fault count octets _
-leaf_fault_short (Tagged index term) count octets more short = any_fault count octets _
-leaf_fault_short (Application number term) count octets more short = any_fault count octets _
+leaf_fault_short other count octets more short = any_fault count octets _
 
 -- a fault of a leaf stays with more of its octets
 pub leaf_fault : (term : Term) (count : ℕ) (octets more : List ℕ) → length (octets ++ more) ≤ count → SameFault (leaf_outcome term count octets) (leaf_outcome term count (octets ++ more))

@@ -56,14 +56,7 @@ marks_from term start value = mark_of term start (length (contents term value)) 
 
 pub value_marks_is : (term : Term) (place : ℕ) (value : Value term) → value_marks term place value ≡ marks_from term (start_of place (length (contents term value))) value
 value_marks_is (Integer low high) place value = refl
-value_marks_is (Text greatest) place octets = refl
-value_marks_is Octets place octets = refl
-value_marks_is Time place octets = refl
-value_marks_is (Bits least) place bits = refl
-value_marks_is (Sequence fields) place values = refl
-value_marks_is (SequenceOf empty term) place values = refl
-value_marks_is (Tagged index term) place value = refl
-value_marks_is (Application number term) place value = refl
+value_marks_is other place another = refl
 
 -- ---- contents, and items
 abbrev pub ReadsContents : Term → Type 0
@@ -288,15 +281,6 @@ mutual
       let d : (count : ℕ) × (leaf_outcome (Integer low high) (length (integer_octets value)) (integer_octets value) ≡ Done count) × (0 + length (integer_octets value) ≡ 0 + count) = done_from_after 0 _ _ (contents-accepts (Integer low high) u value f small 0) in
       leaf_past (Integer low high) (integer_octets value) d.0 d.1 start stack marks rest
       ∙ ap (λ number. Past (marks ++ mark_of (Integer low high) start (length (integer_octets value)) number ∷ []) (start + length (integer_octets value)) rest) (integer_value-integer_octets value)
-  reads_contents (Text greatest) u octets f small start stack marks rest =
-      let d : (count : ℕ) × (leaf_outcome (Text greatest) (length octets) octets ≡ Done count) × (0 + length octets ≡ 0 + count) = done_from_after 0 _ _ (contents-accepts (Text greatest) u octets f small 0) in
-      leaf_past (Text greatest) octets d.0 d.1 start stack marks rest
-  reads_contents Octets u octets f small start stack marks rest =
-      let d : (count : ℕ) × (leaf_outcome Octets (length octets) octets ≡ Done count) × (0 + length octets ≡ 0 + count) = done_from_after 0 _ _ (contents-accepts Octets u octets f small 0) in
-      leaf_past Octets octets d.0 d.1 start stack marks rest
-  reads_contents Time u octets f small start stack marks rest =
-      let d : (count : ℕ) × (leaf_outcome Time (length octets) octets ≡ Done count) × (0 + length octets ≡ 0 + count) = done_from_after 0 _ _ (contents-accepts Time u octets f small 0) in
-      leaf_past Time octets d.0 d.1 start stack marks rest
   reads_contents (Bits least) u bits f small start stack marks rest =
       let octets : List ℕ = bits.0 ∷ bits.1 in
       let d : (count : ℕ) × (leaf_outcome (Bits least) (length octets) octets ≡ Done count) × (0 + length octets ≡ 0 + count) = done_from_after 0 _ _ (contents-accepts (Bits least) u bits f small 0) in
@@ -316,6 +300,9 @@ mutual
       let count : ℕ = length (der term value) in
       only_past term (reads_item term u (reads_contents term u)) value f small start stack (with_mark marks (Application number term) start count) rest
       ∙ own_first marks (value_marks term start value) (Application number term) start count _ rest
+  reads_contents other u octets f small start stack marks rest =
+      let d : (count : ℕ) × (leaf_outcome other (length octets) octets ≡ Done count) × (0 + length octets ≡ 0 + count) = done_from_after 0 _ _ (contents-accepts other u octets f small 0) in
+      leaf_past other octets d.0 d.1 start stack marks rest
 
   pub reads_fields : (fields : Fields) → are_unambiguous fields ≡ true → ReadsFields fields
   reads_fields End u values f small end outer marks place room rest r e = end_past end outer marks place room rest r e

@@ -149,8 +149,8 @@ impl Path {
         self.tip = Tip::Between;
     }
 
-    /// Scans the last length octet of an item without contents octets.
-    fn close_empty(&mut self) -> Verdict
+    /// Scans the last octet of an item.
+    fn close(&mut self) -> Verdict
         requires short { self.old.looked + 1 < 2 ^ 31 }
         requires containers { HasContainers self.old.inner self.old.outer.items }
         ensures step { (stack : List Container) (marks : List Marked) → AreOpen self.old.inner self.old.outer.items stack → IsStep self.old self.new result (settle stack marks (self.old.looked + 1)) }
@@ -181,7 +181,7 @@ impl Path {
         ensures same { (self.new.size ≡ self.old.size) × (self.new.looked ≡ self.old.looked) }
     {
         if len == 0 {
-            return self.close_empty();
+            return self.close();
         }
         self.tip = Tip::Leaf {
             node,
@@ -209,7 +209,7 @@ impl Path {
             if first.requires_item() {
                 return self.refused(Why::Missing);
             }
-            return self.close_empty();
+            return self.close();
         }
         self.outer.push(self.inner);
         self.inner = Open {
@@ -298,17 +298,7 @@ impl Path {
                 Verdict::Open
             }
             Leaf::Bad(why) => self.refused(why),
-            Leaf::Done => match closing(self.inner, self.outer.as_slice(), self.looked + 1) {
-                Closed::Missing => self.refused(Why::Missing),
-                Closed::Stays { inner, outer } => {
-                    self.close_to(inner, outer);
-                    Verdict::Open
-                }
-                Closed::Whole => {
-                    self.close_all();
-                    Verdict::Whole
-                }
-            },
+            Leaf::Done => self.close(),
         }
     }
 

@@ -7,11 +7,8 @@ use Rattle.krb_token.specs.declared.opening.Found.TheVariants as found
 pub short_in_layer : (it : Found) → IsInLayer it → IsShortFound it
 short_in_layer (found.Message place octets) h = h
 short_in_layer (found.Ticket octets) h = absurd h
-short_in_layer (found.Ntlm place) h = tt
-short_in_layer (found.Refused refusal path) h = tt
+short_in_layer other h = tt
 
 pub all_in_layer : (octets : List ℕ) (it : Found) → IsInLayer it → IsAll octets it
-all_in_layer octets (found.Message place message) h = tt
 all_in_layer octets (found.Ticket ticket) h = absurd h
-all_in_layer octets (found.Ntlm place) h = tt
-all_in_layer octets (found.Refused refusal path) h = tt
+all_in_layer octets other h = tt

@@ -42,11 +42,10 @@ message_under_layer layer layers tag place (octet ∷ octets) =
     either layer (octet == tag) (λ _. message_under (layer ∷ layers) place (octet ∷ octets)) (λ _. refused_bare (layer ∷ layers) place why.Tag) (is_under _ _ refl) (is_under _ _ refl)
 
 token_under : (layer : Layer) (layers : List Layer) (tag : Option ℕ) (place : ℕ) (octets : List ℕ) → IsUnder layer (token_of (layer ∷ layers) tag place octets)
-token_under layer layers None place octets = (is_under _ _ refl)
-token_under layer layers (Some tag) place [] = (is_under _ _ refl)
 token_under layer layers (Some tag) place (low ∷ octets) =
     either layer (low == 0) (λ _. message_in (layer ∷ layers) tag (place + 2) octets) (λ _. refused_in (layer ∷ layers) (codes "GSS.token-id") (place + 1) why.Range)
     (message_under_layer layer layers tag (place + 2) octets) (is_under _ _ refl)
+token_under layer layers other place another = (is_under _ _ refl)
 
 kerberos_under : (layer : Layer) (layers : List Layer) (place : ℕ) (octets : List ℕ) → IsUnder layer (kerberos_opened (layer ∷ layers) place octets)
 kerberos_under layer layers place [] = (is_under _ _ refl)

@@ -4,7 +4,7 @@ use Rattle.krb_der.specs.declared.why.Why.TheVariants as why
 use Rattle.krb_judge.specs.Paths.{element_path}
 use Rattle.krb_judge.proofs.Descent.{begins_some}
 use Rattle.krb_msg.specs.ValueOfDer.{begins_with}
-use Rattle.krb_token.specs.Spnego.{Holds, Fields, End, Field, fields_read, held, ended}
+use Rattle.krb_token.specs.Spnego.{Holds, Fields, Field, fields_read, held}
 use Rattle.krb_token.specs.Items.{Item, entered, simple_tag, simple_item, simple_items}
 use Rattle.krb_token.specs.Opened.{Part, Fault, fault_in, and_then}
 use Rattle.krb_token.specs.declared.simple.Simple.{Simple}
@@ -59,26 +59,3 @@ pub field_read : (tag : ℕ) (own : List ℕ) (holds : Holds) (fields : Fields) 
     fields_read (Field tag own holds fields) path token part ≡ fields_read fields path found item.rest
 field_read tag own holds fields path token found part item t e h =
     field_first tag own holds fields path token part (Ok item) t e ∙ ap (λ it. and_then it (λ found. fields_read fields path found item.rest)) h
-
-pub field_fault : (tag : ℕ) (own : List ℕ) (holds : Holds) (fields : Fields) (path : List ℕ) (token : Option Part) (part : Part) (fault : Fault) → begins_with tag part.octets ≡ true → entered own tag false part ≡ Err fault →
-    fields_read (Field tag own holds fields) path token part ≡ Err fault
-field_fault tag own holds fields path token part fault t e = field_first tag own holds fields path token part (Err fault) t e
-
-pub held_fault : (tag : ℕ) (own : List ℕ) (holds : Holds) (fields : Fields) (path : List ℕ) (token : Option Part) (part : Part) (item : Item) (fault : Fault) → begins_with tag part.octets ≡ true → entered own tag false part ≡ Ok item → held holds own token item.contents ≡ Err fault →
-    fields_read (Field tag own holds fields) path token part ≡ Err fault
-held_fault tag own holds fields path token part item fault t e h =
-    field_first tag own holds fields path token part (Ok item) t e ∙ ap (λ it. and_then it (λ found. fields_read fields path found item.rest)) h
-
-pub no_more_octets : (path : List ℕ) (token : Option Part) (part : Part) → length part.octets ≡ 0 → fields_read End path token part ≡ Ok token
-no_more_octets path token part e = none part.octets e
-  where
-    none : (octets : List ℕ) → length octets ≡ 0 → ended path token part.place octets ≡ Ok token
-    none [] e = refl
-    none (octet ∷ octets) e = absurd (omega (arith, e))
-
-pub more_octets : (path : List ℕ) (token : Option Part) (part : Part) → 0 < length part.octets → fields_read End path token part ≡ Err (fault_in path part.place why.Tag)
-more_octets path token part h = some part.octets h
-  where
-    some : (octets : List ℕ) → 0 < length octets → ended path token part.place octets ≡ Err (fault_in path part.place why.Tag)
-    some [] h = absurd (omega (arith, h))
-    some (octet ∷ octets) h = refl

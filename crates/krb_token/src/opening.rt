@@ -1,6 +1,6 @@
 //! Octets opened down to the message in them.
 
-ghost use Rattle.std.specs.Prelude.{◌≡◌, ◌+◌, ◌^◌, ◌<◌, length};
+ghost use Rattle.std.specs.Prelude.{◌≡◌, ◌^◌, ◌<◌, length};
 ghost use Rattle.krb_token.specs.Opened.{Refused, message_under, under as opened_under};
 ghost use Rattle.krb_token.specs.Seen.{IsAll, IsInLayer, IsShort, IsShortFound, fault_of, opened_of};
 ghost use Rattle.krb_token.specs.Tokens.{opened};

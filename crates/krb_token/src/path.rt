@@ -1,6 +1,6 @@
 //! The paths of what is at fault in a token.
 
-ghost use Rattle.std.specs.Prelude.{◌≡◌, Some, codes};
+ghost use Rattle.std.specs.Prelude.{◌≡◌, Some};
 ghost use Rattle.krb_token.specs.Opened.{bare_fault, fault_in};
 ghost use Rattle.krb_token.specs.Seen.{fault_of, path_text, path_at};
 

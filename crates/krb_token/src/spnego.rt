@@ -1,8 +1,8 @@
 //! The tokens of SPNEGO, read up to the token of a mechanism in them (RFC 4178, 4.2).
 
-ghost use Rattle.std.specs.Prelude.{◌≡◌, ◌+◌, ◌^◌, ◌<◌, ◌≤◌, length, IfOk, IfSome, MatchResult, Ok, Err};
+ghost use Rattle.std.specs.Prelude.{◌≡◌, ◌+◌, ◌<◌, length, IfOk, IfSome, MatchResult, Ok, Err};
 ghost use Rattle.krb_token.specs.Items.{simple_items};
-ghost use Rattle.krb_token.specs.Seen.{IsShort, fault_of, fields_of, holds_of, part_of, path_text, token_of};
+ghost use Rattle.krb_token.specs.Seen.{IsShort, fault_of, fields_of, holds_of, part_of, token_of};
 ghost use Rattle.krb_token.specs.Spnego.{fields_read, held, neg_read};
 
 use crate::fields::{Field, Holds, NegToken, neg_hints};

@@ -48,16 +48,9 @@ IsOrderFor-matches app texts m order e nothing has o =
     (subst (λ met. IsOrderOf met order) ((has simple).1 ∙ ap (λ a. subcommand_of a texts) e) o)
 
 no_text : (job : Job) → IsTextBy OutOfMemory job → ⊥
-no_text (jobs.List when) text = text
-no_text (jobs.Stream limit chosen after) text = text
-no_text (jobs.Message chosen each) text = text
-no_text jobs.Keytab text = text
-no_text (jobs.Ccache when) text = text
-no_text (jobs.Capture limit port) text = text
-no_text (jobs.Decode limit chosen framing) text = text
-no_text (jobs.Encode limit chosen framing) text = text
 no_text (jobs.Help help) text = cc
 no_text (jobs.Version version) text = cc
+no_text other text = text
 
 among : (kinds : Kinds) (error : Error) (job : Job) → HasKind kinds error → IsTextBy (kind_of error) job → IsAmong (kind_of error) kinds
 among kinds error job (inl m) text = absurd (no_text job (subst (λ k. IsTextBy k job) m text))

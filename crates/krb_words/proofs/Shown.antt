@@ -55,12 +55,6 @@ two-digits-named first (a ∷ b ∷ d ∷ text) backslash some =
     let all : length (a ∷ b ∷ d ∷ text) - 3 ≡ length text = omega arith in
     rw backslash (ap (λ rest. (16 * digit_value b + digit_value d) ∷ named rest) (sym (ap (λ n. take n text) all ∙ take-length text)))
 
-pub none-named : (first : ℕ) (others : List ℕ) → first ≡ 92 → length others < 3 → named (first ∷ others) ≡ []
-none-named first [] backslash few = rw backslash refl
-none-named first (a ∷ []) backslash few = rw backslash refl
-none-named first (a ∷ b ∷ []) backslash few = rw backslash refl
-none-named first (a ∷ b ∷ d ∷ text) backslash few = absurd (omega arith)
-
 pub whole : (text : List ℕ) → 1 ≤ length text → get_or text 0 0 ∷ take (length text - 1) (drop 1 text) ≡ text
 whole [] some = absurd (omega arith)
 whole (first ∷ others) some =

@@ -3,7 +3,7 @@
 ghost use Rattle.std.specs.Prelude.{◌≡◌, false, IfOk};
 ghost use Rattle.clap.specs.Words.{app_of, new_app, rule_of};
 ghost use Rattle.clap.specs.declared.builder.command.Command.TheViews.{out-Command};
-ghost use Rattle.krb_words.specs.Words.{file_option, now_option, option, file_names, with_output, with_files, number_option, limit_option, flag, strict_flag, keep_going_flag, lines_flag, names_flag, json_flag, with_filename_flag, unframed_flag, with_messages, list_app, stream_app, message_app, keytab_app, ccache_app, capture_app, decode_app, encode_app, krbls};
+ghost use Rattle.krb_words.specs.Words.{now_option, option, with_output, with_files, number_option, limit_option, flag, strict_flag, with_messages, list_app, stream_app, message_app, keytab_app, ccache_app, capture_app, decode_app, encode_app, krbls};
 
 use crate::help::{
     CAPTURE_HELP, CCACHE_HELP, CommandHelp, DECODE_HELP, ENCODE_HELP, KEYTAB_HELP, KRBLS_HELP,
@@ -39,19 +39,6 @@ fn text_option<'a>(alloc: Global, name: &'a str, value: &'a str, help: &'a str) 
         .help(help)
 }
 
-/// Returns the option `--file PATH`.
-fn file_option<'a>(alloc: Global) -> Arg<'a>
-    ensures rule { rule_of result ≡ file_option }
-    ensures local { result.global ≡ false }
-{
-    text_option(
-        alloc,
-        "file",
-        "PATH",
-        "Reads this file before those that are named",
-    )
-}
-
 /// Returns the option `--now WHEN`.
 fn now_option<'a>(alloc: Global) -> Arg<'a>
     ensures rule { rule_of result ≡ now_option }
@@ -63,17 +50,6 @@ fn now_option<'a>(alloc: Global) -> Arg<'a>
         "WHEN",
         "Shows what expired by now, a date or seconds since 1970",
     )
-}
-
-/// Returns the words `FILE..`, which come after all options of a command.
-fn file_names<'a>(alloc: Global) -> Arg<'a>
-    ensures rule { rule_of result ≡ file_names }
-    ensures local { result.global ≡ false }
-{
-    Arg::new(alloc, "file names")
-        .num_args(0..)
-        .value_name("FILE")
-        .help("Files to read, - for the standard input [-]")
 }
 
 /// Returns an option with no value.
@@ -93,75 +69,6 @@ fn strict_flag<'a>(alloc: Global) -> Arg<'a>
     ensures local { result.global ≡ false }
 {
     flag(alloc, "strict", "Refuses messages that have a note")
-}
-
-/// Returns the option `--keep-going`.
-fn keep_going_flag<'a>(alloc: Global) -> Arg<'a>
-    ensures rule { rule_of result ≡ keep_going_flag }
-    ensures local { result.global ≡ false }
-{
-    flag(
-        alloc,
-        "keep-going",
-        "Goes on with the next frame after one that is refused",
-    )
-}
-
-/// Returns the option `--unframed`.
-fn unframed_flag<'a>(alloc: Global) -> Arg<'a>
-    ensures rule { rule_of result ≡ unframed_flag }
-    ensures local { result.global ≡ false }
-{
-    flag(
-        alloc,
-        "unframed",
-        "Reads or writes one message, without its length",
-    )
-}
-
-/// Returns the option `--names`.
-fn names_flag<'a>(alloc: Global) -> Arg<'a>
-    ensures rule { rule_of result ≡ names_flag }
-    ensures local { result.global ≡ false }
-{
-    flag(
-        alloc,
-        "names",
-        "Adds the names of numbers: 18:aes256-cts-hmac-sha1-96",
-    )
-}
-
-/// Returns the option `--json`.
-fn json_flag<'a>(alloc: Global) -> Arg<'a>
-    ensures rule { rule_of result ≡ json_flag }
-    ensures local { result.global ≡ false }
-{
-    flag(
-        alloc,
-        "json",
-        "Prints each line as a JSON object, with the names",
-    )
-}
-
-/// Returns the option `-H`, `--with-filename`.
-fn with_filename_flag<'a>(alloc: Global) -> Arg<'a>
-    ensures rule { rule_of result ≡ with_filename_flag }
-    ensures local { result.global ≡ false }
-{
-    flag(
-        alloc,
-        "with-filename",
-        "Begins each line with the file that it is of: file=NAME",
-    )
-    .short('H')
-}
-
-/// Returns the option `--lines`.
-fn lines_flag<'a>(alloc: Global) -> Arg<'a>
-    ensures rule { rule_of result ≡ lines_flag }
-    ensures local { result.global ≡ false }
-{
-    flag(alloc, "lines", "Reads a message from each line")
 }
 
 /// Returns an option whose value is a number that a parser accepts.
@@ -203,9 +110,24 @@ fn with_output<'a>(alloc: Global, command: Command<'a>) -> Result<Command<'a>, A
     ensures { IfOk result (λ c. (app_of c ≡ with_output (app_of command.entry)) × ((out-Command c).has_globals ≡ false)) }
 {
     command
-        .arg(names_flag(alloc))?
-        .arg(json_flag(alloc))?
-        .arg(with_filename_flag(alloc))
+        .arg(flag(
+            alloc,
+            "names",
+            "Adds the names of numbers: 18:aes256-cts-hmac-sha1-96",
+        ))?
+        .arg(flag(
+            alloc,
+            "json",
+            "Prints each line as a JSON object, with the names",
+        ))?
+        .arg(
+            flag(
+                alloc,
+                "with-filename",
+                "Begins each line with the file that it is of: file=NAME",
+            )
+            .short('H'),
+        )
 }
 
 /// Returns a command with the words that name files.
@@ -213,7 +135,18 @@ fn with_files<'a>(alloc: Global, command: Command<'a>) -> Result<Command<'a>, Al
     requires local { (out-Command command).has_globals ≡ false }
     ensures { IfOk result (λ c. (app_of c ≡ with_files (app_of command.entry)) × ((out-Command c).has_globals ≡ false)) }
 {
-    command.arg(file_option(alloc))?.arg(file_names(alloc))
+    let names = Arg::new(alloc, "file names")
+        .num_args(0..)
+        .value_name("FILE")
+        .help("Files to read, - for the standard input [-]");
+    command
+        .arg(text_option(
+            alloc,
+            "file",
+            "PATH",
+            "Reads this file before those that are named",
+        ))?
+        .arg(names)
 }
 
 /// Returns a command with the options and words of one that turns messages into another form.
@@ -224,7 +157,11 @@ fn with_messages<'a>(alloc: Global, command: Command<'a>) -> Result<Command<'a>,
     let command = command
         .arg(limit_option(alloc))?
         .arg(strict_flag(alloc))?
-        .arg(unframed_flag(alloc))?;
+        .arg(flag(
+            alloc,
+            "unframed",
+            "Reads or writes one message, without its length",
+        ))?;
     with_files(alloc, command)
 }
 
@@ -242,7 +179,11 @@ fn stream_command<'a>(alloc: Global) -> Result<Command<'a>, AllocError>
 {
     let command = new_command(alloc, "stream", &STREAM_HELP)
         .arg(limit_option(alloc))?
-        .arg(keep_going_flag(alloc))?
+        .arg(flag(
+            alloc,
+            "keep-going",
+            "Goes on with the next frame after one that is refused",
+        ))?
         .arg(strict_flag(alloc))?;
     with_files(alloc, with_output(alloc, command)?)
 }
@@ -252,7 +193,7 @@ fn message_command<'a>(alloc: Global) -> Result<Command<'a>, AllocError>
     ensures { IfOk result (λ c. (app_of c ≡ message_app) × ((out-Command c).has_globals ≡ false)) }
 {
     let command = new_command(alloc, "message", &MESSAGE_HELP)
-        .arg(lines_flag(alloc))?
+        .arg(flag(alloc, "lines", "Reads a message from each line"))?
         .arg(strict_flag(alloc))?;
     with_files(alloc, with_output(alloc, command)?)
 }

@@ -116,23 +116,27 @@ impl From<AllocError> for WordsFault {
 /// The port of Kerberos if none is given (RFC 4120, 7.2).
 pub const USUAL_PORT: u16 = 88;
 
-/// Returns the fault of words that `clap` accepts and that are no command line. There are none.
-fn not_read(alloc: Global) -> WordsFault {
-    match String::from_str(alloc, "error: the command line is not read\n") {
+/// Returns the fault of words of which a text says what is wrong with them, if there is memory for it.
+fn wrong(text: Result<String, AllocError>) -> WordsFault {
+    match text {
         Ok(text) => WordsFault::Wrong(text),
         Err(_) => WordsFault::Memory,
     }
 }
 
+/// Returns the fault of words that `clap` accepts and that are no command line. There are none.
+fn not_read(alloc: Global) -> WordsFault {
+    wrong(String::from_str(
+        alloc,
+        "error: the command line is not read\n",
+    ))
+}
+
 /// Returns the fault of a text that says no time.
 fn no_time(alloc: Global, text: &str) -> WordsFault {
-    let line = format!(in alloc;
+    wrong(format!(in alloc;
         "error: invalid value '{text}' for '--now <WHEN>': not now, a date and time as 2026-11-22T12:00:00Z, or seconds since 1970\n\nFor more information, try '--help'.\n"
-    );
-    match line {
-        Ok(text) => WordsFault::Wrong(text),
-        Err(_) => WordsFault::Memory,
-    }
+    ))
 }
 
 /// What is wrong with words that name nothing to list.
@@ -147,10 +151,7 @@ For more information, try '--help'.
 
 /// Returns the fault of words that name nothing to list.
 fn no_file(alloc: Global) -> WordsFault {
-    match String::from_str(alloc, NO_FILE) {
-        Ok(text) => WordsFault::Wrong(text),
-        Err(_) => WordsFault::Memory,
-    }
+    wrong(String::from_str(alloc, NO_FILE))
 }
 
 /// Returns the number of an option, if it is given.

@@ -81,6 +81,13 @@ kind_used (job.Message profile each) = Some kind.Message
 kind_used (job.Stream limit profile refused) = Some kind.Stream
 kind_used _ = None
 
+-- how many octets of a source are awaited before its run begins: the first one of a stream, which may be live, else those by which a command or a hint is chosen
+abbrev pub octets_awaited : Job → ℕ
+octets_awaited (job.Stream limit profile refused) = 1
+octets_awaited (job.Decode limit profile how) = 1
+octets_awaited (job.Encode limit profile how) = 1
+octets_awaited _ = 16
+
 -- the hint for a source that is listed by a job, by its first octets
 abbrev pub hint_by : Job → (first : List ℕ) → Option Hint
 hint_by used first = option_and_then (λ kind. hint_for kind first) (kind_used used)

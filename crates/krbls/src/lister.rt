@@ -6,7 +6,7 @@ ghost use Rattle.krb_tool.specs.Begun.{begun_remaining, first_of};
 ghost use Rattle.krb_tool.specs.Encoding.{FailsToEncode};
 ghost use Rattle.krb_tool.specs.Outputs.{output_contents};
 ghost use Rattle.krbls.specs.Ends.{decode_end_line, encode_end_line};
-ghost use Rattle.krbls.specs.Jobs.{DecodesBy, Does, EncodesBy, FailsToDecodeBy, TellsEnd, Turns, chosen, hint_by, is_framed, job_for, kind_used};
+ghost use Rattle.krbls.specs.Jobs.{DecodesBy, Does, EncodesBy, FailsToDecodeBy, TellsEnd, Turns, chosen, hint_by, is_framed, job_for, kind_used, octets_awaited};
 ghost use Rattle.krbls.specs.Program.{DoesFrom, IsHinted, ListsBy, name_of};
 
 use crate::ends::{put_decode_end, put_encode_end};
@@ -268,7 +268,9 @@ fn octets_name(source: &Source) -> &[u8]
 
 /// Returns how many octets of a source are awaited before it is listed: those by which its command
 /// or a hint is chosen. A stream is listed as it comes, since it may be live.
-fn octets_awaited(job: &Job) -> usize {
+fn octets_awaited(job: &Job) -> usize
+    ensures { result ≡ octets_awaited job.now }
+{
     match job {
         Job::Stream(..) | Job::Decode(..) | Job::Encode(..) => 1,
         _ => 16,

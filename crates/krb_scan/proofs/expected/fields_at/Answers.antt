@@ -1,5 +1,5 @@
 use Rattle.std.proofs.Common.{◌≡◌}
-use Rattle.krb_msg.specs.Term.{Term, Integer, Text, Octets, Time, Bits, Sequence, SequenceOf, Tagged, Application}
+use Rattle.krb_msg.specs.Term.{Term, Sequence}
 use Rattle.krb_msg.specs.Nodes.{nodes, term_at}
 use Rattle.krb_msg.specs.Table.{IsFormOf, fields_from}
 use Rattle.krb_msg.specs.declared.grammar.Form.TheVariants as form
@@ -9,14 +9,7 @@ use Rattle.krb_scan.proofs.expected.fields_at.Goals as goal
 
 same_fields : (slots : _) (term : Term) → IsFormOf nodes (form.Fields slots) term → fields_from nodes slots.now ≡ fields_in term
 same_fields slots (Sequence fields) h = h.1
-same_fields slots (Integer low high) h = absurd h
-same_fields slots (Text greatest) h = absurd h
-same_fields slots Octets h = absurd h
-same_fields slots Time h = absurd h
-same_fields slots (Bits least) h = absurd h
-same_fields slots (SequenceOf empty term) h = absurd h
-same_fields slots (Tagged index term) h = absurd h
-same_fields slots (Application number term) h = absurd h
+same_fields slots other h = absurd h
 
 pub returns-in-Fields-clause-few : goal.returns-in-Fields-clause-few
 returns-in-Fields-clause-few c = few_slots c.in-Fields.fields.now c.args.sequence (same_fields c.in-Fields.fields (term_at c.args.sequence) c.in-Fields.ensures)

@@ -8,9 +8,9 @@ use Rattle.krb_scan.proofs.path.Path.enter_items.Goals as goal
 
 pub returns-then-len-eq0-clause-step : goal.returns-then-len-eq0-clause-step
 returns-then-len-eq0-clause-step c = λ stack marks containers.
-    subst (IsStep c.args.self.now c.close_empty.new.self c.close_empty.result)
+    subst (IsStep c.args.self.now c.close.new.self c.close.result)
     (sym (enter_empty (term_at c.args.node) c.args.len (c.args.self.now.looked + 1) (expected_of c.args.first) stack marks c.requires.items c.if-len-eq0.true (sym c.requires_item.ensures ∙ c.if-requires_item.false)))
-    (c.close_empty.ensures.step stack (with_mark marks (term_at c.args.node) (c.args.self.now.looked + 1) 0) containers)
+    (c.close.ensures.step stack (with_mark marks (term_at c.args.node) (c.args.self.now.looked + 1) 0) containers)
 
 pub returns-clause-step : goal.returns-clause-step
 returns-clause-step c = λ stack marks containers.

@@ -3,7 +3,7 @@ use Rattle.krb_scan.specs.State.{AreOpen}
 use Rattle.krb_scan.specs.inner.Machine.{settle}
 use Rattle.krb_scan.specs.inner.Outcomes.{HasContainers, StaysOpen}
 use Rattle.krb_scan.proofs.Completing.{stays, whole}
-use Rattle.krb_scan.proofs.path.Path.close_empty.Goals as goal
+use Rattle.krb_scan.proofs.path.Path.close.Goals as goal
 
 pub closing-requires : goal.closing-requires
 closing-requires c = subst (HasContainers c.args.self.now.inner) (sym c.as_slice.ensures.value) c.requires.containers
