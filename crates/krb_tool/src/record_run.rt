@@ -12,7 +12,7 @@ ghost use Rattle.krb_tool.specs.inner.RecordRuns.{Adds, AddsRefusal, AddsLine, M
 ghost use Rattle.std.specs.Io.KnownBytes.{Appends};
 
 use crate::extent::extent_of;
-use crate::file_path::{credential_path, keytab_path, field_path};
+use crate::file_path::{credential_path, field_path, keytab_path};
 use crate::run::{PIECE_OCTETS, RunEnd, RunFault};
 use crate::transfer::{MOST_ASKS, too_many_reads, write_all};
 use krb_ccache::{Credential, Credentials, FilePrincipal, Header};
