@@ -40,6 +40,22 @@ name_text fields.Type = codes "type"
 name_text fields.Octets = codes "octets"
 name_text fields.Ticket = codes "ticket"
 name_text fields.SecondTicket = codes "second-ticket"
+name_text fields.ThisZone = codes "thiszone"
+name_text fields.SigFigs = codes "sigfigs"
+name_text fields.SnapLen = codes "snaplen"
+name_text fields.LinkType = codes "linktype"
+name_text fields.Seconds = codes "seconds"
+name_text fields.Fraction = codes "fraction"
+name_text fields.CapturedLength = codes "captured-length"
+name_text fields.OriginalLength = codes "original-length"
+name_text fields.Data = codes "data"
+name_text fields.ByteOrder = codes "byte-order"
+name_text fields.Reserved = codes "reserved"
+name_text fields.Options = codes "options"
+name_text fields.Interface = codes "interface"
+name_text fields.Drops = codes "drops"
+name_text fields.Body = codes "body"
+name_text fields.LengthAgain = codes "length-again"
 
 abbrev pub part_text : FilePart → List ℕ
 part_text (parts.Header index) = numbered (codes "header") index
@@ -48,6 +64,8 @@ part_text parts.Client = codes "client"
 part_text parts.Server = codes "server"
 part_text (parts.Address index) = numbered (codes "address") index
 part_text (parts.Authdata index) = numbered (codes "authdata") index
+part_text (parts.Packet index) = numbered (codes "packet") index
+part_text (parts.Block index) = numbered (codes "block") index
 
 abbrev pub in_part_text : Option FilePart → List ℕ → List ℕ
 in_part_text None name = name

@@ -160,7 +160,7 @@ fn field_in(part: FilePart, field: Option<FileField>) -> Option<FileField>
 
 /// Returns what was read, or the fault of the field of this name.
 #[inline(always)]
-pub(crate) fn called<T>(name: FieldName, read: Result<T, FileFault>) -> Result<T, FileFault>
+pub fn called<T>(name: FieldName, read: Result<T, FileFault>) -> Result<T, FileFault>
     ensures { result ≡ fails_at (with_name name) read }
 {
     match read {

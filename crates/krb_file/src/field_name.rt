@@ -1,4 +1,4 @@
-//! The names of the fields of keytabs and credential caches.
+//! The names of the fields of keytabs, credential caches and captures.
 
 ghost use Rattle.std.specs.Prelude.{Some};
 ghost use Rattle.krb_file.specs.Names.{field_text, name_text, part_text};
@@ -8,11 +8,11 @@ use std::fmt;
 /// The name of a field, in its record, header, principal or list.
 #[derive(Clone, Copy, PartialEq, Eq, Debug)]
 pub enum FieldName {
-    /// The first octet of a file.
+    /// The first field of a file, which says its format.
     Magic,
     /// The version of the format.
     Version,
-    /// The length of a record.
+    /// The length of a record or of a block.
     Length,
     /// The octets of a hole.
     Hole,
@@ -24,7 +24,7 @@ pub enum FieldName {
     Component(u32),
     /// The type of a principal.
     NameType,
-    /// The time at which an entry was made.
+    /// The time at which an entry was made, or the time of a packet.
     Timestamp,
     /// The version of a key.
     KeyVersion,
@@ -56,7 +56,7 @@ pub enum FieldName {
     AddressCount,
     /// The number of elements of authorization data.
     AuthdataCount,
-    /// The type of an address, or of an element of authorization data.
+    /// The type of an address, of an element of authorization data, or of a block.
     Type,
     /// The octets of an address, or of an element of authorization data.
     Octets,
@@ -64,9 +64,41 @@ pub enum FieldName {
     Ticket,
     /// A second ticket.
     SecondTicket,
+    /// An offset of times, which is not read.
+    ThisZone,
+    /// How exact times are, which is not read.
+    SigFigs,
+    /// How many octets of a packet are captured at most.
+    SnapLen,
+    /// The type of the link.
+    LinkType,
+    /// The seconds of the time of a packet.
+    Seconds,
+    /// The fraction of a second.
+    Fraction,
+    /// How many octets of a packet were captured.
+    CapturedLength,
+    /// How many octets a packet had on the wire.
+    OriginalLength,
+    /// The octets of a packet.
+    Data,
+    /// The byte-order magic.
+    ByteOrder,
+    /// Two octets that are not read.
+    Reserved,
+    /// An option.
+    Options,
+    /// The interface that a packet was captured from.
+    Interface,
+    /// How many packets were dropped, which is not read.
+    Drops,
+    /// All of a block between its two lengths.
+    Body,
+    /// The length of a block, again at its end.
+    LengthAgain,
 }
 
-/// A part of a credential cache or of a credential, which has fields of its own.
+/// A part of a file that has fields of its own.
 #[derive(Clone, Copy, PartialEq, Eq, Debug)]
 pub enum FilePart {
     /// A field of the header, by its index from 0.
@@ -81,6 +113,10 @@ pub enum FilePart {
     Address(u32),
     /// An element of authorization data, by its index from 0.
     Authdata(u32),
+    /// A packet of a pcap, by its index from 0.
+    Packet(u64),
+    /// A block of a pcapng, by its index from 0.
+    Block(u64),
 }
 
 /// A field of a file: its name, and its part, if it is in one.
@@ -126,6 +162,22 @@ impl fmt::Display for FieldName {
             FieldName::Octets => "octets",
             FieldName::Ticket => "ticket",
             FieldName::SecondTicket => "second-ticket",
+            FieldName::ThisZone => "thiszone",
+            FieldName::SigFigs => "sigfigs",
+            FieldName::SnapLen => "snaplen",
+            FieldName::LinkType => "linktype",
+            FieldName::Seconds => "seconds",
+            FieldName::Fraction => "fraction",
+            FieldName::CapturedLength => "captured-length",
+            FieldName::OriginalLength => "original-length",
+            FieldName::Data => "data",
+            FieldName::ByteOrder => "byte-order",
+            FieldName::Reserved => "reserved",
+            FieldName::Options => "options",
+            FieldName::Interface => "interface",
+            FieldName::Drops => "drops",
+            FieldName::Body => "body",
+            FieldName::LengthAgain => "length-again",
         };
         f.write_str(word)
     }
@@ -143,6 +195,8 @@ impl fmt::Display for FilePart {
             FilePart::Server => f.write_str("server"),
             FilePart::Address(index) => write!(f, "address[{index}]"),
             FilePart::Authdata(index) => write!(f, "authdata[{index}]"),
+            FilePart::Packet(index) => write!(f, "packet[{index}]"),
+            FilePart::Block(index) => write!(f, "block[{index}]"),
         }
     }
 }

@@ -232,6 +232,21 @@ pub trait FieldReader {
         called(name, self.counted32(alloc, octets))
     }
 
+    /// Reads `size` octets, the field of this name, as [`octets`](FieldReader::octets) does.
+    #[inline(always)]
+    final fn octets_field(
+        &mut self,
+        alloc: Global,
+        name: FieldName,
+        size: u64,
+        octets: &mut Vec<u8>,
+    ) -> Result<(), FileFault>
+        ensures read { Follows (λ _. octets.new.items) result (called name (octets_at size)) MayFail (cursor self.old) (cursor self.new) }
+        ensures keeps { Keeps (cursor self.old) (cursor self.new) }
+    {
+        called(name, self.octets(alloc, size, octets))
+    }
+
     /// Reads what is left of the entry, the field of this name.
     final fn rest_field(
         &mut self,

@@ -1,5 +1,5 @@
-//! What keytabs and credential caches share: how the fields of files are read and written, and why
-//! a file is refused.
+//! What keytabs, credential caches and captures share: how the fields of files are read and
+//! written, and why a file is refused.
 //!
 //! The main calls:
 //!
@@ -12,8 +12,8 @@
 //! A [`FileFault`] is a refusal at the first octet of a field, a read that failed, or out of
 //! memory.
 //!
-//! Of keytabs and caches it knows the names of their fields; `krb_keytab` and `krb_ccache` know the
-//! formats.
+//! Of these files it knows the names of their fields; `krb_keytab`, `krb_ccache` and `krb_packet`
+//! know the formats.
 //! Nothing opens a file: the caller passes a reader.
 //!
 //! `specs/Fields` says how fields are spelled, and `specs/FieldReaders` what a reader returns.
@@ -29,7 +29,8 @@ mod slice_reader;
 mod stream_reader;
 
 pub use fault::{
-    FileFault, FileRefusal, FileWhy, file_why_length, file_why_number, file_why_text, in_part,
+    FileFault, FileRefusal, FileWhy, called, file_why_length, file_why_number, file_why_text,
+    in_part,
 };
 pub use field_limit::FieldLimit;
 pub use field_name::{FieldName, FileField, FilePart};

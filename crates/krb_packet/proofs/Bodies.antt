@@ -2,10 +2,11 @@
 use Rattle.std.proofs.Common.{◌≡◌, ℕ, zero, suc, ◌+◌, ◌*◌, ◌^◌, ◌≤◌, ◌&&◌, ◌==◌, min, max, Bool, true, false, Option, Some, None, Result, Ok, Err, IfErr, List, length, ap, subst, arith, rules}
 use Rattle.std.specs.Int.{w8, w16, w32, w64, cast_signed}
 use Rattle.krb_der.specs.Octets.{when}
-use Rattle.krb_file.specs.Fields.{Source, Fault, Bounds, ended, source_of, Reader, ◌>>=◌, succeed, next_octets_at, octets_at, number_at, octets_to_end, reaches, Fails, Agrees, IsStreamFaultIn}
+use Rattle.krb_file.specs.Fields.{Source, Fault, Bounds, ended, source_of, Reader, ◌>>=◌, succeed, called, next_octets_at, octets_at, number_at, octets_to_end, reaches, Fails, Agrees, IsStreamFaultIn}
 use Rattle.krb_file.specs.FieldReaders.{Cursor, skipped_at, Follows, Slice, of_slice}
 use Rattle.krb_file.specs.declared.fault.FileFault.{FileFault}
 use Rattle.krb_file.specs.declared.fault.FileFault.TheVariants as faults
+use Rattle.krb_file.specs.declared.field_name.FieldName.TheVariants as fields
 use Rattle.krb_file.proofs.FieldReaders.{known, known_fault}
 use Rattle.krb_packet.specs.declared.order.ByteOrder.{ByteOrder}
 use Rattle.krb_packet.specs.declared.interface.Interface.{Interface}
@@ -15,11 +16,11 @@ use Rattle.krb_packet.specs.declared.interface.Setting.TheVariants as settings
 use Rattle.krb_packet.specs.declared.block.BlockKind.{BlockKind}
 use Rattle.krb_packet.specs.declared.block.BlockKind.TheVariants as kinds
 use Rattle.krb_packet.specs.declared.body.Content.TheVariants as contents
-use Rattle.krb_packet.specs.Numbers.{in_order, number_in, checked_number}
+use Rattle.krb_packet.specs.Numbers.{in_order, number_in, field_in, checked_number}
 use Rattle.krb_packet.specs.Values.{link_type}
 use Rattle.krb_packet.specs.Interfaces.{padded, value_at, setting_at, option_at, with_setting, after_setting, options_within, options_at, no_options, clock_of, interface_at, clock_time}
 use Rattle.krb_packet.specs.Bodies.{announced, section_version, timed_packet_at, enhanced_packet_at, old_packet_at, most_of, most_octets_at, simple_packet_at, content_at, value_of, in_body}
-use Rattle.krb_packet.proofs.Reaching.{Passes, Passes-succeed, Passes-then, Passes-fewer, Passes-made, Passes-piece, Passes-skipped, Passes-number_at, Passes-number, Passes-when, Stops, Stops-succeed, Stops-then, Stops-octets, Stops-number, Stops-check, Stops-checked_at, Stops-whole}
+use Rattle.krb_packet.proofs.Reaching.{Passes, Passes-succeed, Passes-then, Passes-fewer, Passes-made, Passes-piece, Passes-skipped, Passes-number_at, Passes-number, Passes-called, Passes-when, Stops, Stops-succeed, Stops-then, Stops-octets, Stops-called, Stops-field, Stops-check, Stops-checked_at, Stops-whole}
 
 Passes-value : (order : ByteOrder) (code size : ℕ) → Passes 0 (value_at order code size)
 Passes-value order code size =
@@ -54,26 +55,26 @@ Stops-options_within zero order found = Stops-succeed found
 Stops-options_within (suc bound) order found =
     at_place (λ bounds place. when (reaches place bounds.end) (λ _. succeed found) (λ _. option_at order >>= λ setting. after_setting found setting (options_within bound order)))
     (λ bounds place. stops_test (reaches place bounds.end) found (option_at order >>= λ setting. after_setting found setting (options_within bound order))
-    (Stops-then (option_at order) (λ setting. after_setting found setting (options_within bound order)) (Stops-whole (setting_at order) (Passes-setting order)) (stops_setting found (options_within bound order) (Stops-options_within bound order))))
+    (Stops-then (option_at order) (λ setting. after_setting found setting (options_within bound order)) (Stops-whole (called fields.Options (setting_at order)) (Passes-called 0 fields.Options (setting_at order) (Passes-setting order))) (stops_setting found (options_within bound order) (Stops-options_within bound order))))
 
 Stops-options : (order : ByteOrder) → Stops (options_at order)
 Stops-options order = at_place (λ bounds place. options_within (octets_to_end bounds.end place) order no_options) (λ bounds place. Stops-options_within (octets_to_end bounds.end place) order no_options)
 
 Stops-interface : (order : ByteOrder) → Stops (interface_at order)
 Stops-interface order =
-    Stops-then (number_in w16 order) _ (Stops-number w16 order) (λ link.
-    Stops-then (number_in w16 order) _ (Stops-number w16 order) (λ reserved.
-    Stops-then (number_in w32 order) _ (Stops-number w32 order) (λ snaplen.
+    Stops-then (field_in fields.LinkType w16 order) _ (Stops-field fields.LinkType w16 order) (λ link.
+    Stops-then (field_in fields.Reserved w16 order) _ (Stops-field fields.Reserved w16 order) (λ reserved.
+    Stops-then (field_in fields.SnapLen w32 order) _ (Stops-field fields.SnapLen w32 order) (λ snaplen.
     Stops-then (options_at order) _ (Stops-options order) (λ options.
     Stops-succeed (record { link = link_type link; snaplen = snaplen; clock = clock_of options })))))
 
 Stops-timed : (order : ByteOrder) (count : ℕ) (interface : Interface) → Stops (timed_packet_at order count interface)
 Stops-timed order count interface =
-    Stops-then (number_in w32 order) _ (Stops-number w32 order) (λ high.
-    Stops-then (number_in w32 order) _ (Stops-number w32 order) (λ low.
-    Stops-then (number_in w32 order) _ (Stops-number w32 order) (λ captured.
-    Stops-then (number_in w32 order) _ (Stops-number w32 order) (λ original.
-    Stops-then (octets_at captured) _ (Stops-octets captured) (λ octets.
+    Stops-then (field_in fields.Timestamp w32 order) _ (Stops-field fields.Timestamp w32 order) (λ high.
+    Stops-then (field_in fields.Timestamp w32 order) _ (Stops-field fields.Timestamp w32 order) (λ low.
+    Stops-then (field_in fields.CapturedLength w32 order) _ (Stops-field fields.CapturedLength w32 order) (λ captured.
+    Stops-then (field_in fields.OriginalLength w32 order) _ (Stops-field fields.OriginalLength w32 order) (λ original.
+    Stops-then (called fields.Data (octets_at captured)) _ (Stops-called fields.Data (octets_at captured) (Stops-octets captured)) (λ octets.
     Stops-succeed (record { number = count + 1; time = clock_time interface.clock (high * 2 ^ 32 + low); link = interface.link; octets = octets; size = max captured original }))))))
 
 Stops-most : (most : ℕ) → Stops (most_octets_at most)
@@ -81,23 +82,23 @@ Stops-most most = at_place (λ bounds place. octets_at (min most (octets_to_end 
 
 Stops-simple : (order : ByteOrder) (count : ℕ) (interfaces : List Interface) → Stops (simple_packet_at order count interfaces)
 Stops-simple order count interfaces =
-    Stops-then _ _ (Stops-check (announced interfaces 0)) (λ interface.
-    Stops-then (number_in w32 order) _ (Stops-number w32 order) (λ original.
-    Stops-then (most_octets_at (most_of interface.snaplen original)) _ (Stops-most (most_of interface.snaplen original)) (λ octets.
+    Stops-then _ _ (Stops-check fields.Interface (announced interfaces 0)) (λ interface.
+    Stops-then (field_in fields.OriginalLength w32 order) _ (Stops-field fields.OriginalLength w32 order) (λ original.
+    Stops-then (called fields.Data (most_octets_at (most_of interface.snaplen original))) _ (Stops-called fields.Data (most_octets_at (most_of interface.snaplen original)) (Stops-most (most_of interface.snaplen original))) (λ octets.
     Stops-succeed (record { number = count + 1; time = None; link = interface.link; octets = octets; size = original }))))
 
 pub Stops-content : (kind : BlockKind) (order : ByteOrder) (count : ℕ) (interfaces : List Interface) → Stops (content_at kind order count interfaces)
-Stops-content kinds.Section order count interfaces = Stops-then (checked_number w16 order section_version) _ (Stops-checked_at w16 order section_version) (λ version. Stops-succeed (contents.Section order))
+Stops-content kinds.Section order count interfaces = Stops-then (checked_number fields.Version w16 order section_version) _ (Stops-checked_at fields.Version w16 order section_version) (λ version. Stops-succeed (contents.Section order))
 Stops-content kinds.Interface order count interfaces = Stops-then (interface_at order) _ (Stops-interface order) (λ interface. Stops-succeed (contents.Interface interface))
 Stops-content kinds.OldPacket order count interfaces =
     Stops-then (old_packet_at order count interfaces) _
-    (Stops-then (checked_number w16 order (announced interfaces)) _ (Stops-checked_at w16 order (announced interfaces)) (λ interface.
-    Stops-then (number_in w16 order) _ (Stops-number w16 order) (λ drops. Stops-timed order count interface)))
+    (Stops-then (checked_number fields.Interface w16 order (announced interfaces)) _ (Stops-checked_at fields.Interface w16 order (announced interfaces)) (λ interface.
+    Stops-then (field_in fields.Drops w16 order) _ (Stops-field fields.Drops w16 order) (λ drops. Stops-timed order count interface)))
     (λ packet. Stops-succeed (contents.Packet packet))
 Stops-content kinds.SimplePacket order count interfaces = Stops-then (simple_packet_at order count interfaces) _ (Stops-simple order count interfaces) (λ packet. Stops-succeed (contents.Packet packet))
 Stops-content kinds.EnhancedPacket order count interfaces =
     Stops-then (enhanced_packet_at order count interfaces) _
-    (Stops-then (checked_number w32 order (announced interfaces)) _ (Stops-checked_at w32 order (announced interfaces)) (λ interface. Stops-timed order count interface))
+    (Stops-then (checked_number fields.Interface w32 order (announced interfaces)) _ (Stops-checked_at fields.Interface w32 order (announced interfaces)) (λ interface. Stops-timed order count interface))
     (λ packet. Stops-succeed (contents.Packet packet))
 Stops-content kinds.Other order count interfaces = Stops-succeed contents.Other
 

@@ -8,7 +8,7 @@ pub mod PacketHeads
 pub mod Pieces
 pub mod Places
 pub mod Options
-pub mod Parsing
+pub mod Checking
 pub mod Skipping
 pub mod Reaching
 pub mod InFile

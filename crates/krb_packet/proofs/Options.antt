@@ -2,7 +2,7 @@
 use Rattle.std.proofs.Common.{◌≡◌, ℕ, suc, ◌+◌, ◌-◌, ◌<◌, ◌≤◌, Bool, true, false, Option, Some, None, Result, Ok, Err, List, [], refl, ap, ◌∙◌, subst, arith}
 use Rattle.krb_der.specs.Octets.{when}
 use Rattle.krb_file.specs.Fields.{Source, Fault, Bounds, Reader, and_then, ◌>>=◌, succeed, is_at_end}
-use Rattle.krb_file.specs.FieldReaders.{Cursor, MayRemain, source_at, HasRead, FailsBy}
+use Rattle.krb_file.specs.FieldReaders.{Cursor, MayRemain, source_at, HasRead, FailsBy, Follows}
 use Rattle.krb_file.specs.declared.fault.FileFault.{FileFault}
 use Rattle.krb_file.specs.declared.fault.FileFault.TheVariants as faults
 use Rattle.krb_packet.specs.declared.order.ByteOrder.{ByteOrder}
@@ -42,6 +42,10 @@ continues_fails first second (faults.Refused fault) MayFail old mid on fails =
     let whose : second old.bounds s ≡ Err fault = subst (λ (k : Bounds). second k s ≡ Err fault) on.same_bounds fails.refused in
     record { octets = a.0; there = a.1; refused = a.2 ∙ whose }
 
+pub continues_follows : {A B : Type 0} (first second : Reader B) (view : A → B) (result : Result A FileFault) (MayFail : Type 0) (old mid new : Cursor) → Continues first second old mid → Follows view result second MayFail mid new → Follows view result first MayFail old new
+continues_follows first second view (Ok value) MayFail old mid new on read = continues_read first second (view value) old mid new on read
+continues_follows first second view (Err e) MayFail old mid new on fails = continues_fails first second e MayFail old mid on fails
+
 pub continues_then : {A B : Type 0} (first : Reader B) (one : Reader A) (next : A → Reader B) (v : A) (old mid new : Cursor) → Continues first (one >>= next) old mid → HasRead one v mid new → Continues first (next v) old new
 continues_then {A} {B} first one next v old mid new on read = record {
   same_bounds = read.same_bounds ∙ on.same_bounds;
@@ -54,7 +58,7 @@ continues_then {A} {B} first one next v old mid new on read = record {
       (a.0, a.1, a.2 ∙ ap (λ (r : Result (A × Source) Fault). and_then r (λ x. next x.0 old.bounds x.1)) whose);
 }
 
-then_fails : {A B : Type 0} (one : Reader A) (next : A → Reader B) (e : FileFault) (MayFail : Type 0) (old : Cursor) → FailsBy e one MayFail old → FailsBy e (one >>= next) MayFail old
+pub then_fails : {A B : Type 0} (one : Reader A) (next : A → Reader B) (e : FileFault) (MayFail : Type 0) (old : Cursor) → FailsBy e one MayFail old → FailsBy e (one >>= next) MayFail old
 then_fails one next faults.Memory MayFail old fails = tt
 then_fails one next faults.Read MayFail old fails = fails
 then_fails {A} one next (faults.Refused fault) MayFail old fails = record {

@@ -1,15 +1,19 @@
 -- How many octets the fields of a capture file have, and the places of their faults.
-use Rattle.std.proofs.Common.{◌≡◌, ℕ, ◌+◌, ◌≤◌, inl, inr, Bool, true, false, Option, None, Result, Ok, Err, length, refl, ap, ◌∙◌, subst, arith, length-drop}
+use Rattle.std.proofs.Common.{◌≡◌, ℕ, ◌+◌, ◌≤◌, inl, inr, Bool, true, false, Option, Some, None, Result, Ok, Err, length, refl, ap, ◌∙◌, subst, arith, length-drop}
 use Rattle.std.specs.Int.{Width, byte_len, from_be_bytes}
 use Rattle.krb_der.specs.Octets.{when}
-use Rattle.krb_file.specs.Fields.{Source, Fault, fault_of, Bounds, Reader, ◌>>=◌, succeed, are_zero, next_octets_at, octets_at, number_at}
+use Rattle.krb_file.specs.Fields.{Source, Fault, fault_of, Bounds, Reader, ◌>>=◌, succeed, with_name, called, begun_at, are_zero, next_octets_at, octets_at, number_at}
 use Rattle.krb_file.specs.FieldReaders.{Cursor, HasRead, source_at, skipped_at}
 use Rattle.krb_file.specs.declared.fault.FileWhy.{FileWhy}
-use Rattle.krb_file.proofs.Fields.{ok_is, err_is, and_then-ok, and_then-err, piece-ok}
+use Rattle.krb_file.specs.declared.field_name.FieldName.{FieldName}
+use Rattle.krb_file.specs.declared.field_name.FileField.{FileField}
+use Rattle.krb_file.specs.declared.field_name.FilePart.{FilePart}
+use Rattle.krb_file.proofs.Fields.{ok_is, err_is, and_then-ok, and_then-err, refused_at-ok, refused_at-err, begun_at-ok, begun_at-err, at_field, piece-ok}
 use Rattle.krb_file.proofs.FieldReaders.{some_rest}
 use Rattle.krb_file.proofs.Steps.{Steps-piece, Steps-octets}
 use Rattle.krb_packet.specs.declared.order.ByteOrder.{ByteOrder}
-use Rattle.krb_packet.specs.Numbers.{in_order, number_in, checked_at, from_here, checked_number, moved_to, refused_at}
+use Rattle.krb_packet.specs.Blocks.{part_from}
+use Rattle.krb_packet.specs.Numbers.{in_order, number_in, field_in, checked_at, from_here, checked_number, moved_to, refused_at}
 
 -- ---- n octets at least are read, and no more than there are
 pub record Passes {A : Type 0} (n : ℕ) (reader : Reader A) : Type 0 where
@@ -66,15 +70,28 @@ Passes-number_at w = Passes-made (byte_len w) (next_octets_at None (byte_len w))
 pub Passes-number : (w : Width) (order : ByteOrder) → Passes (byte_len w) (number_in w order)
 Passes-number w order = Passes-made (byte_len w) (next_octets_at None (byte_len w)) (in_order w order) (Passes-piece (byte_len w))
 
-pub Passes-check : {A : Type 0} (place : ℕ) (check : Result A FileWhy) → Passes 0 (checked_at place check)
-Passes-check place (Ok value) = Passes-succeed value
-Passes-check place (Err why) = record { on = λ bounds s v t e. absurd cc; same = λ bounds s v t e. absurd cc }
+-- the same reader, whose faults are of another field
+Passes-at : {A : Type 0} (n : ℕ) (field : Option FileField → Option FileField) (reader : Reader A) → Passes n reader → Passes n (at_field field reader)
+Passes-at n field reader p = record {
+  on = λ bounds s v t e. p.on bounds s v t (refused_at-ok field (reader bounds s) (v, t) e);
+  same = λ bounds s v t e. p.same bounds s v t (refused_at-ok field (reader bounds s) (v, t) e);
+}
+
+pub Passes-called : {A : Type 0} (n : ℕ) (name : FieldName) (reader : Reader A) → Passes n reader → Passes n (called name reader)
+Passes-called n name reader p = Passes-at n (with_name name) reader p
+
+pub Passes-field : (name : FieldName) (w : Width) (order : ByteOrder) → Passes (byte_len w) (field_in name w order)
+Passes-field name w order = Passes-called (byte_len w) name (number_in w order) (Passes-number w order)
+
+pub Passes-check : {A : Type 0} (name : FieldName) (place : ℕ) (check : Result A FileWhy) → Passes 0 (checked_at name place check)
+Passes-check name place (Ok value) = Passes-succeed value
+Passes-check name place (Err why) = record { on = λ bounds s v t e. absurd cc; same = λ bounds s v t e. absurd cc }
 
 pub Passes-from_here : {A : Type 0} (n : ℕ) (reader : ℕ → Reader A) → ((place : ℕ) → Passes n (reader place)) → Passes n (from_here reader)
 Passes-from_here n reader each = record { on = λ bounds s v t e. (each s.place).on bounds s v t e; same = λ bounds s v t e. (each s.place).same bounds s v t e }
 
-pub Passes-checked_at : {A : Type 0} (w : Width) (order : ByteOrder) (check : ℕ → Result A FileWhy) → Passes (byte_len w + 0) (checked_number w order check)
-Passes-checked_at w order check = Passes-from_here (byte_len w + 0) _ (λ place. Passes-then (byte_len w) 0 (number_in w order) _ (Passes-number w order) (λ number. Passes-check place (check number)))
+pub Passes-checked_at : {A : Type 0} (name : FieldName) (w : Width) (order : ByteOrder) (check : ℕ → Result A FileWhy) → Passes (byte_len w + 0) (checked_number name w order check)
+Passes-checked_at name w order check = Passes-from_here (byte_len w + 0) _ (λ place. Passes-then (byte_len w) 0 (field_in name w order) _ (Passes-field name w order) (λ number. Passes-check name place (check number)))
 
 pub moved-ok : {A : Type 0} (place : ℕ) (r : Result A Fault) (v : A) → moved_to place r ≡ Ok v → r ≡ Ok v
 moved-ok place (Ok read) v e = e
@@ -124,26 +141,57 @@ Stops-piece size = record { passes = Passes-fewer size _ (Passes-piece size); up
 pub Stops-octets : (size : ℕ) → Stops (octets_at size)
 Stops-octets size = record { passes = Passes-fewer size _ (Passes-octets size); upto = λ bounds s f e. ((Steps-octets size).faults bounds s f e).upto }
 
-pub Stops-number : (w : Width) (order : ByteOrder) → Stops (number_in w order)
-Stops-number w order = Stops-then (next_octets_at None (byte_len w)) _ (Stops-piece (byte_len w)) (λ octets. Stops-succeed (in_order w order octets))
-
-pub checked_at-err : {A : Type 0} (place : ℕ) (check : Result A FileWhy) (bounds : Bounds) (s : Source) (f : Fault) → checked_at place check bounds s ≡ Err f → f.place ≡ place
-checked_at-err place (Ok value) bounds s f e = absurd cc
-checked_at-err {A} place (Err why) bounds s f e = ap (λ (x : Fault). x.place) (err_is (A × Source) f (fault_of place why) cc)
-
-pub Stops-check : {A : Type 0} (check : Result A FileWhy) → Stops (from_here (λ place. checked_at place check))
-Stops-check check = record {
-  passes = Passes-from_here 0 _ (λ place. Passes-check place check);
-  upto = λ bounds s f e. let here = checked_at-err s.place check bounds s f e in omega (arith, here);
+-- the same reader, whose faults are of another field
+pub Stops-at : {A : Type 0} (field : Option FileField → Option FileField) (reader : Reader A) → Stops reader → Stops (at_field field reader)
+Stops-at field reader stops = record {
+  passes = Passes-at 0 field reader stops.passes;
+  upto = λ bounds s f e.
+      let a = refused_at-err field (reader bounds s) f e in
+      let upto = stops.upto bounds s a.0 a.1 in
+      omega (arith, upto, ap (λ (x : Fault). x.place) a.2);
 }
 
-pub Stops-checked_at : {A : Type 0} (w : Width) (order : ByteOrder) (check : ℕ → Result A FileWhy) → Stops (checked_number w order check)
-Stops-checked_at w order check = record {
-  passes = Passes-fewer (byte_len w + 0) _ (Passes-checked_at w order check);
+pub Stops-called : {A : Type 0} (name : FieldName) (reader : Reader A) → Stops reader → Stops (called name reader)
+Stops-called name reader stops = Stops-at (with_name name) reader stops
+
+-- the same reader, of a part that begins at a place
+pub Passes-part : {A : Type 0} (part : FilePart) (start : ℕ → ℕ) (reader : Reader A) → Passes 0 reader → Passes 0 (from_here (λ place. part_from part (start place) reader))
+Passes-part part start reader p = record {
+  on = λ bounds s v t e. (Passes-at 0 (with_part part) reader p).on bounds s v t (begun_at-ok (start s.place) (at_field (with_part part) reader bounds s) (v, t) e);
+  same = λ bounds s v t e. (Passes-at 0 (with_part part) reader p).same bounds s v t (begun_at-ok (start s.place) (at_field (with_part part) reader bounds s) (v, t) e);
+}
+
+pub Stops-part : {A : Type 0} (part : FilePart) (start : ℕ → ℕ) (reader : Reader A) → Stops reader → Stops (from_here (λ place. part_from part (start place) reader))
+Stops-part part start reader stops = record {
+  passes = Passes-part part start reader stops.passes;
   upto = λ bounds s f e.
-      elim (and_then-err (number_in w order bounds s) (λ p. checked_at s.place (check p.0) bounds p.1) f e) [
-        | inl a ↦ (Stops-number w order).upto bounds s f a
-        | inr a ↦ let here = checked_at-err s.place (check a.0.0) bounds a.0.1 f a.2 in omega (arith, here)
+      let a = begun_at-err (start s.place) (at_field (with_part part) reader bounds s) f e in
+      let upto = (Stops-at (with_part part) reader stops).upto bounds s a.0 a.1 in
+      omega (arith, upto, ap (λ (x : Fault). x.place) a.2);
+}
+
+pub Stops-field : (name : FieldName) (w : Width) (order : ByteOrder) → Stops (field_in name w order)
+Stops-field name w order = Stops-called name (number_in w order) (Stops-then (next_octets_at None (byte_len w)) _ (Stops-piece (byte_len w)) (λ octets. Stops-succeed (in_order w order octets)))
+
+pub checked_at-err : {A : Type 0} (name : FieldName) (place : ℕ) (check : Result A FileWhy) (bounds : Bounds) (s : Source) (f : Fault) → checked_at name place check bounds s ≡ Err f → f.place ≡ place
+checked_at-err name place (Ok value) bounds s f e = absurd cc
+checked_at-err {A} name place (Err why) bounds s f e =
+    let refused : Fault = record (fault_of place why) { field = Some (record { part = None; name = name }) } in
+    ap (λ (x : Fault). x.place) (err_is (A × Source) f refused cc)
+
+pub Stops-check : {A : Type 0} (name : FieldName) (check : Result A FileWhy) → Stops (from_here (λ place. checked_at name place check))
+Stops-check name check = record {
+  passes = Passes-from_here 0 _ (λ place. Passes-check name place check);
+  upto = λ bounds s f e. let here = checked_at-err name s.place check bounds s f e in omega (arith, here);
+}
+
+pub Stops-checked_at : {A : Type 0} (name : FieldName) (w : Width) (order : ByteOrder) (check : ℕ → Result A FileWhy) → Stops (checked_number name w order check)
+Stops-checked_at name w order check = record {
+  passes = Passes-fewer (byte_len w + 0) _ (Passes-checked_at name w order check);
+  upto = λ bounds s f e.
+      elim (and_then-err (field_in name w order bounds s) (λ p. checked_at name s.place (check p.0) bounds p.1) f e) [
+        | inl a ↦ (Stops-field name w order).upto bounds s f a
+        | inr a ↦ let here = checked_at-err name s.place (check a.0.0) bounds a.0.1 f a.2 in omega (arith, here)
       ];
 }
 

@@ -1,16 +1,15 @@
 -- The packets of a file, one step at a time: those that follow depend only on what is left of the file.
 use Rattle.std.proofs.Common.{◌≡◌, ℕ, zero, suc, ◌+◌, ◌<◌, Some, None, Result, Ok, Err, length, refl, ◌∙◌, ap, arith}
-use Rattle.krb_file.specs.Fields.{Source, limited}
+use Rattle.krb_file.specs.Fields.{Source, Fault, limited}
 use Rattle.krb_packet.specs.declared.packet.Packet.{Packet}
 use Rattle.krb_packet.specs.declared.format.Format.{Format}
 use Rattle.krb_packet.specs.declared.format.Next.{Next}
 use Rattle.krb_packet.specs.declared.format.Next.TheVariants as nexts
-use Rattle.krb_packet.specs.Parsers.{Refusal}
 use Rattle.krb_packet.specs.Pcaps.{most_captured}
 use Rattle.krb_packet.specs.Captures.{next_in, Packets, no_packets, with_first, packets_from, packets_within, packets_after}
 use Rattle.krb_packet.proofs.Steps.{step_advances}
 
-abbrev step : Format → ℕ → Source → Result (Next × Source) Refusal
+abbrev step : Format → ℕ → Source → Result (Next × Source) Fault
 step format count source = next_in format count (limited (Some most_captured)) source
 
 packet_shorter : (format : Format) (count : ℕ) (s : Source) (packet : Packet) (after : Format) (t : Source) → step format count s ≡ Ok (nexts.Packet packet after, t) → length t.octets < length s.octets
@@ -23,7 +22,7 @@ passed_shorter format count s after t e =
     let goes = step_advances format count (limited (Some most_captured)) s (nexts.NoPacket after) t e in
     omega (arith, goes.on, goes.same)
 
-packets_from-same : (count : ℕ) (r : Result (Next × Source) Refusal) (f g : Format → ℕ → Source → Packets)
+packets_from-same : (count : ℕ) (r : Result (Next × Source) Fault) (f g : Format → ℕ → Source → Packets)
     → ((packet : Packet) (after : Format) (t : Source) → r ≡ Ok (nexts.Packet packet after, t) → f after (count + 1) t ≡ g after (count + 1) t)
     → ((after : Format) (t : Source) → r ≡ Ok (nexts.NoPacket after, t) → f after count t ≡ g after count t)
     → packets_from count r f ≡ packets_from count r g
@@ -49,13 +48,13 @@ after-step format count s =
 
 -- a packet, a step without one, the end, or the fault
 pub after-packet : (format : Format) (count : ℕ) (s : Source) (packet : Packet) (after : Format) (t : Source) → step format count s ≡ Ok (nexts.Packet packet after, t) → packets_after format count s ≡ with_first packet (packets_after after (count + 1) t)
-after-packet format count s packet after t e = after-step format count s ∙ ap (λ (r : Result (Next × Source) Refusal). packets_from count r packets_after) e
+after-packet format count s packet after t e = after-step format count s ∙ ap (λ (r : Result (Next × Source) Fault). packets_from count r packets_after) e
 
 pub after-passed : (format : Format) (count : ℕ) (s : Source) (after : Format) (t : Source) → step format count s ≡ Ok (nexts.NoPacket after, t) → packets_after format count s ≡ packets_after after count t
-after-passed format count s after t e = after-step format count s ∙ ap (λ (r : Result (Next × Source) Refusal). packets_from count r packets_after) e
+after-passed format count s after t e = after-step format count s ∙ ap (λ (r : Result (Next × Source) Fault). packets_from count r packets_after) e
 
 pub after-end : (format : Format) (count : ℕ) (s t : Source) → step format count s ≡ Ok (nexts.End, t) → packets_after format count s ≡ no_packets None
-after-end format count s t e = after-step format count s ∙ ap (λ (r : Result (Next × Source) Refusal). packets_from count r packets_after) e
+after-end format count s t e = after-step format count s ∙ ap (λ (r : Result (Next × Source) Fault). packets_from count r packets_after) e
 
-pub after-fault : (format : Format) (count : ℕ) (s : Source) (f : Refusal) → step format count s ≡ Err f → packets_after format count s ≡ no_packets (Some f)
-after-fault format count s f e = after-step format count s ∙ ap (λ (r : Result (Next × Source) Refusal). packets_from count r packets_after) e
+pub after-fault : (format : Format) (count : ℕ) (s : Source) (f : Fault) → step format count s ≡ Err f → packets_after format count s ≡ no_packets (Some f)
+after-fault format count s f e = after-step format count s ∙ ap (λ (r : Result (Next × Source) Fault). packets_from count r packets_after) e

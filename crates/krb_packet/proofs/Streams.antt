@@ -1,7 +1,7 @@
 -- A capture file that is read one packet at a time: how each call changes the packets that are left.
 use Rattle.std.proofs.Common.{◌≡◌, ℕ, suc, ◌+◌, Option, Some, None, Result, Ok, Err, List, [], ◌∷◌, ◌++◌, length, refl, sym, ◌∙◌, ap, subst, arith, append_assoc, append-nil, length-append}
-use Rattle.krb_file.specs.Fields.{Source, Bounds, limited}
-use Rattle.krb_file.specs.FieldReaders.{Cursor, source_at}
+use Rattle.krb_file.specs.Fields.{Source, Fault, Bounds, limited, and_then, succeed}
+use Rattle.krb_file.specs.FieldReaders.{Cursor, HasRead, FailsBy, source_at}
 use Rattle.krb_file.specs.declared.fault.FileFault.{FileFault}
 use Rattle.krb_file.specs.declared.fault.FileFault.TheVariants as faults
 use Rattle.krb_file.proofs.FieldReaders.{some_rest}
@@ -9,12 +9,9 @@ use Rattle.krb_packet.specs.declared.packet.Packet.{Packet}
 use Rattle.krb_packet.specs.declared.format.Format.{Format}
 use Rattle.krb_packet.specs.declared.format.Format.TheVariants as formats
 use Rattle.krb_packet.specs.declared.format.Next.TheVariants as nexts
-use Rattle.krb_packet.specs.declared.field.CaptureField.{CaptureField}
-use Rattle.krb_packet.specs.declared.fault.CaptureFault.{CaptureFault}
 use Rattle.krb_packet.specs.declared.pcap.Header.{Header}
 use Rattle.krb_packet.specs.declared.packets.State.{State}
 use Rattle.krb_packet.specs.declared.packets.State.TheVariants as states
-use Rattle.krb_packet.specs.Parsers.{Refusal, and_then, succeed, HasParsed, FailsIn}
 use Rattle.krb_packet.specs.Pcaps.{most_captured}
 use Rattle.krb_packet.specs.Captures.{packet_in, after_packet, next_in, Packets, with_first, no_packets, packets_after, packets}
 use Rattle.krb_packet.specs.Streaming.{PacketsModel, before, Reads, IsPacket, EndsBy, FailsAfter}
@@ -40,7 +37,7 @@ abbrev pub opening : Cursor → Format → ℕ → PacketsModel
 opening cursor format count = record { cursor = cursor; state = states.Open format; count = count }
 
 -- a step without a packet was read
-pub passed_read : (file : List ℕ) (count number : ℕ) (format after : Format) (old new : Cursor) → Reads (opening old format number) file count → HasParsed (next_in format number) (nexts.NoPacket after) old new → Reads (opening new after number) file count
+pub passed_read : (file : List ℕ) (count number : ℕ) (format after : Format) (old new : Cursor) → Reads (opening old format number) file count → HasRead (next_in format number) (nexts.NoPacket after) old new → Reads (opening new after number) file count
 passed_read file count number format after old new reads read = record {
   bounds = read.same_bounds ∙ reads.bounds;
   same = reads.same;
@@ -67,7 +64,7 @@ next_packet file count number format after x old new reads rest octets read =
     let one : count + 1 ≡ suc count = omega arith in
     after-packet format count s x after t e ∙ ap (λ (n : ℕ). with_first x (packets_after after n t)) one
 
-packet_read : (file : List ℕ) (count number more : ℕ) (format after : Format) (x : Packet) (old new : Cursor) → more ≡ number + 1 → Reads (opening old format number) file count → HasParsed (next_in format number) (nexts.Packet x after) old new → Reads (opening new after more) file (suc count)
+packet_read : (file : List ℕ) (count number more : ℕ) (format after : Format) (x : Packet) (old new : Cursor) → more ≡ number + 1 → Reads (opening old format number) file count → HasRead (next_in format number) (nexts.Packet x after) old new → Reads (opening new after more) file (suc count)
 packet_read file count number more format after x old new next reads read = record {
   bounds = read.same_bounds ∙ reads.bounds;
   same = omega (arith, next, reads.same);
@@ -83,7 +80,7 @@ packet_read file count number more format after x old new next reads read = reco
       );
 }
 
-pub packet_given : (file : List ℕ) (count number more : ℕ) (format after : Format) (x : Packet) (old new : Cursor) → more ≡ number + 1 → Reads (opening old format number) file count → HasParsed (next_in format number) (nexts.Packet x after) old new
+pub packet_given : (file : List ℕ) (count number more : ℕ) (format after : Format) (x : Packet) (old new : Cursor) → more ≡ number + 1 → Reads (opening old format number) file count → HasRead (next_in format number) (nexts.Packet x after) old new
     → IsPacket (packets file) count x × Reads (opening new after more) file (suc count)
 packet_given file count number more format after x old new next reads read =
     let now = some_rest new in
@@ -100,7 +97,7 @@ packet_given file count number more format after x old new next reads read =
       packet_read file count number more format after x old new next reads read,
     )
 
-ends_so : (file : List ℕ) (count : ℕ) (refusal : Option Refusal) (given : List Packet) (left : Packets) → length given ≡ count → left ≡ no_packets refusal → before given left ≡ packets file → EndsBy (packets file) count refusal
+ends_so : (file : List ℕ) (count : ℕ) (refusal : Option Fault) (given : List Packet) (left : Packets) → length given ≡ count → left ≡ no_packets refusal → before given left ≡ packets file → EndsBy (packets file) count refusal
 ends_so file count refusal given left counted is whole =
     let all = sym whole ∙ ap (before given) is in
     record {
@@ -108,7 +105,7 @@ ends_so file count refusal given left counted is whole =
       is = ap (λ (i : Packets). i.refusal) all;
     }
 
-pub end_given : (file : List ℕ) (count number : ℕ) (format : Format) (old new : Cursor) → Reads (opening old format number) file count → HasParsed (next_in format number) nexts.End old new → EndsBy (packets file) count None
+pub end_given : (file : List ℕ) (count number : ℕ) (format : Format) (old new : Cursor) → Reads (opening old format number) file count → HasRead (next_in format number) nexts.End old new → EndsBy (packets file) count None
 end_given file count number format old new reads read =
     let now = some_rest new in
     let a = read.from now.rest now.there in
@@ -119,28 +116,27 @@ end_given file count number format old new reads read =
     let e : next_in format count limits s ≡ Ok (nexts.End, t) = subst (λ (n : ℕ). next_in format n limits s ≡ Ok (nexts.End, t)) reads.same whose in
     ends_so file count None reads.given b.0 reads.counted (b.1 ∙ after-end format count s t e) b.2
 
-pub fault_given : (file : List ℕ) (count number : ℕ) (format : Format) (e : FileFault) (field : CaptureField) (MayFail : Type 0) (old : Cursor) → Reads (opening old format number) file count → FailsIn e field (next_in format number) MayFail old → FailsAfter file count e field
-fault_given file count number format faults.Read field MayFail old reads fails = tt
-fault_given file count number format faults.Memory field MayFail old reads fails = tt
-fault_given file count number format (faults.Refused fault) field MayFail old reads fails =
-    let refusal : Refusal = record { fault = fault; field = field } in
+pub fault_given : (file : List ℕ) (count number : ℕ) (format : Format) (e : FileFault) (MayFail : Type 0) (old : Cursor) → Reads (opening old format number) file count → FailsBy e (next_in format number) MayFail old → FailsAfter file count e
+fault_given file count number format faults.Read MayFail old reads fails = tt
+fault_given file count number format faults.Memory MayFail old reads fails = tt
+fault_given file count number format (faults.Refused fault) MayFail old reads fails =
     let b = reads.rest fails.octets fails.there in
     let s = source_at old.place fails.octets in
-    let whose : next_in format number limits s ≡ Err refusal = subst (λ (k : Bounds). next_in format number k s ≡ Err refusal) reads.bounds fails.refused in
-    let e : next_in format count limits s ≡ Err refusal = subst (λ (n : ℕ). next_in format n limits s ≡ Err refusal) reads.same whose in
-    ends_so file count (Some refusal) reads.given b.0 reads.counted (b.1 ∙ after-fault format count s refusal e) b.2
+    let whose : next_in format number limits s ≡ Err fault = subst (λ (k : Bounds). next_in format number k s ≡ Err fault) reads.bounds fails.refused in
+    let e : next_in format count limits s ≡ Err fault = subst (λ (n : ℕ). next_in format n limits s ≡ Err fault) reads.same whose in
+    ends_so file count (Some fault) reads.given b.0 reads.counted (b.1 ∙ after-fault format count s fault e) b.2
 
 -- ---- the step of a pcap whose header was read
-pub pcap_step : (header : Header) (count : ℕ) (packet : Option Packet) (old new : Cursor) → HasParsed (packet_in header count) packet old new → HasParsed (next_in (formats.Pcap header) count) (after_packet header packet) old new
+pub pcap_step : (header : Header) (count : ℕ) (packet : Option Packet) (old new : Cursor) → HasRead (packet_in header count) packet old new → HasRead (next_in (formats.Pcap header) count) (after_packet header packet) old new
 pcap_step header count packet old new read = record {
   same_bounds = read.same_bounds;
-  from = λ rest there. let a = read.from rest there in (a.0, a.1, ap (λ (r : Result (Option Packet × Source) Refusal). and_then r (λ x. succeed (after_packet header x.0) old.bounds x.1)) a.2);
+  from = λ rest there. let a = read.from rest there in (a.0, a.1, ap (λ (r : Result (Option Packet × Source) Fault). and_then r (λ x. succeed (after_packet header x.0) old.bounds x.1)) a.2);
 }
 
 pub pcap_reads : (file : List ℕ) (count number : ℕ) (header : Header) (state : State) (cursor : Cursor) → state ≡ states.Open (formats.Pcap header) → Reads (record { cursor = cursor; state = state; count = number }) file count → Reads (opening cursor (formats.Pcap header) number) file count
 pcap_reads file count number header state cursor is reads = subst (λ (s : State). let model : PacketsModel = record { cursor = cursor; state = s; count = number } in Reads model file count) is reads
 
-pub pcap_given : (file : List ℕ) (count number : ℕ) (header : Header) (state : State) (x : Packet) (old new : Cursor) → state ≡ states.Open (formats.Pcap header) → Reads (record { cursor = old; state = state; count = number }) file count → HasParsed (packet_in header number) (Some x) old new
+pub pcap_given : (file : List ℕ) (count number : ℕ) (header : Header) (state : State) (x : Packet) (old new : Cursor) → state ≡ states.Open (formats.Pcap header) → Reads (record { cursor = old; state = state; count = number }) file count → HasRead (packet_in header number) (Some x) old new
     → IsPacket (packets file) count x × Reads (record { cursor = new; state = state; count = number + 1 }) file (suc count)
 pcap_given file count number header state x old new is reads read =
     let format = formats.Pcap header in
@@ -150,5 +146,5 @@ pcap_given file count number header state x old new is reads read =
 pub not_done : (file : List ℕ) (count number : ℕ) (cursor : Cursor) → Reads (record { cursor = cursor; state = states.Done; count = number }) file count → ⊥
 not_done file count number cursor reads = let now = some_rest cursor in (reads.rest now.rest now.there).1
 
-pub not_failed : (file : List ℕ) (count number : ℕ) (fault : CaptureFault) (cursor : Cursor) → Reads (record { cursor = cursor; state = states.Failed fault; count = number }) file count → ⊥
+pub not_failed : (file : List ℕ) (count number : ℕ) (fault : FileFault) (cursor : Cursor) → Reads (record { cursor = cursor; state = states.Failed fault; count = number }) file count → ⊥
 not_failed file count number fault cursor reads = let now = some_rest cursor in (reads.rest now.rest now.there).1

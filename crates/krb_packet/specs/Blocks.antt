@@ -1,12 +1,14 @@
--- The blocks of a pcapng with the names of their fields, and the progress in a file after each.
-use Rattle.std.specs.Prelude.{ℕ, ◌+◌, ◌-◌, ◌||◌, ◌==◌, Option, Some, None, Result, Ok, Err, List, [], ◌∷◌, ◌++◌}
-use Rattle.krb_der.specs.Octets.{when}
+-- The blocks of a pcapng, and the progress in a file after each.
+use Rattle.std.specs.Prelude.{ℕ, ◌+◌, ◌-◌, Option, Some, None, Result, Ok, Err, List, [], ◌∷◌, ◌++◌}
 use Rattle.std.specs.Int.{w32}
-use Rattle.krb_file.specs.Fields.{Fault, octets_at}
+use Rattle.krb_file.specs.Fields.{Fault, Reader, ◌>>=◌, succeed, called, begun_at, with_part, in_part, octets_at}
+use Rattle.krb_file.specs.Fields.{refused_at as in_field}
 use Rattle.krb_file.specs.FieldReaders.{skipped_at}
 use Rattle.krb_file.specs.declared.fault.FileFault.{FileFault}
 use Rattle.krb_file.specs.declared.fault.FileFault.TheVariants as faults
-use Rattle.krb_packet.specs.declared.interface.Interface.{Interface}
+use Rattle.krb_file.specs.declared.field_name.FieldName.TheVariants as fields
+use Rattle.krb_file.specs.declared.field_name.FilePart.{FilePart}
+use Rattle.krb_file.specs.declared.field_name.FilePart.TheVariants as parts
 use Rattle.krb_packet.specs.declared.block.BlockKind.{BlockKind}
 use Rattle.krb_packet.specs.declared.block.BlockKind.TheVariants as kinds
 use Rattle.krb_packet.specs.declared.block.Head.{Head}
@@ -16,83 +18,47 @@ use Rattle.krb_packet.specs.declared.body.Content.TheVariants as contents
 use Rattle.krb_packet.specs.declared.format.Format.TheVariants as formats
 use Rattle.krb_packet.specs.declared.format.Next.{Next}
 use Rattle.krb_packet.specs.declared.format.Next.TheVariants as nexts
-use Rattle.krb_packet.specs.declared.field.CaptureField.TheVariants as capture
-use Rattle.krb_packet.specs.declared.field.BlockField.{BlockField}
-use Rattle.krb_packet.specs.declared.field.BlockField.TheVariants as block
-use Rattle.krb_packet.specs.Numbers.{checked_number, refused_at}
-use Rattle.krb_packet.specs.Parsers.{Parser, ◌>>=◌, succeed, from_here, fields, named, part_from}
+use Rattle.krb_packet.specs.Numbers.{checked_number, from_here, refused_at}
 use Rattle.krb_packet.specs.Bodies.{next_kind_at, head_at, content_at, in_body, same_length}
-
--- ---- the field at an offset: of what is between the type and the body, and of a body
-
-abbrev pub head_field : ℕ → BlockField
-head_field offset = when (offset == 0) (λ _. block.Length) (λ _. block.ByteOrder)
-
-abbrev pub interface_field : ℕ → BlockField
-interface_field offset =
-    when (offset == 0) (λ _. block.LinkType) (λ _.
-    when (offset == 2) (λ _. block.Reserved) (λ _.
-    when (offset == 4) (λ _. block.SnapLen) (λ _.
-    block.Options)))
-
-abbrev pub packet_block_field : ℕ → BlockField
-packet_block_field offset =
-    when (offset == 0) (λ _. block.Interface) (λ _.
-    when (offset == 2) (λ _. block.Drops) (λ _.
-    when (offset == 4 || offset == 8) (λ _. block.Timestamp) (λ _.
-    when (offset == 12) (λ _. block.CapturedLength) (λ _.
-    when (offset == 16) (λ _. block.OriginalLength) (λ _.
-    block.Data)))))
-
--- a simple packet block is at fault before its first field if there is no interface
-abbrev pub simple_packet_field : List Interface → BlockField
-simple_packet_field [] = block.Interface
-simple_packet_field (interface ∷ others) = block.OriginalLength
-
-abbrev pub body_field : BlockKind → List Interface → ℕ → BlockField
-body_field kinds.Section interfaces offset = block.Version
-body_field kinds.Interface interfaces offset = interface_field offset
-body_field kinds.SimplePacket interfaces offset = simple_packet_field interfaces
-body_field kind interfaces offset = packet_block_field offset
 
 -- ---- a block, after its type
 
-abbrev pub head_in : BlockKind → Section → Parser Head
-head_in kind section = from_here (λ start. fields (λ place. capture.Block section.blocks (head_field (place - start))) (head_at kind section.order))
-
 -- the body of another block is skipped
-abbrev pub skipped_body : ℕ → Head → Parser Content
-skipped_body blocks head = named (capture.Block blocks block.Body) (skipped_at head.left) >>= λ zeros. succeed contents.Other
+abbrev pub skipped_body : Head → Reader Content
+skipped_body head = called fields.Body (skipped_at head.left) >>= λ zeros. succeed contents.Other
 
 -- the content of a body that begins at a place, with places in the file for those in the body
-abbrev pub content_in_file : Section → BlockKind → ℕ → Result Content Fault → Parser Content
-content_in_file section kind begin (Ok content) = succeed content
-content_in_file section kind begin (Err fault) = λ bounds source.
-    Err (record { fault = record fault { place = begin + fault.place }; field = capture.Block section.blocks (body_field kind section.interfaces fault.place) })
+abbrev pub content_in_file : ℕ → Result Content Fault → Reader Content
+content_in_file begin (Ok content) = succeed content
+content_in_file begin (Err fault) = λ bounds source. Err (record fault { place = begin + fault.place })
 
 -- the content of a body, all of which has to be in the file; it begins at `place`, and some of it may be read already
-abbrev pub read_body : BlockKind → Section → ℕ → ℕ → Head → Parser Content
+abbrev pub read_body : BlockKind → Section → ℕ → ℕ → Head → Reader Content
 read_body kind section count place head = from_here (λ begin.
-    named (capture.Block section.blocks block.Body) (refused_at place (octets_at head.left)) >>= λ octets.
-    content_in_file section kind begin (in_body (content_at kind head.order count section.interfaces) octets))
+    refused_at place (called fields.Body (octets_at head.left)) >>= λ octets.
+    content_in_file begin (in_body (content_at kind head.order count section.interfaces) octets))
 
-abbrev pub body_in : BlockKind → Section → ℕ → ℕ → Head → Parser Content
-body_in kinds.Other section count place head = skipped_body section.blocks head
+abbrev pub body_in : BlockKind → Section → ℕ → ℕ → Head → Reader Content
+body_in kinds.Other section count place head = skipped_body head
 body_in kind section count place head = read_body kind section count place head
 
-abbrev pub end_in : ℕ → Head → Parser (Unit {0})
-end_in blocks head = named (capture.Block blocks block.LengthAgain) (checked_number w32 head.order (same_length head.length))
+abbrev pub end_in : Head → Reader (Unit {0})
+end_in head = checked_number fields.LengthAgain w32 head.order (same_length head.length)
 
-abbrev pub block_in : BlockKind → Section → ℕ → Parser Content
+abbrev pub block_in : BlockKind → Section → ℕ → Reader Content
 block_in kind section count = from_here (λ start. do
-  head ← head_in kind section
+  head ← head_at kind section.order
   content ← body_in kind section count (start + 4) head
-  same ← end_in section.blocks head
+  same ← end_in head
   succeed content)
 
--- the same; a fault is in the block, which begins with the four octets of its type
-abbrev pub whole_block_in : BlockKind → Section → ℕ → Parser Content
-whole_block_in kind section count = from_here (λ start. part_from (start - 4) (block_in kind section count))
+-- the same reader, of a part that begins at this place
+abbrev pub part_from : {A : Type 0} → FilePart → ℕ → Reader A → Reader A
+part_from part place reader = λ bounds source. begun_at place (in_field (with_part part) (reader bounds source))
+
+-- a block, which begins with the four octets of its type
+abbrev pub whole_block_in : BlockKind → Section → ℕ → Reader Content
+whole_block_in kind section count = from_here (λ start. part_from (parts.Block section.blocks) (start - 4) (block_in kind section count))
 
 -- ---- the progress after a block: a section header begins with no interfaces
 
@@ -102,20 +68,27 @@ after_content section (contents.Interface interface) = nexts.NoPacket (formats.P
 after_content section (contents.Packet packet) = nexts.Packet packet (formats.Pcapng (record section { blocks = section.blocks + 1 }))
 after_content section contents.Other = nexts.NoPacket (formats.Pcapng (record section { blocks = section.blocks + 1 }))
 
-abbrev pub block_after : BlockKind → Section → ℕ → Parser Next
+abbrev pub block_after : BlockKind → Section → ℕ → Reader Next
 block_after kind section count = whole_block_in kind section count >>= λ content. succeed (after_content section content)
 
-abbrev pub after_kind : Section → ℕ → Option BlockKind → Parser Next
+abbrev pub after_kind : Section → ℕ → Option BlockKind → Reader Next
 after_kind section count None = succeed nexts.End
 after_kind section count (Some kind) = block_after kind section count
 
 -- the next block, or the end of the file
-abbrev pub next_block : Section → ℕ → Parser Next
-next_block section count = named (capture.Block section.blocks block.Type) (next_kind_at section.order) >>= after_kind section count
+abbrev pub next_block : Section → ℕ → Reader Next
+next_block section count = in_part (parts.Block section.blocks) (next_kind_at section.order) >>= after_kind section count
 
 -- ---- for results of functions
 
+-- the same fault, whose place is counted from another one
 abbrev pub fault_from : ℕ → FileFault → FileFault
 fault_from begin (faults.Refused fault) = faults.Refused (record fault { place = begin + fault.place })
 fault_from begin faults.Read = faults.Read
 fault_from begin faults.Memory = faults.Memory
+
+-- the place of a refusal
+abbrev pub place_of : FileFault → ℕ
+place_of (faults.Refused fault) = fault.place
+place_of faults.Read = 0
+place_of faults.Memory = 0

@@ -2,9 +2,10 @@
 use Rattle.std.specs.Prelude.{ℕ, ◌+◌, ◌-◌, ◌*◌, ◌%◌, ◌^◌, min, max, not, ◌||◌, ◌==◌, nat_lt, Option, Some, None, Result, Ok, Err, List, length, slice_get}
 use Rattle.std.specs.Int.{w16, w32}
 use Rattle.krb_der.specs.Octets.{when}
-use Rattle.krb_file.specs.Fields.{Source, Fault, ended, source_of, Reader, ◌>>=◌, succeed, next_octets_at, octets_at, octets_to_end, is_empty}
+use Rattle.krb_file.specs.Fields.{Source, Fault, ended, source_of, Reader, ◌>>=◌, succeed, called, next_octets_at, octets_at, octets_to_end, is_empty}
 use Rattle.krb_file.specs.declared.fault.FileWhy.{FileWhy}
 use Rattle.krb_file.specs.declared.fault.FileWhy.TheVariants as why
+use Rattle.krb_file.specs.declared.field_name.FieldName.TheVariants as fields
 use Rattle.krb_packet.specs.declared.order.ByteOrder.{ByteOrder}
 use Rattle.krb_packet.specs.declared.order.ByteOrder.TheVariants as orders
 use Rattle.krb_packet.specs.declared.packet.Packet.{Packet}
@@ -14,7 +15,7 @@ use Rattle.krb_packet.specs.declared.block.BlockKind.TheVariants as kinds
 use Rattle.krb_packet.specs.declared.block.Head.{Head}
 use Rattle.krb_packet.specs.declared.body.Content.{Content}
 use Rattle.krb_packet.specs.declared.body.Content.TheVariants as contents
-use Rattle.krb_packet.specs.Numbers.{in_order, number_in, checked_at, from_here, checked_number}
+use Rattle.krb_packet.specs.Numbers.{in_order, field_in, checked_at, from_here, checked_number}
 use Rattle.krb_packet.specs.Interfaces.{interface_at, clock_time}
 
 -- ---- before a body (3.1): the type, and the length of the block, a multiple of 4
@@ -31,7 +32,7 @@ block_kind number =
 -- the type of the next block, or none at the end of the file
 abbrev pub next_kind_at : ByteOrder → Reader (Option BlockKind)
 next_kind_at order = λ bounds source.
-    when (is_empty source.octets) (λ _. Ok (None, source)) (λ _. (number_in w32 order >>= λ number. succeed (Some (block_kind number))) bounds source)
+    when (is_empty source.octets) (λ _. Ok (None, source)) (λ _. (field_in fields.Type w32 order >>= λ number. succeed (Some (block_kind number))) bounds source)
 
 -- the size of a body: that of the block without the type and the two lengths; a block has at most 2^24 octets
 abbrev pub body_size : ℕ → Result ℕ FileWhy
@@ -59,15 +60,15 @@ after_byte_order size = when (nat_lt size 4) (λ _. Err why.Overrun) (λ _. Ok (
 
 abbrev pub section_head_at : Reader Head
 section_head_at = from_here (λ place. do
-  octets ← next_octets_at None 4
-  order ← checked_number w32 orders.BigEndian byte_order
-  size ← checked_at place (body_size (in_order w32 order octets))
-  left ← checked_at (place + 4) (after_byte_order size)
+  octets ← called fields.Length (next_octets_at None 4)
+  order ← checked_number fields.ByteOrder w32 orders.BigEndian byte_order
+  size ← checked_at fields.Length place (body_size (in_order w32 order octets))
+  left ← checked_at fields.ByteOrder (place + 4) (after_byte_order size)
   succeed (record { order = order; length = in_order w32 order octets; left = left }))
 
 abbrev pub head_at : BlockKind → ByteOrder → Reader Head
 head_at kinds.Section order = section_head_at
-head_at kind order = checked_number w32 order (head_of order)
+head_at kind order = checked_number fields.Length w32 order (head_of order)
 
 -- the length at the end of the block
 abbrev pub same_length : ℕ → ℕ → Result (Unit {0}) FileWhy
@@ -91,22 +92,22 @@ announced interfaces index = is_announced (slice_get interfaces index)
 
 abbrev pub timed_packet_at : ByteOrder → ℕ → Interface → Reader Packet
 timed_packet_at order count interface = do
-  high ← number_in w32 order
-  low ← number_in w32 order
-  captured ← number_in w32 order
-  original ← number_in w32 order
-  octets ← octets_at captured
+  high ← field_in fields.Timestamp w32 order
+  low ← field_in fields.Timestamp w32 order
+  captured ← field_in fields.CapturedLength w32 order
+  original ← field_in fields.OriginalLength w32 order
+  octets ← called fields.Data (octets_at captured)
   succeed (record { number = count + 1; time = clock_time interface.clock (high * 2 ^ 32 + low); link = interface.link; octets = octets; size = max captured original })
 
 abbrev pub enhanced_packet_at : ByteOrder → ℕ → List Interface → Reader Packet
 enhanced_packet_at order count interfaces = do
-  interface ← checked_number w32 order (announced interfaces)
+  interface ← checked_number fields.Interface w32 order (announced interfaces)
   timed_packet_at order count interface
 
 abbrev pub old_packet_at : ByteOrder → ℕ → List Interface → Reader Packet
 old_packet_at order count interfaces = do
-  interface ← checked_number w16 order (announced interfaces)
-  drops ← number_in w16 order
+  interface ← checked_number fields.Interface w16 order (announced interfaces)
+  drops ← field_in fields.Drops w16 order
   timed_packet_at order count interface
 
 -- the number of octets of a packet that are captured: at most the snaplen of the interface, if that is not 0
@@ -119,19 +120,19 @@ most_octets_at most = λ bounds source. octets_at (min most (octets_to_end bound
 
 -- the first interface, which a simple packet block is of
 abbrev pub first_interface : List Interface → Reader Interface
-first_interface interfaces = from_here (λ place. checked_at place (announced interfaces 0))
+first_interface interfaces = from_here (λ place. checked_at fields.Interface place (announced interfaces 0))
 
 abbrev pub simple_packet_at : ByteOrder → ℕ → List Interface → Reader Packet
 simple_packet_at order count interfaces = do
   interface ← first_interface interfaces
-  original ← number_in w32 order
-  octets ← most_octets_at (most_of interface.snaplen original)
+  original ← field_in fields.OriginalLength w32 order
+  octets ← called fields.Data (most_octets_at (most_of interface.snaplen original))
   succeed (record { number = count + 1; time = None; link = interface.link; octets = octets; size = original })
 
 -- ---- any body
 
 abbrev pub content_at : BlockKind → ByteOrder → ℕ → List Interface → Reader Content
-content_at kinds.Section order count interfaces = checked_number w16 order section_version >>= λ version. succeed (contents.Section order)
+content_at kinds.Section order count interfaces = checked_number fields.Version w16 order section_version >>= λ version. succeed (contents.Section order)
 content_at kinds.Interface order count interfaces = interface_at order >>= λ interface. succeed (contents.Interface interface)
 content_at kinds.OldPacket order count interfaces = old_packet_at order count interfaces >>= λ packet. succeed (contents.Packet packet)
 content_at kinds.SimplePacket order count interfaces = simple_packet_at order count interfaces >>= λ packet. succeed (contents.Packet packet)

@@ -1,7 +1,7 @@
 -- Capture files, pcap and pcapng, read from left to right, up to the first fault.
-use Rattle.std.specs.Prelude.{ℕ, zero, suc, ◌+◌, ◌-◌, ◌==◌, Option, Some, None, Result, Ok, Err, List, [], ◌∷◌, length}
-use Rattle.krb_der.specs.Octets.{when}
-use Rattle.krb_file.specs.Fields.{Source, source_of, limited, one_part}
+use Rattle.std.specs.Prelude.{ℕ, zero, suc, ◌+◌, Option, Some, None, Result, Ok, Err, List, [], ◌∷◌, length}
+use Rattle.krb_file.specs.Fields.{Source, source_of, Fault, limited, Reader, ◌>>=◌, succeed, in_part}
+use Rattle.krb_file.specs.declared.field_name.FilePart.TheVariants as parts
 use Rattle.krb_packet.specs.declared.order.ByteOrder.TheVariants as orders
 use Rattle.krb_packet.specs.declared.packet.Packet.{Packet}
 use Rattle.krb_packet.specs.declared.pcap.Form.{Form}
@@ -13,54 +13,28 @@ use Rattle.krb_packet.specs.declared.format.Format.{Format}
 use Rattle.krb_packet.specs.declared.format.Format.TheVariants as formats
 use Rattle.krb_packet.specs.declared.format.Next.{Next}
 use Rattle.krb_packet.specs.declared.format.Next.TheVariants as nexts
-use Rattle.krb_packet.specs.declared.field.CaptureField.{CaptureField}
-use Rattle.krb_packet.specs.declared.field.CaptureField.TheVariants as capture
-use Rattle.krb_packet.specs.declared.field.PacketField.{PacketField}
-use Rattle.krb_packet.specs.declared.field.PacketField.TheVariants as packet_fields
-use Rattle.krb_packet.specs.Parsers.{Refusal, Parser, ◌>>=◌, succeed, from_here, fields, named}
 use Rattle.krb_packet.specs.Pcaps.{magic_at, header_at, most_captured, next_at}
 use Rattle.krb_packet.specs.Blocks.{block_after, next_block}
 
--- ---- the field of a pcap at an offset
-
--- in the header, after the magic
-abbrev pub header_field : ℕ → CaptureField
-header_field offset =
-    when (offset == 0) (λ _. capture.Version) (λ _.
-    when (offset == 4) (λ _. capture.ThisZone) (λ _.
-    when (offset == 8) (λ _. capture.SigFigs) (λ _.
-    when (offset == 12) (λ _. capture.SnapLen) (λ _.
-    capture.LinkType))))
-
-abbrev pub packet_field : ℕ → PacketField
-packet_field offset =
-    when (offset == 0) (λ _. packet_fields.Seconds) (λ _.
-    when (offset == 4) (λ _. packet_fields.Fraction) (λ _.
-    when (offset == 8) (λ _. packet_fields.CapturedLength) (λ _.
-    when (offset == 12) (λ _. packet_fields.OriginalLength) (λ _.
-    packet_fields.Data))))
-
-abbrev pub header_in : Form → Parser Header
-header_in form = from_here (λ start. fields (λ place. header_field (place - start)) (header_at form))
-
-abbrev pub packet_in : Header → ℕ → Parser (Option Packet)
-packet_in header count = from_here (λ start. fields (λ place. capture.Packet count (packet_field (place - start))) (one_part (next_at header count)))
+-- the next packet of a pcap, which is a part of the file
+abbrev pub packet_in : Header → ℕ → Reader (Option Packet)
+packet_in header count = in_part (parts.Packet count) (next_at header count)
 
 -- ---- A file is read in steps: the header of a pcap or the first block, and then packets or blocks.
 
-abbrev pub after_magic : ℕ → Magic → Parser Next
-after_magic count (magics.Pcap form) = header_in form >>= λ header. succeed (nexts.NoPacket (formats.Pcap header))
+abbrev pub after_magic : ℕ → Magic → Reader Next
+after_magic count (magics.Pcap form) = header_at form >>= λ header. succeed (nexts.NoPacket (formats.Pcap header))
 after_magic count magics.Pcapng = block_after kinds.Section (record { order = orders.BigEndian; interfaces = []; blocks = 0 }) count
 
-abbrev pub begin_in : ℕ → Parser Next
-begin_in count = named capture.Magic magic_at >>= after_magic count
+abbrev pub begin_in : ℕ → Reader Next
+begin_in count = magic_at >>= after_magic count
 
 abbrev pub after_packet : Header → Option Packet → Next
 after_packet header None = nexts.End
 after_packet header (Some packet) = nexts.Packet packet (formats.Pcap header)
 
 -- the step after `count` packets
-abbrev pub next_in : Format → ℕ → Parser Next
+abbrev pub next_in : Format → ℕ → Reader Next
 next_in formats.Unknown count = begin_in count
 next_in (formats.Pcap header) count = packet_in header count >>= λ packet. succeed (after_packet header packet)
 next_in (formats.Pcapng section) count = next_block section count
@@ -74,9 +48,9 @@ blocks_of (formats.Pcapng section) = section.blocks
 -- ---- The packets before the end of the file or the first fault; and that fault.
 pub record Packets : Type 0 where
   pub packets : List Packet
-  pub refusal : Option Refusal
+  pub refusal : Option Fault
 
-abbrev pub no_packets : Option Refusal → Packets
+abbrev pub no_packets : Option Fault → Packets
 no_packets refusal = record { packets = []; refusal = refusal }
 
 abbrev pub with_first : Packet → Packets → Packets
@@ -88,8 +62,8 @@ with_others count (nexts.Packet packet format) source others = with_first packet
 with_others count (nexts.NoPacket format) source others = others format count source
 with_others count nexts.End source others = no_packets None
 
-abbrev pub packets_from : ℕ → Result (Next × Source) Refusal → (Format → ℕ → Source → Packets) → Packets
-packets_from count (Err refusal) others = no_packets (Some refusal)
+abbrev pub packets_from : ℕ → Result (Next × Source) Fault → (Format → ℕ → Source → Packets) → Packets
+packets_from count (Err fault) others = no_packets (Some fault)
 packets_from count (Ok read) others = with_others count read.0 read.1 others
 
 -- at most as many steps as the first number

@@ -1,5 +1,5 @@
 -- Worked examples, computed by the definitions: octets in hexadecimal, and what they are.
-use Rattle.std.specs.Prelude.{ℕ, ◌+◌, ◌-◌, ◌≡◌, true, false, Some, None, List, [], ◌∷◌, ◌++◌, codes, length, take, drop, refl}
+use Rattle.std.specs.Prelude.{ℕ, ◌+◌, ◌-◌, ◌≡◌, true, false, Option, Some, None, List, [], ◌∷◌, ◌++◌, codes, length, take, drop, refl}
 use Rattle.std.specs.Net.Addr.{segments_of}
 use Rattle.std.specs.declared.net.ip_addr.IpAddr.{IpAddr}
 use Rattle.std.specs.declared.net.ip_addr.IpAddr.TheVariants as ip
@@ -7,11 +7,12 @@ use Rattle.krb_der.specs.Hex.{hex}
 use Rattle.krb_file.specs.Fields.{Fault}
 use Rattle.krb_file.specs.declared.fault.FileWhy.{FileWhy}
 use Rattle.krb_file.specs.declared.fault.FileWhy.TheVariants as why
+use Rattle.krb_file.specs.declared.field_name.FieldName.{FieldName}
+use Rattle.krb_file.specs.declared.field_name.FieldName.TheVariants as fields
+use Rattle.krb_file.specs.declared.field_name.FilePart.{FilePart}
+use Rattle.krb_file.specs.declared.field_name.FilePart.TheVariants as parts
 use Rattle.krb_packet.specs.declared.packet.Packet.{Packet}
 use Rattle.krb_packet.specs.declared.packet.LinkType.TheVariants as links
-use Rattle.krb_packet.specs.declared.field.CaptureField.TheVariants as fields
-use Rattle.krb_packet.specs.declared.field.PacketField.TheVariants as packet_fields
-use Rattle.krb_packet.specs.declared.field.BlockField.TheVariants as block_fields
 use Rattle.krb_packet.specs.declared.contents.Contents.TheVariants as contents
 use Rattle.krb_packet.specs.declared.contents.Original.{Original}
 use Rattle.krb_packet.specs.declared.contents.Fragment.{Fragment}
@@ -19,7 +20,6 @@ use Rattle.krb_packet.specs.Payloads.{Captured, field, number8, number16, number
 use Rattle.krb_packet.specs.Contents.{datagram, ends, segment, transport, announced, ipv4, options, extension, after_headers, ipv6, network, tag, ethernet, raw_ip, frame, contents_of}
 use Rattle.krb_packet.specs.Table.{Table}
 use Rattle.krb_packet.specs.Fragments.{no_fragments, step, unread}
-use Rattle.krb_packet.specs.Parsers.{Refusal}
 use Rattle.krb_packet.specs.Captures.{Packets, packets}
 
 -- ---- a capture with the first segment of a connection from 127.0.0.1:42700 to port 88
@@ -72,32 +72,32 @@ clock_is_read : packets (section ++ clocked ++ timed) ≡ only (in_block ∷ [])
 clock_is_read = refl
 
 -- ---- refusals: the first field at fault, and the packets before it
-abbrev refused : List Packet → Refusal → Packets
-refused found refusal = record { packets = found; refusal = Some refusal }
+abbrev refused : List Packet → Fault → Packets
+refused found fault = record { packets = found; refusal = Some fault }
 
 -- in a packet, in a block, or in a field, which begins at the first number
-abbrev fault : ℕ → ℕ → FileWhy → Fault
-fault begin place reason = record { place = place; why = reason; field = None; begin = begin }
+abbrev fault : ℕ → ℕ → FileWhy → Option FilePart → FieldName → Fault
+fault begin place reason part name = record { place = place; why = reason; field = Some (record { part = part; name = name }); begin = begin }
 
-magic_is_refused : packets captured ≡ refused [] (record { fault = fault 0 0 why.Magic; field = fields.Magic })
+magic_is_refused : packets captured ≡ refused [] (fault 0 0 why.Magic None fields.Magic)
 magic_is_refused = refl
 
-version_is_refused : packets (hex (codes "A1B23C4D 0002 0003")) ≡ refused [] (record { fault = fault 4 4 why.Version; field = fields.Version })
+version_is_refused : packets (hex (codes "A1B23C4D 0002 0003")) ≡ refused [] (fault 4 4 why.Version None fields.Version)
 version_is_refused = refl
 
-cut_packet_is_refused : packets (header ++ captured ++ take 50 captured) ≡ refused (packet ∷ []) (record { fault = fault 114 130 why.Truncated; field = fields.Packet 1 packet_fields.Data })
+cut_packet_is_refused : packets (header ++ captured ++ take 50 captured) ≡ refused (packet ∷ []) (fault 114 130 why.Truncated (Some (parts.Packet 1)) fields.Data)
 cut_packet_is_refused = refl
 
-long_packet_is_refused : packets (hex (codes "A1B2C3D4 0002 0004 00000000 00000000 00000400 00000065 00000001 00000000 01000001")) ≡ refused [] (record { fault = fault 24 32 (why.TooLong 0x01000001); field = fields.Packet 0 packet_fields.CapturedLength })
+long_packet_is_refused : packets (hex (codes "A1B2C3D4 0002 0004 00000000 00000000 00000400 00000065 00000001 00000000 01000001")) ≡ refused [] (fault 24 32 (why.TooLong 0x01000001) (Some (parts.Packet 0)) fields.CapturedLength)
 long_packet_is_refused = refl
 
-interface_is_refused : packets (section ++ block) ≡ refused [] (record { fault = fault 28 36 why.Overrun; field = fields.Block 1 block_fields.Interface })
+interface_is_refused : packets (section ++ block) ≡ refused [] (fault 28 36 why.Overrun (Some (parts.Block 1)) fields.Interface)
 interface_is_refused = refl
 
-cut_block_is_refused : packets (section ++ interface ++ block ++ take 20 block) ≡ refused (in_block ∷ []) (record { fault = fault 84 92 why.Truncated; field = fields.Block 3 block_fields.Body })
+cut_block_is_refused : packets (section ++ interface ++ block ++ take 20 block) ≡ refused (in_block ∷ []) (fault 84 92 why.Truncated (Some (parts.Block 3)) fields.Body)
 cut_block_is_refused = refl
 
-length_is_refused : packets (section ++ hex (codes "06000000 0A000000")) ≡ refused [] (record { fault = fault 28 32 (why.WrongLength 10); field = fields.Block 1 block_fields.Length })
+length_is_refused : packets (section ++ hex (codes "06000000 0A000000")) ≡ refused [] (fault 28 32 (why.WrongLength 10) (Some (parts.Block 1)) fields.Length)
 length_is_refused = refl
 
 -- ---- what a packet carries

@@ -3,8 +3,9 @@ use Rattle.std.specs.Prelude.{ℕ, zero, suc, ℤ, pos, ◌+◌, ◌-◌, ◌*�
 use Rattle.std.specs.Option.{unwrap_or}
 use Rattle.std.specs.Int.{w8, w16, w32, w64, cast_signed}
 use Rattle.krb_der.specs.Octets.{when}
-use Rattle.krb_file.specs.Fields.{Reader, ◌>>=◌, succeed, next_octets_at, number_at, is_at_end, octets_to_end}
+use Rattle.krb_file.specs.Fields.{Reader, ◌>>=◌, succeed, called, next_octets_at, number_at, is_at_end, octets_to_end}
 use Rattle.krb_file.specs.FieldReaders.{skipped_at}
+use Rattle.krb_file.specs.declared.field_name.FieldName.TheVariants as fields
 use Rattle.krb_packet.specs.declared.order.ByteOrder.{ByteOrder}
 use Rattle.krb_packet.specs.declared.packet.Time.{Time}
 use Rattle.krb_packet.specs.declared.interface.Interface.{Interface}
@@ -12,7 +13,7 @@ use Rattle.krb_packet.specs.declared.interface.Clock.{Clock}
 use Rattle.krb_packet.specs.declared.interface.Options.{Options}
 use Rattle.krb_packet.specs.declared.interface.Setting.{Setting}
 use Rattle.krb_packet.specs.declared.interface.Setting.TheVariants as settings
-use Rattle.krb_packet.specs.Numbers.{in_order, number_in, from_here, refused_at}
+use Rattle.krb_packet.specs.Numbers.{in_order, number_in, field_in, from_here, refused_at}
 use Rattle.krb_packet.specs.Values.{link_type, time_at}
 
 -- ---- options: a code, the size of a value, the value, and padding up to a multiple of four octets
@@ -36,7 +37,7 @@ setting_at order = do
 
 -- an option is one field
 abbrev pub option_at : ByteOrder → Reader (Option Setting)
-option_at order = from_here (λ place. refused_at place (setting_at order))
+option_at order = from_here (λ place. refused_at place (called fields.Options (setting_at order)))
 
 -- of several options of one code, the first counts
 abbrev pub first : {A : Type 0} → Option A → A → Option A
@@ -72,9 +73,9 @@ clock_of options = record { resolution = unwrap_or options.resolution 6; offset 
 
 abbrev pub interface_at : ByteOrder → Reader Interface
 interface_at order = do
-  link ← number_in w16 order
-  reserved ← number_in w16 order
-  snaplen ← number_in w32 order
+  link ← field_in fields.LinkType w16 order
+  reserved ← field_in fields.Reserved w16 order
+  snaplen ← field_in fields.SnapLen w32 order
   options ← options_at order
   succeed (record { link = link_type link; snaplen = snaplen; clock = clock_of options })
 

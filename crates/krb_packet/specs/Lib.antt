@@ -6,13 +6,11 @@ pub mod Fragments
 pub mod FragmentLaws
 pub mod Numbers
 pub mod Values
-pub mod Parsers
 pub mod Pcaps
 pub mod Interfaces
 pub mod Bodies
 pub mod Blocks
 pub mod Captures
-pub mod FieldNames
 pub mod Streaming
 pub mod Examples
 pub mod inner

@@ -1,10 +1,11 @@
 -- Numbers in either byte order, and fields that are refused if their number has no meaning.
 use Rattle.std.specs.Prelude.{ℕ, None, Result, Ok, Err, List, reverse}
 use Rattle.std.specs.Int.{Width, byte_len, from_be_bytes}
-use Rattle.krb_file.specs.Fields.{Fault, fault_of, Reader, ◌>>=◌, succeed, next_octets_at}
+use Rattle.krb_file.specs.Fields.{Fault, fault_of, Reader, ◌>>=◌, succeed, called, next_octets_at, with_name, fault_at}
 use Rattle.krb_file.specs.declared.fault.FileWhy.{FileWhy}
 use Rattle.krb_file.specs.declared.fault.FileFault.{FileFault}
 use Rattle.krb_file.specs.declared.fault.FileFault.TheVariants as faults
+use Rattle.krb_file.specs.declared.field_name.FieldName.{FieldName}
 use Rattle.krb_packet.specs.declared.order.ByteOrder.{ByteOrder}
 use Rattle.krb_packet.specs.declared.order.ByteOrder.TheVariants as orders
 
@@ -21,17 +22,21 @@ number_in width order = do
   octets ← next_octets_at None (byte_len width)
   succeed (in_order width order octets)
 
--- the meaning of the field at a place, or its refusal there
-abbrev pub checked_at : {A : Type 0} → ℕ → Result A FileWhy → Reader A
-checked_at place (Ok value) = succeed value
-checked_at place (Err reason) = λ bounds source. Err (fault_of place reason)
+-- the same, the field of this name
+abbrev pub field_in : FieldName → Width → ByteOrder → Reader ℕ
+field_in name width order = called name (number_in width order)
+
+-- the meaning of the field of this name at a place, or its refusal there
+abbrev pub checked_at : {A : Type 0} → FieldName → ℕ → Result A FileWhy → Reader A
+checked_at name place (Ok value) = succeed value
+checked_at name place (Err reason) = called name (λ bounds source. Err (fault_of place reason))
 
 -- a reader that depends on the place at which it begins
 abbrev pub from_here : {A : Type 0} → (ℕ → Reader A) → Reader A
 from_here reader = λ bounds source. reader source.place bounds source
 
-abbrev pub checked_number : {A : Type 0} → Width → ByteOrder → (ℕ → Result A FileWhy) → Reader A
-checked_number width order check = from_here (λ place. number_in width order >>= λ number. checked_at place (check number))
+abbrev pub checked_number : {A : Type 0} → FieldName → Width → ByteOrder → (ℕ → Result A FileWhy) → Reader A
+checked_number name width order check = from_here (λ place. field_in name width order >>= λ number. checked_at name place (check number))
 
 -- the same result, whose fault is at this place
 abbrev pub moved_to : {A : Type 0} → ℕ → Result A Fault → Result A Fault
@@ -42,6 +47,6 @@ abbrev pub refused_at : {A : Type 0} → ℕ → Reader A → Reader A
 refused_at place reader = λ bounds source. moved_to place (reader bounds source)
 
 -- `checked_at`, as a result of a function
-abbrev pub checked : {A : Type 0} → ℕ → Result A FileWhy → Result A FileFault
-checked place (Ok value) = Ok value
-checked place (Err reason) = Err (faults.Refused (fault_of place reason))
+abbrev pub checked : {A : Type 0} → FieldName → ℕ → Result A FileWhy → Result A FileFault
+checked name place (Ok value) = Ok value
+checked name place (Err reason) = Err (fault_at (with_name name) (faults.Refused (fault_of place reason)))

@@ -2,9 +2,10 @@
 use Rattle.std.specs.Prelude.{ℕ, ◌+◌, ◌*◌, ◌%◌, ◌^◌, max, ◌==◌, nat_lt, Option, Some, None, Result, Ok, Err}
 use Rattle.std.specs.Int.{w32}
 use Rattle.krb_der.specs.Octets.{when}
-use Rattle.krb_file.specs.Fields.{Reader, ◌>>=◌, succeed, octets_at, number_at, is_empty}
+use Rattle.krb_file.specs.Fields.{Reader, ◌>>=◌, succeed, called, octets_at, number_at, is_empty}
 use Rattle.krb_file.specs.declared.fault.FileWhy.{FileWhy}
 use Rattle.krb_file.specs.declared.fault.FileWhy.TheVariants as why
+use Rattle.krb_file.specs.declared.field_name.FieldName.TheVariants as fields
 use Rattle.krb_packet.specs.declared.order.ByteOrder.{ByteOrder}
 use Rattle.krb_packet.specs.declared.order.ByteOrder.TheVariants as orders
 use Rattle.krb_packet.specs.declared.packet.Packet.{Packet}
@@ -15,7 +16,7 @@ use Rattle.krb_packet.specs.declared.pcap.Header.{Header}
 use Rattle.krb_packet.specs.declared.pcap.PacketHead.{PacketHead}
 use Rattle.krb_packet.specs.declared.pcap.Magic.{Magic}
 use Rattle.krb_packet.specs.declared.pcap.Magic.TheVariants as magics
-use Rattle.krb_packet.specs.Numbers.{number_in, checked_number}
+use Rattle.krb_packet.specs.Numbers.{field_in, checked_number}
 use Rattle.krb_packet.specs.Values.{link_type, time_of}
 
 -- ---- the magic: the format and, of a pcap, the byte order and the unit of the fractions of seconds
@@ -33,7 +34,7 @@ magic_of number =
     Err why.Magic)))))
 
 abbrev pub magic_at : Reader Magic
-magic_at = checked_number w32 orders.BigEndian magic_of
+magic_at = checked_number fields.Magic w32 orders.BigEndian magic_of
 
 -- ---- the header of a pcap, after the magic
 
@@ -48,11 +49,11 @@ version order number = when (number == known_version order) (λ _. Ok tt) (λ _.
 -- After the version come thiszone, sigfigs and snaplen, which are not read; the low 28 bits of the last number are the link type.
 abbrev pub header_at : Form → Reader Header
 header_at form = do
-  version ← checked_number w32 form.order (version form.order)
-  thiszone ← number_at w32
-  sigfigs ← number_at w32
-  snaplen ← number_at w32
-  link ← number_in w32 form.order
+  version ← checked_number fields.Version w32 form.order (version form.order)
+  thiszone ← called fields.ThisZone (number_at w32)
+  sigfigs ← called fields.SigFigs (number_at w32)
+  snaplen ← called fields.SnapLen (number_at w32)
+  link ← field_in fields.LinkType w32 form.order
   succeed (record { form = form; link = link_type (link % 2 ^ 28) })
 
 -- ---- a packet of a pcap
@@ -71,17 +72,17 @@ captured size = when (nat_lt most_captured size) (λ _. Err (why.TooLong size)) 
 -- the numbers before its octets
 abbrev pub packet_head_at : ByteOrder → Reader PacketHead
 packet_head_at order = do
-  seconds ← number_in w32 order
-  fraction ← number_in w32 order
-  size ← checked_number w32 order captured
-  original ← number_in w32 order
+  seconds ← field_in fields.Seconds w32 order
+  fraction ← field_in fields.Fraction w32 order
+  size ← checked_number fields.CapturedLength w32 order captured
+  original ← field_in fields.OriginalLength w32 order
   succeed (record { seconds = seconds; fraction = fraction; captured = size; original = original })
 
 -- the packet after `count` others
 abbrev pub packet_at : Header → ℕ → Reader Packet
 packet_at header count = do
   head ← packet_head_at header.form.order
-  octets ← octets_at head.captured
+  octets ← called fields.Data (octets_at head.captured)
   succeed (record { number = count + 1; time = time_of (head.seconds * 10 ^ 9 + head.fraction * unit header.form.precision); link = header.link; octets = octets; size = max head.captured head.original })
 
 -- the next packet, or none at the end of the file

@@ -1,15 +1,12 @@
 -- A capture file read one packet at a time.
 use Rattle.std.specs.Prelude.{ℕ, suc, ◌≡◌, List, ◌∷◌, ◌++◌, length, Option, Some, None, Result, Ok, Err}
-use Rattle.krb_file.specs.Fields.{Source, limited}
+use Rattle.krb_file.specs.Fields.{Source, Fault, limited}
 use Rattle.krb_file.specs.FieldReaders.{Cursor, MayRemain, source_at}
 use Rattle.krb_file.specs.declared.fault.FileFault.{FileFault}
 use Rattle.krb_file.specs.declared.fault.FileFault.TheVariants as faults
 use Rattle.krb_packet.specs.declared.packet.Packet.{Packet}
-use Rattle.krb_packet.specs.declared.field.CaptureField.{CaptureField}
-use Rattle.krb_packet.specs.declared.fault.CaptureFault.{CaptureFault}
 use Rattle.krb_packet.specs.declared.packets.State.{State}
 use Rattle.krb_packet.specs.declared.packets.State.TheVariants as states
-use Rattle.krb_packet.specs.Parsers.{Refusal}
 use Rattle.krb_packet.specs.Pcaps.{most_captured}
 use Rattle.krb_packet.specs.Captures.{blocks_of, Packets, packets_after, packets}
 
@@ -51,18 +48,18 @@ pub record IsPacket (packets : Packets) (count : ℕ) (packet : Packet) : Type 0
   pub parts : packets.packets ≡ prefix ++ packet ∷ suffix
 
 -- There are `count` packets, and then the end of the file or a refusal.
-pub record EndsBy (packets : Packets) (count : ℕ) (refusal : Option Refusal) : Type 0 where
+pub record EndsBy (packets : Packets) (count : ℕ) (refusal : Option Fault) : Type 0 where
   pub counted : length packets.packets ≡ count
   pub is : packets.refusal ≡ refusal
 
 -- a fault after `count` packets were returned: the refusal that follows these; else the device failed, or memory ran out
-abbrev pub FailsAfter : List ℕ → ℕ → FileFault → CaptureField → Type 0
-FailsAfter file count (faults.Refused fault) field = EndsBy (packets file) count (Some (record { fault = fault; field = field }))
-FailsAfter file count faults.Read field = Unit {0}
-FailsAfter file count faults.Memory field = Unit {0}
+abbrev pub FailsAfter : List ℕ → ℕ → FileFault → Type 0
+FailsAfter file count (faults.Refused fault) = EndsBy (packets file) count (Some fault)
+FailsAfter file count faults.Read = Unit {0}
+FailsAfter file count faults.Memory = Unit {0}
 
 -- What a call returns after `count` packets were returned: the next one, after which one more is returned; if there is none, the end of the file or the fault.
-abbrev pub ReturnsNext : List ℕ → ℕ → Result (Option Packet) CaptureFault → PacketsModel → Type 0
+abbrev pub ReturnsNext : List ℕ → ℕ → Result (Option Packet) FileFault → PacketsModel → Type 0
 ReturnsNext file count (Ok (Some packet)) model = IsPacket (packets file) count packet × Reads model file (suc count)
 ReturnsNext file count (Ok None) model = EndsBy (packets file) count None
-ReturnsNext file count (Err error) model = FailsAfter file count error.fault error.field
+ReturnsNext file count (Err fault) model = FailsAfter file count fault

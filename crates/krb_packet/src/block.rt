@@ -1,18 +1,19 @@
 //! The blocks of a pcapng, read.
 
-ghost use Rattle.std.specs.Prelude.{◌≡◌, ◌≤◌, OnOk};
+ghost use Rattle.std.specs.Prelude.{◌≡◌, ◌≤◌, None, OnOk};
 ghost use Rattle.std.specs.Int.{w32};
-ghost use Rattle.krb_file.specs.Fields.{octets_at};
+ghost use Rattle.krb_file.specs.Fields.{called, next_octets_at, octets_at};
+ghost use Rattle.krb_file.specs.declared.field_name.FieldName.TheVariants as fields;
 ghost use Rattle.krb_file.specs.FieldReaders.{Follows, Stays, Keeps};
 ghost use Rattle.krb_packet.specs.declared.order.ByteOrder.TheVariants as orders;
 ghost use Rattle.krb_packet.specs.Numbers.{checked_number, refused_at};
 ghost use Rattle.krb_packet.specs.Bodies.{block_kind, byte_order, body_size, after_byte_order, section_head_at, head_of, head_at, same_length, next_kind_at};
 
 use crate::interface::Interface;
-use crate::order::{ByteOrder, checked, number32};
+use crate::order::{ByteOrder, checked, field32};
 use crate::pcap::MOST_CAPTURED;
 use krb_der::Many;
-use krb_file::{FieldReader, FileFault, FileRefusal, FileWhy};
+use krb_file::{FieldName, FieldReader, FileFault, FileRefusal, FileWhy, called};
 use std::alloc::Global;
 
 /// The type of a section header, which is the same in either order of octets.
@@ -113,12 +114,20 @@ fn after_byte_order(size: u32) -> Result<u32, FileWhy>
 
 /// Reads the byte-order magic.
 fn read_byte_order<F: FieldReader>(reader: &mut F) -> Result<ByteOrder, FileFault>
-    ensures read { Follows (λ order. order) result (checked_number w32 orders.BigEndian byte_order) F.MayFail (F.cursor reader.old) (F.cursor reader.new) }
+    ensures read { Follows (λ order. order) result (checked_number fields.ByteOrder w32 orders.BigEndian byte_order) F.MayFail (F.cursor reader.old) (F.cursor reader.new) }
     ensures keeps { Keeps (F.cursor reader.old) (F.cursor reader.new) }
 {
     let place = reader.place();
-    let number = number32(ByteOrder::BigEndian, reader)?;
-    checked(place, byte_order(number))
+    let number = field32(ByteOrder::BigEndian, FieldName::ByteOrder, reader)?;
+    checked(FieldName::ByteOrder, place, byte_order(number))
+}
+
+/// Reads the octets of the length of a section header.
+fn length_octets<F: FieldReader>(octets: &mut [u8; 4], reader: &mut F) -> Result<(), FileFault>
+    ensures read { Follows (λ _. octets.new) result (called fields.Length (next_octets_at None 4)) F.MayFail (F.cursor reader.old) (F.cursor reader.new) }
+    ensures keeps { Keeps (F.cursor reader.old) (F.cursor reader.new) }
+{
+    called(FieldName::Length, reader.fill(octets))
 }
 
 /// Reads the head of a section header, after its type. The byte-order magic follows the length,
@@ -129,11 +138,11 @@ fn section_head<F: FieldReader>(reader: &mut F) -> Result<Head, FileFault>
 {
     let place = reader.place();
     let mut octets = [0; 4];
-    reader.fill(&mut octets)?;
+    length_octets(&mut octets, reader)?;
     let order = read_byte_order(reader)?;
     let length = u32::from_be_bytes(order.highest_first(octets));
-    let size = checked(place, body_size(length))?;
-    let left = checked(place + 4, after_byte_order(size))?;
+    let size = checked(FieldName::Length, place, body_size(length))?;
+    let left = checked(FieldName::ByteOrder, place + 4, after_byte_order(size))?;
     Ok(Head {
         order,
         length,
@@ -157,12 +166,12 @@ fn head_of(order: ByteOrder, length: u32) -> Result<Head, FileWhy>
 
 /// Reads the head of another block, after its type.
 fn block_head<F: FieldReader>(order: ByteOrder, reader: &mut F) -> Result<Head, FileFault>
-    ensures read { Follows (λ head. head) result (checked_number w32 order (head_of order)) F.MayFail (F.cursor reader.old) (F.cursor reader.new) }
+    ensures read { Follows (λ head. head) result (checked_number fields.Length w32 order (head_of order)) F.MayFail (F.cursor reader.old) (F.cursor reader.new) }
     ensures keeps { Keeps (F.cursor reader.old) (F.cursor reader.new) }
 {
     let place = reader.place();
-    let number = number32(order, reader)?;
-    checked(place, head_of(order, number))
+    let number = field32(order, FieldName::Length, reader)?;
+    checked(FieldName::Length, place, head_of(order, number))
 }
 
 /// Reads the head of a block of a kind, after its type.
@@ -188,11 +197,11 @@ pub(crate) fn body_octets<F: FieldReader>(
     left: u32,
     reader: &mut F,
 ) -> Result<Vec<u8>, FileFault>
-    ensures read { Follows (λ octets. octets.items) result (refused_at place (octets_at left)) F.MayFail (F.cursor reader.old) (F.cursor reader.new) }
+    ensures read { Follows (λ octets. octets.items) result (refused_at place (called fields.Body (octets_at left))) F.MayFail (F.cursor reader.old) (F.cursor reader.new) }
     ensures keeps { Keeps (F.cursor reader.old) (F.cursor reader.new) }
 {
     let mut octets = reader.spare_octets(alloc);
-    match reader.octets(alloc, u64::from(left), &mut octets) {
+    match reader.octets_field(alloc, FieldName::Body, u64::from(left), &mut octets) {
         Ok(()) => Ok(octets),
         Err(FileFault::Refused(refusal)) => {
             Err(FileFault::Refused(FileRefusal { place, ..refusal }))
@@ -203,12 +212,16 @@ pub(crate) fn body_octets<F: FieldReader>(
 
 /// Reads the length at the end of a block, which is the same as the one before.
 pub(crate) fn length_again<F: FieldReader>(head: Head, reader: &mut F) -> Result<(), FileFault>
-    ensures read { Follows (λ done. done) result (checked_number w32 head.order (same_length head.length)) F.MayFail (F.cursor reader.old) (F.cursor reader.new) }
+    ensures read { Follows (λ done. done) result (checked_number fields.LengthAgain w32 head.order (same_length head.length)) F.MayFail (F.cursor reader.old) (F.cursor reader.new) }
     ensures keeps { Keeps (F.cursor reader.old) (F.cursor reader.new) }
 {
     let place = reader.place();
-    let number = number32(head.order, reader)?;
-    checked(place, same_length(head.length, number))
+    let number = field32(head.order, FieldName::LengthAgain, reader)?;
+    checked(
+        FieldName::LengthAgain,
+        place,
+        same_length(head.length, number),
+    )
 }
 
 /// Accepts a length that is the same as another.
@@ -235,6 +248,6 @@ pub(crate) fn next_kind<F: FieldReader>(
     if reader.is_empty()? {
         return Ok(None);
     }
-    let number = number32(order, reader)?;
+    let number = field32(order, FieldName::Type, reader)?;
     Ok(Some(BlockKind::of(number)))
 }

@@ -1,58 +1,30 @@
-//! The blocks of a pcapng, one after another, with the fields at fault.
+//! The blocks of a pcapng, one after another.
 
 ghost use Rattle.std.specs.Prelude.{◌≡◌, ◌++◌, ◌^◌, ◌<◌, ◌≤◌, [], ◌∷◌, IfOk, OnOk};
-ghost use Rattle.krb_file.specs.FieldReaders.{Stays, Keeps};
-ghost use Rattle.krb_packet.specs.Parsers.{Parses, offset_of};
-ghost use Rattle.krb_packet.specs.Blocks.{fault_from, head_in, skipped_body, read_body, body_in, end_in, block_in, after_content, block_after, next_block};
+ghost use Rattle.krb_file.specs.FieldReaders.{Follows, Stays, Keeps};
+ghost use Rattle.krb_packet.specs.Blocks.{fault_from, place_of, skipped_body, read_body, body_in, block_in, after_content, block_after, next_block};
 
 use crate::block::{BlockKind, Head, Section, body_octets, length_again, next_kind, read_head};
-use crate::body::{Content, body_content, body_field};
-use crate::fault::{CaptureFault, in_field, offset};
-use crate::field::{BlockField, CaptureField, head_field};
+use crate::body::{Content, body_content};
 use crate::format::{Format, Next};
 use crate::interface::Interface;
 use krb_der::Many;
-use krb_file::{FieldReader, FileFault, FileRefusal};
+use krb_file::{FieldName, FieldReader, FileFault, FilePart, FileRefusal, in_part};
 use std::alloc::{AllocError, Global};
 
-/// Reads the head of a block of a kind, after its type.
-fn head<F: FieldReader>(
-    kind: BlockKind,
-    section: &Section,
-    reader: &mut F,
-) -> Result<Head, CaptureFault>
-    ensures read { Parses (λ head. head) result (head_in kind section.now) F.MayFail (F.cursor reader.old) (F.cursor reader.new) }
-    ensures keeps { Keeps (F.cursor reader.old) (F.cursor reader.new) }
-{
-    let start = reader.place();
-    match read_head(kind, section.order, reader) {
-        Ok(head) => Ok(head),
-        Err(fault) => {
-            let field = head_field(offset(fault, start));
-            let field = CaptureField::Block(section.blocks, field);
-            Err(CaptureFault { fault, field })
-        }
-    }
-}
-
 /// Skips the rest of a body.
-fn skip_body<F: FieldReader>(
-    blocks: u64,
-    head: Head,
-    reader: &mut F,
-) -> Result<Content, CaptureFault>
-    ensures read { Parses (λ content. content) result (skipped_body blocks head) F.MayFail (F.cursor reader.old) (F.cursor reader.new) }
+fn skip_body<F: FieldReader>(head: Head, reader: &mut F) -> Result<Content, FileFault>
+    ensures read { Follows (λ content. content) result (skipped_body head) F.MayFail (F.cursor reader.old) (F.cursor reader.new) }
     ensures keeps { Keeps (F.cursor reader.old) (F.cursor reader.new) }
 {
-    let field = CaptureField::Block(blocks, BlockField::Body);
-    in_field(field, reader.skip(u64::from(head.left)))?;
+    reader.skip_field(FieldName::Body, u64::from(head.left))?;
     Ok(Content::Other)
 }
 
 /// Returns a fault whose place is counted from another one.
 fn fault_from(begin: u64, fault: FileFault) -> FileFault
     requires begins { begin < 2 ^ 63 }
-    requires near { offset_of fault 0 < 2 ^ 63 }
+    requires near { place_of fault < 2 ^ 63 }
     ensures { result ≡ fault_from begin fault }
 {
     match fault {
@@ -73,30 +45,23 @@ fn read_body<F: FieldReader>(
     place: u64,
     head: Head,
     reader: &mut F,
-) -> Result<Content, CaptureFault>
+) -> Result<Content, FileFault>
     requires { count < 2 ^ 63 }
-    ensures read { Parses (λ content. content) result (read_body kind section.now count place head) F.MayFail (F.cursor reader.old) (F.cursor reader.new) }
+    ensures read { Follows (λ content. content) result (read_body kind section.now count place head) F.MayFail (F.cursor reader.old) (F.cursor reader.new) }
     ensures keeps { Keeps (F.cursor reader.old) (F.cursor reader.new) }
 {
     let begin = reader.place();
-    let field = CaptureField::Block(section.blocks, BlockField::Body);
-    let octets = in_field(field, body_octets(alloc, place, head.left, reader))?;
-    let interfaces = section.interfaces.as_slice();
+    let octets = body_octets(alloc, place, head.left, reader)?;
     match body_content(
         alloc,
         kind,
         head.order,
         count,
-        interfaces,
+        section.interfaces.as_slice(),
         octets.as_slice(),
     ) {
         Ok(content) => Ok(content),
-        Err(fault) => {
-            let field = body_field(kind, interfaces, offset(fault, 0));
-            let field = CaptureField::Block(section.blocks, field);
-            let fault = fault_from(begin, fault);
-            Err(CaptureFault { fault, field })
-        }
+        Err(fault) => Err(fault_from(begin, fault)),
     }
 }
 
@@ -109,24 +74,15 @@ fn body<F: FieldReader>(
     place: u64,
     head: Head,
     reader: &mut F,
-) -> Result<Content, CaptureFault>
+) -> Result<Content, FileFault>
     requires { count < 2 ^ 63 }
-    ensures read { Parses (λ content. content) result (body_in kind section.now count place head) F.MayFail (F.cursor reader.old) (F.cursor reader.new) }
+    ensures read { Follows (λ content. content) result (body_in kind section.now count place head) F.MayFail (F.cursor reader.old) (F.cursor reader.new) }
     ensures keeps { Keeps (F.cursor reader.old) (F.cursor reader.new) }
 {
     match kind {
-        BlockKind::Other => skip_body(section.blocks, head, reader),
+        BlockKind::Other => skip_body(head, reader),
         _ => read_body(alloc, kind, section, count, place, head, reader),
     }
-}
-
-/// Reads the length at the end of a block.
-fn end<F: FieldReader>(blocks: u64, head: Head, reader: &mut F) -> Result<(), CaptureFault>
-    ensures read { Parses (λ done. done) result (end_in blocks head) F.MayFail (F.cursor reader.old) (F.cursor reader.new) }
-    ensures keeps { Keeps (F.cursor reader.old) (F.cursor reader.new) }
-{
-    let field = CaptureField::Block(blocks, BlockField::LengthAgain);
-    in_field(field, length_again(head, reader))
 }
 
 /// Reads a block of a kind, after its type.
@@ -136,15 +92,15 @@ fn block<F: FieldReader>(
     section: &Section,
     count: u64,
     reader: &mut F,
-) -> Result<Content, CaptureFault>
+) -> Result<Content, FileFault>
     requires { count < 2 ^ 63 }
-    ensures read { Parses (λ content. content) result (block_in kind section.now count) F.MayFail (F.cursor reader.old) (F.cursor reader.new) }
+    ensures read { Follows (λ content. content) result (block_in kind section.now count) F.MayFail (F.cursor reader.old) (F.cursor reader.new) }
     ensures keeps { Keeps (F.cursor reader.old) (F.cursor reader.new) }
 {
     let place = reader.place() + 4;
-    let head = head(kind, section, reader)?;
+    let head = read_head(kind, section.order, reader)?;
     let content = body(alloc, kind, section, count, place, head, reader)?;
-    end(section.blocks, head, reader)?;
+    length_again(head, reader)?;
     Ok(content)
 }
 
@@ -217,23 +173,16 @@ pub(crate) fn block_after<F: FieldReader>(
     section: Section,
     count: u64,
     reader: &mut F,
-) -> Result<Next, CaptureFault>
+) -> Result<Next, FileFault>
     requires packets { count < 2 ^ 63 }
     requires blocks { section.blocks < 2 ^ 63 }
-    ensures read { Parses (λ next. next) result (block_after kind section count) F.MayFail (F.cursor reader.old) (F.cursor reader.new) }
+    ensures read { Follows (λ next. next) result (block_after kind section count) F.MayFail (F.cursor reader.old) (F.cursor reader.new) }
     ensures keeps { Keeps (F.cursor reader.old) (F.cursor reader.new) }
 {
-    let field = CaptureField::Block(section.blocks, BlockField::Body);
     let begin = reader.place().saturating_sub(TYPE_OCTETS);
     match block(alloc, kind, &section, count, reader) {
-        Ok(content) => match after_content(section, content) {
-            Ok(next) => Ok(next),
-            Err(_) => Err(CaptureFault {
-                fault: FileFault::Memory,
-                field,
-            }),
-        },
-        Err(fault) => Err(fault.begun_at(begin)),
+        Ok(content) => Ok(after_content(section, content)?),
+        Err(fault) => in_part(FilePart::Block(section.blocks), begin, Err(fault)),
     }
 }
 
@@ -243,17 +192,17 @@ pub(crate) fn next_block<F: FieldReader>(
     section: Section,
     count: u64,
     reader: &mut F,
-) -> Result<Next, CaptureFault>
+) -> Result<Next, FileFault>
     requires packets { count < 2 ^ 63 }
     requires blocks { section.blocks < 2 ^ 63 }
-    ensures read { Parses (λ next. next) result (next_block section count) F.MayFail (F.cursor reader.old) (F.cursor reader.new) }
+    ensures read { Follows (λ next. next) result (next_block section count) F.MayFail (F.cursor reader.old) (F.cursor reader.new) }
     ensures stays { OnOk result (Stays (F.cursor reader.old) (F.cursor reader.new)) }
     ensures on { (F.cursor reader.old).place ≤ (F.cursor reader.new).place }
 {
-    let field = CaptureField::Block(section.blocks, BlockField::Type);
-    match in_field(field, next_kind(section.order, reader)) {
+    let begin = reader.place();
+    match next_kind(section.order, reader) {
         Ok(Some(kind)) => block_after(alloc, kind, section, count, reader),
         Ok(None) => Ok(Next::End),
-        Err(fault) => Err(fault),
+        Err(fault) => in_part(FilePart::Block(section.blocks), begin, Err(fault)),
     }
 }

@@ -4,17 +4,16 @@ ghost use Rattle.std.specs.Prelude.{◌≡◌, ◌^◌, ◌<◌, IfErr};
 ghost use Rattle.std.specs.Int.{w16, w32};
 ghost use Rattle.krb_file.specs.Fields.{Agrees, IsStreamFaultIn};
 ghost use Rattle.krb_file.specs.FieldReaders.{Follows, Keeps};
+ghost use Rattle.krb_file.specs.declared.field_name.FieldName.TheVariants as fields;
 ghost use Rattle.krb_packet.specs.Numbers.{checked_number};
 ghost use Rattle.krb_packet.specs.Bodies.{announced, section_version, timed_packet_at, enhanced_packet_at, old_packet_at, first_interface, most_of, simple_packet_at, content_at, in_body};
-ghost use Rattle.krb_packet.specs.Blocks.{body_field};
 
-use crate::block::{BlockKind, Section};
-use crate::field::{BlockField, interface_field, packet_block_field};
+use crate::block::BlockKind;
 use crate::interface::{Interface, octets_to_end, read_interface};
-use crate::order::{ByteOrder, checked, number16, number32};
+use crate::order::{ByteOrder, checked, field16, field32};
 use crate::packet::Packet;
 use krb_der::Octets;
-use krb_file::{FieldReader, FileFault, FileWhy, SliceReader};
+use krb_file::{FieldName, FieldReader, FileFault, FileWhy, SliceReader};
 use std::alloc::Global;
 
 /// What a block has.
@@ -43,12 +42,12 @@ fn section_version(number: u16) -> Result<(), FileWhy>
 
 /// Reads the version of a section.
 fn read_version<F: FieldReader>(order: ByteOrder, reader: &mut F) -> Result<(), FileFault>
-    ensures read { Follows (λ done. done) result (checked_number w16 order section_version) F.MayFail (F.cursor reader.old) (F.cursor reader.new) }
+    ensures read { Follows (λ done. done) result (checked_number fields.Version w16 order section_version) F.MayFail (F.cursor reader.old) (F.cursor reader.new) }
     ensures keeps { Keeps (F.cursor reader.old) (F.cursor reader.new) }
 {
     let place = reader.place();
-    let number = number16(order, reader)?;
-    checked(place, section_version(number))
+    let number = field16(order, FieldName::Version, reader)?;
+    checked(FieldName::Version, place, section_version(number))
 }
 
 /// Returns the interface of an index.
@@ -67,12 +66,12 @@ fn interface32<F: FieldReader>(
     interfaces: &[Interface],
     reader: &mut F,
 ) -> Result<Interface, FileFault>
-    ensures read { Follows (λ interface. interface) result (checked_number w32 order (announced interfaces.now)) F.MayFail (F.cursor reader.old) (F.cursor reader.new) }
+    ensures read { Follows (λ interface. interface) result (checked_number fields.Interface w32 order (announced interfaces.now)) F.MayFail (F.cursor reader.old) (F.cursor reader.new) }
     ensures keeps { Keeps (F.cursor reader.old) (F.cursor reader.new) }
 {
     let place = reader.place();
-    let number = number32(order, reader)?;
-    checked(place, announced(interfaces, number))
+    let number = field32(order, FieldName::Interface, reader)?;
+    checked(FieldName::Interface, place, announced(interfaces, number))
 }
 
 /// Reads the index of an interface in 16 bits.
@@ -81,12 +80,16 @@ fn interface16<F: FieldReader>(
     interfaces: &[Interface],
     reader: &mut F,
 ) -> Result<Interface, FileFault>
-    ensures read { Follows (λ interface. interface) result (checked_number w16 order (announced interfaces.now)) F.MayFail (F.cursor reader.old) (F.cursor reader.new) }
+    ensures read { Follows (λ interface. interface) result (checked_number fields.Interface w16 order (announced interfaces.now)) F.MayFail (F.cursor reader.old) (F.cursor reader.new) }
     ensures keeps { Keeps (F.cursor reader.old) (F.cursor reader.new) }
 {
     let place = reader.place();
-    let number = number16(order, reader)?;
-    checked(place, announced(interfaces, u32::from(number)))
+    let number = field16(order, FieldName::Interface, reader)?;
+    checked(
+        FieldName::Interface,
+        place,
+        announced(interfaces, u32::from(number)),
+    )
 }
 
 /// Returns the first interface.
@@ -96,7 +99,11 @@ fn first_interface<F: FieldReader>(
 ) -> Result<Interface, FileFault>
     ensures { Follows (λ interface. interface) result (first_interface interfaces.now) F.MayFail (F.cursor reader.now) (F.cursor reader.now) }
 {
-    checked(reader.place(), announced(interfaces, 0))
+    checked(
+        FieldName::Interface,
+        reader.place(),
+        announced(interfaces, 0),
+    )
 }
 
 /// Reads a packet of an interface, after the index of the interface.
@@ -111,12 +118,12 @@ fn timed_packet<F: FieldReader>(
     ensures read { Follows (λ packet. packet) result (timed_packet_at order count interface) F.MayFail (F.cursor reader.old) (F.cursor reader.new) }
     ensures keeps { Keeps (F.cursor reader.old) (F.cursor reader.new) }
 {
-    let high = number32(order, reader)?;
-    let low = number32(order, reader)?;
-    let captured = number32(order, reader)?;
-    let original = number32(order, reader)?;
+    let high = field32(order, FieldName::Timestamp, reader)?;
+    let low = field32(order, FieldName::Timestamp, reader)?;
+    let captured = field32(order, FieldName::CapturedLength, reader)?;
+    let original = field32(order, FieldName::OriginalLength, reader)?;
     let mut octets = reader.spare_octets(alloc);
-    reader.octets(alloc, u64::from(captured), &mut octets)?;
+    reader.octets_field(alloc, FieldName::Data, u64::from(captured), &mut octets)?;
     Ok(Packet {
         number: count + 1,
         time: interface
@@ -157,7 +164,7 @@ fn old_packet<F: FieldReader>(
     ensures keeps { Keeps (F.cursor reader.old) (F.cursor reader.new) }
 {
     let interface = interface16(order, interfaces, reader)?;
-    number16(order, reader)?;
+    field16(order, FieldName::Drops, reader)?;
     timed_packet(alloc, order, count, interface, reader)
 }
 
@@ -186,10 +193,10 @@ fn simple_packet<F: FieldReader>(
     ensures keeps { Keeps (F.cursor reader.old) (F.cursor reader.new) }
 {
     let interface = first_interface(interfaces, reader)?;
-    let original = number32(order, reader)?;
+    let original = field32(order, FieldName::OriginalLength, reader)?;
     let captured = u64::from(most_of(interface.snaplen, original)).min(octets_to_end(reader));
     let mut octets = reader.spare_octets(alloc);
-    reader.octets(alloc, captured, &mut octets)?;
+    reader.octets_field(alloc, FieldName::Data, captured, &mut octets)?;
     Ok(Packet {
         number: count + 1,
         time: None,
@@ -254,22 +261,4 @@ pub(crate) fn body_content(
     let mut reader = SliceReader::new(body);
     reader.set_end(Some(body.len() as u64));
     read_content(alloc, kind, order, count, interfaces, &mut reader)
-}
-
-/// Returns the field of a body that begins after `offset` octets.
-pub(crate) fn body_field(kind: BlockKind, interfaces: &[Interface], offset: u64) -> BlockField
-    ensures { result ≡ body_field kind interfaces.now offset }
-{
-    match kind {
-        BlockKind::Section => BlockField::Version,
-        BlockKind::Interface => interface_field(offset),
-        BlockKind::SimplePacket => {
-            if interfaces.is_empty() {
-                BlockField::Interface
-            } else {
-                BlockField::OriginalLength
-            }
-        }
-        _ => packet_block_field(offset),
-    }
 }

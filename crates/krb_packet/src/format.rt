@@ -1,21 +1,18 @@
 //! The formats of capture files, which differ in their first four octets.
 
 ghost use Rattle.std.specs.Prelude.{◌≡◌, ◌^◌, ◌<◌, ◌≤◌, OnOk, [], Ok, Err};
-ghost use Rattle.krb_file.specs.FieldReaders.{Stays, Keeps};
-ghost use Rattle.krb_file.specs.Fields.{fault_begun};
-ghost use Rattle.krb_packet.specs.Parsers.{Parses, offset_of};
-ghost use Rattle.krb_packet.specs.declared.field.CaptureField.TheVariants as capture;
-ghost use Rattle.krb_packet.specs.Captures.{blocks_of, header_in, packet_field, packet_in, begin_in, next_in};
+ghost use Rattle.krb_file.specs.FieldReaders.{Follows, Stays, Keeps};
+ghost use Rattle.krb_file.specs.Fields.{fails_at, fails_begun, with_part};
+ghost use Rattle.krb_file.specs.declared.field_name.FilePart.TheVariants as parts;
+ghost use Rattle.krb_packet.specs.Captures.{blocks_of, packet_in, begin_in, next_in};
 
 use crate::block::{BlockKind, Section};
 use crate::blocks::{block_after, next_block};
-use crate::fault::{CaptureFault, in_field, offset};
-use crate::field::{CaptureField, header_field, packet_field};
 use crate::order::ByteOrder;
 use crate::packet::Packet;
 use crate::pcap::{Form, Header, Magic, next_captured, read_header, read_magic};
 use krb_der::Many;
-use krb_file::{FieldReader, FileFault};
+use krb_file::{FieldReader, FileFault, FilePart, in_part};
 use std::alloc::Global;
 
 /// The progress in a file: its format, once that is known, and what of it later fields depend on.
@@ -40,32 +37,14 @@ pub enum Next {
     End,
 }
 
-/// Reads the header of a pcap after its magic.
-fn header<F: FieldReader>(form: Form, reader: &mut F) -> Result<Header, CaptureFault>
-    ensures read { Parses (λ header. header) result (header_in form) F.MayFail (F.cursor reader.old) (F.cursor reader.new) }
-    ensures keeps { Keeps (F.cursor reader.old) (F.cursor reader.new) }
-{
-    let start = reader.place();
-    match read_header(form, reader) {
-        Ok(header) => Ok(header),
-        Err(fault) => {
-            let field = header_field(offset(fault, start));
-            Err(CaptureFault { fault, field })
-        }
-    }
-}
-
-/// Returns the fault of a packet of a pcap that begins at `start`, with the field at fault. It
-/// stands apart, so that a packet is returned where it was made.
+/// Returns the fault of a packet of a pcap that begins at `start`. It stands apart, so that a packet
+/// is returned where it was made.
 #[cold]
 #[inline(never)]
-fn refused_packet(count: u64, start: u64, fault: FileFault) -> Result<Option<Packet>, CaptureFault>
-    ensures { result ≡ Err (record { fault = fault_begun start fault; field = capture.Packet count (packet_field (offset_of fault start)) }) }
+fn refused_packet(count: u64, start: u64, fault: FileFault) -> Result<Option<Packet>, FileFault>
+    ensures { result ≡ fails_begun start (fails_at (with_part (parts.Packet count)) (Err fault)) }
 {
-    let field = packet_field(offset(fault, start));
-    let field = CaptureField::Packet(count, field);
-    let fault = fault.begun_at(start);
-    Err(CaptureFault { fault, field })
+    in_part(FilePart::Packet(count), start, Err(fault))
 }
 
 /// Reads the next packet of a pcap, if the file has not ended. The reader is at `start`.
@@ -75,10 +54,10 @@ pub(crate) fn packet<F: FieldReader>(
     count: u64,
     start: u64,
     reader: &mut F,
-) -> Result<Option<Packet>, CaptureFault>
+) -> Result<Option<Packet>, FileFault>
     requires few { count < 2 ^ 63 }
     requires place { start ≡ (F.cursor reader.old).place }
-    ensures read { Parses (λ packet. packet) result (packet_in header count) F.MayFail (F.cursor reader.old) (F.cursor reader.new) }
+    ensures read { Follows (λ packet. packet) result (packet_in header count) F.MayFail (F.cursor reader.old) (F.cursor reader.new) }
     ensures stays { OnOk result (Stays (F.cursor reader.old) (F.cursor reader.new)) }
     ensures on { (F.cursor reader.old).place ≤ (F.cursor reader.new).place }
 {
@@ -89,13 +68,13 @@ pub(crate) fn packet<F: FieldReader>(
 }
 
 /// Reads the first field of a file and then the header of a pcap or the first block of a pcapng.
-fn begin<F: FieldReader>(alloc: Global, count: u64, reader: &mut F) -> Result<Next, CaptureFault>
+fn begin<F: FieldReader>(alloc: Global, count: u64, reader: &mut F) -> Result<Next, FileFault>
     requires { count < 2 ^ 63 }
-    ensures read { Parses (λ next. next) result (begin_in count) F.MayFail (F.cursor reader.old) (F.cursor reader.new) }
+    ensures read { Follows (λ next. next) result (begin_in count) F.MayFail (F.cursor reader.old) (F.cursor reader.new) }
     ensures keeps { Keeps (F.cursor reader.old) (F.cursor reader.new) }
 {
-    match in_field(CaptureField::Magic, read_magic(reader))? {
-        Magic::Pcap(form) => Ok(Next::NoPacket(Format::Pcap(header(form, reader)?))),
+    match read_magic(reader)? {
+        Magic::Pcap(form) => Ok(Next::NoPacket(Format::Pcap(read_header(form, reader)?))),
         Magic::Pcapng => {
             let section = Section {
                 order: ByteOrder::BigEndian,
@@ -113,11 +92,11 @@ pub(crate) fn next_step<F: FieldReader>(
     format: Format,
     count: u64,
     reader: &mut F,
-) -> Result<Next, CaptureFault>
+) -> Result<Next, FileFault>
     requires packets { count ≤ (F.cursor reader.old).place }
     requires blocks { blocks_of format ≤ (F.cursor reader.old).place }
     ensures few { (F.cursor reader.old).place < 2 ^ 63 }
-    ensures read { Parses (λ next. next) result (next_in format count) F.MayFail (F.cursor reader.old) (F.cursor reader.new) }
+    ensures read { Follows (λ next. next) result (next_in format count) F.MayFail (F.cursor reader.old) (F.cursor reader.new) }
     ensures stays { OnOk result (Stays (F.cursor reader.old) (F.cursor reader.new)) }
     ensures on { (F.cursor reader.old).place ≤ (F.cursor reader.new).place }
 {

@@ -2,13 +2,14 @@
 
 ghost use Rattle.std.specs.Prelude.{◌≡◌, ◌*◌, ◌^◌, ◌<◌, ◌≤◌, []};
 ghost use Rattle.std.specs.Option.{SomeIff};
-ghost use Rattle.krb_file.specs.Fields.{is_at_end, octets_to_end};
+ghost use Rattle.krb_file.specs.Fields.{called, is_at_end, octets_to_end};
+ghost use Rattle.krb_file.specs.declared.field_name.FieldName.TheVariants as fields;
 ghost use Rattle.krb_file.specs.FieldReaders.{Follows, Keeps, source_at};
 ghost use Rattle.krb_packet.specs.Interfaces.{padded, with_setting, setting_at, value_at, option_at, options_within, options_at, clock_of, interface_at, units_in_second, nanoseconds, seconds_after, clock_time, no_options};
 
-use crate::order::{ByteOrder, number16, number32};
+use crate::order::{ByteOrder, field16, field32, number16};
 use crate::packet::{LinkType, NANOSECONDS, Time};
-use krb_file::{FieldReader, FileFault, FileRefusal};
+use krb_file::{FieldName, FieldReader, FileFault, FileRefusal, called};
 
 /// What packets of a pcapng were captured from.
 #[derive(Clone, Copy, PartialEq, Eq, Debug)]
@@ -139,6 +140,17 @@ fn next_setting<F: FieldReader>(
     Ok(Some(value(order, code, size, reader)?))
 }
 
+/// Reads an option, or the end of the options, as one field.
+fn setting_field<F: FieldReader>(
+    order: ByteOrder,
+    reader: &mut F,
+) -> Result<Option<Setting>, FileFault>
+    ensures read { Follows (λ setting. setting) result (called fields.Options (setting_at order)) F.MayFail (F.cursor reader.old) (F.cursor reader.new) }
+    ensures keeps { Keeps (F.cursor reader.old) (F.cursor reader.new) }
+{
+    called(FieldName::Options, next_setting(order, reader))
+}
+
 /// Reads an option, or the end of the options. One that passes the end is refused at its first
 /// octet.
 fn next_option<F: FieldReader>(
@@ -149,7 +161,7 @@ fn next_option<F: FieldReader>(
     ensures keeps { Keeps (F.cursor reader.old) (F.cursor reader.new) }
 {
     let place = reader.place();
-    match next_setting(order, reader) {
+    match setting_field(order, reader) {
         Err(FileFault::Refused(refusal)) => {
             Err(FileFault::Refused(FileRefusal { place, ..refusal }))
         }
@@ -210,9 +222,9 @@ pub(crate) fn read_interface<F: FieldReader>(
     ensures read { Follows (λ interface. interface) result (interface_at order) F.MayFail (F.cursor reader.old) (F.cursor reader.new) }
     ensures keeps { Keeps (F.cursor reader.old) (F.cursor reader.new) }
 {
-    let link = number16(order, reader)?;
-    number16(order, reader)?;
-    let snaplen = number32(order, reader)?;
+    let link = field16(order, FieldName::LinkType, reader)?;
+    field16(order, FieldName::Reserved, reader)?;
+    let snaplen = field32(order, FieldName::SnapLen, reader)?;
     let options = read_options(order, octets_to_end(reader), reader)?;
     Ok(Interface {
         link: LinkType::of(u32::from(link)),

@@ -18,8 +18,6 @@ mod blocks;
 mod body;
 mod contents;
 mod datagrams;
-mod fault;
-mod field;
 mod format;
 mod fragments;
 mod interface;
@@ -35,8 +33,6 @@ mod transport;
 
 pub use block::Section;
 pub use contents::{Contents, Datagram, Endpoint, Ends, Fragment, Original, Segment};
-pub use fault::CaptureFault;
-pub use field::{BlockField, CaptureField, PacketField};
 pub use format::Format;
 pub use fragments::{Fragments, Reassembled};
 pub use interface::{Clock, Interface};

@@ -3,10 +3,10 @@
 ghost use Rattle.std.specs.Prelude.{◌≡◌, ◌+◌, ◌≤◌, length};
 ghost use Rattle.std.specs.Int.{w16, w32};
 ghost use Rattle.krb_file.specs.FieldReaders.{Follows, Keeps};
-ghost use Rattle.krb_packet.specs.Numbers.{highest_first, in_order, number_in, checked};
+ghost use Rattle.krb_packet.specs.Numbers.{highest_first, in_order, number_in, field_in, checked};
 ghost use Rattle.krb_packet.specs.inner.PacketHeads.{number_after};
 
-use krb_file::{FieldReader, FileFault, FileWhy};
+use krb_file::{FieldName, FieldReader, FileFault, FileWhy, called};
 
 /// The order of the octets of a number.
 #[derive(Clone, Copy, PartialEq, Eq, Debug)]
@@ -72,12 +72,42 @@ pub(crate) fn number32<F: FieldReader>(order: ByteOrder, reader: &mut F) -> Resu
     Ok(order.number32(octets))
 }
 
-/// Returns the meaning of a field, or refuses it at its place.
-pub(crate) fn checked<T>(place: u64, check: Result<T, FileWhy>) -> Result<T, FileFault>
-    ensures { result ≡ checked place check }
+/// Reads a number of 16 bits, the field of this name.
+pub(crate) fn field16<F: FieldReader>(
+    order: ByteOrder,
+    name: FieldName,
+    reader: &mut F,
+) -> Result<u16, FileFault>
+    ensures read { Follows (λ number. number) result (field_in name w16 order) F.MayFail (F.cursor reader.old) (F.cursor reader.new) }
+    ensures keeps { Keeps (F.cursor reader.old) (F.cursor reader.new) }
+{
+    called(name, number16(order, reader))
+}
+
+/// Reads a number of 32 bits, the field of this name.
+#[inline(always)]
+pub(crate) fn field32<F: FieldReader>(
+    order: ByteOrder,
+    name: FieldName,
+    reader: &mut F,
+) -> Result<u32, FileFault>
+    ensures read { Follows (λ number. number) result (field_in name w32 order) F.MayFail (F.cursor reader.old) (F.cursor reader.new) }
+    ensures keeps { Keeps (F.cursor reader.old) (F.cursor reader.new) }
+{
+    called(name, number32(order, reader))
+}
+
+/// Returns the meaning of the field of this name, or refuses it at its place.
+#[inline(always)]
+pub(crate) fn checked<T>(
+    name: FieldName,
+    place: u64,
+    check: Result<T, FileWhy>,
+) -> Result<T, FileFault>
+    ensures { result ≡ checked name place check }
 {
     match check {
         Ok(value) => Ok(value),
-        Err(why) => Err(FileFault::refused(place, why)),
+        Err(why) => called(name, Err(FileFault::refused(place, why))),
     }
 }

@@ -1,10 +1,9 @@
 //! Capture files, read one packet at a time.
 
-use crate::fault::CaptureFault;
 use crate::format::{Format, Next, next_step, packet};
 use crate::packet::Packet;
 use crate::pcap::{Header, MOST_CAPTURED};
-use krb_file::{FieldLimit, FieldReader, StreamReader};
+use krb_file::{FieldLimit, FieldReader, FileFault, StreamReader};
 use std::alloc::Global;
 use std::io::Read;
 use std::marker::Model;
@@ -18,7 +17,7 @@ pub enum State {
     /// The file ended.
     Done,
     /// There was a fault.
-    Failed(CaptureFault),
+    Failed(FileFault),
 }
 
 /// A reader of the packets of a capture file, one after another. It reads no octet after the
@@ -47,7 +46,7 @@ ghost use Rattle.krb_file.specs.FieldReaders.{Stays};
 ghost use Rattle.krb_file.specs.Fields.{IsStreamFaultIn};
 ghost use Rattle.krb_packet.specs.declared.packets.State.TheVariants as states;
 ghost use Rattle.krb_packet.specs.declared.format.Format.TheVariants as formats;
-ghost use Rattle.krb_packet.specs.declared.fault.CaptureFault.{CaptureFault as CaptureFaultValue};
+ghost use Rattle.krb_file.specs.declared.fault.FileFault.{FileFault as FaultValue};
 ghost use Rattle.krb_packet.specs.Captures.{blocks_of};
 ghost use Rattle.krb_packet.specs.Streaming.{Reads, ReturnsNext};
 
@@ -69,18 +68,18 @@ impl<R: Read> Packets<R> {
     /// Reads the next packet; returns `None` at the end of the file. A file is refused at the first
     /// field at fault, which the fault names. After a fault each call returns this fault, and after
     /// the end each call returns `None`; neither reads any more.
-    pub fn next_packet(&mut self, alloc: Global) -> Result<Option<Packet>, CaptureFault>
+    pub fn next_packet(&mut self, alloc: Global) -> Result<Option<Packet>, FileFault>
         // The packets of the file that is read, one after another, and then the end or the fault.
         ensures next { (file : List ℕ) (given : ℕ) → Reads self.old file given → ReturnsNext file given result self.new }
         // A refusal is at a place of the file or at its end.
-        ensures refused { (file : List ℕ) (given : ℕ) → Reads self.old file given → IfErr result (λ error. IsStreamFaultIn file error.fault) }
+        ensures refused { (file : List ℕ) (given : ℕ) → Reads self.old file given → IfErr result (IsStreamFaultIn file) }
         // No octet after what is returned was read, if none was read ahead before.
         ensures fetched { OnOk result (self.old.cursor.ahead ≡ [] → self.new.cursor.ahead ≡ []) }
         ensures ends { result ≡ Ok None → self.new.state ≡ states.Done }
         ensures fails { IfErr result (λ fault. self.new.state ≡ states.Failed fault) }
         // After the end or a fault nothing more is read.
         ensures ended { self.old.state ≡ states.Done → (result ≡ Ok None) × (self.new ≡ self.old) }
-        ensures failed { (fault : CaptureFaultValue) → self.old.state ≡ states.Failed fault → (result ≡ Err fault) × (self.new ≡ self.old) }
+        ensures failed { (fault : FaultValue) → self.old.state ≡ states.Failed fault → (result ≡ Err fault) × (self.new ≡ self.old) }
     {
         if let Some(header) = self.pcap_header() {
             return self.read_captured(header, alloc);
@@ -117,11 +116,7 @@ impl<R: Read> Packets<R> {
     /// Returns the next packet of a pcap whose header was read. Unlike
     /// [`read_next`](Packets::read_next) it leaves the progress where it is.
     #[inline(always)]
-    fn read_captured(
-        &mut self,
-        header: Header,
-        alloc: Global,
-    ) -> Result<Option<Packet>, CaptureFault>
+    fn read_captured(&mut self, header: Header, alloc: Global) -> Result<Option<Packet>, FileFault>
         requires { self.old.state ≡ states.Open (formats.Pcap header) }
         ensures next { (file : List ℕ) (given : ℕ) → Reads self.old file given → ReturnsNext file given result self.new }
         ensures stays { OnOk result (Stays self.old.cursor self.new.cursor) }
@@ -140,7 +135,7 @@ impl<R: Read> Packets<R> {
 
     /// Returns the next packet of a file that was read so far.
     #[inline(never)]
-    fn read_next(&mut self, format: Format, alloc: Global) -> Result<Option<Packet>, CaptureFault>
+    fn read_next(&mut self, format: Format, alloc: Global) -> Result<Option<Packet>, FileFault>
         requires { blocks_of format ≤ self.old.cursor.place }
         ensures next { (file : List ℕ) (given : ℕ) → Reads (record self.old { state = states.Open format }) file given → ReturnsNext file given result self.new }
         ensures stays { OnOk result (Stays self.old.cursor self.new.cursor) }

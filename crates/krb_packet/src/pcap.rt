@@ -3,16 +3,17 @@
 ghost use Rattle.std.specs.Prelude.{◌≡◌, ◌+◌, ◌*◌, ◌^◌, ◌<◌, ◌≤◌, length, OnOk};
 ghost use Rattle.krb_file.specs.FieldReaders.{Follows, Stays, Keeps};
 ghost use Rattle.std.specs.Int.{w32};
+ghost use Rattle.krb_file.specs.declared.field_name.FieldName.TheVariants as fields;
 ghost use Rattle.krb_packet.specs.Numbers.{checked_number};
 ghost use Rattle.krb_packet.specs.Values.{time_of};
 ghost use Rattle.krb_packet.specs.Pcaps.{pcap, magic_of, magic_at, version, header_at, unit, captured, packet_head_at, packet_at, next_at};
 ghost use Rattle.krb_packet.specs.inner.PacketHeads.{packet_head_of};
 
 use crate::block::SECTION_HEADER;
-use crate::order::{ByteOrder, checked, number32};
+use crate::order::{ByteOrder, checked, field32};
 use crate::packet::{LinkType, NANOSECONDS, Packet, Time};
 use krb_der::Octets;
-use krb_file::{FieldReader, FileFault, FileWhy};
+use krb_file::{FieldName, FieldReader, FileFault, FileWhy};
 use std::alloc::Global;
 
 /// What the fractions of seconds count.
@@ -107,18 +108,18 @@ pub(crate) fn read_magic<F: FieldReader>(reader: &mut F) -> Result<Magic, FileFa
     ensures keeps { Keeps (F.cursor reader.old) (F.cursor reader.new) }
 {
     let place = reader.place();
-    let number = number32(ByteOrder::BigEndian, reader)?;
-    checked(place, magic_of(number))
+    let number = field32(ByteOrder::BigEndian, FieldName::Magic, reader)?;
+    checked(FieldName::Magic, place, magic_of(number))
 }
 
 /// Reads the version of a file.
 fn read_version<F: FieldReader>(order: ByteOrder, reader: &mut F) -> Result<(), FileFault>
-    ensures read { Follows (λ done. done) result (checked_number w32 order (version order)) F.MayFail (F.cursor reader.old) (F.cursor reader.new) }
+    ensures read { Follows (λ done. done) result (checked_number fields.Version w32 order (version order)) F.MayFail (F.cursor reader.old) (F.cursor reader.new) }
     ensures keeps { Keeps (F.cursor reader.old) (F.cursor reader.new) }
 {
     let place = reader.place();
-    let number = number32(order, reader)?;
-    checked(place, version(order, number))
+    let number = field32(order, FieldName::Version, reader)?;
+    checked(FieldName::Version, place, version(order, number))
 }
 
 /// Reads the header of a pcap after its magic.
@@ -127,10 +128,10 @@ pub(crate) fn read_header<F: FieldReader>(form: Form, reader: &mut F) -> Result<
     ensures keeps { Keeps (F.cursor reader.old) (F.cursor reader.new) }
 {
     read_version(form.order, reader)?;
-    reader.number32()?;
-    reader.number32()?;
-    reader.number32()?;
-    let link = number32(form.order, reader)?;
+    reader.field32(FieldName::ThisZone)?;
+    reader.field32(FieldName::SigFigs)?;
+    reader.field32(FieldName::SnapLen)?;
+    let link = field32(form.order, FieldName::LinkType, reader)?;
     Ok(Header {
         form,
         link: LinkType::of(link % (1 << 28)),
@@ -150,12 +151,12 @@ fn time(precision: Precision, seconds: u32, fraction: u32) -> Option<Time>
 
 /// Reads how many octets of a packet were captured.
 fn captured_length<F: FieldReader>(order: ByteOrder, reader: &mut F) -> Result<u32, FileFault>
-    ensures read { Follows (λ size. size) result (checked_number w32 order captured) F.MayFail (F.cursor reader.old) (F.cursor reader.new) }
+    ensures read { Follows (λ size. size) result (checked_number fields.CapturedLength w32 order captured) F.MayFail (F.cursor reader.old) (F.cursor reader.new) }
     ensures keeps { Keeps (F.cursor reader.old) (F.cursor reader.new) }
 {
     let place = reader.place();
-    let number = number32(order, reader)?;
-    checked(place, captured(number))
+    let number = field32(order, FieldName::CapturedLength, reader)?;
+    checked(FieldName::CapturedLength, place, captured(number))
 }
 
 /// The numbers before the octets of a packet.
@@ -196,10 +197,10 @@ fn packet_numbers<F: FieldReader>(order: ByteOrder, reader: &mut F) -> Result<Pa
     ensures read { Follows (λ head. head) result (packet_head_at order) F.MayFail (F.cursor reader.old) (F.cursor reader.new) }
     ensures keeps { Keeps (F.cursor reader.old) (F.cursor reader.new) }
 {
-    let seconds = number32(order, reader)?;
-    let fraction = number32(order, reader)?;
+    let seconds = field32(order, FieldName::Seconds, reader)?;
+    let fraction = field32(order, FieldName::Fraction, reader)?;
     let captured = captured_length(order, reader)?;
-    let original = number32(order, reader)?;
+    let original = field32(order, FieldName::OriginalLength, reader)?;
     Ok(PacketHead {
         seconds,
         fraction,
@@ -217,7 +218,11 @@ fn packet_head<F: FieldReader>(order: ByteOrder, reader: &mut F) -> Result<Packe
     let place = reader.place();
     let mut octets = [0; PACKET_HEAD];
     if reader.fill_near(&mut octets) {
-        checked(place + 8, packet_head_of(order, &octets))
+        checked(
+            FieldName::CapturedLength,
+            place + 8,
+            packet_head_of(order, &octets),
+        )
     } else {
         packet_numbers(order, reader)
     }
@@ -237,7 +242,8 @@ fn packet<F: FieldReader>(
     let order = header.form.order;
     let head = packet_head(order, reader)?;
     let mut octets = reader.spare_octets(alloc);
-    reader.octets(alloc, u64::from(head.captured), &mut octets)?;
+    let captured = u64::from(head.captured);
+    reader.octets_field(alloc, FieldName::Data, captured, &mut octets)?;
     Ok(Packet {
         number: count + 1,
         time: time(header.form.precision, head.seconds, head.fraction),

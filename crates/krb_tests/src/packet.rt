@@ -1,11 +1,8 @@
 //! The first two packets of a real capture, `no-kdc`, in which a client of MIT krb5 asks for a
 //! connection to port 88 and is refused; and what Wireshark shows of them.
 
-use krb_file::{FileFault, FileRefusal, FileWhy};
-use krb_packet::{
-    CaptureFault, CaptureField, Contents, Endpoint, LinkType, Packet, PacketField, Packets,
-    Segment, contents_of,
-};
+use krb_file::{FieldName, FileFault, FileField, FilePart, FileRefusal, FileWhy};
+use krb_packet::{Contents, Endpoint, LinkType, Packet, Packets, Segment, contents_of};
 use std::alloc::Global;
 use std::net::{IpAddr, Ipv4Addr};
 use std::process::Abort;
@@ -81,15 +78,15 @@ fn times_are_read(rt: HostRuntime) {
 #[test]
 fn cut_packets_are_refused(rt: HostRuntime) {
     let mut packets = Packets::new(&CAPTURE[..100]);
-    let wanted = CaptureFault {
-        fault: FileFault::Refused(FileRefusal {
-            place: 40,
-            why: FileWhy::Truncated,
-            field: None,
-            begin: 24,
+    let wanted = FileFault::Refused(FileRefusal {
+        place: 40,
+        why: FileWhy::Truncated,
+        field: Some(FileField {
+            part: Some(FilePart::Packet(0)),
+            name: FieldName::Data,
         }),
-        field: CaptureField::Packet(0, PacketField::Data),
-    };
+        begin: 24,
+    });
     for _ in 0..2 {
         match packets.next_packet(rt.alloc()) {
             Err(fault) => assert!(rt; fault == wanted),

@@ -1,13 +1,11 @@
 -- The records of a capture, one packet after another.
 use Rattle.std.proofs.Common.{◌≡◌, ℕ, suc, List, [], ◌∷◌, ◌++◌, length, drop, Option, Some, None, Box, Result, Ok, Err, IfOk, refl, sym, ◌∙◌, ap, arith, append_assoc, length-append, drop_of_length-le, drop_at}
 use Rattle.std.specs.declared.alloc.Global.{Global}
+use Rattle.krb_file.specs.Fields.{Fault}
 use Rattle.krb_file.specs.declared.fault.FileFault.{FileFault}
 use Rattle.krb_file.specs.declared.fault.FileFault.TheVariants as faults
 use Rattle.krb_packet.specs.Captures.{packets}
-use Rattle.krb_packet.specs.Parsers.{Refusal}
 use Rattle.krb_packet.specs.Streaming.{ReturnsNext, PacketsModel, Reads}
-use Rattle.krb_packet.specs.declared.fault.CaptureFault.{CaptureFault}
-use Rattle.krb_packet.specs.declared.field.CaptureField.{CaptureField}
 use Rattle.krb_packet.specs.declared.packet.Packet.{Packet}
 use Rattle.krb_text.specs.declared.form.Form.{Form}
 use Rattle.krb_capture.specs.Captures.{Finding, HasFollowed, Progress, Settings, at_first, counted_each, lines_of, packet_taken}
@@ -24,7 +22,7 @@ use Rattle.krb_tool.specs.inner.CaptureRuns.{AddsCaptureEnd, AddsFileRefusal, Is
 use Rattle.krb_tool.specs.inner.RecordRuns.{AddsLine}
 
 -- what a call of the reader promises
-abbrev pub Promises : PacketsModel → Result (Option Packet) CaptureFault → PacketsModel → Type 0
+abbrev pub Promises : PacketsModel → Result (Option Packet) FileFault → PacketsModel → Type 0
 Promises old given new = (file : List ℕ) (count : ℕ) → Reads old file count → ReturnsNext file count given new
 
 here : {A : Type 0} (items prefix suffix : List A) (item : A) (count : ℕ) → length prefix ≡ count → items ≡ prefix ++ item ∷ suffix → drop count items ≡ item ∷ suffix
@@ -111,7 +109,7 @@ module _ (form : Form) (old new : PacketsModel) (was now : Capture) (rest : Opti
   abbrev found : List Packet
   found = (packets is_left.file).packets
 
-  abbrev refusal : Option Refusal
+  abbrev refusal : Option Fault
   refusal = (packets is_left.file).refusal
 
   pub packet_added : (packet : Packet) (next : Option (Box Rest Global)) → Promises old (Ok (Some packet)) new → ((settings : Settings) (progress : Progress) → HasFollowed was settings progress → Lists now settings (packet_taken settings packet progress) next before after) → AddsLine (IsCaptureLeft new now next form) left before after (Ok None)
@@ -141,7 +139,7 @@ module _ (form : Form) (old new : PacketsModel) (was now : Capture) (rest : Opti
       )
 
   -- no packet is left
-  none_left : length found ≡ is_left.count → (end : Option Refusal) → refusal ≡ end → left ≡ listing_from is_left.settings [] end is_left.progress
+  none_left : length found ≡ is_left.count → (end : Option Fault) → refusal ≡ end → left ≡ listing_from is_left.settings [] end is_left.progress
   none_left counted end e =
       is_left.is
       ∙ ap (λ xs. listing_from is_left.settings xs refusal is_left.progress) (drop_of_length-le found {i = is_left.count} (omega (arith, counted)))
@@ -156,18 +154,15 @@ module _ (form : Form) (old new : PacketsModel) (was now : Capture) (rest : Opti
       ended_so IsLeft before after ended _ left (listing_from is_left.settings [] None is_left.progress) added.0 added.1 last refl refl
 
   -- after which nothing is left
-  pub refusal_added : (IsLeft : RecordListing → Type 0) (fault : CaptureFault) (r : Result (Option RunEnd) RunFault) → Promises old (Err fault) new → IfOk r (AddsFileRefusal fault.fault fault.field was form before after) → AddsLine IsLeft left before after r
-  refusal_added IsLeft fault (Err e) promises adds = tt
-  refusal_added IsLeft fault (Ok ended) promises adds = by fault.fault fault.field (promises is_left.file is_left.count is_left.reads) adds
-    where
-      by : (file_fault : FileFault) (field : CaptureField) → ReturnsNext is_left.file is_left.count (Err (record { fault = file_fault; field = field })) new → AddsFileRefusal file_fault field was form before after ended → AddsLine IsLeft left before after (Ok ended)
-      by faults.Read field given adds = absurd adds
-      by faults.Memory field given adds = absurd adds
-      by (faults.Refused fault) field given adds =
-          let refused : Option Refusal = Some (record { fault = fault; field = field }) in
-          let last = none_left given.counted refused given.is in
-          let added = adds is_left.settings is_left.progress is_left.followed is_left.form_is in
-          ended_so IsLeft before after ended run.Refused left (listing_from is_left.settings [] refused is_left.progress) added.0 added.1 last refl refl
+  pub refusal_added : (IsLeft : RecordListing → Type 0) (e : FileFault) (r : Result (Option RunEnd) RunFault) → Promises old (Err e) new → IfOk r (AddsFileRefusal e was form before after) → AddsLine IsLeft left before after r
+  refusal_added IsLeft e (Err f) promises adds = tt
+  refusal_added IsLeft faults.Read (Ok ended) promises adds = absurd adds
+  refusal_added IsLeft faults.Memory (Ok ended) promises adds = absurd adds
+  refusal_added IsLeft (faults.Refused fault) (Ok ended) promises adds =
+      let given = promises is_left.file is_left.count is_left.reads in
+      let last = none_left given.counted (Some fault) given.is in
+      let added = adds is_left.settings is_left.progress is_left.followed is_left.form_is in
+      ended_so IsLeft before after ended run.Refused left (listing_from is_left.settings [] (Some fault) is_left.progress) added.0 added.1 last refl refl
 
 -- before the first packet
 pub all_left : (settings : Settings) (file : List ℕ) (model : PacketsModel) (capture : Capture) → Reads model file 0 → HasFollowed capture settings at_first → IsCaptureLeft model capture None settings.form (capture_listing settings file)

@@ -1,7 +1,7 @@
 -- The listing of a capture is the records of what is found in its packets.
 use Rattle.std.proofs.Common.{◌≡◌, ℕ, List, [], ◌∷◌, ◌++◌, Option, Some, None, refl, sym, ◌∙◌, ap, append_assoc}
+use Rattle.krb_file.specs.Fields.{Fault}
 use Rattle.krb_packet.specs.Captures.{packets}
-use Rattle.krb_packet.specs.Parsers.{Refusal}
 use Rattle.krb_packet.specs.declared.packet.Packet.{Packet}
 use Rattle.krb_text.specs.declared.form.Form.{Form}
 use Rattle.krb_capture.specs.Captures.{Finding, Progress, Settings, at_first, end_taken, end_text, lines_of, packet_taken, refusal_text}
@@ -18,7 +18,7 @@ module _ (settings : Settings) where
   abbrev end_lines : Progress → List ℕ
   end_lines progress = lines_of settings.form (end_taken settings progress).found
 
-  last_records-are : (refusal : Option Refusal) (progress : Progress) → last_records settings refusal progress ≡ end_lines progress ++ last_line settings refusal progress
+  last_records-are : (refusal : Option Fault) (progress : Progress) → last_records settings refusal progress ≡ end_lines progress ++ last_line settings refusal progress
   unfolding end_text refusal_text
   last_records-are None progress = refl
   last_records-are (Some refusal) progress = refl

@@ -15,7 +15,7 @@ use Rattle.krb_tool.specs.declared.run.RunEnd.{RunEnd}
 use Rattle.krb_tool.specs.declared.run.RunEnd.TheVariants as run
 use Rattle.krb_tool.specs.declared.run.RunFault.{RunFault}
 use Rattle.krb_tool.specs.Files.{RecordListing, field_limit, after_line, ccache_last, end_of, credentials_listing, cache_listing, ccache_listing}
-use Rattle.krb_tool.specs.Paths.{credential_path, start_path}
+use Rattle.krb_tool.specs.Paths.{credential_path, field_path}
 use Rattle.krb_tool.specs.inner.RecordRuns.{Adds, AddsRefusal, AddsLine, AreCredentialsLeft, IsRefusal}
 use Rattle.krb_tool.proofs.Records.{item_added, last_added}
 
@@ -68,7 +68,7 @@ start_refused form now file faults.Read fails = tt
 start_refused form now file faults.Memory fails = tt
 start_refused form now file (faults.Refused fault) fails = ap (λ (r : Result (Start × Source) Fault). cache_listing form now r (credentials field_limit file)) fails
 
-pub fault_added : (form : Form) (e : FileFault) (left : RecordListing) (old new : List ℕ) (r : Result (Option RunEnd) RunFault) → IsRefusal form e left → IfOk r (AddsRefusal start_path form e old new) → AddsLine (IsRefusal form e) left old new r
+pub fault_added : (form : Form) (e : FileFault) (left : RecordListing) (old new : List ℕ) (r : Result (Option RunEnd) RunFault) → IsRefusal form e left → IfOk r (AddsRefusal field_path form e old new) → AddsLine (IsRefusal form e) left old new r
 fault_added form e left old new (Err f) is adds = tt
 fault_added form faults.Read left old new (Ok ended) is adds = absurd adds
 fault_added form faults.Memory left old new (Ok ended) is adds = absurd adds

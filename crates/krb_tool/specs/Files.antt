@@ -13,7 +13,7 @@ use Rattle.krb_text.specs.declared.form.Form.{Form}
 use Rattle.krb_tool.specs.Lines.{record_line, keytab_end_line}
 use Rattle.krb_tool.specs.Lines.{cache_line, credential_line, cache_end_line}
 use Rattle.krb_tool.specs.Extents.{fault_line}
-use Rattle.krb_tool.specs.Paths.{keytab_path, credential_path, start_path}
+use Rattle.krb_tool.specs.Paths.{keytab_path, credential_path, field_path}
 use Rattle.krb_tool.specs.declared.file_run.FileText.{FileText}
 use Rattle.krb_tool.specs.declared.run.RunEnd.{RunEnd}
 use Rattle.krb_tool.specs.declared.run.RunEnd.TheVariants as run
@@ -54,7 +54,7 @@ end_of (Err fault) = run.Refused
 
 -- the one line of what is refused before any record
 abbrev pub refused_listing : Form → Fault → RecordListing
-refused_listing form refusal = record { lines = []; last = fault_line form refusal (start_path refusal.field); end = run.Refused }
+refused_listing form refusal = record { lines = []; last = fault_line form refusal (field_path refusal.field); end = run.Refused }
 
 -- how many octets a field of a file may have
 abbrev pub field_limit : Option ℕ

@@ -12,13 +12,12 @@ use Rattle.krb_json.specs.Laws.{IsSpelled, IsText}
 use Rattle.krb_json.specs.Lines.{line_of}
 use Rattle.krb_json.specs.Masked.{masked_in}
 use Rattle.krb_json.specs.Unsealed.{unsealed_in}
+use Rattle.krb_file.specs.Fields.{Fault}
 use Rattle.krb_keytab.specs.Laws.{IsUpToKey}
 use Rattle.krb_ccache.specs.declared.value.Cache3.{Cache3}
 use Rattle.krb_ccache.specs.Laws.{IsUpToKey as IsUpToSessionKey}
 use Rattle.krb_ccache.specs.Spelling.{CcacheSpells, Spells3, upgraded}
 use Rattle.krb_packet.specs.Captures.{packets}
-use Rattle.krb_packet.specs.FieldNames.{capture_field_text}
-use Rattle.krb_packet.specs.Parsers.{Refusal}
 use Rattle.krb_frame.specs.Frame.{framed}
 use Rattle.krb_frame.specs.Laws.{IsRefusedWith}
 use Rattle.krb_text.specs.Captures.{capture_end_line, capture_refused_line}
@@ -29,7 +28,7 @@ use Rattle.krb_tool.specs.declared.run.RunEnd.TheVariants as run
 use Rattle.krb_tool.specs.Extents.{extent_of}
 use Rattle.krb_tool.specs.Files.{keytab_listing, ccache_listing, text_of}
 use Rattle.krb_tool.specs.Listing.{end_of}
-use Rattle.krb_tool.specs.Paths.{end_extent}
+use Rattle.krb_tool.specs.Paths.{end_extent, field_path}
 use Rattle.krb_tool.specs.Captures.{after_packets, capture_listing}
 use Rattle.krb_tool.specs.Decoding as decoding
 use Rattle.krb_tool.specs.Encoding as encoding
@@ -63,9 +62,9 @@ SessionKeysAreNotListed =
     → ccache_listing form now (before ++ (key ++ after)) ≡ ccache_listing form now (before ++ (other ++ after))
 
 -- the totals, or the refusal of the file with them
-abbrev pub last_line : Settings → Option Refusal → Progress → List ℕ
+abbrev pub last_line : Settings → Option Fault → Progress → List ℕ
 last_line settings None progress = capture_end_line settings.form (all_counts (end_taken settings progress).progress)
-last_line settings (Some refusal) progress = capture_refused_line settings.form (all_counts (end_taken settings progress).progress) refusal.fault.place refusal.fault.why (Some (capture_field_text refusal.field)) (extent_of refusal.fault)
+last_line settings (Some fault) progress = capture_refused_line settings.form (all_counts (end_taken settings progress).progress) fault.place fault.why (field_path fault.field) (extent_of fault)
 
 -- The listing of a capture is the records of what is found in its packets, in order, and then the last line.
 abbrev pub CapturesAreListed : Type 0

@@ -54,7 +54,7 @@ unfoldable pub ticket_refused_path : Profile → List ℕ → Refusal → Option
 ticket_refused_path profile octets refusal =
     if nat_lt 2147483647 (length octets) then None else Some (ticket_path profile (length octets) (take (refusal.place + 1) octets))
 
--- ---- The field at fault of a file, if there is one: after a number of records of a keytab, after a number of credentials of a cache, and before these.
+-- ---- The field at fault of a file, if there is one: after a number of records of a keytab, after a number of credentials of a cache, and before these or in a capture.
 
 unfoldable pub keytab_path : ℕ → Option FileField → Option (List ℕ)
 keytab_path records field = option_map (λ found. keytab_text (record { records = records; field = found })) field
@@ -62,5 +62,5 @@ keytab_path records field = option_map (λ found. keytab_text (record { records 
 unfoldable pub credential_path : ℕ → Option FileField → Option (List ℕ)
 credential_path credentials field = option_map (λ found. credential_text (record { credentials = credentials; field = found })) field
 
-unfoldable pub start_path : Option FileField → Option (List ℕ)
-start_path field = option_map field_text field
+unfoldable pub field_path : Option FileField → Option (List ℕ)
+field_path field = option_map field_text field

@@ -1,21 +1,19 @@
 //! The run over a capture.
 
-ghost use Rattle.std.specs.Prelude.{◌≡◌, ℕ, List, Some, IfErr, IfOk, string_bytes};
-ghost use Rattle.std.specs.Option.{option_map};
-ghost use Rattle.krb_packet.specs.FieldNames.{capture_field_text};
-ghost use Rattle.krb_text.specs.Refusals.{path_in};
+ghost use Rattle.std.specs.Prelude.{◌≡◌, ℕ, List, Some, IfErr, IfOk};
 ghost use Rattle.krb_tool.specs.Captures.{capture_listing};
 ghost use Rattle.krb_tool.specs.Faults.{IsRead, IsWrite};
 ghost use Rattle.krb_tool.specs.Files.{ListsRecords};
 ghost use Rattle.krb_tool.specs.inner.CaptureRuns.{AddsCaptureEnd, AddsFileRefusal, IsCaptureLeft};
 
 use crate::extent::extent_of;
+use crate::file_path::field_path;
 use crate::record_run::{RecordLines, Watch, Watched, in_pieces, list_records};
 use crate::run::{RunEnd, RunFault};
 use krb_capture::{Capture, Rest};
 use krb_file::FileFault;
 use krb_frame::Limit;
-use krb_packet::{CaptureFault, CaptureField, Packets};
+use krb_packet::Packets;
 use krb_text::{Form, TextBuffer};
 use std::alloc::Global;
 use std::io::{Read, Write};
@@ -29,17 +27,6 @@ struct CaptureLines<'a, R: Read> {
     rest: Option<Box<Rest>>,
     form: Form,
     watch: &'a Watch,
-}
-
-/// Returns the path of a field, if records of the form show it.
-fn path_of(alloc: Global, form: Form, field: CaptureField) -> Result<Option<String>, RunFault>
-    ensures path { IfOk result (λ path. path_in form (option_map string_bytes path) ≡ path_in form (Some (capture_field_text field))) }
-    ensures fault { IfErr result (λ e. e ≡ RunFault.Memory) }
-{
-    if form == Form::Lines {
-        return Ok(None);
-    }
-    Ok(Some(format!(in alloc; "{field}")?))
 }
 
 /// Appends the records of the end of a file.
@@ -61,16 +48,16 @@ impl<R: Read> CaptureLines<'_, R> {
     fn put_fault(
         &mut self,
         alloc: Global,
-        fault: CaptureFault,
+        fault: FileFault,
         text: &mut TextBuffer,
     ) -> Result<Option<RunEnd>, RunFault>
-        ensures put { IfOk result (AddsFileRefusal fault.fault fault.field self.old.capture self.old.form text.old text.new) }
+        ensures put { IfOk result (AddsFileRefusal fault self.old.capture self.old.form text.old text.new) }
         ensures fault { IfErr result (λ e. IsWrite e → ⊥) }
         ensures kept { IfErr result (λ e. IsRead e → text.new ≡ text.old) }
     {
-        match fault.fault {
+        match fault {
             FileFault::Refused(refusal) => {
-                let path = path_of(alloc, self.form, fault.field)?;
+                let path = field_path(alloc, self.form, refusal.field)?;
                 let path = match &path {
                     None => None,
                     Some(path) => Some(path.as_str()),

@@ -3,7 +3,7 @@
 ghost use Rattle.std.specs.Prelude.{◌≡◌, IfErr, IfOk, string_bytes};
 ghost use Rattle.std.specs.Option.{option_map};
 ghost use Rattle.krb_text.specs.Refusals.{path_in};
-ghost use Rattle.krb_tool.specs.Paths.{keytab_path, credential_path, start_path};
+ghost use Rattle.krb_tool.specs.Paths.{keytab_path, credential_path, field_path};
 
 use crate::run::RunFault;
 use krb_ccache::CredentialPath;
@@ -54,14 +54,14 @@ pub(crate) fn credential_path(
     }
 }
 
-/// Returns the path of a field of a cache before its credentials, if records of the form show it.
-#[tactic(auto, unfolding(crate::specs::Paths::start_path))]
-pub(crate) fn start_path(
+/// Returns the path of a field of a file that is in no record, if records of the form show it.
+#[tactic(auto, unfolding(crate::specs::Paths::field_path))]
+pub(crate) fn field_path(
     alloc: Global,
     form: Form,
     field: Option<FileField>,
 ) -> Result<Option<String>, RunFault>
-    ensures path { IfOk result (λ path. path_in form (option_map string_bytes path) ≡ path_in form (start_path field)) }
+    ensures path { IfOk result (λ path. path_in form (option_map string_bytes path) ≡ path_in form (field_path field)) }
     ensures fault { IfErr result (λ e. e ≡ RunFault.Memory) }
 {
     match (form, field) {

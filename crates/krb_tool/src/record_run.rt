@@ -5,7 +5,6 @@ ghost use Rattle.std.specs.Io.Buffered.{reader_remaining};
 ghost use Rattle.std.specs.Option.{option_map};
 ghost use Rattle.krb_tool.specs.Lines.{record_line, keytab_end_line, cache_line, credential_line, cache_end_line};
 ghost use Rattle.krb_tool.specs.Extents.{fault_line};
-ghost use Rattle.krb_tool.specs.Paths.{keytab_path, credential_path, start_path};
 ghost use Rattle.krb_tool.specs.declared.run.RunEnd.TheVariants as run;
 ghost use Rattle.krb_tool.specs.Faults.{IsRead, IsWrite};
 ghost use Rattle.krb_tool.specs.Files.{RecordListing, after_line, keytab_listing, ccache_listing, AppendsPrefix, ListsRecords};
@@ -13,7 +12,7 @@ ghost use Rattle.krb_tool.specs.inner.RecordRuns.{Adds, AddsRefusal, AddsLine, M
 ghost use Rattle.std.specs.Io.KnownBytes.{Appends};
 
 use crate::extent::extent_of;
-use crate::file_path::{credential_path, keytab_path, start_path};
+use crate::file_path::{credential_path, field_path, keytab_path};
 use crate::run::{PIECE_OCTETS, RunEnd, RunFault};
 use crate::transfer::{MOST_ASKS, too_many_reads, write_all};
 use krb_ccache::{Credential, Credentials, FilePrincipal, Header};
@@ -164,7 +163,10 @@ impl<R: Read> RecordLines for KeytabLines<'_, R> {
                 Ok(None)
             }
             Ok(Next::Done(stop)) => put_stop(text, self.form, count, &stop),
-            Err(fault) => { put_keytab_fault(alloc, text, self.form, count, fault, self.watch) }
+            Err(fault) => {
+                let path = keytab_path(alloc, self.form, count, fault.field())?;
+                put_fault(text, self.form, fault, &path, self.watch)
+            }
         }
     }
 }
@@ -211,56 +213,6 @@ fn put_fault(
     }
 }
 
-/// Appends the line of a refusal after a number of records of a keytab, as [`put_fault`] does.
-fn put_keytab_fault(
-    alloc: Global,
-    text: &mut TextBuffer,
-    form: Form,
-    records: u64,
-    fault: FileFault,
-    watch: &Watch,
-) -> Result<Option<RunEnd>, RunFault>
-    ensures refused { IfOk result (AddsRefusal (keytab_path records) form fault text.old text.new) }
-    ensures fault { IfErr result (λ e. IsWrite e → ⊥) }
-    ensures kept { IfErr result (λ e. IsRead e → text.new ≡ text.old) }
-{
-    let path = keytab_path(alloc, form, records, fault.field())?;
-    put_fault(text, form, fault, &path, watch)
-}
-
-/// Appends the line of a refusal after a number of credentials, as [`put_fault`] does.
-fn put_credential_fault(
-    alloc: Global,
-    text: &mut TextBuffer,
-    form: Form,
-    credentials: u64,
-    fault: FileFault,
-    watch: &Watch,
-) -> Result<Option<RunEnd>, RunFault>
-    ensures refused { IfOk result (AddsRefusal (credential_path credentials) form fault text.old text.new) }
-    ensures fault { IfErr result (λ e. IsWrite e → ⊥) }
-    ensures kept { IfErr result (λ e. IsRead e → text.new ≡ text.old) }
-{
-    let path = credential_path(alloc, form, credentials, fault.field())?;
-    put_fault(text, form, fault, &path, watch)
-}
-
-/// Appends the line of a refusal before the credentials of a cache, as [`put_fault`] does.
-fn put_start_fault(
-    alloc: Global,
-    text: &mut TextBuffer,
-    form: Form,
-    fault: FileFault,
-    watch: &Watch,
-) -> Result<Option<RunEnd>, RunFault>
-    ensures refused { IfOk result (AddsRefusal start_path form fault text.old text.new) }
-    ensures fault { IfErr result (λ e. IsWrite e → ⊥) }
-    ensures kept { IfErr result (λ e. IsRead e → text.new ≡ text.old) }
-{
-    let path = start_path(alloc, form, fault.field())?;
-    put_fault(text, form, fault, &path, watch)
-}
-
 /// A file that is at fault before its records.
 #[derive(Clone, Copy)]
 struct NoLines<'a> {
@@ -278,7 +230,8 @@ impl RecordLines for NoLines<'_> {
         _count: u64,
         text: &mut TextBuffer,
     ) -> Result<Option<RunEnd>, RunFault> {
-        put_start_fault(alloc, text, self.form, self.fault, self.watch)
+        let path = field_path(alloc, self.form, self.fault.field())?;
+        put_fault(text, self.form, self.fault, &path, self.watch)
     }
 }
 
@@ -344,7 +297,10 @@ impl<R: Read + Drop> RecordLines for CredentialLines<'_, R> {
                 Ok(None)
             }
             Ok(None) => put_end(text, self.form, count),
-            Err(fault) => { put_credential_fault(alloc, text, self.form, count, fault, self.watch) }
+            Err(fault) => {
+                let path = credential_path(alloc, self.form, count, fault.field())?;
+                put_fault(text, self.form, fault, &path, self.watch)
+            }
         }
     }
 }

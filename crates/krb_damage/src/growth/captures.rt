@@ -8,9 +8,7 @@ use krb_file::{FileFault, FileRefusal};
 use krb_flow::Direction;
 use krb_frame::Limit;
 use krb_list::{Form, TextBuffer};
-use krb_packet::{
-    CaptureFault, Endpoint, Fragment, Fragments, Original, Packets, Payload, Reassembled, Segment,
-};
+use krb_packet::{Endpoint, Fragment, Fragments, Original, Packets, Payload, Reassembled, Segment};
 use krb_text::Extent;
 use std::alloc::Global;
 use std::net::{IpAddr, Ipv4Addr};
@@ -67,12 +65,7 @@ fn put_records(
                 }
                 return Outcome::Done;
             }
-            Err(
-                CaptureFault {
-                    fault: FileFault::Refused(FileRefusal { place, why, .. }),
-                    ..
-                },
-            ) => {
+            Err(FileFault::Refused(FileRefusal { place, why, .. })) => {
                 let extent = Extent {
                     at: place,
                     length: None,
@@ -85,10 +78,10 @@ fn put_records(
             }
             Err(fault) => {
                 let after = match packets.next_packet(alloc) {
-                    Err(after) => Some(after.fault),
+                    Err(after) => Some(after),
                     Ok(_) => None,
                 };
-                return faulted(fault.fault, after);
+                return faulted(fault, after);
             }
         }
     }

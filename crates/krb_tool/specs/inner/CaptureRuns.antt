@@ -4,9 +4,7 @@ use Rattle.std.specs.declared.alloc.Global.{Global}
 use Rattle.krb_file.specs.declared.fault.FileFault.{FileFault}
 use Rattle.krb_file.specs.declared.fault.FileFault.TheVariants as faults
 use Rattle.krb_packet.specs.Captures.{packets}
-use Rattle.krb_packet.specs.FieldNames.{capture_field_text}
 use Rattle.krb_packet.specs.Streaming.{PacketsModel, Reads}
-use Rattle.krb_packet.specs.declared.field.CaptureField.{CaptureField}
 use Rattle.krb_text.specs.declared.form.Form.{Form}
 use Rattle.krb_capture.specs.Captures.{Finding, HasFollowed, Progress, Settings, end_text, lines_of, refusal_text}
 use Rattle.krb_capture.specs.Rests.{HasFollowedBut}
@@ -15,6 +13,7 @@ use Rattle.krb_capture.specs.declared.directions.Rest.{Rest}
 use Rattle.krb_tool.specs.Captures.{capture_run_end, listing_from}
 use Rattle.krb_tool.specs.Extents.{extent_of}
 use Rattle.krb_tool.specs.Files.{RecordListing, after_line}
+use Rattle.krb_tool.specs.Paths.{field_path}
 use Rattle.krb_tool.specs.declared.run.RunEnd.{RunEnd}
 use Rattle.krb_tool.specs.declared.run.RunEnd.TheVariants as run
 
@@ -36,8 +35,8 @@ AddsCaptureEnd capture old new ended =
     (settings : Settings) (progress : Progress) → HasFollowed capture settings progress → (ended ≡ Some (capture_run_end settings None progress)) × (new ≡ old ++ end_text settings progress)
 
 -- the record of a refused file was added; other faults have none
-abbrev pub AddsFileRefusal : FileFault → CaptureField → Capture → Form → List ℕ → List ℕ → Option RunEnd → Type 0
-AddsFileRefusal (faults.Refused fault) field capture form old new ended =
-    (settings : Settings) (progress : Progress) → HasFollowed capture settings progress → form ≡ settings.form → (ended ≡ Some run.Refused) × (new ≡ old ++ refusal_text settings progress fault.place fault.why (Some (capture_field_text field)) (extent_of fault))
-AddsFileRefusal faults.Read field capture form old new ended = ⊥
-AddsFileRefusal faults.Memory field capture form old new ended = ⊥
+abbrev pub AddsFileRefusal : FileFault → Capture → Form → List ℕ → List ℕ → Option RunEnd → Type 0
+AddsFileRefusal (faults.Refused fault) capture form old new ended =
+    (settings : Settings) (progress : Progress) → HasFollowed capture settings progress → form ≡ settings.form → (ended ≡ Some run.Refused) × (new ≡ old ++ refusal_text settings progress fault.place fault.why (field_path fault.field) (extent_of fault))
+AddsFileRefusal faults.Read capture form old new ended = ⊥
+AddsFileRefusal faults.Memory capture form old new ended = ⊥

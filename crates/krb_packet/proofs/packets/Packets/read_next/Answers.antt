@@ -68,7 +68,7 @@ pub returns-in-Err-clause-next : goal.returns-in-Err-clause-next
 returns-in-Err-clause-next g c =
     let s = c.steps.self-inside in
     rw (sym c.self.view_is)
-    (λ file given reads. fault_given file given s.count c.steps.format c.in-Err.fault.fault c.in-Err.fault.field _ s.reader (c.steps.invariant.reads file given reads) c.in-Err.ensures.read)
+    (λ file given reads. fault_given file given s.count c.steps.format c.in-Err.fault _ s.reader (c.steps.invariant.reads file given reads) c.in-Err.ensures.read)
 
 pub next_step-requires-clause-packets : goal.next_step-requires-clause-packets
 next_step-requires-clause-packets g c = c.steps.invariant.given

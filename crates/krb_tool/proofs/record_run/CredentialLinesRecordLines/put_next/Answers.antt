@@ -1,5 +1,8 @@
-use Rattle.std.proofs.Common.{None, Ok, refl}
+use Rattle.std.proofs.Common.{string_bytes, None, Ok, refl}
 use Rattle.krb_tool.proofs.CredentialLines.{credential_added, end_added, refusal_added}
+use Rattle.std.specs.Option.{option_map}
+use Rattle.krb_tool.specs.Paths.{credential_path}
+use Rattle.krb_tool.proofs.FilePaths.{refusal_shown}
 use Rattle.krb_tool.proofs.record_run.CredentialLinesRecordLines.put_next.Goals as goal
 
 pub returns-in_ok-put_one-in-Ok-Some-clause-line : goal.returns-in_ok-put_one-in-Ok-Some-clause-line
@@ -19,4 +22,4 @@ pub returns-in-Err-clause-line : goal.returns-in-Err-clause-line
 returns-in-Err-clause-line g c =
     let old = c.args.self.now.credentials in
     let new = c.next_credential.new.self in
-    λ left is_left. refusal_added c.args.self.now.form old.reader new.reader old.start new.start old.state new.state c.args.self.now.now c.args.count left c.args.text.now c.put_credential_fault.new.text is_left c.in-Err.fault c.put_credential_fault.result c.in-Err.ensures.next c.put_credential_fault.ensures.refused
+    λ left is_left. refusal_added c.args.self.now.form old.reader new.reader old.start new.start old.state new.state c.args.self.now.now c.args.count left c.args.text.now c.put_fault.new.text is_left c.in-Err.fault c.put_fault.result c.in-Err.ensures.next (refusal_shown (credential_path c.args.count) c.args.self.now.form c.in-Err.fault (option_map string_bytes c.in_ok-path-in-Err.path) c.args.text.now c.put_fault.new.text c.put_fault.result (rw c.field.ensures at c.in_ok-path-in-Err.ensures.path) c.put_fault.ensures.refused)

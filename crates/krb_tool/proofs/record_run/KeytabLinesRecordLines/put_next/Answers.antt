@@ -1,5 +1,8 @@
-use Rattle.std.proofs.Common.{None, Ok, refl}
+use Rattle.std.proofs.Common.{string_bytes, None, Ok, refl}
 use Rattle.krb_tool.proofs.KeytabLines.{record_added, stop_added, refusal_added}
+use Rattle.std.specs.Option.{option_map}
+use Rattle.krb_tool.specs.Paths.{keytab_path}
+use Rattle.krb_tool.proofs.FilePaths.{refusal_shown}
 use Rattle.krb_tool.proofs.record_run.KeytabLinesRecordLines.put_next.Goals as goal
 
 pub returns-in_ok-add_record-in-Ok-Item-clause-line : goal.returns-in_ok-add_record-in-Ok-Item-clause-line
@@ -14,4 +17,4 @@ returns-in-Ok-Done-clause-line g c = λ left is_left.
 
 pub returns-in-Err-clause-line : goal.returns-in-Err-clause-line
 returns-in-Err-clause-line g c = λ left is_left.
-    refusal_added c.args.self.now.form c.args.self.now.records.reader c.next_record.new.self.reader c.args.self.now.records.state c.next_record.new.self.state c.args.count left c.args.text.now c.put_keytab_fault.new.text is_left c.in-Err.fault c.put_keytab_fault.result c.in-Err.ensures.next c.put_keytab_fault.ensures.refused
+    refusal_added c.args.self.now.form c.args.self.now.records.reader c.next_record.new.self.reader c.args.self.now.records.state c.next_record.new.self.state c.args.count left c.args.text.now c.put_fault.new.text is_left c.in-Err.fault c.put_fault.result c.in-Err.ensures.next (refusal_shown (keytab_path c.args.count) c.args.self.now.form c.in-Err.fault (option_map string_bytes c.in_ok-path-in-Err.path) c.args.text.now c.put_fault.new.text c.put_fault.result (rw c.field.ensures at c.in_ok-path-in-Err.ensures.path) c.put_fault.ensures.refused)
