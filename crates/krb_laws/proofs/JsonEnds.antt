@@ -2,7 +2,6 @@
 use Rattle.std.proofs.Common.{◌≡◌, ℕ, pos, ◌^◌, ◌<◌, nat_le, true, false, List, [], ◌∷◌, ◌++◌, Option, Some, None, IfSome, codes, refl, arith}
 use Rattle.std.proofs.lemmas.Bool.{leb-true}
 use Rattle.krb_der.specs.Reasons.{reason_number, reason_name}
-use Rattle.krb_der.specs.declared.verdict.Refusal.{Refusal}
 use Rattle.krb_der.specs.declared.why.Why.{Why}
 use Rattle.krb_der.specs.declared.why.Why.TheVariants as whys
 use Rattle.krb_file.specs.Faults.{file_reason_number, file_reason_name}
@@ -22,7 +21,6 @@ use Rattle.krb_text.specs.Streams.{counted_end_record, end_record, refused_frame
 use Rattle.krb_text.specs.Text.{IsPrintable}
 use Rattle.krb_text.specs.Time.{instant_text}
 use Rattle.krb_text.specs.Values.{Field, Number, String, Word, if_there, printed, with_origin}
-use Rattle.krb_text.specs.declared.capture.CaptureCounts.{CaptureCounts}
 use Rattle.krb_text.specs.declared.extent.Extent.{Extent}
 use Rattle.krb_text.specs.declared.form.Form.TheVariants as forms
 use Rattle.krb_text.specs.declared.input.InputFault.{InputFault}
@@ -31,18 +29,19 @@ use Rattle.krb_text.specs.declared.origin.Origin.{Origin}
 use Rattle.krb_text.proofs.Printable.{Prints, word}
 use Rattle.krb_text.proofs.Reasons as reasons
 use Rattle.krb_text.proofs.Times.{instant}
-use Rattle.krb_token.specs.declared.layer.Layer.{Layer}
-use Rattle.krb_laws.specs.JsonLaws.{AreCounts, CapturesAreJson, EndsAreJson, IsEnd, IsExtent, IsFlowOrigin, IsLine, PrintsJson, ValueFits}
+use Rattle.krb_text.proofs.Tuples.{◌&◌}
+use Rattle.krb_laws.specs.JsonLaws.{CapturesAreJson, EndsAreJson, IsEnd, IsExtent, IsFlowOrigin, PrintsJson, ValueFits, are_different, is_plain}
 use Rattle.krb_laws.proofs.JsonMessages.{its_origin, message_from}
-use Rattle.krb_laws.proofs.JsonRecords.{ValuesFit, record_is_json}
-use Rattle.krb_laws.proofs.JsonShown.{FitsFrom, IsOrigin, from_origin, no_origin}
+use Rattle.krb_laws.proofs.JsonRecords.{ValuesFit, names_are_plain, record_is_json}
+use Rattle.krb_laws.proofs.JsonShown.{IsOrigin, from_origin, names_of, no_origin, origin_names}
 use Rattle.krb_laws.proofs.JsonValues.{small_reason}
 
-from : (origin : List Field) (kind : List ℕ) (fields : List Field) → IsOrigin origin → FitsFrom kind fields None → PrintsJson (with_origin origin (printed kind fields))
-from origin kind fields o r = record_is_json (with_origin origin (printed kind fields)) (from_origin origin kind fields None o r)
+-- a record without parts: the names of its members are plain and differ, from each origin too
+from : (origin : List Field) (kind : List ℕ) (fields : List Field) → IsOrigin origin → is_plain kind ≡ true → names_are_plain fields ≡ true → are_different (codes "kind" ∷ (origin_names ++ (names_of fields ++ []))) ≡ true → ValuesFit fields → PrintsJson (with_origin origin (printed kind fields))
+from origin kind fields o k n a v = record_is_json _ (from_origin origin kind fields None o (record { kind_plain = k; plain = n; apart = a; values = v; parts = tt }))
 
-pub alone : (kind : List ℕ) (fields : List Field) → FitsFrom kind fields None → PrintsJson (printed kind fields)
-alone kind fields r = from [] kind fields no_origin r
+pub alone : (kind : List ℕ) (fields : List Field) → is_plain kind ≡ true → names_are_plain fields ≡ true → are_different (codes "kind" ∷ (origin_names ++ (names_of fields ++ []))) ≡ true → ValuesFit fields → PrintsJson (printed kind fields)
+alone kind fields k n a v = from [] kind fields no_origin k n a v
 
 -- ---- what is told of a refusal
 its_path : (path : Option (List ℕ)) → ValueFits (if_there String path)
@@ -81,66 +80,35 @@ small_file_reason (files.TooLong length) = refl
 its_file_reason : (why : FileWhy) → (file_reason_number why < 2 ^ 64) × IsPrintable (file_reason_name why)
 its_file_reason why = (omega (arith, leb-true (file_reason_number why) 255 (small_file_reason why)), (reasons.file_name why).all)
 
--- ---- refused files and messages
-file_refused : (place : ℕ) (reason : FileWhy) (path : Option (List ℕ)) (extent : Extent) → place < 2 ^ 63 → IsExtent extent → PrintsJson (file_refused_record forms.Json place reason path extent)
-file_refused place reason path extent h e =
-    alone (codes "refused") (file_refused_record forms.Json place reason path extent).fields
-    (record { kind_plain = refl; plain = refl; apart = refl; values = (h, (its_file_reason reason, its_extent path extent e)); parts = tt })
-
-message_refused : (line : Option ℕ) (layers : List Layer) (refusal : Refusal) (path : Option (List ℕ)) (extent : Extent) (s : Spelling) → IsLine line → refusal.place < 2 ^ 63 → IsExtent extent → PrintsJson (with_origin (message_origin line layers) (message_refused_record forms.Json refusal path extent s))
-message_refused line layers refusal path extent s l h e =
-    from (message_origin line layers) (codes "refused") (message_refused_record forms.Json refusal path extent s).fields (its_origin line layers l)
-    (record { kind_plain = refl; plain = refl; apart = refl; values = (h, (its_reason refusal.why, (its_path path, (e.at, (optional_number extent.length e.length, ((spelled s).all, tt)))))); parts = tt })
-
-untold_message : (refusal : Refusal) (path : Option (List ℕ)) → refusal.place < 2 ^ 63 → PrintsJson (refusal_record refusal (path_in forms.Json path))
-untold_message refusal path h =
-    alone (codes "refused") (refusal_record refusal (path_in forms.Json path)).fields
-    (record { kind_plain = refl; plain = refl; apart = refl; values = (h, (its_reason refusal.why, (its_path path, tt))); parts = tt })
-
 worded : (fault : InputFault) → Prints (input_word fault)
 worded faults.Length = word _ refl
 worded (faults.Misspelled s) = spelled s
 worded faults.Ntlm = word _ refl
 
-input_refused : (line : Option ℕ) (layers : List Layer) (fault : InputFault) (place : Option ℕ) (extent : Extent) (s : Option Spelling) → IsLine line → IfSome place (λ n. n < 2 ^ 63) → IsExtent extent → PrintsJson (with_origin (message_origin line layers) (input_refused_record forms.Json fault place extent s))
-input_refused line layers fault place extent s l h e =
-    from (message_origin line layers) (codes "refused") (input_refused_record forms.Json fault place extent s).fields (its_origin line layers l)
-    (record { kind_plain = refl; plain = refl; apart = refl; values = ((worded fault).all, (optional_number place h, (tt, (tt, (e.at, (optional_number extent.length e.length, (optional_spelling s, tt))))))); parts = tt })
-
--- ---- streams
+-- ---- refusals and ends
 frame_refused : (messages place : ℕ) (reason : Why) (path : Option (List ℕ)) (extent : Extent) → messages < 2 ^ 63 → place < 2 ^ 63 → IsExtent extent → PrintsJson (refused_record forms.Json messages place reason path extent)
 frame_refused messages place reason path extent m h e =
-    alone (codes "refused") (refused_record forms.Json messages place reason path extent).fields
-    (record { kind_plain = refl; plain = refl; apart = refl; values = (m, (h, (its_reason reason, its_extent path extent e))); parts = tt })
-
-untold_stream : (messages place : ℕ) (reason : Why) (path : Option (List ℕ)) → messages < 2 ^ 63 → place < 2 ^ 63 → PrintsJson (refused_frame messages place reason (path_in forms.Json path))
-untold_stream messages place reason path m h =
-    alone (codes "refused") (refused_frame messages place reason (path_in forms.Json path)).fields
-    (record { kind_plain = refl; plain = refl; apart = refl; values = (m, (h, (its_reason reason, (its_path path, tt)))); parts = tt })
+    alone (codes "refused") (refused_record forms.Json messages place reason path extent).fields refl refl refl (m & h & its_reason reason & its_extent path extent e)
 
 end_of_stream : (messages : ℕ) (end : End) (path : Option (List ℕ)) (extent : Extent) → messages < 2 ^ 63 → IsEnd end → IsExtent extent → PrintsJson (end_record forms.Json messages end path extent)
-end_of_stream messages Boundary path extent m h e =
-    alone (codes "end") (end_record forms.Json messages Boundary path extent).fields (record { kind_plain = refl; plain = refl; apart = refl; values = (m, tt); parts = tt })
+end_of_stream messages Boundary path extent m h e = alone (codes "end") (end_record forms.Json messages Boundary path extent).fields refl refl refl (m & tt)
 end_of_stream messages (Within present) path extent m h e = frame_refused messages present whys.Truncated path extent m h e
 end_of_stream messages (Refused place reason) path extent m h e = frame_refused messages place reason path extent m h e
 
-counted_stream : (messages refused : ℕ) → messages < 2 ^ 63 → refused < 2 ^ 63 → PrintsJson (counted_end_record messages refused)
-counted_stream messages refused m r =
-    alone (codes "end") (counted_end_record messages refused).fields (record { kind_plain = refl; plain = refl; apart = refl; values = (m, (r, tt)); parts = tt })
-
-file_name : (name : List ℕ) → PrintsJson (file_record name)
-file_name name = alone (codes "file") (file_record name).fields (record { kind_plain = refl; plain = refl; apart = refl; values = (tt, tt); parts = tt })
-
 pub ends_are_json : EndsAreJson
 ends_are_json = record {
-  file = file_refused;
-  message = message_refused;
-  untold_message = untold_message;
-  input = input_refused;
+  file = λ place reason path extent h e. alone (codes "refused") (file_refused_record forms.Json place reason path extent).fields refl refl refl (h & its_file_reason reason & its_extent path extent e);
+  message = λ line layers refusal path extent s l h e.
+      from (message_origin line layers) (codes "refused") (message_refused_record forms.Json refusal path extent s).fields (its_origin line layers l) refl refl refl
+      (h & its_reason refusal.why & its_path path & e.at & optional_number extent.length e.length & (spelled s).all & tt);
+  untold_message = λ refusal path h. alone (codes "refused") (refusal_record refusal (path_in forms.Json path)).fields refl refl refl (h & its_reason refusal.why & its_path path & tt);
+  input = λ line layers fault place extent s l h e.
+      from (message_origin line layers) (codes "refused") (input_refused_record forms.Json fault place extent s).fields (its_origin line layers l) refl refl refl
+      ((worded fault).all & optional_number place h & tt & tt & e.at & optional_number extent.length e.length & optional_spelling s & tt);
   stream = end_of_stream;
-  untold_stream = untold_stream;
-  counted_stream = counted_stream;
-  name = file_name;
+  untold_stream = λ messages place reason path m h. alone (codes "refused") (refused_frame messages place reason (path_in forms.Json path)).fields refl refl refl (m & h & its_reason reason & its_path path & tt);
+  counted_stream = λ messages refused m r. alone (codes "end") (counted_end_record messages refused).fields refl refl refl (m & r & tt);
+  name = λ name. alone (codes "file") (file_record name).fields refl refl refl (tt & tt);
 }
 
 -- ---- captures
@@ -151,49 +119,24 @@ its_time (Some time) h = (instant time h).all
 flow_origin : (origin : Origin) → IsFlowOrigin origin → IsOrigin (origin_fields origin)
 flow_origin origin h = record {
   plain = refl;
-  keeps = false ∷ false ∷ false ∷ false ∷ false ∷ false ∷ [];
+  keeps = false ∷ false ∷ [];
   among = λ rest. refl;
-  values = (h.packet, (its_time origin.time h.in_range.time, (((h.in_range.source, omega (arith, h.source)), (h.in_range.target, omega (arith, h.target))), tt)));
+  values = h.packet & its_time origin.time h.in_range.time & ((h.in_range.source, omega (arith, h.source)), (h.in_range.target, omega (arith, h.target))) & tt;
 }
 
-captured : (origin : Origin) (kind : List ℕ) (fields : List Field) → IsFlowOrigin origin → FitsFrom kind fields None → PrintsJson (with_origin (origin_fields origin) (printed kind fields))
-captured origin kind fields o r = from (origin_fields origin) kind fields (flow_origin origin o) r
-
-captured_refusal : (origin : Origin) (refusal : Refusal) (path : Option (List ℕ)) (extent : Extent) → IsFlowOrigin origin → refusal.place < 2 ^ 63 → IsExtent extent → PrintsJson (with_origin (origin_fields origin) (refusal_record refusal (path_in forms.Json path ++ extent_in forms.Json extent)))
-captured_refusal origin refusal path extent o h e =
-    captured origin (codes "refused") (refusal_record refusal (path_in forms.Json path ++ extent_in forms.Json extent)).fields o
-    (record { kind_plain = refl; plain = refl; apart = refl; values = (h, (its_reason refusal.why, its_extent path extent e)); parts = tt })
-
-joined : (origin : Origin) → IsFlowOrigin origin → PrintsJson (with_origin (origin_fields origin) (printed (codes "joined") []))
-joined origin o = captured origin (codes "joined") [] o (record { kind_plain = refl; plain = refl; apart = refl; values = tt; parts = tt })
-
-lost : (origin : Origin) (place octets : ℕ) (path : Option (List ℕ)) → IsFlowOrigin origin → place < 2 ^ 63 → octets < 2 ^ 63 → PrintsJson (with_origin (origin_fields origin) (lost_record forms.Json place octets path))
-lost origin place octets path o h k =
-    captured origin (codes "lost") (lost_record forms.Json place octets path).fields o
-    (record { kind_plain = refl; plain = refl; apart = refl; values = (h, (k, (its_path path, tt))); parts = tt })
-
-password : (origin : Origin) (version ap rest : ℕ) → IsFlowOrigin origin → version < 2 ^ 16 → ap < 2 ^ 16 → rest < 2 ^ 63 → PrintsJson (with_origin (origin_fields origin) (password_record version ap rest))
-password origin version ap rest o v a r =
-    captured origin (codes "KPASSWD") (password_record version ap rest).fields o
-    (record { kind_plain = refl; plain = refl; apart = refl; values = (omega (arith, v), (omega (arith, a), (r, tt))); parts = tt })
-
-capture_end : (counts : CaptureCounts) → AreCounts counts → PrintsJson (printed (codes "end") (count_fields counts))
-capture_end counts h =
-    alone (codes "end") (count_fields counts)
-    (record { kind_plain = refl; plain = refl; apart = refl; values = (h.packets, (h.messages, (h.refused, (h.lost, (h.unread, tt))))); parts = tt })
-
-capture_refused : (counts : CaptureCounts) (place : ℕ) (reason : FileWhy) (path : Option (List ℕ)) (extent : Extent) → AreCounts counts → place < 2 ^ 63 → IsExtent extent → PrintsJson (capture_refused_record forms.Json counts place reason path extent)
-capture_refused counts place reason path extent h p e =
-    alone (codes "refused") (capture_refused_record forms.Json counts place reason path extent).fields
-    (record { kind_plain = refl; plain = refl; apart = refl; values = (h.packets, (h.messages, (h.refused, (h.lost, (h.unread, (p, (its_file_reason reason, its_extent path extent e))))))); parts = tt })
+captured : (origin : Origin) (kind : List ℕ) (fields : List Field) → IsFlowOrigin origin → is_plain kind ≡ true → names_are_plain fields ≡ true → are_different (codes "kind" ∷ (origin_names ++ (names_of fields ++ []))) ≡ true → ValuesFit fields → PrintsJson (with_origin (origin_fields origin) (printed kind fields))
+captured origin kind fields o k n a v = from (origin_fields origin) kind fields (flow_origin origin o) k n a v
 
 pub captures_are_json : CapturesAreJson
 captures_are_json = record {
   message = λ origin m o good. message_from (origin_fields origin) m (flow_origin origin o) good;
-  refusal = captured_refusal;
-  joined = joined;
-  lost = lost;
-  password = password;
-  end = capture_end;
-  file = capture_refused;
+  refusal = λ origin refusal path extent o h e.
+      captured origin (codes "refused") (refusal_record refusal (path_in forms.Json path ++ extent_in forms.Json extent)).fields o refl refl refl (h & its_reason refusal.why & its_extent path extent e);
+  joined = λ origin o. captured origin (codes "joined") [] o refl refl refl tt;
+  lost = λ origin place octets path o h k. captured origin (codes "lost") (lost_record forms.Json place octets path).fields o refl refl refl (h & k & its_path path & tt);
+  password = λ origin version ap rest o v a r. captured origin (codes "KPASSWD") (password_record version ap rest).fields o refl refl refl (omega (arith, v) & omega (arith, a) & r & tt);
+  end = λ counts h. alone (codes "end") (count_fields counts) refl refl refl (h.packets & h.messages & h.refused & h.lost & h.unread & tt);
+  file = λ counts place reason path extent h p e.
+      alone (codes "refused") (capture_refused_record forms.Json counts place reason path extent).fields refl refl refl
+      (h.packets & h.messages & h.refused & h.lost & h.unread & p & its_file_reason reason & its_extent path extent e);
 }

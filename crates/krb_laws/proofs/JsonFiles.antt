@@ -40,6 +40,7 @@ use Rattle.krb_text.specs.Values.{Absent, NoTicket, Quoted, RefusedTicket, Value
 use Rattle.krb_text.specs.declared.form.Form.TheVariants as forms
 use Rattle.krb_text.proofs.Printable.{word}
 use Rattle.krb_text.proofs.Times.{moment}
+use Rattle.krb_text.proofs.Tuples.{◌&◌}
 use Rattle.krb_laws.specs.JsonFiles.{FilesAreJson, IsRecord}
 use Rattle.krb_laws.specs.JsonLaws.{IsSmall, PrintsJson, ValueFits}
 use Rattle.krb_laws.proofs.JsonEnds.{alone}
@@ -78,22 +79,14 @@ its_rest e h =
 of_record : (r : Record) → IsRecord r → PrintsJson (printed_record r)
 unfolding printed_record
 of_record (records.Entry e) h =
-    alone (codes "entry") (entry_fields e) (record {
-      kind_plain = refl;
-      plain = refl;
-      apart = refl;
-      values = (
-        small e.name_type h.name_type,
-        (small e.name_type h.name_type, (its_time e.time h.time, (its_kvno e h, (omega (arith, h.enctype), (omega (arith, h.key.short), (its_rest e h, tt)))))),
-      );
-      parts = tt;
-    })
-of_record (records.Hole hole) h = alone (codes "hole") (printed_record (records.Hole hole)).fields (record { kind_plain = refl; plain = refl; apart = refl; values = (omega (arith, h.1), (tt, tt)); parts = tt })
+    alone (codes "entry") (entry_fields e) refl refl refl
+    (small e.name_type h.name_type & small e.name_type h.name_type & its_time e.time h.time & its_kvno e h & omega (arith, h.enctype) & omega (arith, h.key.short) & its_rest e h & tt)
+of_record (records.Hole hole) h = alone (codes "hole") (printed_record (records.Hole hole)).fields refl refl refl (omega (arith, h.1) & tt & tt)
 
 end_of_keytab : (count : ℕ) (stop : Stop) → count < 2 ^ 63 → PrintsJson (keytab_end count stop)
 unfolding keytab_end
-end_of_keytab count stops.File h = alone (codes "end") (keytab_end count stops.File).fields (record { kind_plain = refl; plain = refl; apart = refl; values = (h, (tt, tt)); parts = tt })
-end_of_keytab count stops.Zero h = alone (codes "end") (keytab_end count stops.Zero).fields (record { kind_plain = refl; plain = refl; apart = refl; values = (h, (tt, tt)); parts = tt })
+end_of_keytab count stops.File h = alone (codes "end") (keytab_end count stops.File).fields refl refl refl (h & tt & tt)
+end_of_keytab count stops.Zero h = alone (codes "end") (keytab_end count stops.Zero).fields refl refl refl (h & tt & tt)
 
 -- ---- caches
 its_offset : (fields : List HeaderField) → AllByRecursion HeaderFieldFits fields → ValueFits (if_there offset_value (offset_of fields))
@@ -111,17 +104,12 @@ few_fields (f ∷ fields) = omega (arith, length-append (header_field f) (header
 cache : (header : Header) (principal : FilePrincipal) → HeaderFits header → PrincipalFits principal → PrintsJson (cache_record header principal)
 unfolding cache_record
 cache header principal h p =
-    alone (codes "cache") (cache_record header principal).fields (record {
-      kind_plain = refl;
-      plain = refl;
-      apart = refl;
-      values = (small principal.name_type p.name_type, (small principal.name_type p.name_type, (its_offset header.fields h.each, (omega (arith, few_fields header.fields, h.short), tt))));
-      parts = tt;
-    })
+    alone (codes "cache") (cache_record header principal).fields refl refl refl
+    (small principal.name_type p.name_type & small principal.name_type p.name_type & its_offset header.fields h.each & omega (arith, few_fields header.fields, h.short) & tt)
 
 end_of_cache : (count : ℕ) → count < 2 ^ 63 → PrintsJson (cache_end count)
 unfolding cache_end
-end_of_cache count h = alone (codes "end") (cache_end count).fields (record { kind_plain = refl; plain = refl; apart = refl; values = (h, tt); parts = tt })
+end_of_cache count h = alone (codes "end") (cache_end count).fields refl refl refl (h & tt)
 
 -- ---- credentials
 its_state : (now : Option ℕ) (endtime : ℕ) → ValueFits (state now endtime)
@@ -135,61 +123,11 @@ its_state (Some now) endtime = by (nat_lt now endtime)
 ticketed : (now : Option ℕ) (c : Credential) (its_ticket server : Shown) → CredentialFits c → ValueFits its_ticket → ValueFits server → PrintsJson (ticketed_record now c its_ticket server)
 unfolding ticketed_record
 ticketed now c its_ticket server h t s =
-    alone (codes "cred") (ticketed_record now c its_ticket server).fields (record {
-      kind_plain = refl;
-      plain = refl;
-      apart = refl;
-      values = (
-        small c.client.name_type h.client.name_type,
-        (
-          small c.server.name_type h.server.name_type,
-          (
-            omega (arith, h.enctype),
-            (
-              omega (arith, h.key.short),
-              (
-                its_time c.authtime h.authtime,
-                (
-                  its_time c.starttime h.starttime,
-                  (
-                    its_time c.endtime h.endtime,
-                    (
-                      its_time c.renew_till h.renew_till,
-                      (
-                        omega (arith, h.is_skey),
-                        (
-                          tt,
-                          (
-                            its_state now c.endtime,
-                            (
-                              omega (arith, h.addresses.few),
-                              (
-                                omega (arith, h.authdata.few),
-                                (
-                                  t,
-                                  (
-                                    s,
-                                    (
-                                      omega (arith, h.second_ticket.short),
-                                      tt,
-                                    ),
-                                  ),
-                                ),
-                              ),
-                            ),
-                          ),
-                        ),
-                      ),
-                    ),
-                  ),
-                ),
-              ),
-            ),
-          ),
-        ),
-      );
-      parts = tt;
-    })
+    alone (codes "cred") (ticketed_record now c its_ticket server).fields refl refl refl
+    (small c.client.name_type h.client.name_type & small c.server.name_type h.server.name_type & omega (arith, h.enctype) & omega (arith, h.key.short)
+    & its_time c.authtime h.authtime & its_time c.starttime h.starttime & its_time c.endtime h.endtime & its_time c.renew_till h.renew_till
+    & omega (arith, h.is_skey) & tt & its_state now c.endtime & omega (arith, h.addresses.few) & omega (arith, h.authdata.few) & t & s
+    & omega (arith, h.second_ticket.short) & tt)
 
 shown_value : (shown : Bool) (c : Credential) → ValueFits (if shown then Quoted c.ticket else Absent)
 shown_value true c = tt
@@ -198,13 +136,8 @@ shown_value false c = tt
 config : (c : Credential) → CredentialFits c → PrintsJson (config_record forms.Json c)
 unfolding config_record config_value
 config c h =
-    alone (codes "config") (config_record forms.Json c).fields (record {
-      kind_plain = refl;
-      plain = refl;
-      apart = refl;
-      values = (small c.client.name_type h.client.name_type, (small c.server.name_type h.server.name_type, (omega (arith, h.ticket.short), (shown_value (is_shown c.server.components) c, tt))));
-      parts = tt;
-    })
+    alone (codes "config") (config_record forms.Json c).fields refl refl refl
+    (small c.client.name_type h.client.name_type & small c.server.name_type h.server.name_type & omega (arith, h.ticket.short) & shown_value (is_shown c.server.components) c & tt)
 
 -- a Ticket that octets are
 record IsTold (t : Ticket) : Type 0 where

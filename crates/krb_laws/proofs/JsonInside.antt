@@ -14,9 +14,11 @@ use Rattle.krb_padata.specs.Grammar.{etype_info2_entry, etype_info_entry, krb_fa
 use Rattle.krb_padata.specs.PacRequest.{pac_request_in}
 use Rattle.krb_padata.specs.Types.{etype_info2_entry_of, etype_info_entry_of, krb_fast_armor_of, krb_fast_armored_rep_of, krb_fast_armored_req_of, pa_for_user_of, pa_pac_options_of}
 use Rattle.krb_padata.specs.declared.krb_fast_armor.KrbFastArmor.{KrbFastArmor}
-use Rattle.krb_text.specs.Inside.{ap_req_if, ap_req_in, clear_parts, clear_type, each_if, etype_info2_part, etype_info_part, fast_reply_part, fast_request_part, for_user_part, is_ap_req_armor, item_parts, kdc_req_parts, krb_error_parts, method_data_if, method_parts, one_if, pac_options_part, pac_request_part, padata_parts, salt_part, sealed_part, tgs_req_part, ticket_part, type_of_number, types_if}
+use Rattle.krb_text.specs.Inside.{ap_req_if, ap_req_in, clear_parts, clear_type, each_if, etype_info2_part, etype_info_part, fast_reply_part, fast_request_part, for_user_part, is_ap_req_armor, item_parts, kdc_req_parts, krb_error_parts, method_data_if, method_parts, one_if, pac_options_part, pac_request_part, padata_parts, salt_part, sealed_part, tgs_req_part, ticket_part, types_if}
 use Rattle.krb_text.specs.Judged.{asks_for_preauth, judged, says_preauth_failed}
 use Rattle.krb_text.specs.Values.{Hex, Number, Part, Quoted, if_there, principal, sealed}
+use Rattle.krb_text.specs.declared.clear_type.ClearType.{ClearType}
+use Rattle.krb_text.specs.declared.clear_type.ClearType.TheVariants as types
 use Rattle.krb_laws.specs.JsonLaws.{PartFits, ValueFits}
 use Rattle.krb_laws.proofs.JsonNumbers.{its_checksum, its_sealed, judged_is_brief, of_ap_req, types_of}
 use Rattle.krb_laws.proofs.JsonSizes.{IsBrief, is_narrow}
@@ -116,74 +118,24 @@ challenge v h = record { kind = refl; names = refl; apart = refl; values = (seal
 salted : (octets : List ℕ) → PartsFit (salt_part octets ∷ [])
 salted octets = (record { kind = refl; names = refl; apart = refl; values = (tt, tt) }, tt)
 
--- by type: each test after those that failed
-module _ (number : ℕ) (octets : List ℕ) where
-  abbrev Told : Bool → Type 0
-  Told in_request = PartsFit (clear_parts (type_of_number in_request number) octets)
-
-  other : (in_request : Bool) → (number == 1) ≡ false → (number == 2) ≡ false → (number == 3) ≡ false → (number == 11) ≡ false → (number == 19) ≡ false → (number == 128) ≡ false → (number == 129) ≡ false → (number == 136) ≡ false → (number == 138) ≡ false → (number == 167) ≡ false → Told in_request
-  unfolding type_of_number
-  other in_request e1 e2 e3 e11 e19 e128 e129 e136 e138 e167 = rw (e1, e2, e3, e11, e19, e128, e129, e136, e138, e167) tt
-
-  at_167 : (in_request : Bool) → (number == 1) ≡ false → (number == 2) ≡ false → (number == 3) ≡ false → (number == 11) ≡ false → (number == 19) ≡ false → (number == 128) ≡ false → (number == 129) ≡ false → (number == 136) ≡ false → (number == 138) ≡ false → (is : Bool) → (number == 167) ≡ is → Told in_request
-  unfolding type_of_number
-  at_167 in_request e1 e2 e3 e11 e19 e128 e129 e136 e138 true e = rw (e1, e2, e3, e11, e19, e128, e129, e136, e138, e) (one pa_pac_options _ pac_options refl refl octets)
-  at_167 in_request e1 e2 e3 e11 e19 e128 e129 e136 e138 false e = other in_request e1 e2 e3 e11 e19 e128 e129 e136 e138 e
-
-  at_138 : (in_request : Bool) → (number == 1) ≡ false → (number == 2) ≡ false → (number == 3) ≡ false → (number == 11) ≡ false → (number == 19) ≡ false → (number == 128) ≡ false → (number == 129) ≡ false → (number == 136) ≡ false → (is : Bool) → (number == 138) ≡ is → Told in_request
-  unfolding type_of_number
-  at_138 in_request e1 e2 e3 e11 e19 e128 e129 e136 true e = rw (e1, e2, e3, e11, e19, e128, e129, e136, e) (one encrypted_data _ challenge refl refl octets)
-  at_138 in_request e1 e2 e3 e11 e19 e128 e129 e136 false e = at_167 in_request e1 e2 e3 e11 e19 e128 e129 e136 e (number == 167) refl
-
-  at_136 : (in_request : Bool) → (number == 1) ≡ false → (number == 2) ≡ false → (number == 3) ≡ false → (number == 11) ≡ false → (number == 19) ≡ false → (number == 128) ≡ false → (number == 129) ≡ false → (is : Bool) → (number == 136) ≡ is → Told in_request
-  unfolding type_of_number
-  at_136 true e1 e2 e3 e11 e19 e128 e129 true e = rw (e1, e2, e3, e11, e19, e128, e129, e) (one pa_fx_fast_request _ fast_request refl refl octets)
-  at_136 false e1 e2 e3 e11 e19 e128 e129 true e = rw (e1, e2, e3, e11, e19, e128, e129, e) (one pa_fx_fast_reply _ fast_reply refl refl octets)
-  at_136 in_request e1 e2 e3 e11 e19 e128 e129 false e = at_138 in_request e1 e2 e3 e11 e19 e128 e129 e (number == 138) refl
-
-  at_129 : (in_request : Bool) → (number == 1) ≡ false → (number == 2) ≡ false → (number == 3) ≡ false → (number == 11) ≡ false → (number == 19) ≡ false → (number == 128) ≡ false → (is : Bool) → (number == 129) ≡ is → Told in_request
-  unfolding type_of_number
-  at_129 in_request e1 e2 e3 e11 e19 e128 true e = rw (e1, e2, e3, e11, e19, e128, e) (one pa_for_user _ for_user refl refl octets)
-  at_129 in_request e1 e2 e3 e11 e19 e128 false e = at_136 in_request e1 e2 e3 e11 e19 e128 e (number == 136) refl
-
-  at_128 : (in_request : Bool) → (number == 1) ≡ false → (number == 2) ≡ false → (number == 3) ≡ false → (number == 11) ≡ false → (number == 19) ≡ false → (is : Bool) → (number == 128) ≡ is → Told in_request
-  unfolding type_of_number
-  at_128 in_request e1 e2 e3 e11 e19 true e = rw (e1, e2, e3, e11, e19, e) (pac (pac_request_in octets))
-  at_128 in_request e1 e2 e3 e11 e19 false e = at_129 in_request e1 e2 e3 e11 e19 e (number == 129) refl
-
-  at_19 : (in_request : Bool) → (number == 1) ≡ false → (number == 2) ≡ false → (number == 3) ≡ false → (number == 11) ≡ false → (is : Bool) → (number == 19) ≡ is → Told in_request
-  unfolding type_of_number
-  at_19 in_request e1 e2 e3 e11 true e = rw (e1, e2, e3, e11, e) (entries etype_info2_entry _ etype_info2_told refl refl octets)
-  at_19 in_request e1 e2 e3 e11 false e = at_128 in_request e1 e2 e3 e11 e (number == 128) refl
-
-  at_11 : (in_request : Bool) → (number == 1) ≡ false → (number == 2) ≡ false → (number == 3) ≡ false → (is : Bool) → (number == 11) ≡ is → Told in_request
-  unfolding type_of_number
-  at_11 in_request e1 e2 e3 true e = rw (e1, e2, e3, e) (entries etype_info_entry _ etype_info_told refl refl octets)
-  at_11 in_request e1 e2 e3 false e = at_19 in_request e1 e2 e3 e (number == 19) refl
-
-  at_3 : (in_request : Bool) → (number == 1) ≡ false → (number == 2) ≡ false → (is : Bool) → (number == 3) ≡ is → Told in_request
-  unfolding type_of_number
-  at_3 in_request e1 e2 true e = rw (e1, e2, e) (salted octets)
-  at_3 in_request e1 e2 false e = at_11 in_request e1 e2 e (number == 11) refl
-
-  at_2 : (in_request : Bool) → (number == 1) ≡ false → (is : Bool) → (number == 2) ≡ is → Told in_request
-  unfolding type_of_number
-  at_2 in_request e1 true e = rw (e1, e) (one encrypted_data _ timestamp refl refl octets)
-  at_2 in_request e1 false e = at_3 in_request e1 e (number == 3) refl
-
-  at_1 : (in_request : Bool) → (is : Bool) → (number == 1) ≡ is → Told in_request
-  unfolding type_of_number
-  at_1 in_request true e = rw e (one ap_req _ tgs_req refl refl octets)
-  at_1 in_request false e = at_2 in_request e (number == 2) refl
-
-of_type : (in_request : Bool) (type : ℤ) (octets : List ℕ) → PartsFit (clear_parts (clear_type in_request type) octets)
-of_type in_request (pos number) octets = at_1 number octets in_request (number == 1) refl
-of_type in_request (negsuc number) octets = tt
+of_type : (type : ClearType) (octets : List ℕ) → PartsFit (clear_parts type octets)
+of_type types.TgsReq octets = one ap_req _ tgs_req refl refl octets
+of_type types.EncTimestamp octets = one encrypted_data _ timestamp refl refl octets
+of_type types.PwSalt octets = salted octets
+of_type types.EtypeInfo octets = entries etype_info_entry _ etype_info_told refl refl octets
+of_type types.EtypeInfo2 octets = entries etype_info2_entry _ etype_info2_told refl refl octets
+of_type types.PacRequest octets = pac (pac_request_in octets)
+of_type types.ForUser octets = one pa_for_user _ for_user refl refl octets
+of_type types.FastRequest octets = one pa_fx_fast_request _ fast_request refl refl octets
+of_type types.FastReply octets = one pa_fx_fast_reply _ fast_reply refl refl octets
+of_type types.EncryptedChallenge octets = one encrypted_data _ challenge refl refl octets
+of_type types.PacOptions octets = one pa_pac_options _ pac_options refl refl octets
+of_type types.Other octets = tt
 
 -- ---- each message
 items_inside : (in_request : Bool) (items : List PaData) → PartsFit (flat_map (item_parts in_request) items)
 items_inside in_request [] = tt
-items_inside in_request (p ∷ items) = all-append PartFits (item_parts in_request p) (flat_map (item_parts in_request) items) (of_type in_request p.padata_type p.padata_value) (items_inside in_request items)
+items_inside in_request (p ∷ items) = all-append PartFits (item_parts in_request p) (flat_map (item_parts in_request) items) (of_type (clear_type in_request p.padata_type) p.padata_value) (items_inside in_request items)
 
 pub padata_inside : (in_request : Bool) (items : Option (List PaData)) → PartsFit (padata_parts in_request items)
 padata_inside in_request None = tt

@@ -25,24 +25,9 @@ use Rattle.krb_laws.proofs.JsonSizes.{IsBrief, brief, is_narrow}
 -- ---- where messages come from
 pub its_origin : (line : Option ℕ) (layers : List Layer) → IsLine line → IsOrigin (message_origin line layers)
 its_origin None [] h = no_origin
-its_origin None (first ∷ others) h = record {
-  plain = refl;
-  keeps = false ∷ false ∷ false ∷ true ∷ true ∷ true ∷ false ∷ false ∷ false ∷ false ∷ false ∷ false ∷ false ∷ false ∷ false ∷ [];
-  among = λ rest. refl;
-  values = (tt, tt);
-}
-its_origin (Some line) [] h = record {
-  plain = refl;
-  keeps = true ∷ true ∷ true ∷ false ∷ false ∷ false ∷ false ∷ false ∷ false ∷ false ∷ false ∷ false ∷ false ∷ false ∷ false ∷ [];
-  among = λ rest. refl;
-  values = (h, tt);
-}
-its_origin (Some line) (first ∷ others) h = record {
-  plain = refl;
-  keeps = true ∷ true ∷ true ∷ true ∷ true ∷ true ∷ false ∷ false ∷ false ∷ false ∷ false ∷ false ∷ false ∷ false ∷ false ∷ [];
-  among = λ rest. refl;
-  values = (h, (tt, tt));
-}
+its_origin None (first ∷ others) h = record { plain = refl; keeps = false ∷ true ∷ false ∷ false ∷ false ∷ []; among = λ rest. refl; values = (tt, tt) }
+its_origin (Some line) [] h = record { plain = refl; keeps = true ∷ false ∷ false ∷ false ∷ false ∷ []; among = λ rest. refl; values = (h, tt) }
+its_origin (Some line) (first ∷ others) h = record { plain = refl; keeps = true ∷ true ∷ false ∷ false ∷ false ∷ []; among = λ rest. refl; values = (h, (tt, tt)) }
 
 -- ---- messages
 with_notes : (fields : List Field) (m : Message) → AreCounted fields → AreCounted (fields ++ (the (codes "notes") (notes (notes_of m)) ∷ []))

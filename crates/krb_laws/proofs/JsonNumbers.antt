@@ -23,6 +23,7 @@ use Rattle.krb_text.specs.Judged.{asks_for_preauth, judged}
 use Rattle.krb_text.specs.MessageFields.{ap_req_fields, kdc_rep_fields, kdc_req_fields, krb_cred_fields, krb_error_fields, krb_safe_fields, methods, notes, padata}
 use Rattle.krb_text.specs.Values.{Value as Shown, Number, Quoted, Word, address, checksum, client, count, if_there, principal, sealed}
 use Rattle.krb_text.proofs.Judged.{IsJudged, is_judged}
+use Rattle.krb_text.proofs.Tuples.{◌&◌}
 use Rattle.krb_laws.specs.JsonLaws.{IsSmall}
 use Rattle.krb_laws.proofs.JsonShown.{AreCounted, IsCounted}
 use Rattle.krb_laws.proofs.JsonSizes.{IsBrief, brief, is_narrow}
@@ -124,46 +125,13 @@ its_methods code (Some octets) = asked (asks_for_preauth code) octets
 
 -- ---- messages
 pub kdc_req : (m : KdcReq) → IfPresent (IsBrief (sequence_of pa_data)) (option_map (map pa_data_value) m.padata) → IsBrief kdc_req_body (kdc_req_body_value m.body) → AreCounted (kdc_req_fields m)
-kdc_req m items (options, (cname, (realm, (sname, (from, (till, (rtime, (nonce, (etype, (addresses, (authdata, (tickets, none)))))))))))) = (
-  tt,
-  (
-    its_name m.body.realm m.body.cname cname,
-    (
-      its_name m.body.realm m.body.sname sname,
-      (
-        omega (arith, options),
-        (
-          always Word (λ time. tt) m.body.from,
-          (
-            tt,
-            (
-              always Word (λ time. tt) m.body.rtime,
-              (
-                nonce,
-                (
-                  etype.1,
-                  (
-                    its_padata m.padata items,
-                    (
-                      optional count (map host_address_value) (IsBrief (sequence_of host_address)) (λ values h. counted host_address_value values h.0) m.body.addresses addresses,
-                      (
-                        optional sealed encrypted_data_value (IsBrief encrypted_data) its_sealed m.body.enc_authorization_data authdata,
-                        (
-                          optional count (map ticket_value) (IsBrief (sequence_of ticket)) (λ values h. counted ticket_value values h.0) m.body.additional_tickets tickets,
-                          tt,
-                        ),
-                      ),
-                    ),
-                  ),
-                ),
-              ),
-            ),
-          ),
-        ),
-      ),
-    ),
-  ),
-)
+kdc_req m items (options, (cname, (realm, (sname, (from, (till, (rtime, (nonce, (etype, (addresses, (authdata, (tickets, none)))))))))))) =
+    tt & its_name m.body.realm m.body.cname cname & its_name m.body.realm m.body.sname sname & omega (arith, options)
+    & always Word (λ time. tt) m.body.from & tt & always Word (λ time. tt) m.body.rtime & nonce & etype.1 & its_padata m.padata items
+    & optional count (map host_address_value) (IsBrief (sequence_of host_address)) (λ values h. counted host_address_value values h.0) m.body.addresses addresses
+    & optional sealed encrypted_data_value (IsBrief encrypted_data) its_sealed m.body.enc_authorization_data authdata
+    & optional count (map ticket_value) (IsBrief (sequence_of ticket)) (λ values h. counted ticket_value values h.0) m.body.additional_tickets tickets
+    & tt
 
 pub kdc_rep : (m : KdcRep) → IfPresent (IsBrief (sequence_of pa_data)) (option_map (map pa_data_value) m.padata) → IsBrief principal_name (principal_name_value m.cname) → IsBrief ticket (ticket_value m.ticket) → IsBrief encrypted_data (encrypted_data_value m.enc_part) → AreCounted (kdc_rep_fields m)
 kdc_rep m items cname its_ticket enc_part =
@@ -173,61 +141,16 @@ pub of_ap_req : (m : ApReq) → IsBrief kerberos_flags m.ap_options → IsBrief 
 of_ap_req m options sname enc_part authenticator = (sname.0, (omega (arith, options), (its_sealed m.ticket.enc_part enc_part, (its_sealed m.authenticator authenticator, tt))))
 
 pub safe : (m : KrbSafe) → IsBrief krb_safe (krb_safe_value m) → AreCounted (krb_safe_fields m)
-safe m (version, (type, ((user_data, (timestamp, (usec, (seq_number, (s_address, (r_address, no_more)))))), (cksum, rest)))) = (
-  omega (arith, user_data),
-  (
-    always Word (λ time. tt) m.body.timestamp,
-    (
-      micros m.body.usec usec,
-      (
-        optional_number m.body.seq_number seq_number,
-        (
-          its_address m.body.s_address s_address,
-          (
-            optional address host_address_value (IsBrief host_address) its_address m.body.r_address r_address,
-            (
-              its_checksum m.cksum cksum,
-              tt,
-            ),
-          ),
-        ),
-      ),
-    ),
-  ),
-)
+safe m (version, (type, ((user_data, (timestamp, (usec, (seq_number, (s_address, (r_address, no_more)))))), (cksum, rest)))) =
+    omega (arith, user_data) & always Word (λ time. tt) m.body.timestamp & micros m.body.usec usec
+    & optional_number m.body.seq_number seq_number & its_address m.body.s_address s_address
+    & optional address host_address_value (IsBrief host_address) its_address m.body.r_address r_address & its_checksum m.cksum cksum
+    & tt
 
 pub cred : (m : KrbCred) → IsBrief krb_cred (krb_cred_value m) → AreCounted (krb_cred_fields m)
 cred m (version, (type, (tickets, (enc_part, rest)))) = (counted ticket_value m.tickets tickets.0, (its_sealed m.enc_part enc_part, tt))
 
 pub error : (m : KrbError) → IsBrief krb_error (krb_error_value m) → AreCounted (krb_error_fields m)
-error m (version, (type, (ctime, (cusec, (stime, (susec, (error_code, (crealm, (cname, (realm, (sname, (text, (e_data, rest))))))))))))) = (
-  error_code,
-  (
-    its_client m.cname m.crealm cname,
-    (
-      sname.0,
-      (
-        always Word (λ time. tt) m.ctime,
-        (
-          micros m.cusec cusec,
-          (
-            tt,
-            (
-              susec,
-              (
-                always Quoted (λ text. tt) m.e_text,
-                (
-                  octets_counted m.e_data e_data,
-                  (
-                    its_methods m.error_code m.e_data,
-                    tt,
-                  ),
-                ),
-              ),
-            ),
-          ),
-        ),
-      ),
-    ),
-  ),
-)
+error m (version, (type, (ctime, (cusec, (stime, (susec, (error_code, (crealm, (cname, (realm, (sname, (text, (e_data, rest))))))))))))) =
+    error_code & its_client m.cname m.crealm cname & sname.0 & always Word (λ time. tt) m.ctime & micros m.cusec cusec & tt & susec
+    & always Quoted (λ text. tt) m.e_text & octets_counted m.e_data e_data & its_methods m.error_code m.e_data & tt

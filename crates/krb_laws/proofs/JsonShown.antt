@@ -90,10 +90,14 @@ names_of fields = flat_map (λ (f : Field). member_names f.name) fields
 abbrev pub origin_names : List (List ℕ)
 origin_names = flat_map member_names (codes "line" ∷ codes "via" ∷ codes "packet" ∷ codes "t" ∷ codes "flow" ∷ [])
 
+-- a field has three names at most
+abbrev pub thrice : List Bool → List Bool
+thrice keeps = flat_map (λ keep. keep ∷ keep ∷ keep ∷ []) keeps
+
 pub record IsOrigin (origin : List Field) : Type 0 where
   pub plain : names_are_plain origin ≡ true
   pub keeps : List Bool
-  pub among : (rest : List (List ℕ)) → names_of origin ++ rest ≡ picked keeps (origin_names ++ rest)
+  pub among : (rest : List (List ℕ)) → names_of origin ++ rest ≡ picked (thrice keeps) (origin_names ++ rest)
   pub values : ValuesFit origin
 
 -- a record that fits from each origin
@@ -111,7 +115,7 @@ all-both test (x ∷ xs) ys e f =
     and_from (test x) (list_all test (xs ++ ys)) parts.0 (all-both test xs ys parts.1 f)
 
 -- the names of an origin and of fields are some of all names
-both_names : (origin fields : List Field) (inside : Option (List Part)) (o : IsOrigin origin) → names_of (origin ++ fields) ++ inside_name inside ≡ picked o.keeps (origin_names ++ (names_of fields ++ inside_name inside))
+both_names : (origin fields : List Field) (inside : Option (List Part)) (o : IsOrigin origin) → names_of (origin ++ fields) ++ inside_name inside ≡ picked (thrice o.keeps) (origin_names ++ (names_of fields ++ inside_name inside))
 both_names origin fields inside o =
     ap (λ names. names ++ inside_name inside) (flat_map-append (λ (f : Field). member_names f.name) origin fields)
     ∙ append_assoc (names_of origin) (names_of fields) (inside_name inside)
@@ -121,10 +125,10 @@ pub from_origin : (origin : List Field) (kind : List ℕ) (fields : List Field) 
 from_origin origin kind fields inside o r = record {
   kind = r.kind_plain;
   names = all-both (λ (f : Field). is_plain f.name) origin fields o.plain r.plain;
-  apart = ap (λ names. are_different (codes "kind" ∷ names)) (both_names origin fields inside o) ∙ different-picked (true ∷ o.keeps) (codes "kind" ∷ (origin_names ++ (names_of fields ++ inside_name inside))) r.apart;
+  apart = ap (λ names. are_different (codes "kind" ∷ names)) (both_names origin fields inside o) ∙ different-picked (true ∷ thrice o.keeps) (codes "kind" ∷ (origin_names ++ (names_of fields ++ inside_name inside))) r.apart;
   values = all-append (λ (f : Field). ValueFits f.value) origin fields o.values r.values;
   inside = r.parts;
 }
 
 pub no_origin : IsOrigin []
-no_origin = record { plain = refl; keeps = false ∷ false ∷ false ∷ false ∷ false ∷ false ∷ false ∷ false ∷ false ∷ false ∷ false ∷ false ∷ false ∷ false ∷ false ∷ []; among = λ rest. refl; values = tt }
+no_origin = record { plain = refl; keeps = false ∷ false ∷ false ∷ false ∷ false ∷ []; among = λ rest. refl; values = tt }

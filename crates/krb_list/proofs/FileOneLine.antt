@@ -34,6 +34,7 @@ use Rattle.krb_text.proofs.EndOneLine.{one_line}
 use Rattle.krb_text.proofs.FieldsOneLine.{always}
 use Rattle.krb_text.proofs.Printable.{word}
 use Rattle.krb_text.proofs.Times.{moment}
+use Rattle.krb_text.proofs.Tuples.{◌&◌}
 
 -- ---- times
 time_by : (seconds : ℕ) (is_zero : Bool) → seconds < 2 ^ 32 → IsShown (if is_zero then Absent else Word (moment_text seconds))
@@ -108,55 +109,8 @@ its_state (Some now) endtime = live_by (nat_lt now endtime)
 ticketed : (form : Form) (now : Option ℕ) (c : Credential) (ticket server : Value) → CredentialIsOfOctets c → IsShown ticket → IsShown server → IsOneLine (record_line form (ticketed_record now c ticket server))
 unfolding ticketed_record
 ticketed form now c ticket server h its_ticket its_server =
-    one_line form (ticketed_record now c ticket server) refl refl (
-      h.client,
-      (
-        h.server,
-        (
-          tt,
-          (
-            tt,
-            (
-              time c.authtime h.authtime,
-              (
-                time c.starttime h.starttime,
-                (
-                  time c.endtime h.endtime,
-                  (
-                    time c.renew_till h.renew_till,
-                    (
-                      tt,
-                      (
-                        h.flags,
-                        (
-                          its_state now c.endtime,
-                          (
-                            tt,
-                            (
-                              tt,
-                              (
-                                its_ticket,
-                                (
-                                  its_server,
-                                  (
-                                    tt,
-                                    tt,
-                                  ),
-                                ),
-                              ),
-                            ),
-                          ),
-                        ),
-                      ),
-                    ),
-                  ),
-                ),
-              ),
-            ),
-          ),
-        ),
-      ),
-    )
+    one_line form (ticketed_record now c ticket server) refl refl (h.client & h.server & tt & tt & time c.authtime h.authtime & time c.starttime h.starttime & time c.endtime h.endtime
+    & time c.renew_till h.renew_till & tt & h.flags & its_state now c.endtime & tt & tt & its_ticket & its_server & tt & tt)
 
 value : (shown : Bool) (c : Credential) → CredentialIsOfOctets c → IsShown (if shown then Quoted c.ticket else Absent)
 value true c h = h.ticket

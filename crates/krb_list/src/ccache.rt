@@ -90,14 +90,8 @@ fn put_who(text: &mut TextBuffer, form: Form, principal: &FilePrincipal) -> Resu
         ∷ the (codes "type") (Named NameTypes principal.now.name_type)
         ∷ [])) }
 {
-    put_field(
-        text,
-        form,
-        " principal=",
-        ",\"principal",
-        &principal_of(principal),
-    )?;
-    put_field(text, form, " type=", ",\"type", &name_type_of(principal))
+    put_field!(text, form, "principal": &principal_of(principal))?;
+    put_field!(text, form, "type": &name_type_of(principal))
 }
 
 /// Appends the fields of a header: the offset of the clock, and how many fields it has.
@@ -107,10 +101,9 @@ fn put_header(text: &mut TextBuffer, form: Form, header: &Header) -> Result<(), 
         ∷ the (codes "fields") (count header.now.fields)
         ∷ [])) }
 {
-    let offset = header.offset().map(Offset);
     let fields = header.fields.as_slice().len() as u64;
-    put_field(text, form, " offset=", ",\"offset", &offset)?;
-    put_field(text, form, " fields=", ",\"fields", &fields)
+    put_field!(text, form, "offset": &header.offset().map(Offset))?;
+    put_field!(text, form, "fields": &fields)
 }
 
 /// Appends the line of a cache without its line feed.
@@ -176,7 +169,7 @@ fn put_end_text(text: &mut TextBuffer, form: Form, credentials: u64) -> Result<(
     ensures { OnOk result (text.new ≡ text.old ++ record_text form (cache_end credentials)) }
 {
     put_opening(text, form, "end")?;
-    put_field(text, form, " credentials=", ",\"credentials", &credentials)?;
+    put_field!(text, form, "credentials": &credentials)?;
     put_closing(text, form)
 }
 

@@ -69,7 +69,7 @@ pub(crate) fn put_value(
     match form {
         Form::Lines => Ok(()),
         Form::NamedLines | Form::Json => {
-            put_field(text, form, " value=", ",\"value", &shown_value(credential))
+            put_field!(text, form, "value": &shown_value(credential))
         }
     }
 }

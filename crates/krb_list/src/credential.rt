@@ -25,20 +25,8 @@ use std::alloc::{AllocError, Global};
 fn put_who(text: &mut TextBuffer, form: Form, credential: &Credential) -> Result<(), AllocError>
     ensures { OnOk result (text.new ≡ text.old ++ fields_text form (who_fields credential.now)) }
 {
-    put_field(
-        text,
-        form,
-        " client=",
-        ",\"client",
-        &principal_of(&credential.client),
-    )?;
-    put_field(
-        text,
-        form,
-        " server=",
-        ",\"server",
-        &principal_of(&credential.server),
-    )
+    put_field!(text, form, "client": &principal_of(&credential.client))?;
+    put_field!(text, form, "server": &principal_of(&credential.server))
 }
 
 /// Returns the encryption type of the session key.
@@ -56,42 +44,18 @@ fn put_key(text: &mut TextBuffer, form: Form, credential: &Credential) -> Result
     ensures { OnOk result (text.new ≡ text.old ++ fields_text form (key_fields credential.now)) }
 {
     let key = credential.key.as_slice().len() as u64;
-    put_field(
-        text,
-        form,
-        " enctype=",
-        ",\"enctype",
-        &enctype_of(credential),
-    )?;
-    put_field(text, form, " key=", ",\"key", &key)
+    put_field!(text, form, "enctype": &enctype_of(credential))?;
+    put_field!(text, form, "key": &key)
 }
 
 /// Appends the fields of the times.
 fn put_times(text: &mut TextBuffer, form: Form, credential: &Credential) -> Result<(), AllocError>
     ensures { OnOk result (text.new ≡ text.old ++ fields_text form (times_fields credential.now)) }
 {
-    put_field(
-        text,
-        form,
-        " auth=",
-        ",\"auth",
-        &FileTime(credential.authtime),
-    )?;
-    put_field(
-        text,
-        form,
-        " start=",
-        ",\"start",
-        &FileTime(credential.starttime),
-    )?;
-    put_field(text, form, " end=", ",\"end", &FileTime(credential.endtime))?;
-    put_field(
-        text,
-        form,
-        " renew=",
-        ",\"renew",
-        &FileTime(credential.renew_till),
-    )
+    put_field!(text, form, "auth": &FileTime(credential.authtime))?;
+    put_field!(text, form, "start": &FileTime(credential.starttime))?;
+    put_field!(text, form, "end": &FileTime(credential.endtime))?;
+    put_field!(text, form, "renew": &FileTime(credential.renew_till))
 }
 
 /// Returns `live` or `expired`, by a credential's end time, if there is a time to compare with.
@@ -114,27 +78,9 @@ fn put_flags(
 ) -> Result<(), AllocError>
     ensures { OnOk result (text.new ≡ text.old ++ fields_text form (flags_fields now credential.now)) }
 {
-    put_field(
-        text,
-        form,
-        " skey=",
-        ",\"skey",
-        &u64::from(credential.is_skey),
-    )?;
-    put_field(
-        text,
-        form,
-        " flags=",
-        ",\"flags",
-        &TicketFlags(credential.flags),
-    )?;
-    put_field(
-        text,
-        form,
-        " state=",
-        ",\"state",
-        &state_of(now, credential.endtime),
-    )
+    put_field!(text, form, "skey": &u64::from(credential.is_skey))?;
+    put_field!(text, form, "flags": &TicketFlags(credential.flags))?;
+    put_field!(text, form, "state": &state_of(now, credential.endtime))
 }
 
 /// Returns how many addresses a credential has.
@@ -155,20 +101,8 @@ fn authdata_count(credential: &Credential) -> u64
 fn put_counts(text: &mut TextBuffer, form: Form, credential: &Credential) -> Result<(), AllocError>
     ensures { OnOk result (text.new ≡ text.old ++ fields_text form (counts_fields credential.now)) }
 {
-    put_field(
-        text,
-        form,
-        " addresses=",
-        ",\"addresses",
-        &address_count(credential),
-    )?;
-    put_field(
-        text,
-        form,
-        " authdata=",
-        ",\"authdata",
-        &authdata_count(credential),
-    )
+    put_field!(text, form, "addresses": &address_count(credential))?;
+    put_field!(text, form, "authdata": &authdata_count(credential))
 }
 
 /// Appends the fields of the ticket, of its server, and of the second ticket.
@@ -182,9 +116,9 @@ fn put_tickets<T: Shown, S: Shown>(
     ensures { OnOk result (text.new ≡ text.old ++ fields_text form (tickets_fields credential.now (T.shown ticket.now) (S.shown server.now))) }
 {
     let second = credential.second_ticket.as_slice().len() as u64;
-    put_field(text, form, " ticket=", ",\"ticket", ticket)?;
-    put_field(text, form, " tserver=", ",\"tserver", server)?;
-    put_field(text, form, " second=", ",\"second", &second)
+    put_field!(text, form, "ticket": ticket)?;
+    put_field!(text, form, "tserver": server)?;
+    put_field!(text, form, "second": &second)
 }
 
 /// Appends the fields up to the flags.
@@ -226,7 +160,7 @@ fn put_config(text: &mut TextBuffer, form: Form, credential: &Credential) -> Res
     let size = credential.ticket.as_slice().len() as u64;
     put_opening(text, form, "config")?;
     put_who(text, form, credential)?;
-    put_field(text, form, " size=", ",\"size", &size)?;
+    put_field!(text, form, "size": &size)?;
     put_value(text, form, credential)?;
     put_closing(text, form)
 }

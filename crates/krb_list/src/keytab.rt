@@ -61,14 +61,8 @@ fn put_who(text: &mut TextBuffer, form: Form, entry: &Entry) -> Result<(), Alloc
         ∷ the (codes "type") (Named NameTypes entry.now.name_type)
         ∷ [])) }
 {
-    put_field(
-        text,
-        form,
-        " principal=",
-        ",\"principal",
-        &principal_of(entry),
-    )?;
-    put_field(text, form, " type=", ",\"type", &name_type_of(entry))
+    put_field!(text, form, "principal": &principal_of(entry))?;
+    put_field!(text, form, "type": &name_type_of(entry))
 }
 
 /// Appends the fields of the time and of the version of the key of an entry.
@@ -78,8 +72,8 @@ fn put_version(text: &mut TextBuffer, form: Form, entry: &Entry) -> Result<(), A
         ∷ the (codes "kvno") (Number (pos (kvno entry.now)))
         ∷ [])) }
 {
-    put_field(text, form, " time=", ",\"time", &FileTime(entry.time))?;
-    put_field(text, form, " kvno=", ",\"kvno", &u64::from(entry.kvno()))
+    put_field!(text, form, "time": &FileTime(entry.time))?;
+    put_field!(text, form, "kvno": &u64::from(entry.kvno()))
 }
 
 /// Appends the fields of an entry from the encryption type on. Of the key itself there is the
@@ -93,9 +87,9 @@ fn put_key(text: &mut TextBuffer, form: Form, entry: &Entry) -> Result<(), Alloc
 {
     let key = entry.key.as_slice().len() as u64;
     let rest = entry.rest.as_slice().len() as u64;
-    put_field(text, form, " enctype=", ",\"enctype", &enctype_of(entry))?;
-    put_field(text, form, " key=", ",\"key", &key)?;
-    put_field(text, form, " rest=", ",\"rest", &rest)
+    put_field!(text, form, "enctype": &enctype_of(entry))?;
+    put_field!(text, form, "key": &key)?;
+    put_field!(text, form, "rest": &rest)
 }
 
 #[tactic(auto, unfolding(krb_text::specs::Forms::record_text))]
@@ -114,8 +108,8 @@ fn put_hole(text: &mut TextBuffer, form: Form, hole: &Hole) -> Result<(), AllocE
     ensures { OnOk result (text.new ≡ text.old ++ record_text form (printed (codes "hole") (hole_fields hole.now))) }
 {
     put_opening(text, form, "hole")?;
-    put_field(text, form, " size=", ",\"size", &u64::from(hole.size()))?;
-    put_field(text, form, " clean=", ",\"clean", &hole.clean())?;
+    put_field!(text, form, "size": &u64::from(hole.size()))?;
+    put_field!(text, form, "clean": &hole.clean())?;
     put_closing(text, form)
 }
 
@@ -169,8 +163,8 @@ fn put_end_text(
     ensures { OnOk result (text.new ≡ text.old ++ record_text form (keytab_end records stop.now)) }
 {
     put_opening(text, form, "end")?;
-    put_field(text, form, " records=", ",\"records", &records)?;
-    put_field(text, form, " zero=", ",\"zero", &is_zero(stop))?;
+    put_field!(text, form, "records": &records)?;
+    put_field!(text, form, "zero": &is_zero(stop))?;
     put_closing(text, form)
 }
 

@@ -82,12 +82,12 @@ spelling_shown : (s : Option Spelling) → IsShown (if_there (λ s. Word (spelli
 spelling_shown None = tt
 spelling_shown (Some s) = (spelled s).all
 
-spelled_is_plain : (form : Form) (path : Option (List ℕ)) (extent : Extent) (s : Spelling) → names_are_plain (path_in form path ++ extent_in form extent ++ spelling_in form s) ≡ true
+pub spelled_is_plain : (form : Form) (path : Option (List ℕ)) (extent : Extent) (s : Spelling) → names_are_plain (path_in form path ++ extent_in form extent ++ spelling_in form s) ≡ true
 spelled_is_plain forms.Lines path extent s = refl
 spelled_is_plain forms.NamedLines path extent s = refl
 spelled_is_plain forms.Json path extent s = refl
 
-spelled_shown : (form : Form) (path : Option (List ℕ)) (extent : Extent) (s : Spelling) → IfSome path AreOctets → AreShown (path_in form path ++ extent_in form extent ++ spelling_in form s)
+pub spelled_shown : (form : Form) (path : Option (List ℕ)) (extent : Extent) (s : Spelling) → IfSome path AreOctets → AreShown (path_in form path ++ extent_in form extent ++ spelling_in form s)
 spelled_shown forms.Lines path extent s h = tt
 spelled_shown forms.NamedLines path extent s h = (octets_shown path h, (tt, (number_shown extent.length, ((spelled s).all, tt))))
 spelled_shown forms.Json path extent s h = (octets_shown path h, (tt, (number_shown extent.length, ((spelled s).all, tt))))
@@ -109,26 +109,13 @@ origin_shown (Some line) (first ∷ others) = (tt, (tt, tt))
 pub message_line_from : (form : Form) (line : Option ℕ) (layers : List Layer) (r : Printed) → list_all is_printable r.kind ≡ true → names_are_plain r.fields ≡ true → AreShown r.fields → IfPresent ArePlainParts r.inside → IsOneLine (record_line form (with_origin (message_origin line layers) r))
 message_line_from form line layers r kind names h inside = line_from form (message_origin line layers) r (origin_is_plain line layers) (origin_shown line layers) kind names h inside
 
--- ---- refused files and messages
-pub file_refused : (form : Form) (place : ℕ) (reason : FileWhy) (path : Option (List ℕ)) (extent : Extent) → IfSome path AreOctets → IsOneLine (file_refused_line form place reason path extent)
-file_refused form place reason path extent h =
-    one_line form (file_refused_record form place reason path extent) refl (located_is_plain form path extent) (tt, ((reasons.file_name reason).all, located_shown form path extent h))
-
-pub message_refused : (form : Form) (line : Option ℕ) (layers : List Layer) (refusal : Refusal) (path : Option (List ℕ)) (extent : Extent) (spelling : Spelling) → IfSome path AreOctets → IsOneLine (message_refused_line form (message_origin line layers) refusal path extent spelling)
-message_refused form line layers refusal path extent spelling h =
-    message_line_from form line layers (message_refused_record form refusal path extent spelling) refl (spelled_is_plain form path extent spelling) (tt, ((reasons.name refusal.why).all, spelled_shown form path extent spelling h)) tt
-
-pub untold_message_refused : (form : Form) (refusal : Refusal) (path : Option (List ℕ)) → IfSome path AreOctets → IsOneLine (untold_message_refused_line form refusal path)
-untold_message_refused form refusal path h =
-    one_line form (refusal_record refusal (path_in form path)) refl (path_is_plain form path) (tt, ((reasons.name refusal.why).all, path_shown form path h))
-
 -- ---- refused input
 worded : (fault : InputFault) → Prints (input_word fault)
 worded faults.Length = word _ refl
 worded (faults.Misspelled spelling) = spelled spelling
 worded faults.Ntlm = word _ refl
 
-kind_is_plain : (form : Form) (fault : InputFault) → list_all is_printable (input_kind form fault) ≡ true
+pub kind_is_plain : (form : Form) (fault : InputFault) → list_all is_printable (input_kind form fault) ≡ true
 kind_is_plain forms.Json fault = refl
 kind_is_plain forms.Lines faults.Length = refl
 kind_is_plain forms.Lines faults.Ntlm = refl
@@ -143,36 +130,12 @@ kind_is_plain forms.NamedLines (faults.Misspelled spellings.Hex) = refl
 kind_is_plain forms.NamedLines (faults.Misspelled spellings.Dump) = refl
 kind_is_plain forms.NamedLines (faults.Misspelled spellings.Base64) = refl
 
-input_is_plain : (form : Form) (fault : InputFault) (place : Option ℕ) (extent : Extent) (spelling : Option Spelling) → names_are_plain (input_refused_record form fault place extent spelling).fields ≡ true
+pub input_is_plain : (form : Form) (fault : InputFault) (place : Option ℕ) (extent : Extent) (spelling : Option Spelling) → names_are_plain (input_refused_record form fault place extent spelling).fields ≡ true
 input_is_plain forms.Lines fault place extent spelling = refl
 input_is_plain forms.NamedLines fault place extent spelling = refl
 input_is_plain forms.Json fault place extent spelling = refl
 
-input_shown : (form : Form) (fault : InputFault) (place : Option ℕ) (extent : Extent) (spelling : Option Spelling) → AreShown (input_refused_record form fault place extent spelling).fields
+pub input_shown : (form : Form) (fault : InputFault) (place : Option ℕ) (extent : Extent) (spelling : Option Spelling) → AreShown (input_refused_record form fault place extent spelling).fields
 input_shown forms.Lines fault place extent spelling = tt
 input_shown forms.NamedLines fault place extent spelling = (number_shown place, (tt, (tt, (tt, (number_shown extent.length, (spelling_shown spelling, tt))))))
 input_shown forms.Json fault place extent spelling = ((worded fault).all, (number_shown place, (tt, (tt, (tt, (number_shown extent.length, (spelling_shown spelling, tt)))))))
-
-pub input_refused : (form : Form) (line : Option ℕ) (layers : List Layer) (fault : InputFault) (place : Option ℕ) (extent : Extent) (spelling : Option Spelling) → IsOneLine (input_refused_line form (message_origin line layers) fault place extent spelling)
-input_refused form line layers fault place extent spelling =
-    message_line_from form line layers (input_refused_record form fault place extent spelling) (kind_is_plain form fault) (input_is_plain form fault place extent spelling) (input_shown form fault place extent spelling) tt
-
--- ---- streams
-refused : (form : Form) (messages place : ℕ) (reason : Why) (path : Option (List ℕ)) (extent : Extent) → IfSome path AreOctets → IsOneLine (refused_line form messages place reason path extent)
-refused form messages place reason path extent h =
-    one_line form (refused_record form messages place reason path extent) refl (located_is_plain form path extent) (tt, (tt, ((reasons.name reason).all, located_shown form path extent h)))
-
-pub untold_refused : (form : Form) (messages place : ℕ) (reason : Why) (path : Option (List ℕ)) → IfSome path AreOctets → IsOneLine (untold_refused_line form messages place reason path)
-untold_refused form messages place reason path h =
-    one_line form (refused_frame messages place reason (path_in form path)) refl (path_is_plain form path) (tt, (tt, ((reasons.name reason).all, path_shown form path h)))
-
-pub end_of_stream : (form : Form) (messages : ℕ) (end : End) (path : Option (List ℕ)) (extent : Extent) → IfSome path AreOctets → IsOneLine (end_line form messages end path extent)
-end_of_stream form messages Boundary path extent h = one_line form (end_record form messages Boundary path extent) refl refl (tt, tt)
-end_of_stream form messages (Within present) path extent h = refused form messages present whys.Truncated path extent h
-end_of_stream form messages (Refused place reason) path extent h = refused form messages place reason path extent h
-
-pub counted_end : (form : Form) (messages refused : ℕ) → IsOneLine (counted_end_line form messages refused)
-counted_end form messages refused = one_line form (counted_end_record messages refused) refl refl (tt, (tt, tt))
-
-pub file : (form : Form) (name : List ℕ) → AreOctets name → IsOneLine (file_line form name)
-file form name h = one_line form (file_record name) refl refl (h, tt)

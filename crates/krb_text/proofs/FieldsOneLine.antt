@@ -21,6 +21,7 @@ use Rattle.krb_text.specs.Text.{AllAreOctets}
 use Rattle.krb_text.specs.Values.{Value, Number, Quoted, Word, if_there, count, sealed, principal, client, address}
 use Rattle.krb_text.proofs.Printable.{time}
 use Rattle.krb_text.proofs.EachForm.{IsShown, AreShown}
+use Rattle.krb_text.proofs.Tuples.{◌&◌}
 
 -- ---- what may be left out
 pub optional : {A : Type 0} (value : A → Value) (P : A → Type 0) → ((a : A) → P a → IsShown (value a)) → (o : Option A) → IfPresent P o → IsShown (if_there value o)
@@ -64,46 +65,11 @@ its_methods code octets = always _ (λ items. tt) (methods_in code octets)
 
 -- ---- messages
 pub kdc_req : (m : KdcReq) → Fits kdc_req_body (kdc_req_body_value m.body) → AreShown (kdc_req_fields m)
-kdc_req m (options, (cname, (realm, (sname, (from, (till, (rtime, rest))))))) = (
-  realm.0,
-  (
-    optional_name m.body.realm m.body.cname realm.0 cname,
-    (
-      optional_name m.body.realm m.body.sname realm.0 sname,
-      (
-        options.1,
-        (
-          optional_time m.body.from from,
-          (
-            (time m.body.till till).all,
-            (
-              optional_time m.body.rtime rtime,
-              (
-                tt,
-                (
-                  tt,
-                  (
-                    always padata (λ items. tt) m.padata,
-                    (
-                      always count (λ items. tt) m.body.addresses,
-                      (
-                        always sealed (λ v. tt) m.body.enc_authorization_data,
-                        (
-                          always count (λ items. tt) m.body.additional_tickets,
-                          tt,
-                        ),
-                      ),
-                    ),
-                  ),
-                ),
-              ),
-            ),
-          ),
-        ),
-      ),
-    ),
-  ),
-)
+kdc_req m (options, (cname, (realm, (sname, (from, (till, (rtime, rest))))))) =
+    realm.0 & optional_name m.body.realm m.body.cname realm.0 cname & optional_name m.body.realm m.body.sname realm.0 sname
+    & options.1 & optional_time m.body.from from & (time m.body.till till).all & optional_time m.body.rtime rtime & tt & tt
+    & always padata (λ items. tt) m.padata & always count (λ items. tt) m.body.addresses
+    & always sealed (λ v. tt) m.body.enc_authorization_data & always count (λ items. tt) m.body.additional_tickets & tt
 
 pub kdc_rep : (m : KdcRep) → AreOctets m.crealm → Fits principal_name (principal_name_value m.cname) → Fits ticket (ticket_value m.ticket) → AreShown (kdc_rep_fields m)
 kdc_rep m crealm cname its_ticket =
@@ -113,58 +79,13 @@ pub of_ap_req : (m : ApReq) → Fits ap_req (ap_req_value m) → AreShown (ap_re
 of_ap_req m (version, (type, (options, (its_ticket, rest)))) = (of_ticket m.ticket its_ticket, (options.1, (tt, (tt, tt))))
 
 pub safe : (m : KrbSafe) → Fits krb_safe (krb_safe_value m) → AreShown (krb_safe_fields m)
-safe m (version, (type, ((user_data, (timestamp, (usec, (seq_number, (s_address, (r_address, no_more)))))), rest))) = (
-  tt,
-  (
-    optional_time m.body.timestamp timestamp,
-    (
-      always (λ n. Number (pos n)) (λ n. tt) m.body.usec,
-      (
-        always Number (λ n. tt) m.body.seq_number,
-        (
-          s_address.1.0,
-          (
-            optional_address m.body.r_address r_address,
-            (
-              tt,
-              tt,
-            ),
-          ),
-        ),
-      ),
-    ),
-  ),
-)
+safe m (version, (type, ((user_data, (timestamp, (usec, (seq_number, (s_address, (r_address, no_more)))))), rest))) =
+    tt & optional_time m.body.timestamp timestamp & always (λ n. Number (pos n)) (λ n. tt) m.body.usec
+    & always Number (λ n. tt) m.body.seq_number & s_address.1.0 & optional_address m.body.r_address r_address & tt & tt
 
 pub error : (m : KrbError) → Fits krb_error (krb_error_value m) → AreShown (krb_error_fields m)
-error m (version, (type, (ctime, (cusec, (stime, (susec, (error_code, (crealm, (cname, (realm, (sname, (text, rest)))))))))))) = (
-  tt,
-  (
-    its_client m.cname m.crealm cname crealm,
-    (
-      named m.realm m.sname realm.0 sname,
-      (
-        optional_time m.ctime ctime,
-        (
-          always (λ n. Number (pos n)) (λ n. tt) m.cusec,
-          (
-            (time m.stime stime).all,
-            (
-              tt,
-              (
-                optional Quoted (Fits kerberos_string) (λ octets fit. fit.0) m.e_text text,
-                (
-                  always count (λ octets. tt) m.e_data,
-                  (
-                    its_methods m.error_code m.e_data,
-                    tt,
-                  ),
-                ),
-              ),
-            ),
-          ),
-        ),
-      ),
-    ),
-  ),
-)
+error m (version, (type, (ctime, (cusec, (stime, (susec, (error_code, (crealm, (cname, (realm, (sname, (text, rest)))))))))))) =
+    tt & its_client m.cname m.crealm cname crealm & named m.realm m.sname realm.0 sname & optional_time m.ctime ctime
+    & always (λ n. Number (pos n)) (λ n. tt) m.cusec & (time m.stime stime).all & tt
+    & optional Quoted (Fits kerberos_string) (λ octets fit. fit.0) m.e_text text & always count (λ octets. tt) m.e_data
+    & its_methods m.error_code m.e_data & tt

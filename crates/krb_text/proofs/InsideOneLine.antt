@@ -23,6 +23,7 @@ use Rattle.krb_text.specs.declared.clear_type.ClearType.TheVariants as types
 use Rattle.krb_text.proofs.EachForm.{ArePlainParts, IsPlainPart, IsShown}
 use Rattle.krb_text.proofs.FieldsOneLine.{always, named, of_ticket, optional}
 use Rattle.krb_text.proofs.Judged.{is_judged}
+use Rattle.krb_text.proofs.Tuples.{◌&◌}
 
 -- ---- lists
 both : (ps qs : List Part) → ArePlainParts ps → ArePlainParts qs → ArePlainParts (ps ++ qs)
@@ -83,19 +84,10 @@ fast_request : (v : Value pa_fx_fast_request) → Fits pa_fx_fast_request v → 
 fast_request v h = record {
   kind = refl;
   names = refl;
-  fields = (
-    always (λ armor. Number armor.armor_type) (λ armor. tt) (krb_fast_armored_req_of v).armor,
-    (
-      server_of (krb_fast_armored_req_of v).armor,
-      (
-        always (λ v. sealed (ap_req_of v).ticket.enc_part) (λ v. tt) (ap_req_in (krb_fast_armored_req_of v).armor),
-        (
-          tt,
-          tt,
-        ),
-      ),
-    ),
-  );
+  fields =
+      always (λ armor. Number armor.armor_type) (λ armor. tt) (krb_fast_armored_req_of v).armor
+      & server_of (krb_fast_armored_req_of v).armor
+      & always (λ v. sealed (ap_req_of v).ticket.enc_part) (λ v. tt) (ap_req_in (krb_fast_armored_req_of v).armor) & tt & tt;
 }
 
 pac : (found : Option Bool) → ArePlainParts (one_if pac_request_part found)

@@ -9,6 +9,7 @@ pub mod Bits
 pub mod Items
 pub mod Listed
 pub mod Printable
+pub mod Tuples
 pub mod Dates
 pub mod Times
 pub mod Moments
@@ -23,7 +24,6 @@ pub mod EndOneLine
 pub mod FieldsOneLine
 pub mod InsideOneLine
 pub mod MessageOneLine
-pub mod CaptureOneLine
 pub mod Alike
 pub mod MaskedParts
 pub mod Masks

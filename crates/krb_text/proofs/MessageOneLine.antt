@@ -51,19 +51,3 @@ record_is_plain (message.KrbSafe m) good = plain (message.KrbSafe m) refl refl (
 record_is_plain (message.KrbPriv m) good = plain (message.KrbPriv m) refl refl (tt, tt) tt
 record_is_plain (message.KrbCred m) good = plain (message.KrbCred m) refl refl (tt, (tt, tt)) (tickets_inside m.tickets good.fits.1.1.0.1)
 record_is_plain (message.KrbError m) good = plain (message.KrbError m) refl refl (error m good.fits) (error_inside m)
-
-pub message_shown : (form : Form) (m : Message) → IsInProfile profiles.Lenient m → IsOneLine (message_line form m)
-unfolding message_line message_record
-message_shown form m good =
-    let h = record_is_plain m good in
-    line_from form [] (message_record m) refl tt h.kind h.names h.fields h.inside
-
-pub message_from_shown : (form : Form) (line : Option ℕ) (layers : List Layer) (m : Message) → IsInProfile profiles.Lenient m → IsOneLine (message_line_from form (message_origin line layers) m)
-message_from_shown form line layers m good =
-    let h = record_is_plain m good in
-    from_origin form line layers (message_record m) h.kind h.names h.fields h.inside
-
--- ---- a Ticket
-pub ticket_shown : (form : Form) (line : Option ℕ) (layers : List Layer) (t : Ticket) → Fits ticket (ticket_value t) → IsOneLine (ticket_line form (message_origin line layers) t)
-unfolding ticket_record
-ticket_shown form line layers t fit = from_origin form line layers (ticket_record t) refl refl (of_ticket t fit, (tt, (tt, tt))) tt

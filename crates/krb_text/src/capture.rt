@@ -7,10 +7,11 @@ ghost use Rattle.krb_text.specs.Captures.{capture_end_line, capture_refused_line
 ghost use Rattle.krb_text.specs.Forms.{fields_text};
 
 use crate::extent::Extent;
-use crate::field::{put_end, put_field, put_opening};
+use crate::field::{put_end, put_opening};
 use crate::form::Form;
 use crate::message::put_rest;
 use crate::origin::{Origin, put_captured_opening};
+use crate::put_field;
 use crate::refusal::{Reason, put_fault_fields, put_path};
 use crate::text_buffer::TextBuffer;
 use krb_der::{Memory, Refusal};
@@ -81,8 +82,8 @@ pub fn put_lost(
     ensures { OnOk result (text.new ≡ text.old ++ lost_line form origin.now place octets (option_copied path.entry)) }
 {
     put_captured_opening(text, form, origin, "lost")?;
-    put_field(text, form, " place=", ",\"place", &place)?;
-    put_field(text, form, " octets=", ",\"octets", &octets)?;
+    put_field!(text, form, "place": &place)?;
+    put_field!(text, form, "octets": &octets)?;
     put_path(text, form, path)?;
     put_end(text, form)
 }
@@ -101,9 +102,9 @@ pub fn put_password(
     ensures { OnOk result (text.new ≡ text.old ++ password_line form origin.now version ap rest) }
 {
     put_captured_opening(text, form, origin, "KPASSWD")?;
-    put_field(text, form, " version=", ",\"version", &u64::from(version))?;
-    put_field(text, form, " ap=", ",\"ap", &u64::from(ap))?;
-    put_field(text, form, " rest=", ",\"rest", &rest)?;
+    put_field!(text, form, "version": &u64::from(version))?;
+    put_field!(text, form, "ap": &u64::from(ap))?;
+    put_field!(text, form, "rest": &rest)?;
     put_end(text, form)
 }
 
@@ -126,11 +127,11 @@ pub struct CaptureCounts {
 fn put_counts(text: &mut TextBuffer, form: Form, counts: &CaptureCounts) -> Result<(), AllocError>
     ensures { OnOk result (text.new ≡ text.old ++ fields_text form (count_fields counts.now)) }
 {
-    put_field(text, form, " packets=", ",\"packets", &counts.packets)?;
-    put_field(text, form, " messages=", ",\"messages", &counts.messages)?;
-    put_field(text, form, " refused=", ",\"refused", &counts.refused)?;
-    put_field(text, form, " lost=", ",\"lost", &counts.lost)?;
-    put_field(text, form, " unread=", ",\"unread", &counts.unread)
+    put_field!(text, form, "packets": &counts.packets)?;
+    put_field!(text, form, "messages": &counts.messages)?;
+    put_field!(text, form, "refused": &counts.refused)?;
+    put_field!(text, form, "lost": &counts.lost)?;
+    put_field!(text, form, "unread": &counts.unread)
 }
 
 /// Appends the last line of a capture that is read to its end.

@@ -13,17 +13,15 @@ ghost use Rattle.krb_text.specs.Judged.{judged};
 ghost use Rattle.krb_text.specs.Values.{Named, Number, if_there, principal, sealed};
 ghost use Rattle.krb_text.specs.inner.Parts.{Tells, separator};
 
-use crate::field::{put_closing, put_field};
+use crate::field::put_closing;
 use crate::form::Form;
 use crate::message::put_ap_req;
 use crate::number::Numbered;
 use crate::part::{Clear, PartPlace, put_part_opening, view_judged};
-use crate::shown::QuotedText;
+use crate::put_field;
+use crate::shown::{HexText, QuotedText};
 use crate::text_buffer::TextBuffer;
-use crate::view_field::{
-    put_absent_field, put_checksum_field, put_flags_field, put_hex_field, put_principal_field,
-    put_quoted_field, put_sealed_field,
-};
+use crate::viewed::{ABSENT, flags_of, principal_of};
 use krb_msg::{ApReq, ApReqView, EncryptedData, EncryptedDataView, Ticket};
 use krb_padata::{
     EtypeInfo2Entry, EtypeInfoEntry, KrbFastArmorView, PaForUser, PaFxFastReply, PaFxFastRequest,
@@ -55,7 +53,7 @@ impl<'a> Clear<'a> for EtypeInfoEntry {
     fn put_part(text: &mut TextBuffer, at: PartPlace, seen: &Self::Of) -> Result<(), AllocError> {
         put_part_opening(text, at, "PA-ETYPE-INFO")?;
         put_etype_field(text, at.form, &seen.etype)?;
-        put_quoted_field(text, at.form, " salt=", ",\"salt", seen.salt)?;
+        put_field!(text, at.form, "salt": &seen.salt.map(QuotedText))?;
         put_closing(text, at.form)
     }
 }
@@ -68,8 +66,8 @@ impl<'a> Clear<'a> for EtypeInfo2Entry {
     fn put_part(text: &mut TextBuffer, at: PartPlace, seen: &Self::Of) -> Result<(), AllocError> {
         put_part_opening(text, at, "PA-ETYPE-INFO2")?;
         put_etype_field(text, at.form, &seen.etype)?;
-        put_quoted_field(text, at.form, " salt=", ",\"salt", seen.salt)?;
-        put_hex_field(text, at.form, " params=", ",\"params", seen.s2kparams)?;
+        put_field!(text, at.form, "salt": &seen.salt.map(QuotedText))?;
+        put_field!(text, at.form, "params": &seen.s2kparams.map(HexText))?;
         put_closing(text, at.form)
     }
 }
@@ -80,12 +78,10 @@ impl<'a> Clear<'a> for PaForUser {
 
     #[tactic(auto, unfolding(crate::specs::Forms::part_text))]
     fn put_part(text: &mut TextBuffer, at: PartPlace, seen: &Self::Of) -> Result<(), AllocError> {
-        let (name, realm) = (&seen.user_name, seen.user_realm);
-        let package = QuotedText(seen.auth_package);
         put_part_opening(text, at, "PA-FOR-USER")?;
-        put_principal_field(text, at.form, " user=", ",\"user", name, realm)?;
-        put_checksum_field(text, at.form, " cksum=", ",\"cksum", &seen.cksum)?;
-        put_field(text, at.form, " package=", ",\"package", &package)?;
+        put_field!(text, at.form, "user": &principal_of(&seen.user_name, seen.user_realm))?;
+        put_field!(text, at.form, "cksum": &seen.cksum)?;
+        put_field!(text, at.form, "package": &QuotedText(seen.auth_package))?;
         put_closing(text, at.form)
     }
 }
@@ -98,7 +94,7 @@ impl<'a> Clear<'a> for PaFxFastRequest {
     fn put_part(text: &mut TextBuffer, at: PartPlace, seen: &Self::Of) -> Result<(), AllocError> {
         put_part_opening(text, at, "PA-FX-FAST")?;
         put_armor_fields(text, at.form, &seen.armor)?;
-        put_sealed_field(text, at.form, " enc=", ",\"enc", &seen.enc_fast_req)?;
+        put_field!(text, at.form, "enc": &seen.enc_fast_req)?;
         put_closing(text, at.form)
     }
 }
@@ -110,10 +106,10 @@ impl<'a> Clear<'a> for PaFxFastReply {
     #[tactic(auto, unfolding(crate::specs::Forms::part_text))]
     fn put_part(text: &mut TextBuffer, at: PartPlace, seen: &Self::Of) -> Result<(), AllocError> {
         put_part_opening(text, at, "PA-FX-FAST")?;
-        put_absent_field(text, at.form, " armor=", ",\"armor")?;
-        put_absent_field(text, at.form, " server=", ",\"server")?;
-        put_absent_field(text, at.form, " ticket=", ",\"ticket")?;
-        put_sealed_field(text, at.form, " enc=", ",\"enc", &seen.enc_fast_rep)?;
+        put_field!(text, at.form, "armor": &ABSENT)?;
+        put_field!(text, at.form, "server": &ABSENT)?;
+        put_field!(text, at.form, "ticket": &ABSENT)?;
+        put_field!(text, at.form, "enc": &seen.enc_fast_rep)?;
         put_closing(text, at.form)
     }
 }
@@ -124,9 +120,8 @@ impl<'a> Clear<'a> for PaPacOptions {
 
     #[tactic(auto, unfolding(crate::specs::Forms::part_text))]
     fn put_part(text: &mut TextBuffer, at: PartPlace, seen: &Self::Of) -> Result<(), AllocError> {
-        let (options, flags) = (Registry::PacOptions, &seen.flags);
         put_part_opening(text, at, "PA-PAC-OPTIONS")?;
-        put_flags_field(text, at.form, " options=", ",\"options", options, flags)?;
+        put_field!(text, at.form, "options": &flags_of(Registry::PacOptions, &seen.flags))?;
         put_closing(text, at.form)
     }
 }
@@ -137,10 +132,9 @@ impl<'a> Clear<'a> for Ticket {
 
     #[tactic(auto, unfolding(crate::specs::Forms::part_text))]
     fn put_part(text: &mut TextBuffer, at: PartPlace, seen: &Self::Of) -> Result<(), AllocError> {
-        let (server, realm) = (&seen.sname, seen.realm);
         put_part_opening(text, at, "Ticket")?;
-        put_principal_field(text, at.form, " server=", ",\"server", server, realm)?;
-        put_sealed_field(text, at.form, " ticket=", ",\"ticket", &seen.enc_part)?;
+        put_field!(text, at.form, "server": &principal_of(&seen.sname, seen.realm))?;
+        put_field!(text, at.form, "ticket": &seen.enc_part)?;
         put_closing(text, at.form)
     }
 }
@@ -153,7 +147,7 @@ fn put_etype_field(text: &mut TextBuffer, form: Form, etype: &i64) -> Result<(),
         registry: Registry::EncryptionTypes,
         number: *etype,
     };
-    put_field(text, form, " etype=", ",\"etype", &shown)
+    put_field!(text, form, "etype": &shown)
 }
 
 /// Returns a view of the AP-REQ that an armor is, if there is one and it is that.
@@ -178,8 +172,8 @@ fn put_armor_type_field(
     ensures { OnOk result (text.new ≡ text.old ++ field form (codes "armor") (if_there (λ a. Number a.armor_type) (option_map krb_fast_armor_of (option_map krb_fast_armor_view_value armor.now)))) }
 {
     match armor {
-        None => put_absent_field(text, form, " armor=", ",\"armor"),
-        Some(armor) => put_field(text, form, " armor=", ",\"armor", &armor.armor_type),
+        None => put_field!(text, form, "armor": &ABSENT),
+        Some(armor) => put_field!(text, form, "armor": &armor.armor_type),
     }
 }
 
@@ -196,13 +190,13 @@ fn put_ticket_fields(
 {
     match req {
         None => {
-            put_absent_field(text, form, " server=", ",\"server")?;
-            put_absent_field(text, form, " ticket=", ",\"ticket")
+            put_field!(text, form, "server": &ABSENT)?;
+            put_field!(text, form, "ticket": &ABSENT)
         }
         Some(req) => {
             let (server, realm) = (&req.ticket.sname, req.ticket.realm);
-            put_principal_field(text, form, " server=", ",\"server", server, realm)?;
-            put_sealed_field(text, form, " ticket=", ",\"ticket", &req.ticket.enc_part)
+            put_field!(text, form, "server": &principal_of(server, realm))?;
+            put_field!(text, form, "ticket": &req.ticket.enc_part)
         }
     }
 }
@@ -235,7 +229,7 @@ fn put_sealed_part(
     ensures { OnOk result (text.new ≡ text.old ++ separator at.form at.told ++ part_text at.form (sealed_part kind.now (encrypted_data_of_view seen.now))) }
 {
     put_part_opening(text, at, kind)?;
-    put_sealed_field(text, at.form, " enc=", ",\"enc", seen)?;
+    put_field!(text, at.form, "enc": seen)?;
     put_closing(text, at.form)
 }
 
@@ -269,7 +263,7 @@ pub(crate) fn put_salt(
     ensures { OnOk result (text.new ≡ text.old ++ separator at.form at.told ++ part_text at.form (salt_part octets.now)) }
 {
     put_part_opening(text, at, "PA-PW-SALT")?;
-    put_field(text, at.form, " salt=", ",\"salt", &QuotedText(octets))?;
+    put_field!(text, at.form, "salt": &QuotedText(octets))?;
     put_closing(text, at.form)
 }
 
@@ -283,6 +277,6 @@ pub(crate) fn put_pac_request(
     ensures { OnOk result (text.new ≡ text.old ++ separator at.form at.told ++ part_text at.form (pac_request_part include)) }
 {
     put_part_opening(text, at, "PA-PAC-REQUEST")?;
-    put_field(text, at.form, " pac=", ",\"pac", &include)?;
+    put_field!(text, at.form, "pac": &include)?;
     put_closing(text, at.form)
 }

@@ -8,7 +8,7 @@ use krb_msg::PaDataView;
 /// What a value of pre-authentication data is, as far as something of it is in the clear (RFC 4120,
 /// 7.5.2; RFC 6113, 5.4; MS-SFU, 2.2.1; MS-KILE, 2.2.3 and 2.2.10).
 #[derive(Clone, Copy)]
-pub(crate) enum ClearType {
+pub enum ClearType {
     /// PA-TGS-REQ.
     TgsReq,
     /// PA-ENC-TIMESTAMP.

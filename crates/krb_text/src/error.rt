@@ -4,23 +4,23 @@ ghost use Rattle.std.specs.Prelude.{◌≡◌, ◌++◌, ◌^◌, ◌<◌, Some,
 ghost use Rattle.krb_msg.specs.Grammar.{method_data, pa_data};
 ghost use Rattle.krb_msg.specs.Types.{KrbErrorLists, krb_error_of_view};
 ghost use Rattle.krb_msg.specs.Viewed.{AreViewed, items_of};
+ghost use Rattle.krb_registry.specs.declared.registry.Registry.TheVariants.{PreAuthenticationData};
 ghost use Rattle.krb_text.specs.Errors.{code_suffix, code_text};
-ghost use Rattle.krb_text.specs.Forms.{field, fields_text, labelled};
+ghost use Rattle.krb_text.specs.Forms.{field, fields_text};
 ghost use Rattle.krb_text.specs.Judged.{judged, methods_in};
 ghost use Rattle.krb_text.specs.MessageFields.{krb_error_fields, methods};
-ghost use Rattle.krb_text.specs.Values.{ErrorCode, Number, Quoted, Word, client, count, if_there, principal};
+ghost use Rattle.krb_text.specs.Values.{ErrorCode, Number, Numbers, Quoted, Word, client, count, if_there, principal};
 
-use crate::field::put_field;
 use crate::form::Form;
 use crate::item::{put_name_member, put_named};
 use crate::list::PaDataTypes;
 use crate::part::view_judged;
-use crate::shown::{Shown, put_begin};
+use crate::put_field;
+use crate::shown::{QuotedText, Shown, put_begin};
 use crate::text_buffer::TextBuffer;
-use crate::view_field::{
-    put_absent_field, put_client_field, put_micros_field, put_optional_micros_field,
-    put_optional_size_field, put_optional_time_field, put_principal_field, put_quoted_field,
-    put_time_field,
+use crate::viewed::{
+    client_of, micros_of, optional_micros_of, optional_size_of, optional_time_of, principal_of,
+    time_of,
 };
 use krb_der::Many;
 use krb_msg::{ItemsView, KrbErrorView, PaData};
@@ -92,32 +92,18 @@ pub(crate) fn method_data(octets: &[u8]) -> Option<ItemsView<'_>>
     view_judged::<Many<PaData>>(octets)
 }
 
-/// Returns a view of the METHOD-DATA of an error that asks for pre-authentication, if its data is
+/// Returns the types of the METHOD-DATA of an error that asks for pre-authentication, if its data is
 /// that.
-fn methods_of<'a>(error: &KrbErrorView<'a>) -> Option<ItemsView<'a>>
+fn methods_of<'a>(error: &KrbErrorView<'a>) -> Option<PaDataTypes<'a>>
     requires { KrbErrorLists error.now }
-    ensures { let seen = krb_error_of_view error.now in MatchOption result (methods_in seen.error_code seen.e_data ≡ None) (λ items. AreViewed pa_data items.octets.now × (methods_in seen.error_code seen.e_data ≡ Some (items_of pa_data items.octets.now))) }
+    ensures { let seen = krb_error_of_view error.now in if_there (Numbers PreAuthenticationData) result ≡ methods seen.error_code seen.e_data }
 {
     match error.e_data {
-        Some(octets) if error.error_code == PREAUTH_REQUIRED => method_data(octets),
+        Some(octets) if error.error_code == PREAUTH_REQUIRED => match method_data(octets) {
+            None => None,
+            Some(items) => Some(PaDataTypes::new(items)),
+        },
         _ => None,
-    }
-}
-
-/// Appends the field of the types of the METHOD-DATA of an error.
-fn put_methods_field(
-    text: &mut TextBuffer,
-    form: Form,
-    label: &str,
-    begin: &str,
-    error: &KrbErrorView<'_>,
-) -> Result<(), AllocError>
-    requires { KrbErrorLists error.now }
-    ensures { let seen = krb_error_of_view error.now in OnOk result (text.new ≡ text.old ++ labelled form label.now begin.now (methods seen.error_code seen.e_data)) }
-{
-    match methods_of(error) {
-        None => put_absent_field(text, form, label, begin),
-        Some(items) => put_field(text, form, label, begin, &PaDataTypes::new(items)),
     }
 }
 
@@ -135,25 +121,11 @@ fn put_first_fields(
         ++ field form (codes "ctime") (if_there Word seen.ctime)
         ++ field form (codes "cusec") (if_there (λ n. Number (pos n)) seen.cusec)) }
 {
-    put_field(text, form, " code=", ",\"code", &Code(error.error_code))?;
-    put_client_field(
-        text,
-        form,
-        " client=",
-        ",\"client",
-        &error.cname,
-        error.crealm,
-    )?;
-    put_principal_field(
-        text,
-        form,
-        " server=",
-        ",\"server",
-        &error.sname,
-        error.realm,
-    )?;
-    put_optional_time_field(text, form, " ctime=", ",\"ctime", error.ctime)?;
-    put_optional_micros_field(text, form, " cusec=", ",\"cusec", error.cusec)
+    put_field!(text, form, "code": &Code(error.error_code))?;
+    put_field!(text, form, "client": &client_of(&error.cname, error.crealm))?;
+    put_field!(text, form, "server": &principal_of(&error.sname, error.realm))?;
+    put_field!(text, form, "ctime": &optional_time_of(error.ctime))?;
+    put_field!(text, form, "cusec": &optional_micros_of(error.cusec))
 }
 
 /// Appends the fields of a KRB-ERROR from the time of the server on.
@@ -170,11 +142,11 @@ fn put_last_fields(
         ++ field form (codes "data") (if_there count seen.e_data)
         ++ field form (codes "methods") (methods seen.error_code seen.e_data)) }
 {
-    put_time_field(text, form, " stime=", ",\"stime", error.stime)?;
-    put_micros_field(text, form, " susec=", ",\"susec", error.susec)?;
-    put_quoted_field(text, form, " text=", ",\"text", error.e_text)?;
-    put_optional_size_field(text, form, " data=", ",\"data", error.e_data)?;
-    put_methods_field(text, form, " methods=", ",\"methods", error)
+    put_field!(text, form, "stime": &time_of(error.stime))?;
+    put_field!(text, form, "susec": &micros_of(error.susec))?;
+    put_field!(text, form, "text": &error.e_text.map(QuotedText))?;
+    put_field!(text, form, "data": &optional_size_of(error.e_data))?;
+    put_field!(text, form, "methods": &methods_of(error))
 }
 
 /// Appends the fields of a KRB-ERROR.

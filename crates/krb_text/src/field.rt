@@ -9,6 +9,30 @@ use crate::shown::Shown;
 use crate::text_buffer::TextBuffer;
 use std::alloc::AllocError;
 
+/// Appends a field of a name, which is a literal: in a line ` NAME=` and the text of the value, in an
+/// object `,"NAME":` and what follows it. The first field of a line has no blank before it.
+#[macro_export]
+macro_rules! put_field {
+    ($text:expr, $form:expr, first $name:literal: $value:expr) => {
+        $crate::put_field(
+            $text,
+            $form,
+            concat!($name, "="),
+            concat!(",\"", $name),
+            $value,
+        )
+    };
+    ($text:expr, $form:expr, $name:literal: $value:expr) => {
+        $crate::put_field(
+            $text,
+            $form,
+            concat!(" ", $name, "="),
+            concat!(",\"", $name),
+            $value,
+        )
+    };
+}
+
 /// Appends a field: in a line the label, ` NAME=`, and the text of the value; in an object the
 /// members that `begin`, which is `,"NAME`, begins.
 #[inline(always)]
@@ -23,14 +47,8 @@ pub fn put_field<T: Shown>(
     ensures { OnOk result (text.new ≡ text.old ++ labelled form label.now begin.now (T.shown value.now)) }
 {
     match form {
-        Form::Lines => {
-            text.push_str(label)?;
-            value.put_text(text, false)
-        }
-        Form::NamedLines => {
-            text.push_str(label)?;
-            value.put_text(text, true)
-        }
+        Form::Lines => value.put_labelled(text, label, false),
+        Form::NamedLines => value.put_labelled(text, label, true),
         Form::Json => value.put_members(text, begin),
     }
 }

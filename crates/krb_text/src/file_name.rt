@@ -7,9 +7,10 @@ ghost use Rattle.krb_text.specs.Files.{file_line};
 ghost use Rattle.krb_text.specs.Values.{FileName as IsFileName};
 
 use crate::escape::is_plain;
-use crate::field::{put_end, put_field, put_opening};
+use crate::field::{put_end, put_opening};
 use crate::form::Form;
 use crate::json::put_octets_string;
+use crate::put_field;
 use crate::shown::{Shown, put_begin};
 use crate::text_buffer::TextBuffer;
 use std::alloc::AllocError;
@@ -89,6 +90,6 @@ pub fn put_file(text: &mut TextBuffer, form: Form, name: &[u8]) -> Result<(), Al
     ensures { OnOk result (text.new ≡ text.old ++ file_line form name.now) }
 {
     put_opening(text, form, "file")?;
-    put_field(text, form, " name=", ",\"name", &FileName(name))?;
+    put_field!(text, form, "name": &FileName(name))?;
     put_end(text, form)
 }

@@ -6,13 +6,14 @@ ghost use Rattle.krb_text.specs.Inputs.{input_kind, input_member, input_refused_
 ghost use Rattle.krb_text.specs.Messages.{message_origin};
 
 use crate::extent::Extent;
-use crate::field::{put_end, put_field};
+use crate::field::put_end;
 use crate::form::Form;
 use crate::message_origin::{MessageOrigin, put_message_opening};
+use crate::put_field;
 use crate::refusal::{NoReason, put_at_and_length, put_form_field};
 use crate::shown::Plain;
 use crate::text_buffer::TextBuffer;
-use crate::view_field::put_absent_field;
+use crate::viewed::ABSENT;
 use krb_input::Spelling;
 use std::alloc::AllocError;
 
@@ -68,9 +69,9 @@ fn put_input_told(
     match form {
         Form::Lines => Ok(()),
         Form::NamedLines | Form::Json => {
-            put_field(text, form, " place=", ",\"place", &place)?;
-            put_field(text, form, " why=", ",\"why", &NoReason)?;
-            put_absent_field(text, form, " in=", ",\"in")?;
+            put_field!(text, form, "place": &place)?;
+            put_field!(text, form, "why": &NoReason)?;
+            put_field!(text, form, "in": &ABSENT)?;
             put_at_and_length(text, form, extent)?;
             put_form_field(text, form, spelling)
         }
@@ -92,7 +93,7 @@ fn put_input_fields(
         Form::Lines | Form::NamedLines => put_input_told(text, form, place, extent, spelling),
         Form::Json => {
             let word = Plain::new(fault.word().as_bytes());
-            put_field(text, form, " input=", ",\"input", &word)?;
+            put_field!(text, form, "input": &word)?;
             put_input_told(text, form, place, extent, spelling)
         }
     }

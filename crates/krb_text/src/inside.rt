@@ -16,11 +16,11 @@ ghost use Rattle.krb_text.specs.inner.Parts.{Tells, parts_after, separator};
 use crate::error::{PREAUTH_REQUIRED, method_data};
 use crate::field::put_closing;
 use crate::form::Form;
-use crate::list::count_items;
+use crate::list::{PaDataTypes, count_items};
 use crate::padata::{count_padata, put_padata};
 use crate::part::{PartPlace, put_each, put_part_opening};
+use crate::put_field;
 use crate::text_buffer::TextBuffer;
-use crate::view_field::put_types_field;
 use krb_msg::{ItemsView, KdcRepView, KdcReqView, KrbCredView, KrbErrorView, MessageView, Ticket};
 use std::alloc::AllocError;
 
@@ -187,7 +187,7 @@ fn put_methods(text: &mut TextBuffer, form: Form, items: ItemsView<'_>) -> Resul
     ensures { OnOk result (text.new ≡ text.old ++ separator form false ++ part_text form (methods_part (map pa_data_of (items_of pa_data items.entry.octets.now)))) }
 {
     put_part_opening(text, PartPlace { form, told: false }, "METHOD-DATA")?;
-    put_types_field(text, form, " methods=", ",\"methods", items)?;
+    put_field!(text, form, "methods": &PaDataTypes::new(items))?;
     put_closing(text, form)
 }
 

@@ -48,12 +48,13 @@ mod text_buffer;
 mod ticket;
 mod ticket_flags;
 mod time;
-mod view_field;
+mod viewed;
 
 pub use capture::{
     CaptureCounts, put_capture_end, put_capture_refusal, put_captured_message,
     put_captured_refusal, put_joined, put_lost, put_password,
 };
+pub use clear_type::ClearType;
 pub use escape::put_escaped;
 pub use extent::Extent;
 pub use field::{put_closing, put_field, put_opening};

@@ -9,17 +9,18 @@ ghost use Rattle.krb_text.specs.Messages.{padata, kdc_req_fields, kdc_rep_fields
 ghost use Rattle.krb_text.specs.Values.{Flags, Number, Numbers, String as Escaped, Word, count, if_there, principal, sealed};
 
 use crate::error::put_krb_error;
-use crate::field::{put_field, put_opening};
+use crate::field::put_opening;
 use crate::form::Form;
 use crate::inside::put_ending;
+use crate::list::EncryptionTypes;
 use crate::message_origin::{MessageOrigin, put_message_opening};
+use crate::put_field;
+use crate::shown::Text;
 use crate::text_buffer::TextBuffer;
-use crate::view_field::{
-    put_address_field, put_addresses_field, put_checksum_field, put_etypes_field, put_flags_field,
-    put_optional_address_field, put_optional_micros_field, put_optional_principal_field,
-    put_optional_sealed_field, put_optional_tickets_field, put_optional_time_field,
-    put_padata_field, put_principal_field, put_sealed_field, put_size_field, put_text_field,
-    put_tickets_field, put_time_field,
+use crate::viewed::{
+    flags_of, optional_address_count, optional_micros_of, optional_principal_of,
+    optional_ticket_count, optional_time_of, optional_types_of, principal_of, ticket_count,
+    time_of,
 };
 use krb_der::Memory;
 use krb_msg::{
@@ -45,21 +46,13 @@ fn put_kdc_req_first_fields(
         ++ field form (codes "till") (Word seen.till)
         ++ field form (codes "rtime") (if_there Word seen.rtime)) }
 {
-    let options = Registry::KdcOptions;
-    put_text_field(text, form, " realm=", ",\"realm", body.realm)?;
-    put_optional_principal_field(text, form, " client=", ",\"client", &body.cname, body.realm)?;
-    put_optional_principal_field(text, form, " server=", ",\"server", &body.sname, body.realm)?;
-    put_flags_field(
-        text,
-        form,
-        " options=",
-        ",\"options",
-        options,
-        &body.kdc_options,
-    )?;
-    put_optional_time_field(text, form, " from=", ",\"from", body.from)?;
-    put_time_field(text, form, " till=", ",\"till", body.till)?;
-    put_optional_time_field(text, form, " rtime=", ",\"rtime", body.rtime)
+    put_field!(text, form, "realm": &Text(body.realm))?;
+    put_field!(text, form, "client": &optional_principal_of(&body.cname, body.realm))?;
+    put_field!(text, form, "server": &optional_principal_of(&body.sname, body.realm))?;
+    put_field!(text, form, "options": &flags_of(Registry::KdcOptions, &body.kdc_options))?;
+    put_field!(text, form, "from": &optional_time_of(body.from))?;
+    put_field!(text, form, "till": &time_of(body.till))?;
+    put_field!(text, form, "rtime": &optional_time_of(body.rtime))
 }
 
 /// Appends the fields of a KDC-REQ from the nonce on.
@@ -78,19 +71,12 @@ fn put_kdc_req_last_fields(
         ++ field form (codes "tickets") (if_there count seen.body.additional_tickets)) }
 {
     let body: &KdcReqBodyView<'_> = &req.body;
-    let authdata = &body.enc_authorization_data;
-    put_field(text, form, " nonce=", ",\"nonce", &body.nonce)?;
-    put_etypes_field(text, form, " etypes=", ",\"etypes", body.etype)?;
-    put_padata_field(text, form, " padata=", ",\"padata", req.padata)?;
-    put_addresses_field(text, form, " addresses=", ",\"addresses", body.addresses)?;
-    put_optional_sealed_field(text, form, " authdata=", ",\"authdata", authdata)?;
-    put_optional_tickets_field(
-        text,
-        form,
-        " tickets=",
-        ",\"tickets",
-        body.additional_tickets,
-    )
+    put_field!(text, form, "nonce": &body.nonce)?;
+    put_field!(text, form, "etypes": &EncryptionTypes::new(body.etype))?;
+    put_field!(text, form, "padata": &optional_types_of(req.padata))?;
+    put_field!(text, form, "addresses": &optional_address_count(body.addresses))?;
+    put_field!(text, form, "authdata": &body.enc_authorization_data)?;
+    put_field!(text, form, "tickets": &optional_ticket_count(body.additional_tickets))
 }
 
 fn put_kdc_req(text: &mut TextBuffer, form: Form, req: &KdcReqView<'_>) -> Result<(), AllocError>
@@ -106,18 +92,11 @@ fn put_kdc_rep(text: &mut TextBuffer, form: Form, rep: &KdcRepView<'_>) -> Resul
     ensures { OnOk result (text.new ≡ text.old ++ fields_text form (kdc_rep_fields (kdc_rep_of_view rep.now))) }
 {
     let ticket = &rep.ticket;
-    put_principal_field(text, form, " client=", ",\"client", &rep.cname, rep.crealm)?;
-    put_principal_field(
-        text,
-        form,
-        " server=",
-        ",\"server",
-        &ticket.sname,
-        ticket.realm,
-    )?;
-    put_padata_field(text, form, " padata=", ",\"padata", rep.padata)?;
-    put_sealed_field(text, form, " ticket=", ",\"ticket", &ticket.enc_part)?;
-    put_sealed_field(text, form, " enc=", ",\"enc", &rep.enc_part)
+    put_field!(text, form, "client": &principal_of(&rep.cname, rep.crealm))?;
+    put_field!(text, form, "server": &principal_of(&ticket.sname, ticket.realm))?;
+    put_field!(text, form, "padata": &optional_types_of(rep.padata))?;
+    put_field!(text, form, "ticket": &ticket.enc_part)?;
+    put_field!(text, form, "enc": &rep.enc_part)
 }
 
 pub(crate) fn put_ap_req(
@@ -129,31 +108,16 @@ pub(crate) fn put_ap_req(
     ensures { OnOk result (text.new ≡ text.old ++ fields_text form (ap_req_fields (ap_req_of_view req.now))) }
 {
     let ticket = &req.ticket;
-    let options = Registry::ApOptions;
-    put_principal_field(
-        text,
-        form,
-        " server=",
-        ",\"server",
-        &ticket.sname,
-        ticket.realm,
-    )?;
-    put_flags_field(
-        text,
-        form,
-        " options=",
-        ",\"options",
-        options,
-        &req.ap_options,
-    )?;
-    put_sealed_field(text, form, " ticket=", ",\"ticket", &ticket.enc_part)?;
-    put_sealed_field(text, form, " auth=", ",\"auth", &req.authenticator)
+    put_field!(text, form, "server": &principal_of(&ticket.sname, ticket.realm))?;
+    put_field!(text, form, "options": &flags_of(Registry::ApOptions, &req.ap_options))?;
+    put_field!(text, form, "ticket": &ticket.enc_part)?;
+    put_field!(text, form, "auth": &req.authenticator)
 }
 
 fn put_ap_rep(text: &mut TextBuffer, form: Form, rep: &ApRepView<'_>) -> Result<(), AllocError>
     ensures { OnOk result (text.new ≡ text.old ++ fields_text form (ap_rep_fields (ap_rep_of_view rep.now))) }
 {
-    put_sealed_field(text, form, " enc=", ",\"enc", &rep.enc_part)
+    put_field!(text, form, "enc": &rep.enc_part)
 }
 
 fn put_krb_safe(text: &mut TextBuffer, form: Form, safe: &KrbSafeView<'_>) -> Result<(), AllocError>
@@ -161,13 +125,13 @@ fn put_krb_safe(text: &mut TextBuffer, form: Form, safe: &KrbSafeView<'_>) -> Re
     ensures { OnOk result (text.new ≡ text.old ++ fields_text form (krb_safe_fields (krb_safe_of_view safe.now))) }
 {
     let body = &safe.body;
-    put_size_field(text, form, " size=", ",\"size", body.user_data)?;
-    put_optional_time_field(text, form, " time=", ",\"time", body.timestamp)?;
-    put_optional_micros_field(text, form, " usec=", ",\"usec", body.usec)?;
-    put_field(text, form, " seq=", ",\"seq", &body.seq_number)?;
-    put_address_field(text, form, " sender=", ",\"sender", &body.s_address)?;
-    put_optional_address_field(text, form, " receiver=", ",\"receiver", &body.r_address)?;
-    put_checksum_field(text, form, " cksum=", ",\"cksum", &safe.cksum)
+    put_field!(text, form, "size": &(body.user_data.len() as u64))?;
+    put_field!(text, form, "time": &optional_time_of(body.timestamp))?;
+    put_field!(text, form, "usec": &optional_micros_of(body.usec))?;
+    put_field!(text, form, "seq": &body.seq_number)?;
+    put_field!(text, form, "sender": &body.s_address)?;
+    put_field!(text, form, "receiver": &body.r_address)?;
+    put_field!(text, form, "cksum": &safe.cksum)
 }
 
 fn put_krb_priv(
@@ -177,15 +141,15 @@ fn put_krb_priv(
 ) -> Result<(), AllocError>
     ensures { OnOk result (text.new ≡ text.old ++ fields_text form (krb_priv_fields (krb_priv_of_view private.now))) }
 {
-    put_sealed_field(text, form, " enc=", ",\"enc", &private.enc_part)
+    put_field!(text, form, "enc": &private.enc_part)
 }
 
 fn put_krb_cred(text: &mut TextBuffer, form: Form, cred: &KrbCredView<'_>) -> Result<(), AllocError>
     requires { KrbCredLists cred.now }
     ensures { OnOk result (text.new ≡ text.old ++ fields_text form (krb_cred_fields (krb_cred_of_view cred.now))) }
 {
-    put_tickets_field(text, form, " tickets=", ",\"tickets", cred.tickets)?;
-    put_sealed_field(text, form, " enc=", ",\"enc", &cred.enc_part)
+    put_field!(text, form, "tickets": &ticket_count(cred.tickets))?;
+    put_field!(text, form, "enc": &cred.enc_part)
 }
 
 /// Appends the fields of a message but the notes.
@@ -217,7 +181,7 @@ pub(crate) fn put_rest(
     ensures { OnOk result (text.new ≡ text.old ++ fields_text form (message_record (message_of_view view.now)).fields ++ ending form (message_record (message_of_view view.now)).inside) }
 {
     put_fields(text, form, view)?;
-    put_field(text, form, " notes=", ",\"notes", &notes_of_view(view))?;
+    put_field!(text, form, "notes": &notes_of_view(view))?;
     put_ending(text, form, view)
 }
 

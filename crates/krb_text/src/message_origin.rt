@@ -8,9 +8,10 @@ ghost use Rattle.krb_text.specs.Text.{joined, list_text};
 ghost use Rattle.krb_text.specs.Values.{Layers as AreLayers};
 ghost use Rattle.krb_token.specs.Layers.{layer_name};
 
-use crate::field::{put_field, put_opening};
+use crate::field::put_opening;
 use crate::form::Form;
 use crate::json::put_string;
+use crate::put_field;
 use crate::shown::{Shown, put_begin};
 use crate::text_buffer::TextBuffer;
 use krb_token::Layer;
@@ -110,11 +111,11 @@ fn put_origin(
     let layers = origin.layers;
     match (origin.line, layers.split_first()) {
         (None, None) => Ok(()),
-        (None, Some(_)) => put_field(text, form, "via=", ",\"via", &Layers(layers)),
-        (Some(line), None) => put_field(text, form, "line=", ",\"line", &line),
+        (None, Some(_)) => put_field!(text, form, first "via": &Layers(layers)),
+        (Some(line), None) => put_field!(text, form, first "line": &line),
         (Some(line), Some(_)) => {
-            put_field(text, form, "line=", ",\"line", &line)?;
-            put_field(text, form, " via=", ",\"via", &Layers(layers))
+            put_field!(text, form, first "line": &line)?;
+            put_field!(text, form, "via": &Layers(layers))
         }
     }
 }

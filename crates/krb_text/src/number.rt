@@ -1,12 +1,12 @@
 //! Registered numbers, alone and with what is beside them.
 
-ghost use Rattle.std.specs.Prelude.{◌≡◌, ◌++◌, OnOk, codes, decimal};
+ghost use Rattle.std.specs.Prelude.{◌≡◌, ◌++◌, OnOk, codes, decimal, length};
 ghost use Rattle.std.specs.Fmt.{signed_decimal};
 ghost use Rattle.krb_msg.specs.Types.{checksum_of_view, encrypted_data_of_view, host_address_of_view};
 ghost use Rattle.krb_registry.specs.declared.registry.Registry.TheVariants.{EncryptionTypes};
 ghost use Rattle.krb_text.specs.Forms.{digest_object, address_object, name_string, or_null, sealed_object};
 ghost use Rattle.krb_text.specs.Text.{or_dash};
-ghost use Rattle.krb_text.specs.Values.{Address as Addressed, Digest as Digested, Named, Sealed as IsSealed, address, checksum, sealed};
+ghost use Rattle.krb_text.specs.Values.{Named, Sealed as IsSealed, address, checksum, sealed};
 
 use crate::escape::put_hex;
 use crate::item::{put_name_member, put_name_string, put_named};
@@ -155,29 +155,26 @@ impl Shown for Sealed {
     }
 }
 
-/// An address: its type and its octets.
-#[derive(Clone, Copy)]
-pub(crate) struct Address<'a> {
-    pub(crate) addr_type: i64,
-    pub(crate) octets: &'a [u8],
-}
+impl<'a> Shown for EncryptedDataView<'a> {
+    ghost shown = { λ seen. sealed (encrypted_data_of_view seen) };
 
-impl<'a> Address<'a> {
-    /// Returns what is shown of an address.
     #[inline(always)]
-    pub(crate) fn of(viewed: &HostAddressView<'a>) -> Address<'a>
-        ensures { Addressed result.addr_type result.octets.now ≡ address (host_address_of_view viewed.now) }
-    {
-        Address {
-            addr_type: viewed.addr_type,
-            octets: viewed.address,
-        }
+    fn put_text(&self, line: &mut TextBuffer, names: bool) -> Result<(), AllocError> {
+        Sealed::of(self).put_text(line, names)
+    }
+
+    #[inline(always)]
+    fn put_members(&self, object: &mut TextBuffer, begin: &str) -> Result<(), AllocError> {
+        Sealed::of(self).put_members(object, begin)
     }
 }
 
 /// Appends what an object has of an address.
-fn put_address_object(object: &mut TextBuffer, address: &Address<'_>) -> Result<(), AllocError>
-    ensures { OnOk result (object.new ≡ object.old ++ address_object address.now.addr_type address.now.octets.now) }
+fn put_address_object(
+    object: &mut TextBuffer,
+    address: &HostAddressView<'_>,
+) -> Result<(), AllocError>
+    ensures { OnOk result (object.new ≡ object.old ++ address_object address.now.addr_type address.now.address.now) }
 {
     let registry = Registry::AddressTypes;
     put_number_and_name(
@@ -188,19 +185,19 @@ fn put_address_object(object: &mut TextBuffer, address: &Address<'_>) -> Result<
         address.addr_type,
     )?;
     object.push_str(",\"hex\":\"")?;
-    put_hex(object, address.octets)?;
+    put_hex(object, address.address)?;
     object.push_str("\"}")
 }
 
 /// The type, `:` and the octets in hexadecimal.
-impl<'a> Shown for Address<'a> {
-    ghost shown = { λ a. Addressed a.addr_type a.octets.now };
+impl<'a> Shown for HostAddressView<'a> {
+    ghost shown = { λ seen. address (host_address_of_view seen) };
 
     #[tactic(auto, unfolding(crate::specs::Forms::value_text))]
     fn put_text(&self, line: &mut TextBuffer, names: bool) -> Result<(), AllocError> {
         put_named(line, names, Registry::AddressTypes, self.addr_type)?;
         line.push_str(":")?;
-        put_hex(line, self.octets)
+        put_hex(line, self.address)
     }
 
     #[tactic(auto, unfolding(crate::specs::Forms::members, crate::specs::Forms::json_value, crate::specs::Forms::names_member))]
@@ -210,29 +207,12 @@ impl<'a> Shown for Address<'a> {
     }
 }
 
-/// A checksum: its type, and how many octets it has.
-#[derive(Clone, Copy)]
-pub(crate) struct Digest {
-    pub(crate) cksumtype: i64,
-    pub(crate) size: u64,
-}
-
-impl Digest {
-    /// Returns what is shown of a checksum.
-    #[inline(always)]
-    pub(crate) fn of(viewed: &ChecksumView<'_>) -> Digest
-        ensures { Digested result.cksumtype result.size ≡ checksum (checksum_of_view viewed.now) }
-    {
-        Digest {
-            cksumtype: viewed.cksumtype,
-            size: viewed.checksum.len() as u64,
-        }
-    }
-}
-
 /// Appends what an object has of a checksum.
-fn put_digest_object(object: &mut TextBuffer, digest: &Digest) -> Result<(), AllocError>
-    ensures { OnOk result (object.new ≡ object.old ++ digest_object digest.now.cksumtype digest.now.size) }
+fn put_checksum_object(
+    object: &mut TextBuffer,
+    checksum: &ChecksumView<'_>,
+) -> Result<(), AllocError>
+    ensures { OnOk result (object.new ≡ object.old ++ digest_object checksum.now.cksumtype (length checksum.now.checksum.now)) }
 {
     let registry = Registry::ChecksumTypes;
     put_number_and_name(
@@ -240,25 +220,25 @@ fn put_digest_object(object: &mut TextBuffer, digest: &Digest) -> Result<(), All
         "{\"type\":",
         ",\"type_name\":",
         registry,
-        digest.cksumtype,
+        checksum.cksumtype,
     )?;
-    put_size_end(object, digest.size)
+    put_size_end(object, checksum.checksum.len() as u64)
 }
 
 /// The type, `:` and the number of octets.
-impl Shown for Digest {
-    ghost shown = { λ d. Digested d.cksumtype d.size };
+impl<'a> Shown for ChecksumView<'a> {
+    ghost shown = { λ seen. checksum (checksum_of_view seen) };
 
     #[tactic(auto, unfolding(crate::specs::Forms::value_text))]
     fn put_text(&self, line: &mut TextBuffer, names: bool) -> Result<(), AllocError> {
         put_named(line, names, Registry::ChecksumTypes, self.cksumtype)?;
         line.push_str(":")?;
-        line.push_number(self.size)
+        line.push_number(self.checksum.len() as u64)
     }
 
     #[tactic(auto, unfolding(crate::specs::Forms::members, crate::specs::Forms::json_value, crate::specs::Forms::names_member))]
     fn put_members(&self, object: &mut TextBuffer, begin: &str) -> Result<(), AllocError> {
         put_begin(object, begin)?;
-        put_digest_object(object, self)
+        put_checksum_object(object, self)
     }
 }

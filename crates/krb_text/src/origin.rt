@@ -7,8 +7,9 @@ ghost use Rattle.krb_text.specs.Flows.{endpoint_object, endpoint_text, flow_obje
 ghost use Rattle.krb_text.specs.Forms.{heading, origin_text};
 ghost use Rattle.krb_text.specs.Values.{Flow as IsFlow};
 
-use crate::field::{put_field, put_opening};
+use crate::field::put_opening;
 use crate::form::Form;
+use crate::put_field;
 use crate::shown::{Shown, put_begin};
 use crate::text_buffer::TextBuffer;
 use krb_packet::{Endpoint, Time};
@@ -163,9 +164,9 @@ impl<'a> Shown for Flow<'a> {
 fn put_origin(text: &mut TextBuffer, form: Form, origin: &Origin) -> Result<(), AllocError>
     ensures { OnOk result (text.new ≡ text.old ++ origin_text form (origin_fields origin.now)) }
 {
-    put_field(text, form, "packet=", ",\"packet", &origin.packet)?;
-    put_field(text, form, " t=", ",\"t", &origin.time)?;
-    put_field(text, form, " flow=", ",\"flow", &Flow(origin))
+    put_field!(text, form, first "packet": &origin.packet)?;
+    put_field!(text, form, "t": &origin.time)?;
+    put_field!(text, form, "flow": &Flow(origin))
 }
 
 /// Appends what precedes the fields of a record of a capture: in a line its origin and then its

@@ -10,13 +10,14 @@ ghost use Rattle.krb_text.specs.Refusals.{at_field, extent_in, fault_record, fil
 ghost use Rattle.krb_text.specs.Values.{NoReason as IsNoReason, Number, Reason as IsReason};
 
 use crate::extent::Extent;
-use crate::field::{put_end, put_field, put_opening};
+use crate::field::{put_end, put_opening};
 use crate::form::Form;
 use crate::json::put_string;
 use crate::message_origin::{MessageOrigin, put_message_opening};
+use crate::put_field;
 use crate::shown::{Plain, Shown, Text, put_begin};
 use crate::text_buffer::TextBuffer;
-use crate::view_field::put_absent_field;
+use crate::viewed::ABSENT;
 use krb_der::{Refusal, Why, why_number, why_text};
 use krb_file::{FileWhy, file_why_number, file_why_text};
 use krb_input::Spelling;
@@ -123,7 +124,7 @@ pub(crate) fn put_path(
     };
     match form {
         Form::Lines => Ok(()),
-        Form::NamedLines | Form::Json => put_field(text, form, " in=", ",\"in", &shown),
+        Form::NamedLines | Form::Json => put_field!(text, form, "in": &shown),
     }
 }
 
@@ -135,8 +136,8 @@ pub(crate) fn put_at_and_length(
 ) -> Result<(), AllocError>
     ensures { OnOk result (text.new ≡ text.old ++ fields_text form (at_field extent ∷ length_field extent ∷ [])) }
 {
-    put_field(text, form, " at=", ",\"at", &extent.at)?;
-    put_field(text, form, " length=", ",\"length", &extent.length)
+    put_field!(text, form, "at": &extent.at)?;
+    put_field!(text, form, "length": &extent.length)
 }
 
 /// Appends the field of how octets are spelled, if they are.
@@ -148,10 +149,10 @@ pub(crate) fn put_form_field(
     ensures { OnOk result (text.new ≡ text.old ++ fields_text form (form_field spelling ∷ [])) }
 {
     match spelling {
-        None => put_absent_field(text, form, " form=", ",\"form"),
+        None => put_field!(text, form, "form": &ABSENT),
         Some(spelling) => {
             let name = Plain::new(spelling.name().as_bytes());
-            put_field(text, form, " form=", ",\"form", &name)
+            put_field!(text, form, "form": &name)
         }
     }
 }
@@ -214,8 +215,8 @@ pub(crate) fn put_place(
 ) -> Result<(), AllocError>
     ensures { OnOk result (text.new ≡ text.old ++ field form (codes "place") (Number (pos place)) ++ field form (codes "why") (IsReason reason.now.0 reason.now.1)) }
 {
-    put_field(text, form, " place=", ",\"place", &place)?;
-    put_field(text, form, " why=", ",\"why", reason)
+    put_field!(text, form, "place": &place)?;
+    put_field!(text, form, "why": reason)
 }
 
 /// Appends the fields of a place, a reason and, to a line only if numbers have their names, the path

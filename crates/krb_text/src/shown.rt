@@ -21,6 +21,20 @@ pub trait Shown {
     fn put_text(&self, line: &mut TextBuffer, names: bool) -> Result<(), AllocError>
         ensures { OnOk result (line.new ≡ line.old ++ value_text names (shown self.now)) };
 
+    /// Appends a label and then what a line shows of the value, as [`put_text`](Shown::put_text) does.
+    #[inline(always)]
+    fn put_labelled(
+        &self,
+        line: &mut TextBuffer,
+        label: &str,
+        names: bool,
+    ) -> Result<(), AllocError>
+        ensures { OnOk result (line.new ≡ line.old ++ label.now ++ value_text names (shown self.now)) }
+    {
+        line.push_str(label)?;
+        self.put_text(line, names)
+    }
+
     /// Appends the members of an object for the value: first that which `begin` and `":` begin, and
     /// then, if the value has names, that of the names. `begin` is `,"` and the name of the field.
     fn put_members(&self, object: &mut TextBuffer, begin: &str) -> Result<(), AllocError>
@@ -206,6 +220,21 @@ impl<T: Shown> Shown for Option<T> {
         }
     }
 
+    #[inline(always)]
+    #[tactic(auto, unfolding(crate::specs::Forms::value_text))]
+    fn put_labelled(
+        &self,
+        line: &mut TextBuffer,
+        label: &str,
+        names: bool,
+    ) -> Result<(), AllocError> {
+        match self {
+            None => line.push_both(label, "-"),
+            Some(value) => value.put_labelled(line, label, names),
+        }
+    }
+
+    #[inline(always)]
     #[tactic(auto, unfolding(crate::specs::Forms::members, crate::specs::Forms::json_value, crate::specs::Forms::names_member))]
     fn put_members(&self, object: &mut TextBuffer, begin: &str) -> Result<(), AllocError> {
         match self {

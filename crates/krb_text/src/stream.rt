@@ -5,8 +5,9 @@ ghost use Rattle.std.specs.Option.{option_copied};
 ghost use Rattle.krb_text.specs.Streams.{counted_end_line, refused_line, stream_end_line, untold_refused_line};
 
 use crate::extent::Extent;
-use crate::field::{put_end, put_field, put_opening};
+use crate::field::{put_end, put_opening};
 use crate::form::Form;
+use crate::put_field;
 use crate::refusal::{Reason, put_located, put_path, put_place};
 use crate::text_buffer::TextBuffer;
 use krb_der::Refusal;
@@ -18,7 +19,7 @@ pub fn put_stream_end(text: &mut TextBuffer, form: Form, messages: u64) -> Resul
     ensures { OnOk result (text.new ≡ text.old ++ stream_end_line form messages) }
 {
     put_opening(text, form, "end")?;
-    put_field(text, form, " messages=", ",\"messages", &messages)?;
+    put_field!(text, form, "messages": &messages)?;
     put_end(text, form)
 }
 
@@ -34,8 +35,8 @@ pub fn put_counted_stream_end(
     ensures { OnOk result (text.new ≡ text.old ++ counted_end_line form messages refused) }
 {
     put_opening(text, form, "end")?;
-    put_field(text, form, " messages=", ",\"messages", &messages)?;
-    put_field(text, form, " refused=", ",\"refused", &refused)?;
+    put_field!(text, form, "messages": &messages)?;
+    put_field!(text, form, "refused": &refused)?;
     put_end(text, form)
 }
 
@@ -55,7 +56,7 @@ pub fn put_stream_refusal(
 {
     let place = u64::from(refusal.place);
     put_opening(text, form, "refused")?;
-    put_field(text, form, " messages=", ",\"messages", &messages)?;
+    put_field!(text, form, "messages": &messages)?;
     put_place(text, form, place, &Reason::of(refusal.why))?;
     put_located(text, form, path, extent)?;
     put_end(text, form)
@@ -74,7 +75,7 @@ pub fn put_untold_stream_refusal(
     ensures { OnOk result (text.new ≡ text.old ++ untold_refused_line form messages refusal.place refusal.why (option_copied path.entry)) }
 {
     put_opening(text, form, "refused")?;
-    put_field(text, form, " messages=", ",\"messages", &messages)?;
+    put_field!(text, form, "messages": &messages)?;
     put_place(
         text,
         form,

@@ -4,11 +4,12 @@ ghost use Rattle.std.specs.Prelude.{◌≡◌, ◌++◌, OnOk};
 ghost use Rattle.krb_msg.specs.Types.{TicketLists, ticket_of_view};
 ghost use Rattle.krb_text.specs.Messages.{message_origin, ticket_line};
 
-use crate::field::{put_end, put_field};
+use crate::field::put_end;
 use crate::form::Form;
 use crate::message_origin::{MessageOrigin, put_message_opening};
+use crate::put_field;
 use crate::text_buffer::TextBuffer;
-use crate::view_field::{put_principal_field, put_sealed_field};
+use crate::viewed::principal_of;
 use krb_msg::{TicketView, notes_of_ticket};
 use std::alloc::AllocError;
 
@@ -24,11 +25,9 @@ pub fn put_ticket(
     requires { TicketLists ticket.now }
     ensures { OnOk result (text.new ≡ text.old ++ ticket_line form (message_origin origin.now.line origin.now.layers.now) (ticket_of_view ticket.now)) }
 {
-    let server = &ticket.sname;
-    let notes = notes_of_ticket(ticket);
     put_message_opening(text, form, origin, "Ticket")?;
-    put_principal_field(text, form, " server=", ",\"server", server, ticket.realm)?;
-    put_sealed_field(text, form, " ticket=", ",\"ticket", &ticket.enc_part)?;
-    put_field(text, form, " notes=", ",\"notes", &notes)?;
+    put_field!(text, form, "server": &principal_of(&ticket.sname, ticket.realm))?;
+    put_field!(text, form, "ticket": &ticket.enc_part)?;
+    put_field!(text, form, "notes": &notes_of_ticket(ticket))?;
     put_end(text, form)
 }

@@ -49,7 +49,7 @@ impl Label {
         ensures octets { IfOk result (λ label. label.octets ≡ label_text form name.now) }
     {
         let mut octets = TextBuffer::new(alloc);
-        put_field(&mut octets, form, "file=", ",\"file", &FileName(name))?;
+        put_field!(&mut octets, form, first "file": &FileName(name))?;
         let place = match form {
             Form::Lines | Form::NamedLines => {
                 octets.push_str(" ")?;

@@ -9,5 +9,5 @@ unfolding record_text ticket_record
 returns c =
     on_ok_weaker
     c.put_end.result
-    (three_fields _ _ _ _ _ _ _ c.in_ok-put_message_opening.ensures c.in_ok-put_principal_field.ensures c.in_ok-put_sealed_field.ensures (rw c.notes_of_ticket-notes.ensures at c.in_ok-put_field.ensures))
+    (three_fields _ _ _ _ _ _ _ c.in_ok-put_message_opening.ensures (rw c.principal_of.ensures at c.in_ok-put_field.ensures) c.in_ok-put_field-2.ensures (rw c.notes_of_ticket.ensures at c.in_ok-put_field-3.ensures))
     c.put_end.ensures

@@ -1,5 +1,5 @@
 use Rattle.krb_der.proofs.Shapes.{ascii-from_time}
-use Rattle.krb_text.proofs.view_field.put_time_field.Goals as goal
+use Rattle.krb_text.proofs.viewed.time_of.Goals as goal
 
 pub new-requires : goal.new-requires
 new-requires c = ascii-from_time 14 _ c.requires
