@@ -16,6 +16,7 @@ pub mod CountedListings
 pub mod CountedPieces
 pub mod SourceRuns
 mod FaultPaths
+mod FirstOctets
 pub mod FilePaths
 mod CaptureLines
 mod CaptureListings

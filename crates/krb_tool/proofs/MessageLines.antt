@@ -1,19 +1,14 @@
 -- Messages in lines, which come piece by piece.
 use Rattle.std.proofs.Common.{◌≡◌, ℕ, ◌+◌, ◌-◌, ◌^◌, ◌<◌, ◌≤◌, inl, inr, Bool, true, false, List, [], ◌∷◌, ◌++◌, length, take, drop, min, Option, Some, None, refl, sym, ◌∙◌, ap, subst, arith, append-nil, append_assoc, length-append, length-take, take_all}
-use Rattle.std.specs.Prelude.{nat_lt, not, ◌==◌, ◌&&◌, if◌then◌else◌}
-use Rattle.std.proofs.lemmas.Bool.{ltb-true, ltb-false}
+use Rattle.std.specs.Prelude.{nat_lt, not, ◌&&◌}
 use Rattle.std.proofs.lemmas.Bool.Decides.{nat_tests}
-use Rattle.std.proofs.lemmas.List.{take-append-le}
-use Rattle.std.proofs.Math.Seq.{take-append-add}
 use Rattle.krb_der.specs.Octets.{when}
-use Rattle.krb_input.specs.Inputs.{line_spelled}
-use Rattle.krb_text.specs.declared.input.InputFault.TheVariants as faults
 use Rattle.krb_tool.specs.Conversions.{Converted, after_text}
 use Rattle.krb_tool.specs.Encoding.{is_blank_line, parts, without_empty_last, lines_of}
 use Rattle.krb_tool.specs.Files.{FileListing}
 use Rattle.krb_tool.specs.Lines.{counted_end_line}
 use Rattle.krb_tool.specs.MessageLines.{end_of, is_passed, lines_listed, next_line, none_seen, with_line, with_record}
-use Rattle.krb_tool.specs.Messages.{Puts, input_limit, input_listing, spelled_listing, unread_listing}
+use Rattle.krb_tool.specs.Messages.{Puts, input_limit, input_listing}
 use Rattle.krb_tool.specs.declared.lines_run.LineLister.{LineLister}
 use Rattle.krb_tool.specs.declared.lines_run.LinesRequest.{LinesRequest}
 use Rattle.krb_tool.specs.declared.lines_run.Seen.{Seen}
@@ -25,6 +20,8 @@ use Rattle.krb_tool.specs.inner.MessageLines.{kept_octets, AddsOctets, PutsLine,
 use Rattle.krb_tool.specs.inner.Pieces.{IsFed, TakesPiece, WaitsAfter, IsLastOf}
 use Rattle.krb_tool.specs.inner.Streams.{Taken, Begins, EndsListing}
 use Rattle.krb_tool.proofs.ConversionRuns.{after_text-both}
+use Rattle.krb_tool.proofs.FirstOctets.{first-both}
+use Rattle.krb_tool.proofs.Messages.{too-long}
 use Rattle.krb_tool.proofs.Pieces.{IsFed-used}
 use Rattle.krb_tool.proofs.SourceLineParts.{lines-more, lines-from, lines-empty, lines-last, parts_grow, parts_end, HasFirst}
 
@@ -32,13 +29,10 @@ use Rattle.krb_tool.proofs.SourceLineParts.{lines-more, lines-from, lines-empty,
 -- they decide whether it is too long
 record Decides (line : List ℕ) : Type 0 where
   passed : is_passed (take kept_octets line) ≡ is_passed line
-  listing : (input : MessageInput) → input_listing input line_spelled (take kept_octets line) ≡ input_listing input line_spelled line
+  listing : (input : MessageInput) → input_listing input (take kept_octets line) ≡ input_listing input line
 
 not_passed : (line : List ℕ) → nat_lt input_limit (length line) ≡ true → is_passed line ≡ false
 not_passed line e = ap (λ b. not b && is_blank_line line) e
-
-too_long : (input : MessageInput) (line : List ℕ) → nat_lt input_limit (length line) ≡ true → input_listing input line_spelled line ≡ unread_listing input faults.Length None
-too_long input line e = ap (λ b. if b then unread_listing input faults.Length None else spelled_listing input (line_spelled line)) e
 
 decides_by : (line : List ℕ) (b : Bool) → nat_lt input_limit (length line) ≡ b → Decides line
 decides_by line true e =
@@ -46,7 +40,7 @@ decides_by line true e =
     ap (nat_lt input_limit) (length-take kept_octets line) ∙ long_min (length line) e in
     record {
       passed = not_passed (take kept_octets line) long ∙ sym (not_passed line e);
-      listing = λ input. too_long input (take kept_octets line) long ∙ sym (too_long input line e);
+      listing = λ input. too-long input (take kept_octets line) long ∙ sym (too-long input line e);
     }
   where
     long_min : (size : ℕ) → nat_lt input_limit size ≡ true → nat_lt input_limit (min kept_octets size) ≡ true
@@ -55,7 +49,7 @@ decides_by line false e =
     let all : take kept_octets line ≡ line = take_all kept_octets line (short (length line) e) in
     record {
       passed = ap is_passed all;
-      listing = λ input. ap (input_listing input line_spelled) all;
+      listing = λ input. ap (input_listing input) all;
     }
   where
     short : (size : ℕ) → nat_lt input_limit size ≡ false → size ≤ kept_octets
@@ -63,38 +57,6 @@ decides_by line false e =
 
 decides : (line : List ℕ) → Decides line
 decides line = decides_by line (nat_lt input_limit (length line)) refl
-
--- more octets came
-pub kept-more : (line more : List ℕ) → take kept_octets line ++ take (kept_octets - length (take kept_octets line)) more ≡ take kept_octets (line ++ more)
-kept-more line more = by (nat_lt (length line) kept_octets) refl
-  where
-    by : (b : Bool) → nat_lt (length line) kept_octets ≡ b → take kept_octets line ++ take (kept_octets - length (take kept_octets line)) more ≡ take kept_octets (line ++ more)
-    by true e =
-        let short : length line < kept_octets = ltb-true (length line) kept_octets e in
-        let all : take kept_octets line ≡ line = take_all kept_octets line (omega (arith, short)) in
-        let room : length line + (kept_octets - length line) ≡ kept_octets = omega (arith, short) in
-        ap (λ l. l ++ take (kept_octets - length l) more) all
-        ∙ sym (take-append-add line more (kept_octets - length line))
-        ∙ ap (λ n. take n (line ++ more)) room
-    by false e =
-        let long : kept_octets ≤ length line = ltb-false (length line) kept_octets e in
-        let none : kept_octets - length (take kept_octets line) ≡ 0 = omega (arith, long, length-take kept_octets line) in
-        ap (λ n. take kept_octets line ++ take n more) none
-        ∙ append-nil (take kept_octets line)
-        ∙ sym (take-append-le kept_octets line more long)
-
--- as many as there is room for
-pub take-least : (octets : List ℕ) (room kept : ℕ) → kept ≡ min (length octets) room → take kept octets ≡ take room octets
-take-least octets room kept e = by (nat_lt (length octets) room) refl
-  where
-    by : (b : Bool) → nat_lt (length octets) room ≡ b → take kept octets ≡ take room octets
-    by true few =
-        let short : length octets < room = ltb-true (length octets) room few in
-        take_all kept octets (omega (arith, e, short)) ∙ sym (take_all room octets (omega (arith, short)))
-    by false many =
-        let long : room ≤ length octets = ltb-false (length octets) room many in
-        let same : kept ≡ room = omega (arith, e, long) in
-        ap (λ n. take n octets) same
 
 -- ---- the record of a line
 with_record-line : (end : RunEnd) (seen : Seen) (size : ℕ) → with_record end (with_line seen size) ≡ with_line (with_record end seen) size
@@ -111,21 +73,6 @@ pub counts_record : (end : RunEnd) (seen : Seen) → CountsRecord seen (with_rec
 counts_record run.Clean seen = record { lines = refl; octets = refl; few = omega arith }
 counts_record run.Refused seen = record { lines = refl; octets = refl; few = omega arith }
 
--- the record of the line was added
-pub PutsLine-made : (old new : LineLister) (line : List ℕ) (ended : RunEnd) → line ≡ old.line.items → Puts old.text new.text (input_listing (next_line old.request.form old.request.profile old.seen) line_spelled line) ended → new.seen ≡ with_record ended old.seen → new.line ≡ old.line → new.size ≡ old.size → new.request ≡ old.request → PutsLine old new
-PutsLine-made old new octets ended same put seen line size request =
-    let input : MessageInput = next_line old.request.form old.request.profile old.seen in
-    record {
-      added = (input_listing input line_spelled octets).text;
-      end = ended;
-      record_is = ap (input_listing input line_spelled) (sym same) ∙ (λ i. record { text = (input_listing input line_spelled octets).text; end = sym put.1 i });
-      text = put.0;
-      seen = seen;
-      line = line;
-      size = size;
-      request = request;
-    }
-
 -- a line more is counted
 pub with_line-is : (old new : Seen) (size : ℕ) → new.lines ≡ old.lines + 1 → new.octets ≡ old.octets + (size + 1) → new.messages ≡ old.messages → new.refused ≡ old.refused → new ≡ with_line old size
 with_line-is old new size lines octets messages refused = λ i. record { lines = lines i; octets = (octets ∙ more old.octets size) i; messages = messages i; refused = refused i }
@@ -136,54 +83,68 @@ with_line-is old new size lines octets messages refused = λ i. record { lines =
 -- a line that is passed over
 passed-step : (request : LinesRequest) (seen : Seen) (line : List ℕ) (more : List (List ℕ)) → is_passed line ≡ true → records_from request seen (line ∷ more) ≡ after_text [] (records_from request (with_line seen (length line)) more)
 passed-step request seen line more e =
-    ap (λ b. when b (λ _. records_from request (with_line seen (length line)) more) (λ _. put_and request seen line more (input_listing (next_line request.form request.profile seen) line_spelled line))) e
+    ap (λ b. when b (λ _. records_from request (with_line seen (length line)) more) (λ _. put_and request seen line more (input_listing (next_line request.form request.profile seen) line))) e
   where
     put_and : LinesRequest → Seen → List ℕ → List (List ℕ) → FileListing → Converted RunEnd
     put_and request seen line more listing = after_text listing.text (records_from request (with_record listing.end (with_line seen (length line))) more)
 
 -- one that has a record
-put-step : (request : LinesRequest) (seen : Seen) (line : List ℕ) (more : List (List ℕ)) (added : List ℕ) (end : RunEnd) → is_passed line ≡ false → input_listing (next_line request.form request.profile seen) line_spelled line ≡ record { text = added; end = end } → records_from request seen (line ∷ more) ≡ after_text added (records_from request (with_line (with_record end seen) (length line)) more)
+put-step : (request : LinesRequest) (seen : Seen) (line : List ℕ) (more : List (List ℕ)) (added : List ℕ) (end : RunEnd) → is_passed line ≡ false → input_listing (next_line request.form request.profile seen) line ≡ record { text = added; end = end } → records_from request seen (line ∷ more) ≡ after_text added (records_from request (with_line (with_record end seen) (length line)) more)
 put-step request seen line more added end e is =
-    ap (λ b. when b (λ _. records_from request (with_line seen (length line)) more) (λ _. after_text (input_listing (next_line request.form request.profile seen) line_spelled line).text (records_from request (with_record (input_listing (next_line request.form request.profile seen) line_spelled line).end (with_line seen (length line))) more))) e
+    ap (λ b. when b (λ _. records_from request (with_line seen (length line)) more) (λ _. after_text (input_listing (next_line request.form request.profile seen) line).text (records_from request (with_record (input_listing (next_line request.form request.profile seen) line).end (with_line seen (length line))) more))) e
     ∙ ap (λ listing. after_text listing.text (records_from request (with_record listing.end (with_line seen (length line))) more)) is
     ∙ ap (λ s. after_text added (records_from request s more)) (with_record-line end seen (length line))
 
--- the line has ended, and is passed over
-pub EndsLine-passed : (old new : LineLister) → is_passed old.line.items ≡ true → new.text ≡ old.text → new.request ≡ old.request → new.line.items ≡ [] → new.size ≡ 0 → new.seen ≡ with_line old.seen old.size → EndsLine old new
-EndsLine-passed old new passed text request line size seen = record {
+-- the line is passed over
+pub PutsLine-passed : (lister : LineLister) → is_passed lister.line.items ≡ true → PutsLine lister lister
+PutsLine-passed lister passed = record {
   added = [];
-  text = text ∙ sym (append-nil old.text);
-  request = request;
-  line = line;
-  size = size;
-  octets = ap (λ s. s.octets) seen;
-  lines = ap (λ s. s.lines) seen;
-  few = omega (arith, ap (λ s. s.messages) seen, ap (λ s. s.refused) seen);
-  step = λ whole more kept long.
-      passed-step old.request old.seen whole more (sym ((decides whole).passed) ∙ ap is_passed (sym kept) ∙ passed)
-      ∙ ap (λ s. after_text [] (records_from old.request s more)) (ap (with_line old.seen) (sym long) ∙ sym seen);
+  text = sym (append-nil lister.text);
+  line = refl;
+  size = refl;
+  request = refl;
+  octets = refl;
+  lines = refl;
+  few = omega arith;
+  step = λ line more kept. passed-step lister.request lister.seen line more (sym ((decides line).passed) ∙ ap is_passed (sym kept) ∙ passed);
 }
 
--- the line has ended, and its record was added
-pub EndsLine-put : (old between new : LineLister) → is_passed old.line.items ≡ false → PutsLine old between → new.text ≡ between.text → new.request ≡ between.request → new.line.items ≡ [] → new.size ≡ 0 → new.seen ≡ with_line between.seen between.size → EndsLine old new
-EndsLine-put old between new passed p text request line size seen =
-    let put : new.seen ≡ with_line (with_record p.end old.seen) old.size = seen ∙ (λ i. with_line (p.seen i) (p.size i)) in
-    let counted = counts_record p.end old.seen in
+-- its record was added
+pub PutsLine-made : (old new : LineLister) (octets : List ℕ) (ended : RunEnd) → is_passed old.line.items ≡ false → octets ≡ old.line.items → Puts old.text new.text (input_listing (next_line old.request.form old.request.profile old.seen) octets) ended → new.seen ≡ with_record ended old.seen → new.line ≡ old.line → new.size ≡ old.size → new.request ≡ old.request → PutsLine old new
+PutsLine-made old new octets ended passed same put seen line size request =
+    let input : MessageInput = next_line old.request.form old.request.profile old.seen in
+    let counted = counts_record ended old.seen in
     record {
-      added = p.added;
-      text = text ∙ p.text;
-      request = request ∙ p.request;
+      added = (input_listing input octets).text;
+      text = put.0;
       line = line;
       size = size;
-      octets = ap (λ s. s.octets) put ∙ ap (λ n. n + old.size + 1) counted.octets;
-      lines = ap (λ s. s.lines) put ∙ ap (λ n. n + 1) counted.lines;
-      few = omega (arith, ap (λ s. s.messages) put, ap (λ s. s.refused) put, counted.few);
-      step = λ whole more kept long.
-          put-step old.request old.seen whole more p.added p.end
+      request = request;
+      octets = ap (λ s. s.octets) seen ∙ counted.octets;
+      lines = ap (λ s. s.lines) seen ∙ counted.lines;
+      few = omega (arith, ap (λ s. s.messages) seen, ap (λ s. s.refused) seen, counted.few);
+      step = λ whole more kept.
+          put-step old.request old.seen whole more (input_listing input octets).text ended
           (sym ((decides whole).passed) ∙ ap is_passed (sym kept) ∙ passed)
-          (sym ((decides whole).listing (next_line old.request.form old.request.profile old.seen)) ∙ ap (input_listing (next_line old.request.form old.request.profile old.seen) line_spelled) (sym kept) ∙ p.record_is)
-          ∙ ap (λ s. after_text p.added (records_from old.request s more)) (ap (with_line (with_record p.end old.seen)) (sym long) ∙ sym put);
+          (sym ((decides whole).listing input) ∙ ap (input_listing input) (sym kept ∙ sym same) ∙ (λ i. record { text = (input_listing input octets).text; end = sym put.1 i }))
+          ∙ ap (λ s. after_text (input_listing input octets).text (records_from old.request (with_line s (length whole)) more)) (sym seen);
     }
+
+-- the line has ended
+pub EndsLine-made : (old between new : LineLister) → PutsLine old between → new.text ≡ between.text → new.request ≡ between.request → new.line.items ≡ [] → new.size ≡ 0 → new.seen ≡ with_line between.seen between.size → EndsLine old new
+EndsLine-made old between new p text request line size seen = record {
+  added = p.added;
+  text = text ∙ p.text;
+  request = request ∙ p.request;
+  line = line;
+  size = size;
+  octets = ap (λ s. s.octets) seen ∙ (λ i. p.octets i + p.size i + 1);
+  lines = ap (λ s. s.lines) seen ∙ ap (λ n. n + 1) p.lines;
+  few = omega (arith, ap (λ s. s.messages) seen, ap (λ s. s.refused) seen, p.few);
+  step = λ whole more kept long.
+      p.step whole more kept
+      ∙ ap (λ s. after_text p.added (records_from old.request s more)) (ap (with_line between.seen) (sym long ∙ sym p.size) ∙ sym seen);
+}
 
 -- ---- what was listed so far
 -- of the lines of a text the first ones are listed
@@ -218,7 +179,10 @@ same_so_far old new written more others a = λ i. after_text (written ++ sym a.t
 
 -- the line is kept with them
 kept_line : (old new : LineLister) (last more : List ℕ) → AddsOctets old more new → old.line.items ≡ take kept_octets last → new.line.items ≡ take kept_octets (last ++ more)
-kept_line old new last more a kept = a.line ∙ ap (λ line. line ++ take (kept_octets - length line) more) kept ∙ kept-more last more
+kept_line old new last more a kept =
+    a.line (omega (arith, ap length kept, length-take kept_octets last))
+    ∙ ap (λ line. take kept_octets (line ++ more)) kept
+    ∙ first-both kept_octets last more
 
 -- those of a line that has not ended
 HasListed-grown : (old new : LineLister) (stream written more : List ℕ) → parts more ≡ more ∷ [] → AddsOctets old more new → HasListed old stream written → HasListed new (stream ++ more) written
@@ -301,20 +265,6 @@ pub stops-never : (old new : LineLister) (piece : List ℕ) (taken : Taken) → 
 stops-never old new piece taken short w f = absurd f.goes
 
 -- ---- the end
--- how a run ends
-pub end-clean : (refused : ℕ) → refused ≡ 0 → run.Clean ≡ end_of refused
-end-clean refused none = sym (ap end_of none)
-
-pub end-refused : (refused : ℕ) → (refused ≡ 0 → ⊥) → run.Refused ≡ end_of refused
-end-refused refused some = by (refused == 0) refl
-  where
-    is_none : (n : ℕ) → (n == 0) ≡ true → n ≡ 0
-    is_none n e = grind (arith, nat_tests)
-
-    by : (b : Bool) → (refused == 0) ≡ b → run.Refused ≡ end_of refused
-    by true e = absurd (some (is_none refused e))
-    by false e = sym (ap (λ b. if b then run.Clean else run.Refused) e)
-
 not_some : {A : Type 0} {value : A} → None ≡ Some value → ⊥
 not_some e = cc
 

@@ -3,8 +3,6 @@ use Rattle.std.proofs.Common.{◌≡◌, ℕ, ◌+◌, ◌^◌, ◌<◌, ◌≤�
 use Rattle.std.proofs.lemmas.Bool.{lt-ltb, le-ltb}
 use Rattle.krb_der.specs.declared.profile.Profile.{Profile}
 use Rattle.krb_der.specs.declared.verdict.Refusal.{Refusal}
-use Rattle.krb_msg.specs.Views.{message_of_der}
-use Rattle.krb_msg.specs.declared.message.Message.{Message}
 use Rattle.krb_msg.specs.declared.ticket.Ticket.{Ticket}
 use Rattle.krb_msg.specs.Grammar.{ticket}
 use Rattle.krb_msg.specs.Term.{der}
@@ -15,23 +13,21 @@ use Rattle.krb_judge.specs.Laws.{RefusalsAreInside}
 use Rattle.krb_judge.specs.Parses.{AreOfTicket, refusal_of, ticket_refusal}
 use Rattle.krb_judge.specs.Paths.{ticket_path}
 use Rattle.krb_text.specs.Forms.{record_line}
-use Rattle.krb_text.specs.Messages.{message_origin, message_line_from, ticket_line}
+use Rattle.krb_text.specs.Messages.{message_origin, ticket_line}
 use Rattle.krb_text.specs.Refusals.{path_in, extent_in, spelling_in, refusal_record}
 use Rattle.krb_text.specs.Values.{Field, with_origin}
 use Rattle.krb_text.specs.declared.form.Form.{Form}
 use Rattle.krb_text.specs.declared.input.InputFault.TheVariants as faults
-use Rattle.krb_input.specs.Inputs.{spelled}
 use Rattle.krb_input.specs.declared.spelling.Spelling.{Spelling}
 use Rattle.krb_token.specs.declared.layer.Layer.{Layer}
 use Rattle.krb_token.specs.Seen.{found_of, opened_of}
 use Rattle.krb_token.specs.Tokens.{opened}
 use Rattle.krb_token.specs.declared.opening.Found.{Found as FoundOfCode}
 use Rattle.krb_token.specs.declared.opening.Opened.{Opened as OpenedOfCode}
-use Rattle.krb_tool.specs.Files.{FileListing, shown}
+use Rattle.krb_tool.specs.Files.{FileListing}
 use Rattle.krb_tool.specs.Messages.{IsMessageListing, Layered, Puts, extent_of, found_listing, input_octets_listing, judged_listing, message_listing, opened_listing, refused_listing, refused_with, spelled_listing, ticket_listing, ticket_of_der, unread_listing, whole_input}
 use Rattle.krb_tool.specs.Paths.{refused_path, ticket_refused_path}
 use Rattle.krb_tool.proofs.FaultPaths.{take-few}
-use Rattle.krb_tool.specs.declared.file_run.FileText.{FileText}
 use Rattle.krb_tool.specs.declared.message_input.MessageInput.{MessageInput}
 use Rattle.krb_tool.specs.declared.run.RunEnd.TheVariants as run
 
@@ -41,12 +37,6 @@ not_refused None never = refl
 not_refused (Some r) never = absurd (never r refl)
 
 -- ---- a message
-pub puts-message : (input : MessageInput) (layered : Layered) (place : ℕ) (octets : List ℕ) (m : Message) (line : Option ℕ) (layers : List Layer) (old new : List ℕ) → line ≡ input.line → layers ≡ layered.layers → refusal_of input.profile octets ≡ None → m ≡ message_of_der octets
-    → new ≡ old ++ message_line_from input.form (message_origin line layers) m → Puts old new (judged_listing input layered place octets (refusal_of input.profile octets)) run.Clean
-puts-message input layered place octets m line layers old new is_line is_layers none is put =
-    subst (λ (found : Option Refusal). Puts old new (judged_listing input layered place octets found) run.Clean) (sym none)
-    (put ∙ (λ i. old ++ message_line_from input.form (message_origin (is_line i) (is_layers i)) (is i)), refl)
-
 -- a record of a refusal shows a path as the form does
 same-path : (input : MessageInput) (layered : Layered) (refusal : Refusal) (path other : Option (List ℕ)) → path_in input.form path ≡ path_in input.form other → refused_listing input layered refusal path ≡ refused_listing input layered refusal other
 same-path input layered refusal path other same =
@@ -107,12 +97,15 @@ opened-listing input spelling octets o found few is found_is =
     ∙ rw (le-ltb 2147483647 (length octets) few) refl
 
 -- ---- an input
-pub shown-is : (made : FileText) (listing : FileListing) → made.text ≡ listing.text → made.end ≡ listing.end → shown made ≡ listing
-shown-is made listing text end = (λ i. record { text = text i; end = end i })
+-- one that is too long is not read
+pub too-long : (input : MessageInput) (octets : List ℕ) → nat_lt input_limit (length octets) ≡ true → input_listing input octets ≡ unread_listing input faults.Length None
+too-long input octets e = ap (λ b. if b then unread_listing input faults.Length None else spelled_listing input (spelled_in input.line octets)) e
 
-too_long : (form : Form) (profile : Profile) (input : List ℕ) → 16777216 < length input → message_listing form profile input ≡ unread_listing (whole_input form profile) faults.Length None
-unfolding message_listing
-too_long form profile input long = ap (λ b. if b then unread_listing (whole_input form profile) faults.Length None else spelled_listing (whole_input form profile) (spelled input)) (lt-ltb 16777216 (length input) long)
+-- its first octets decide that
+pub cut-long : (input : MessageInput) (kept rest : List ℕ) → length kept ≡ 16777217 → input_listing input (kept ++ rest) ≡ input_listing input kept
+cut-long input kept rest size =
+    too-long input (kept ++ rest) (lt-ltb 16777216 (length (kept ++ rest)) (omega (arith, size, length-append kept rest)))
+    ∙ sym (too-long input kept (lt-ltb 16777216 (length kept) (omega (arith, size))))
 
 abbrev some_number : Option ℕ → ℕ
 some_number (Some n) = n
@@ -120,6 +113,5 @@ some_number None = 0
 
 -- the listing of too much input is that of its first octets
 pub cut-listed : (form : Form) (profile : Profile) (kept rest : List ℕ) (listing : FileListing) → Some 16777217 ≡ Some (length kept) → IsMessageListing form profile kept listing → IsMessageListing form profile (kept ++ rest) listing
-cut-listed form profile kept rest listing e l =
-    let long : 16777217 ≡ length kept = ap some_number e in
-    l ∙ too_long form profile kept (omega (arith, long)) ∙ sym (too_long form profile (kept ++ rest) (omega (arith, long, length-append kept rest)))
+unfolding message_listing
+cut-listed form profile kept rest listing e l = l ∙ sym (cut-long (whole_input form profile) kept rest (sym (ap some_number e)))

@@ -1,50 +1,22 @@
 -- A line with its label.
-use Rattle.std.proofs.Common.{◌≡◌, ℕ, zero, suc, ◌+◌, ◌-◌, ◌==◌, ◌<◌, ◌≤◌, Bool, true, false, List, [], ◌∷◌, ◌++◌, length, take, drop, get_or, Some, None, if◌then◌else◌, refl, sym, ◌∙◌, ap, arith, append_assoc, append-nil, length-append, add-one}
+use Rattle.std.proofs.Common.{◌≡◌, ℕ, suc, ◌+◌, ◌-◌, ◌==◌, ◌<◌, ◌≤◌, Bool, true, false, List, [], ◌∷◌, ◌++◌, length, take, drop, get_or, if◌then◌else◌, refl, sym, ◌∙◌, ap, arith, append_assoc, append-nil, length-append}
+use Rattle.std.specs.List.{All}
 use Rattle.std.specs.Prelude.{◌&&◌, nat_le, nat_lt}
 use Rattle.std.proofs.lemmas.Bool.Decides.{nat_tests}
 use Rattle.std.proofs.lemmas.List.{take_all, drop_all}
 use Rattle.std.proofs.Math.Seq.{take-append_seam, drop-append_seam, get_or-append_seam}
-use Rattle.memchr.specs.Find.{IsFirstByte, is_byte}
 use Rattle.krb_tool.specs.Outputs.{labelled, is_whole, has_no_line_feed, in_objects, object_end, line_labelled, cut_labelled}
 use Rattle.krb_tool.specs.declared.output.Place.{Place}
 use Rattle.krb_tool.specs.declared.output.Place.TheVariants.{Nowhere, Before, Member}
 use Rattle.krb_tool.proofs.OutputLabels.{no_feed-whole, no_feed-both, first_octet, before-ended, before-cut, objects-cut, objects-other, objects-one}
+use Rattle.krb_tool.proofs.SourceLineParts.{HasFirst}
 
 -- ---- where a line ends
-none-by : (octets : List ℕ) → ((k : ℕ) → k < length octets → (get_or octets k 0 == 10) ≡ true → ⊥) → has_no_line_feed octets ≡ true
-none-by [] never = refl
-none-by (x ∷ xs) never = pick (x == 10) (never 0 (omega arith)) (none-by xs (λ k below. never (suc k) (omega arith)))
-  where
-    pick : (b : Bool) → (b ≡ true → ⊥) → has_no_line_feed xs ≡ true → (if b then false else has_no_line_feed xs) ≡ true
-    pick true other rest = absurd (other refl)
-    pick false other rest = rest
-
-pub no_feed : (octets : List ℕ) → IsFirstByte (is_byte 10) octets None → has_no_line_feed octets ≡ true
-no_feed octets none = none-by octets (λ k below is. none k (omega arith) below is)
-
--- the octets before a line feed, and with it
-pub record First (octets : List ℕ) (end : ℕ) : Type 0 where
-  pub none : has_no_line_feed (take end octets) ≡ true
-  pub line : take (end + 1) octets ≡ take end octets ++ 10 ∷ []
-
-first-by : (octets : List ℕ) (end : ℕ) → end < length octets → ((k : ℕ) → k < end → (get_or octets k 0 == 10) ≡ true → ⊥) → (get_or octets end 0 == 10) ≡ true → First octets end
-first-by [] end within never is = absurd (omega arith)
-first-by (x ∷ xs) zero within never is =
-    let e : x ≡ 10 = grind (arith, nat_tests) in
-    record { none = refl; line = ap (λ y. y ∷ []) e }
-first-by (x ∷ xs) (suc n) within never is =
-    let more = first-by xs n (omega arith) (λ k below. never (suc k) (omega arith)) is in
-    record {
-      none = pick (x == 10) (never 0 (omega arith)) more.none;
-      line = ap (λ m. take m (x ∷ xs)) (add-one (suc n)) ∙ ap (λ l. x ∷ l) (ap (λ m. take m xs) (sym (add-one n)) ∙ more.line);
-    }
-  where
-    pick : (b : Bool) → (b ≡ true → ⊥) → has_no_line_feed (take n xs) ≡ true → (if b then false else has_no_line_feed (take n xs)) ≡ true
-    pick true other rest = absurd (other refl)
-    pick false other rest = rest
-
-pub first_feed : (octets : List ℕ) (end : ℕ) → IsFirstByte (is_byte 10) octets (Some end) → First octets end
-first_feed octets end is = first-by octets end is.0.high (λ k below. is.0.before k (omega arith) below) is.1
+pub has_none : (octets : List ℕ) → All (λ octet. (octet == 10) ≡ false) octets → has_no_line_feed octets ≡ true
+has_none [] none = refl
+has_none (x ∷ xs) none =
+    ap (λ b. if b then false else has_no_line_feed xs) (none 0 0 (omega arith))
+    ∙ has_none xs (λ k d below. none (suc k) d (omega (arith, below)))
 
 -- ---- an object
 record Ends (body : List ℕ) : Type 0 where
@@ -121,11 +93,11 @@ with-label Before label body none = sym (before-ended label body none)
 with-label Member label body none = in-object label body none
 
 -- a line that ends in octets, after others
-pub ended-line : (place : Place) (label line octets : List ℕ) (end : ℕ) → First octets end → has_no_line_feed line ≡ true → (line_labelled place label (line ++ take (end + 1) octets) ≡ labelled place label (line ++ take (end + 1) octets)) × (is_whole true (line ++ take (end + 1) octets) ≡ true)
+pub ended-line : (place : Place) (label line octets : List ℕ) (end : ℕ) → HasFirst octets end → has_no_line_feed line ≡ true → (line_labelled place label (line ++ take (end + 1) octets) ≡ labelled place label (line ++ take (end + 1) octets)) × (is_whole true (line ++ take (end + 1) octets) ≡ true)
 ended-line place label line octets end first none =
     let body = line ++ take end octets in
     let same : line ++ take (end + 1) octets ≡ body ++ 10 ∷ [] = ap (λ l. line ++ l) first.line ∙ sym (append_assoc line (take end octets) (10 ∷ [])) in (
-      ap (line_labelled place label) same ∙ with-label place label body (no_feed-both line (take end octets) none first.none) ∙ ap (labelled place label) (sym same),
+      ap (line_labelled place label) same ∙ with-label place label body (no_feed-both line (take end octets) none (has_none (take end octets) first.none)) ∙ ap (labelled place label) (sym same),
       ap (is_whole true) same ∙ no_feed-whole true body,
     )
 

@@ -1,16 +1,17 @@
 -- The steps of an output.
 use Rattle.std.proofs.Common.{◌≡◌, ℕ, zero, suc, ◌+◌, ◌-◌, Bool, true, false, List, [], ◌∷◌, ◌++◌, length, take, drop, Option, Some, None, Result, Ok, Err, refl, sym, ◌∙◌, ap, subst, arith, append_assoc, append-nil, length-append, inl, inr}
-use Rattle.std.specs.Prelude.{◌⊎◌, OnOk}
-use Rattle.std.specs.Io.KnownBytes.{Appends, Keeps}
+use Rattle.std.specs.Prelude.{◌⊎◌, IfOk, OnErr, OnOk}
+use Rattle.std.specs.Io.KnownBytes.{Appends, Keeps, WriteAppends}
 use Rattle.std.proofs.KnownBytes.{Appends-nil, Appends-trans}
 use Rattle.std.proofs.lemmas.List.{take_all, append_cancel_left, length-take-le, take-append-drop}
-use Rattle.krb_tool.specs.Outputs.{labelled, is_nowhere, is_whole, has_no_line_feed, is_refusal, head_of, keeps_lines, line_labelled, cut_text, Held, before_of, whole_of, told_of, is_sound, place_number, mark_of, shown_if, held_by, contents_if, output_contents, Moves, Sends, Tells, SameRest, KeepsLine, EndsLine, TakesLine, KeepsAll, CutsLine, Passes, KeepsUnpassed}
+use Rattle.krb_tool.specs.Outputs.{labelled, is_nowhere, is_whole, has_no_line_feed, is_refusal, head_of, keeps_lines, line_labelled, cut_text, Held, before_of, whole_of, told_of, is_sound, place_number, mark_of, shown_if, held_by, contents_if, output_contents, Moves, Sends, Tells, KeepsLine, EndsLine, TakesLine, KeepsAll, CutsLine, Passes, KeepsUnpassed}
 use Rattle.krb_tool.specs.declared.output.Output.{Output}
 use Rattle.krb_tool.specs.declared.output.Place.{Place}
 use Rattle.krb_tool.specs.declared.output.Place.TheVariants.{Nowhere, Before, Member}
 use Rattle.krb_tool.proofs.OutputLabels.{labelled-both}
-use Rattle.krb_tool.proofs.OutputLines.{no_feed, first_feed, ended-line, cut-line}
-use Rattle.krb_tool.proofs.OutputTexts.{IsSound, sound, Grows, Takes, Grows-line, Grows-ended, Grows-sent, Grows-passed, both}
+use Rattle.krb_tool.proofs.OutputLines.{has_none, ended-line, cut-line}
+use Rattle.krb_tool.proofs.SourceLineParts.{first_line, no_feed}
+use Rattle.krb_tool.proofs.OutputTexts.{IsSound, sound, Grows, Takes, contents-appends, contents-keeps, Grows-line, Grows-ended, Grows-sent, Grows-passed, both}
 
 module _ {W : Type 0} (contents : W → Option (List ℕ)) where
   -- what a writer has after octets more
@@ -29,46 +30,28 @@ module _ {W : Type 0} (contents : W → Option (List ℕ)) where
       known (Some has) a = ap Some a
 
   -- ---- lines are taken
-  module _ (old mid : Output W) (octets : List ℕ) (count : ℕ) (head : List ℕ) (same : SameRest old mid) (is_head : head ≡ take 256 (mid.head ++ take count octets)) (some : is_nowhere old.label.place ≡ false) (had : List ℕ) where
-    with_head : Output W
-    with_head = record mid { head = head }
+  module _ (old new : Output W) (octets : List ℕ) (count : ℕ) (some : is_nowhere old.label.place ≡ false) (t : TakesLine old octets count new) (had : List ℕ) where
+    -- with the line and the text that an output has now
+    changed : (line text : List ℕ) → new.line.items ≡ line → new.text.items ≡ text → record (held_by old had) { line = line; text = text; head = take 256 (old.head ++ take count octets) } ≡ held_by new had
+    changed line text is_line is_text = λ i. record { place = (sym t.same.label i).place; label = (sym t.same.label i).octets; written = sym t.same.written i; text = sym is_text i; line = sym is_line i; head = sym t.head i; had = had }
 
-    added_head : take 256 (old.head ++ take count octets) ≡ head
-    added_head = sym (is_head ∙ ap (λ h. take 256 (h ++ take count octets)) same.head)
-
-    kept : KeepsLine old octets count mid → IsSound (held_by old had) → Grows (held_by old had) (held_by with_head had) (take count octets)
-    unfolding with_head
-    kept k s =
+    grows : KeepsLine old octets count new ⊎ EndsLine old octets count new → IsSound (held_by old had) → Grows (held_by old had) (held_by new had) (take count octets)
+    grows (inl k) s =
         let all : take count octets ≡ octets = take_all count octets (let e = k.all in omega arith) in
-        let none : has_no_line_feed (take count octets) ≡ true = ap has_no_line_feed all ∙ no_feed octets k.none in
-        let line : old.line.items ++ take count octets ≡ mid.line.items = ap (λ l. old.line.items ++ l) all ∙ sym k.line in
+        let none : has_no_line_feed (take count octets) ≡ true = ap has_no_line_feed all ∙ has_none octets (no_feed octets k.none) in
         subst (λ (h : Held). Grows (held_by old had) h (take count octets))
-        (λ i. record { place = (sym same.label i).place; label = (sym same.label i).octets; written = sym same.written i; text = sym k.text i; line = line i; head = added_head i; had = had })
+        (changed (old.line.items ++ take count octets) old.text.items (k.line ∙ ap (λ l. old.line.items ++ l) (sym all)) k.text)
         (Grows-line (held_by old had) (take count octets) some none s)
-
-    ended : EndsLine old octets count mid → IsSound (held_by old had) → Grows (held_by old had) (held_by with_head had) (take count octets)
-    unfolding with_head
-    ended e s =
+    grows (inr e) s =
         let made = line_labelled old.label.place old.label.octets (old.line.items ++ take (e.end + 1) octets) in
-        let taken : take (e.end + 1) octets ≡ take count octets = ap (λ n. take n octets) (sym e.all) in
-        subst (λ (h : Held). Grows (held_by old had) h (take count octets))
-        (λ i. record { place = (sym same.label i).place; label = (sym same.label i).octets; written = sym same.written i; text = sym e.text i; line = sym e.line i; head = added_head i; had = had })
+        let same : take (e.end + 1) octets ≡ take count octets = ap (λ n. take n octets) (sym e.all) in
+        subst (λ (h : Held). Grows (held_by old had) h (take count octets)) (changed [] (old.text.items ++ made) e.line e.text)
         (Grows-ended (held_by old had) (take count octets) made some
-        (λ none. let line = ended-line old.label.place old.label.octets old.line.items octets e.end (first_feed octets e.end e.first) none in
-        (line.0 ∙ ap (λ l. labelled old.label.place old.label.octets (old.line.items ++ l)) taken, ap (λ l. is_whole true (old.line.items ++ l)) (sym taken) ∙ line.1)) s)
+        (λ none. let line = ended-line old.label.place old.label.octets old.line.items octets e.end (first_line octets e.end e.first) none in
+        (line.0 ∙ ap (λ l. labelled old.label.place old.label.octets (old.line.items ++ l)) same, ap (λ l. is_whole true (old.line.items ++ l)) (sym same) ∙ line.1)) s)
 
-    grows : KeepsLine old octets count mid ⊎ EndsLine old octets count mid → IsSound (held_by old had) → Grows (held_by old had) (held_by with_head had) (take count octets)
-    unfolding with_head
-    grows (inl k) s = kept k s
-    grows (inr e) s = ended e s
-
-  pub put-takes : (old mid : Output W) (octets : List ℕ) (count : ℕ) (head : List ℕ) → is_nowhere old.label.place ≡ false → TakesLine old octets count mid → head ≡ take 256 (mid.head ++ take count octets) → (had : List ℕ) → contents old.writer ≡ Some had → Takes contents old (record mid { head = head }) had (take count octets)
-  unfolding with_head
-  put-takes old mid octets count head some t is_head had is = record {
-    has = had;
-    is = ap contents t.same.writer ∙ is;
-    grows = grows old mid octets count head t.same is_head some had t.takes;
-  }
+    put-takes : contents old.writer ≡ Some had → Takes contents old new had (take count octets)
+    put-takes is = record { has = had; is = ap contents t.same.writer ∙ is; grows = grows t.takes }
 
   -- nothing changed but what a contract does not see
   same-grows : (held : Held) → IsSound held → Grows held held []
@@ -79,20 +62,19 @@ module _ {W : Type 0} (contents : W → Option (List ℕ)) where
     has = had;
     is = ap contents k.same.writer ∙ is;
     grows = λ s. subst (λ (h : Held). Grows (held_by old had) h [])
-        (λ i. record { place = (sym k.same.label i).place; label = (sym k.same.label i).octets; written = sym k.same.written i; text = sym k.text i; line = sym k.line i; head = sym k.same.head i; had = had })
+        (λ i. record { place = (sym k.same.label i).place; label = (sym k.same.label i).octets; written = sym k.same.written i; text = sym k.text i; line = sym k.line i; head = sym k.head i; had = had })
         (same-grows (held_by old had) s);
   }
 
   -- ---- octets are written as they are
-  pub pass-takes : (old mid : Output W) (octets : List ℕ) (count : ℕ) (head : List ℕ) → is_nowhere old.label.place ≡ true → Passes contents old octets count mid → head ≡ take 256 (mid.head ++ take count octets) → (had : List ℕ) → contents old.writer ≡ Some had → Takes contents old (record mid { head = head }) had (take count octets)
-  pass-takes old mid octets count head none p is_head had is =
-      let added_head : take 256 (old.head ++ take count octets) ≡ head = sym (is_head ∙ ap (λ h. take 256 (h ++ take count octets)) p.head) in
-      let written : old.written + length (take count octets) ≡ mid.written = ap (λ n. old.written + n) (length-take-le count octets p.within) ∙ sym p.written in
+  pub pass-takes : (old new : Output W) (octets : List ℕ) (count : ℕ) → is_nowhere old.label.place ≡ true → Passes contents old octets count new → (had : List ℕ) → contents old.writer ≡ Some had → Takes contents old new had (take count octets)
+  pass-takes old new octets count none p had is =
+      let written : old.written + length (take count octets) ≡ new.written = ap (λ n. old.written + n) (length-take-le count octets p.within) ∙ sym p.written in
       record {
         has = had ++ take count octets;
-        is = known-after had (take count octets) (contents old.writer) (contents mid.writer) is p.added;
+        is = known-after had (take count octets) (contents old.writer) (contents new.writer) is p.added;
         grows = λ s. subst (λ (h : Held). Grows (held_by old had) h (take count octets))
-            (λ i. record { place = (sym p.label i).place; label = (sym p.label i).octets; written = written i; text = (sym p.text i).items; line = (sym p.line i).items; head = added_head i; had = had ++ take count octets })
+            (λ i. record { place = (sym p.label i).place; label = (sym p.label i).octets; written = written i; text = (sym p.text i).items; line = (sym p.line i).items; head = sym p.head i; had = had ++ take count octets })
             (Grows-passed (held_by old had) (take count octets) none s);
       }
 
@@ -104,6 +86,14 @@ module _ {W : Type 0} (contents : W → Option (List ℕ)) where
         (λ i. record { place = (sym k.label i).place; label = (sym k.label i).octets; written = sym k.written i; text = (sym k.text i).items; line = (sym k.line i).items; head = sym k.head i; had = had })
         (same-grows (held_by old had) s);
   }
+
+  -- ---- octets are taken
+  pub writes-plain : {E : Type 0} (old new : Output W) (octets : List ℕ) (r : Result ℕ E) → is_nowhere old.label.place ≡ true → IfOk r (λ count. Passes contents old octets count new) → OnErr r (KeepsUnpassed contents old new) → WriteAppends (output_contents contents old) (output_contents contents new) r octets
+  writes-plain old new octets (Ok count) none passed kept = contents-appends contents old new (take count octets) (pass-takes old new octets count none passed)
+  writes-plain old new octets (Err error) none passed kept = contents-keeps contents old new (unpassed-takes old new kept)
+
+  pub writes-line : (old new : Output W) (octets : List ℕ) (count : ℕ) → is_nowhere old.label.place ≡ false → TakesLine old octets count new → Appends (output_contents contents old) (output_contents contents new) (take count octets)
+  writes-line old new octets count some taken = contents-appends contents old new (take count octets) (put-takes old new octets count some taken)
 
   -- ---- text is sent on
   pub Moves-none : (output : Output W) → Moves contents output output
@@ -262,24 +252,16 @@ module _ {W : Type 0} (contents : W → Option (List ℕ)) (old : Output W) (pla
 appends-some : (before text : List ℕ) (o : Option (List ℕ)) → o ≡ Some (before ++ text) → Appends (Some before) o text
 appends-some before text o e = subst (λ (x : Option (List ℕ)). Appends (Some before) x text) (sym e) refl
 
-pub sends-all : {W T : Type 0} (E : Type 0) (contents : W → Option (List ℕ)) (old mid new : Output W) (done : T) → CutsLine old mid → Moves contents mid new → new.text.items ≡ [] → Sends {W = W} {T = T} {E = E} contents old new.writer (Ok done)
-sends-all E contents old mid new done c m none place label before told e =
+pub sends-by : {W T E : Type 0} (contents : W → Option (List ℕ)) (old mid new : Output W) (result : Result T E) → CutsLine old mid → Moves contents mid new → OnOk result (new.text.items ≡ []) → Sends contents old new.writer result
+sends-by contents old mid new (Ok done) c m none place label before told e =
     let s = sent-text contents old place label before told (known contents old place label before told e) mid new c m in
     appends-some before (labelled place label told) (contents new.writer) (s.has ∙ ap (λ l. Some (before ++ l)) (sym (append-nil s.prefix) ∙ ap (λ l. s.prefix ++ l) (sym none) ∙ sym s.whole))
-
-pub sends-part : {W E : Type 0} (T : Type 0) (contents : W → Option (List ℕ)) (old mid new : Output W) (error : E) → CutsLine old mid → Moves contents mid new → Sends {W = W} {T = T} {E = E} contents old new.writer (Err error)
-sends-part T contents old mid new error c m place label before told e =
+sends-by contents old mid new (Err error) c m none place label before told e =
     let s = sent-text contents old place label before told (known contents old place label before told e) mid new c m in
     (s.prefix, new.text.items, appends-some before s.prefix (contents new.writer) s.has, s.whole)
 
-pub sends-none : {W E : Type 0} (T : Type 0) (contents : W → Option (List ℕ)) (old new : Output W) (error : E) → KeepsAll old new → Sends {W = W} {T = T} {E = E} contents old new.writer (Err error)
-sends-none T contents old new error k place label before told e =
+pub sends-kept : {W T E : Type 0} (contents : W → Option (List ℕ)) (old new : Output W) (result : Result T E) (error : E) → result ≡ Err error → KeepsAll old new → Sends contents old new.writer result
+sends-kept contents old new (Ok done) error is k = absurd cc
+sends-kept contents old new (Err failed) error is k place label before told e =
     let s = sent-none contents old place label before told (known contents old place label before told e) new k in
     (s.prefix, _, appends-some before s.prefix (contents new.writer) s.has, s.whole)
-
-pub sends-by : {W T E : Type 0} (contents : W → Option (List ℕ)) (old mid new : Output W) (result : Result T E) → CutsLine old mid → Moves contents mid new → OnOk result (new.text.items ≡ []) → Sends contents old new.writer result
-sends-by {E = E} contents old mid new (Ok done) c m none = sends-all E contents old mid new done c m none
-sends-by {T = T} contents old mid new (Err error) c m none = sends-part T contents old mid new error c m
-
-pub sends-kept : {W T E : Type 0} (contents : W → Option (List ℕ)) (old new : Output W) (result : Result T E) (error : E) → result ≡ Err error → KeepsAll old new → Sends contents old new.writer result
-sends-kept {T = T} contents old new result error is k = rw is (sends-none T contents old new error k)

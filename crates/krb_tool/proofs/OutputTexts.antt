@@ -1,18 +1,18 @@
 -- What an output shows of the text that it took.
-use Rattle.std.proofs.Common.{◌≡◌, ℕ, ◌+◌, ◌-◌, ◌≤◌, Bool, true, false, List, [], ◌∷◌, ◌++◌, length, take, drop, Option, Some, None, refl, sym, ◌∙◌, ap, subst, arith, append_assoc, append-nil, length-append}
-use Rattle.std.specs.Prelude.{◌&&◌, zero, suc, min}
+use Rattle.std.proofs.Common.{◌≡◌, ℕ, ◌+◌, ◌-◌, Bool, true, false, List, [], ◌∷◌, ◌++◌, length, take, drop, Option, Some, None, refl, sym, ◌∙◌, ap, subst, arith, append_assoc, append-nil, length-append}
+use Rattle.std.specs.Prelude.{◌&&◌}
 use Rattle.std.specs.Io.KnownBytes.{Appends, Keeps}
 use Rattle.std.specs.Option.{option_map}
 use Rattle.std.specs.Str.{bytes_eq}
 use Rattle.std.proofs.lemmas.Bool.Decides.{nat_tests}
 use Rattle.std.proofs.lemmas.List.{take-append-le, drop-append-le, take_all, drop_all}
-use Rattle.std.proofs.Math.Seq.{take-append-add}
 use Rattle.std.proofs.lemmas.Slice.Eq.{bytes_eq-Decides}
 use Rattle.krb_tool.specs.Outputs.{labelled, unlabelled, is_nowhere, is_whole, has_no_line_feed, head_of, keeps_lines, Held, before_of, sent_of, whole_of, told_of, is_sound, mark_of, shown_if, shown, held_by, contents_if, output_contents}
 use Rattle.krb_tool.specs.declared.output.Output.{Output}
 use Rattle.krb_tool.specs.declared.output.Place.{Place}
 use Rattle.krb_tool.specs.declared.output.Place.TheVariants.{Nowhere, Before, Member}
 use Rattle.krb_tool.proofs.OutputLabels.{unlabelled-labelled, labelled-both, whole-both, no_feed-both}
+use Rattle.krb_tool.proofs.FirstOctets.{first-both}
 
 -- ---- tests
 equal : (xs ys : List ℕ) → bytes_eq xs ys ≡ true → xs ≡ ys
@@ -104,15 +104,6 @@ sound-by held whole sent lines head =
       same = is;
     }
 
--- the first octets of a text that grows
-heads : (told added : List ℕ) → take 256 (take 256 told ++ added) ≡ take 256 (told ++ added)
-heads told added = up 256 told added
-  where
-    up : (n : ℕ) (told added : List ℕ) → take n (take n told ++ added) ≡ take n (told ++ added)
-    up zero told added = refl
-    up (suc n) [] added = refl
-    up (suc n) (x ∷ told) added = ap (λ l. x ∷ l) (up n told added)
-
 pub no-text : (place : Place) (label had : List ℕ) → shown (record { place = place; label = label; written = 0; text = []; line = []; head = []; had = had }) ≡ Some (mark_of place label had)
 no-text place label had =
     let held : Held = record { place = place; label = label; written = 0; text = []; line = []; head = []; had = had } in
@@ -158,7 +149,7 @@ Grows-line old octets some none s =
     let new : Held = record old { line = old.line ++ octets; head = take 256 (old.head ++ octets) } in
     let same : whole ++ (old.line ++ octets) ≡ told_of old ++ octets = sym (append_assoc whole old.line octets) in
     let is = sound-by new whole s.sent (labels old.place whole old.text (old.line ++ octets) some ∙ are_both _ _ lines.0 (no_feed-both old.line octets lines.1 none))
-    (ap (λ h. take 256 (h ++ octets)) s.head ∙ heads (told_of old) octets ∙ ap (take 256) (sym same)) in
+    (ap (λ h. take 256 (h ++ octets)) s.head ∙ first-both 256 (told_of old) octets ∙ ap (take 256) (sym same)) in
     record { sound = is.sound; mark = refl; told = ap (λ w. w ++ (old.line ++ octets)) is.same ∙ same }
 
 -- a line ends
@@ -173,7 +164,7 @@ Grows-ended old octets made some line s =
     let is = sound-by new (whole ++ (old.line ++ octets))
     (sym (append_assoc had old.text made) ∙ ap (λ l. l ++ made) s.sent ∙ ap (λ l. labelled old.place old.label whole ++ l) ended.0 ∙ sym (labelled-both old.place old.label whole (old.line ++ octets) lines.0))
     (labels old.place (whole ++ (old.line ++ octets)) (old.text ++ made) [] some ∙ are_both _ _ (whole-both true whole (old.line ++ octets) ∙ ap (λ b. is_whole b (old.line ++ octets)) lines.0 ∙ ended.1) refl)
-    (ap (λ h. take 256 (h ++ octets)) s.head ∙ heads (told_of old) octets ∙ ap (take 256) (sym same)) in
+    (ap (λ h. take 256 (h ++ octets)) s.head ∙ first-both 256 (told_of old) octets ∙ ap (take 256) (sym same)) in
     record { sound = is.sound; mark = refl; told = ap (λ w. w ++ []) is.same ∙ same }
 
 -- ---- what the writer takes
@@ -219,18 +210,5 @@ Grows-passed old octets none s = passed old.place old.label old.written old.text
         ap (λ l. l ++ text) (kept_sent had octets written) ∙ ap (λ t. (before ++ octets) ++ t) no_text ∙ append-nil (before ++ octets) ∙ ap (λ l. l ++ octets) (sym (append-nil before)) ∙ ap (λ t. (before ++ t) ++ octets) (sym no_text) in
         let told : (sent_of old ++ octets) ++ line ≡ told_of old ++ octets =
         ap (λ l. (sent_of old ++ octets) ++ l) no_line ∙ append-nil (sent_of old ++ octets) ∙ ap (λ l. l ++ octets) (sym (append-nil (sent_of old))) ∙ ap (λ l. (sent_of old ++ l) ++ octets) (sym no_line) in
-        let is = sound-by new (sent_of old ++ octets) sent s.lines (ap (λ h. take 256 (h ++ octets)) s.head ∙ heads (told_of old) octets ∙ ap (take 256) (sym told)) in
+        let is = sound-by new (sent_of old ++ octets) sent s.lines (ap (λ h. take 256 (h ++ octets)) s.head ∙ first-both 256 (told_of old) octets ∙ ap (take 256) (sym told)) in
         record { sound = is.sound; mark = ap (λ b. mark_of Nowhere label b) (kept_before had octets written); told = ap (λ w. w ++ line) is.same ∙ told }
-
-least : (octets : List ℕ) (n : ℕ) → take (min (length octets) n) octets ≡ take n octets
-least [] n = take_all (min 0 n) [] (omega arith) ∙ sym (take_all n [] (omega arith))
-least (x ∷ xs) zero = let none : min (suc (length xs)) 0 ≡ 0 = omega arith in ap (λ k. take k (x ∷ xs)) none
-least (x ∷ xs) (suc n) =
-    let more : min (suc (length xs)) (suc n) ≡ suc (min (length xs) n) = omega arith in
-    ap (λ k. take k (x ∷ xs)) more ∙ ap (λ l. x ∷ l) (least xs n)
-
--- the first octets, with some of those that follow
-pub head-grows : (head octets : List ℕ) (count : ℕ) → length head ≤ 256 → count ≡ min (length octets) (256 - length head) → head ++ take count octets ≡ take 256 (head ++ octets)
-head-grows head octets count few is =
-    let all : length head + (256 - length head) ≡ 256 = omega arith in
-    ap (λ k. head ++ take k octets) is ∙ ap (λ l. head ++ l) (least octets (256 - length head)) ∙ sym (take-append-add head octets (256 - length head)) ∙ ap (λ n. take n (head ++ octets)) all

@@ -1,8 +1,12 @@
 -- The words of a line.
-use Rattle.std.proofs.Common.{◌≡◌, ℕ, zero, suc, ◌+◌, ◌==◌, ◌<◌, Bool, true, false, List, [], ◌∷◌, ◌++◌, length, take, drop, get_or, Option, Some, None, if◌then◌else◌, refl, sym, ◌∙◌, ap, arith, append_assoc, append-nil, add-one}
-use Rattle.std.specs.Prelude.{◌||◌, is_some}
-use Rattle.memchr.specs.Find.{IsFirstByte, is_byte, is_byte2}
-use Rattle.krb_tool.specs.Outputs.{ends_word, kind_from, has_equals_sign}
+use Rattle.std.proofs.Common.{◌≡◌, ℕ, zero, suc, ◌+◌, ◌==◌, ◌<◌, Bool, true, false, List, [], ◌∷◌, ◌++◌, length, take, drop, get_or, Some, None, if◌then◌else◌, refl, sym, ◌∙◌, ap, arith, append_assoc, append-nil, add-one}
+use Rattle.std.specs.Prelude.{◌||◌}
+use Rattle.std.specs.List.{list_any}
+use Rattle.memchr.specs.Find.{IsFirstByte, is_byte2}
+use Rattle.krb_tool.specs.Outputs.{ends_word, kind_from}
+
+abbrev pub has_equals_sign : List ℕ → Bool
+has_equals_sign word = list_any (λ octet. octet == 61) word
 
 -- what the walk over a word comes to
 abbrev after_word : (word : List ℕ) → (is_field : Bool) → List ℕ → List ℕ
@@ -48,24 +52,3 @@ no-word word is_field (x ∷ xs) never =
 
 pub by-none : (text : List ℕ) → IsFirstByte (is_byte2 32 10) text None → kind_from [] false text ≡ []
 by-none text none = no-word [] false text (λ k below is. none k (omega arith) below is)
-
-never-equals : (word : List ℕ) → ((k : ℕ) → k < length word → (get_or word k 0 == 61) ≡ true → ⊥) → has_equals_sign word ≡ false
-never-equals [] never = refl
-never-equals (x ∷ xs) never = pick (x == 61) (never 0 (omega arith)) (never-equals xs (λ k below. never (suc k) (omega arith)))
-  where
-    pick : (b : Bool) → (b ≡ true → ⊥) → has_equals_sign xs ≡ false → (b || has_equals_sign xs) ≡ false
-    pick true other rest = absurd (other refl)
-    pick false other rest = rest
-
-once-equals : (word : List ℕ) (k : ℕ) → k < length word → (get_or word k 0 == 61) ≡ true → has_equals_sign word ≡ true
-once-equals [] k within is = absurd (omega arith)
-once-equals (x ∷ xs) zero within is = ap (λ b. b || has_equals_sign xs) is
-once-equals (x ∷ xs) (suc k) within is = pick (x == 61) (once-equals xs k (omega arith) is)
-  where
-    pick : (b : Bool) → has_equals_sign xs ≡ true → (b || has_equals_sign xs) ≡ true
-    pick true rest = refl
-    pick false rest = rest
-
-pub equals-by : (word : List ℕ) (found : Option ℕ) → IsFirstByte (is_byte 61) word found → is_some found ≡ has_equals_sign word
-equals-by word None none = sym (never-equals word (λ k below is. none k (omega arith) below is))
-equals-by word (Some k) is = sym (once-equals word k is.0.high is.1)

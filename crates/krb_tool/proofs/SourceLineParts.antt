@@ -67,9 +67,6 @@ ended_of-last [] last = refl
 ended_of-last (first ∷ []) last = refl
 ended_of-last (first ∷ next ∷ ended) last = ap (λ l. first ∷ l) (ended_of-last (next ∷ ended) last)
 
-ended_of-first : (first next : List ℕ) (others : List (List ℕ)) → ended_of (first ∷ next ∷ others) ≡ first ∷ ended_of (next ∷ others)
-ended_of-first first next others = refl
-
 pub ended_of-line : (ended : List (List ℕ)) (line next : List ℕ) (others : List (List ℕ)) → ended_of (ended ++ line ∷ next ∷ others) ≡ ended ++ line ∷ ended_of (next ∷ others)
 ended_of-line [] line next others = refl
 ended_of-line (first ∷ []) line next others = refl
@@ -142,6 +139,7 @@ line_stays text ended line more all =
 -- A text has a line of so many octets, which ends.
 pub record HasFirst (text : List ℕ) (size : ℕ) : Type 0 where
   pub within : size < length text
+  pub none : All (λ octet. (octet == 10) ≡ false) (take size text)
   pub line : take (size + 1) text ≡ take size text ++ 10 ∷ []
   pub alone : parts (take size text ++ 10 ∷ []) ≡ take size text ∷ [] ∷ []
 
@@ -167,10 +165,14 @@ first_line text size found =
     subst (λ octet. (octet == 10) ≡ false) (sym (get_or-take size text k d below)) (none_before text size (omega (arith, within)) found.0.before k d below) in
     record {
       within = within;
+      none = none;
       line = ap (λ n. take n text) (add-one size) ∙ take-suc text size 0 within ∙ ap (λ octet. take size text ++ octet ∷ []) (is_ten (get_or text size 0) found.1);
       alone = slice_split_at (λ octet. octet == 10) (take size text) 10 [] none refl;
     }
 
 -- no line ends
+pub no_feed : (text : List ℕ) → IsFirstByte (is_byte 10) text None → All (λ octet. (octet == 10) ≡ false) text
+no_feed text none = λ k d l. none_before text (length text) (omega arith) none k d l
+
 pub no_line : (text : List ℕ) → IsFirstByte (is_byte 10) text None → parts text ≡ text ∷ []
-no_line text none = slice_split_none (λ octet. octet == 10) text (λ k d l. none_before text (length text) (omega arith) none k d l)
+no_line text none = slice_split_none (λ octet. octet == 10) text (no_feed text none)

@@ -1,27 +1,16 @@
 -- Sources that are listed one after another.
-use Rattle.std.proofs.Common.{◌≡◌, ℕ, max, true, false, List, [], ◌∷◌, Option, Result, Ok, Err, IfErr, refl, sym, ◌∙◌, ap, subst, arith}
+use Rattle.std.proofs.Common.{◌≡◌, ℕ, max, true, false, List, [], ◌∷◌, Option, Result, Ok, Err, refl, sym, ◌∙◌, ap, subst, arith}
 use Rattle.std.specs.Ordering.{ord_max, nat_cmp}
-use Rattle.krb_text.specs.declared.form.Form.{Form}
-use Rattle.krb_tool.specs.Lines.{file_line}
-use Rattle.krb_tool.specs.declared.run.RunFault.{RunFault}
 use Rattle.krb_tool.specs.declared.run.RunFault.TheVariants as fault
-use Rattle.krb_tool.specs.Faults.{IsWrite}
 use Rattle.krb_tool.specs.Files.{AppendsPrefix}
 use Rattle.krb_tool.specs.Listing.{status_of}
 use Rattle.krb_tool.specs.Outputs.{IsSent, Sends, labelled, mark_of, output_contents}
 use Rattle.krb_tool.specs.declared.output.Output.{Output}
 use Rattle.krb_tool.specs.declared.output.Place.{Place}
-use Rattle.krb_tool.specs.Sources.{Outcome, Run, FailsName, ListsEach, ListsThrough, ends_run, label_of, place_of}
+use Rattle.krb_tool.specs.Sources.{Outcome, Run, ListsEach, ends_run}
 use Rattle.std.specs.Io.KnownBytes.{Appends}
 use Rattle.std.specs.Option.{option_map}
-use Rattle.std.specs.Prelude.{Bool, IsSome, Some, None, ◌++◌}
-
--- the line of a name was written in part
-pub FailsName-write : {T : Type 0} (form : Form) (r : Result T RunFault) (name : List ℕ) (written_before written_after : Option (List ℕ)) → IfErr r IsWrite → AppendsPrefix written_before written_after (file_line form name) → IfErr r (FailsName form name written_before written_after)
-FailsName-write form (Ok x) name written_before written_after is prefix = tt
-FailsName-write form (Err (fault.Write e)) name written_before written_after is prefix = prefix
-FailsName-write form (Err (fault.Read e)) name written_before written_after is prefix = absurd is
-FailsName-write form (Err fault.Memory) name written_before written_after is prefix = absurd is
+use Rattle.std.specs.Prelude.{IsSome, Some, None, ◌++◌}
 
 -- the greater of two statuses, as `max` compares them
 greater-is : (a b : ℕ) → ord_max nat_cmp a b ≡ max a b
@@ -83,9 +72,3 @@ through-err {T = T} {E = E} contents output writer place label (Some had) before
 pub known-before : (place : Place) (label : List ℕ) (written_before before : Option (List ℕ)) → before ≡ option_map (λ had. mark_of place label had) written_before → IsSome written_before → IsSome before
 known-before place label None before is some = absurd cc
 known-before place label (Some had) before is some = subst (λ (o : Option (List ℕ)). IsSome o) (sym is) refl
-
-pub labelled-by : (form : Form) (has_label : Bool) (name called : List ℕ) (place : Place) (label : List ℕ) (Lists : Run) (written_before written_after : Option (List ℕ)) (outcome : Outcome) → place ≡ place_of form has_label → label ≡ label_of form has_label name → name ≡ called
-    → ListsThrough place label Lists written_before written_after outcome → ListsThrough (place_of form has_label) (label_of form has_label called) Lists written_before written_after outcome
-labelled-by form has_label name called place label Lists written_before written_after outcome is_place is_label is_name through =
-    subst (λ (p : Place). ListsThrough p (label_of form has_label called) Lists written_before written_after outcome) is_place
-    (subst (λ (l : List ℕ). ListsThrough place l Lists written_before written_after outcome) (is_label ∙ ap (label_of form has_label) is_name) through)

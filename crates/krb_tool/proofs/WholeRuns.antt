@@ -2,24 +2,17 @@
 use Rattle.std.proofs.Common.{◌≡◌, ℕ, ◌+◌, ◌-◌, ◌<◌, ◌≤◌, true, false, List, [], ◌∷◌, ◌++◌, length, take, drop, Option, Some, None, Result, Ok, Err, OnErr, refl, sym, ◌∙◌, ap, subst, arith, append-nil, length-append, length-take, length-drop, take-append-drop}
 use Rattle.std.proofs.KnownBytes.{Consumes-trans, Appends-nil}
 use Rattle.std.specs.Io.KnownBytes.{Consumes, Appends}
-use Rattle.std.specs.Prelude.{nat_lt, ◌==◌, ◌^◌, if◌then◌else◌}
+use Rattle.std.specs.Prelude.{nat_lt}
 use Rattle.std.proofs.lemmas.Bool.Decides.{nat_tests}
 use Rattle.krb_der.specs.Octets.{when}
 use Rattle.krb_der.specs.declared.profile.Profile.{Profile}
 use Rattle.krb_der.specs.declared.profile.Profile.TheVariants.{Lenient}
 use Rattle.krb_der.specs.declared.verdict.Refusal.{Refusal}
-use Rattle.krb_der.specs.declared.why.Why.TheVariants.{TooLong, Empty}
-use Rattle.krb_der.specs.declared.verdict.Verdict.TheVariants as verdict
-use Rattle.krb_der.specs.Octets.{AreOctets}
-use Rattle.krb_judge.specs.Parses.{AreOf, refused, refusal_of}
-use Rattle.krb_msg.specs.Grammar.{messages}
-use Rattle.krb_msg.specs.Judgement.{judgement}
-use Rattle.krb_msg.specs.Laws.{AreMessage}
-use Rattle.krb_msg.proofs.Grammars.{all_is_decided}
-use Rattle.krb_msg.specs.Views.{message_der, message_of_der, IsInProfile}
-use Rattle.krb_msg.specs.declared.message.Message.{Message}
-use Rattle.krb_msg.proofs.Judged.{lenient_message, whole_is_message}
-use Rattle.krb_msg.proofs.MessageOfDer.{message_of_der_is_message}
+use Rattle.krb_der.specs.declared.why.Why.TheVariants.{TooLong}
+use Rattle.krb_judge.specs.Parses.{refusal_of}
+use Rattle.krb_msg.specs.ViewValues.{IsMessageView}
+use Rattle.krb_msg.specs.Views.{message_der, IsInProfile}
+use Rattle.krb_msg.specs.declared.message_view.MessageView.{MessageView}
 use Rattle.krb_text.specs.Refusals.{path_in}
 use Rattle.krb_text.specs.Values.{Value, Absent, String, Field, if_there}
 use Rattle.krb_text.specs.declared.form.Form.TheVariants as forms
@@ -31,35 +24,9 @@ use Rattle.krb_tool.specs.inner.Transfers.{ReturnsOctets}
 use Rattle.krb_tool.specs.inner.WholeRuns.{ReadsMost, converted_of}
 use Rattle.krb_tool.specs.inner.JsonLines.{IsOfMessage}
 
-pub message_parsed : (profile : Profile) (octets : List ℕ) (m : Message) → AreOf profile octets m → IsOfMessage octets
-message_parsed profile octets m a =
-    let same : m ≡ message_of_der octets = sym (message_of_der_is_message profile m a.in_profile) ∙ ap message_of_der a.form in
-    record { in_profile = subst (IsInProfile Lenient) same (lenient_message profile m a.in_profile); form = ap message_der (sym same) ∙ a.form }
-
--- ---- a judgement
--- octets that are judged
-pub refusal-judged : (profile : Profile) (octets : List ℕ) → length octets < 2 ^ 31 → 0 < length octets → refusal_of profile octets ≡ refused (judgement profile (length octets) octets)
-refusal-judged profile octets short some =
-    let few : nat_lt 2147483647 (length octets) ≡ false = grind (arith, nat_tests) in
-    let any : (length octets == 0) ≡ false = grind (arith, nat_tests) in
-    λ i. if few i then Some (record { place = 0; why = TooLong }) else if any i then Some (record { place = 0; why = Empty }) else refused (judgement profile (length octets) octets)
-
--- none
-pub refusal-empty : (profile : Profile) (octets : List ℕ) → length octets ≡ 0 → refusal_of profile octets ≡ Some (record { place = 0; why = Empty })
-refusal-empty profile octets none =
-    let few : nat_lt 2147483647 (length octets) ≡ false = grind (arith, nat_tests) in
-    let empty : (length octets == 0) ≡ true = grind (arith, nat_tests) in
-    λ i. if few i then Some (record { place = 0; why = TooLong }) else if empty i then Some (record { place = 0; why = Empty }) else refused (judgement profile (length octets) octets)
-
--- what is judged whole is a message
-pub message_judged : (profile : Profile) (octets : List ℕ) → length octets < 2 ^ 31 → AreOctets octets → judgement profile (length octets) octets ≡ verdict.Whole → IsOfMessage octets
-message_judged profile octets short are whole =
-    let m : AreMessage profile (length octets) octets = whole_is_message profile (length octets) octets short are (omega arith) whole in
-    message_parsed profile octets m.message (record { in_profile = m.in_profile; form = m.form })
-
--- and all octets decide
-pub never_open : (profile : Profile) (octets : List ℕ) → 0 < length octets → judgement profile (length octets) octets ≡ verdict.Open → ⊥
-never_open profile octets some undecided = all_is_decided (messages profile) (length octets) octets some refl undecided
+-- octets that are viewed as a message
+pub message_viewed : (octets : List ℕ) (view : MessageView) → IsMessageView octets view → IsOfMessage octets
+message_viewed octets view v = record { in_profile = subst (IsInProfile Lenient) v.read v.in_profile; form = ap message_der (sym v.read) ∙ v.form }
 
 -- ---- a message
 -- octets that are too many

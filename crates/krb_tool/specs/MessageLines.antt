@@ -2,7 +2,6 @@
 use Rattle.std.specs.Prelude.{ℕ, ◌+◌, ◌==◌, ◌&&◌, nat_lt, not, Bool, List, [], ◌∷◌, length, Option, Some, if◌then◌else◌}
 use Rattle.krb_der.specs.Octets.{when}
 use Rattle.krb_der.specs.declared.profile.Profile.{Profile}
-use Rattle.krb_input.specs.Inputs.{line_spelled}
 use Rattle.krb_text.specs.declared.form.Form.{Form}
 use Rattle.krb_tool.specs.Conversions.{Converted, after_text, Converts, ConvertsInPart}
 use Rattle.krb_tool.specs.Encoding.{is_blank_line, lines_of}
@@ -38,7 +37,7 @@ abbrev pub records_of : Form → Profile → Seen → List (List ℕ) → Conver
 records_of form profile seen [] = record { text = counted_end_line form seen.messages seen.refused; end = end_of seen.refused }
 records_of form profile seen (line ∷ lines) =
     when (is_passed line) (λ _. records_of form profile (with_line seen (length line)) lines)
-    (λ _. let listing = input_listing (next_line form profile seen) line_spelled line in
+    (λ _. let listing = input_listing (next_line form profile seen) line in
     after_text listing.text (records_of form profile (with_record listing.end (with_line seen (length line))) lines))
 
 abbrev pub none_seen : Seen

@@ -3,7 +3,7 @@ use Rattle.std.specs.Prelude.{ℕ, ◌+◌, ◌≡◌, nat_lt, if◌then◌else�
 use Rattle.krb_der.specs.declared.profile.Profile.{Profile}
 use Rattle.krb_der.specs.declared.verdict.Refusal.{Refusal}
 use Rattle.krb_der.specs.declared.why.Why.TheVariants.{TooLong}
-use Rattle.krb_input.specs.Inputs.{spelled}
+use Rattle.krb_input.specs.Inputs.{line_spelled, spelled}
 use Rattle.krb_input.specs.declared.spelling.Spelling.{Spelling}
 use Rattle.krb_input.specs.declared.spelling.Spelling.TheVariants.{Octets}
 use Rattle.krb_msg.specs.Grammar.{ticket}
@@ -110,10 +110,15 @@ spelled_listing input (Err fault) = unread_listing input (faults.Misspelled faul
 abbrev pub input_limit : ℕ
 input_limit = 16777216
 
+-- what it spells: one line of several is read as a line
+unfoldable pub spelled_in : (line : Option ℕ) → List ℕ → Result (Spelling × List ℕ) (Spelling × ℕ)
+spelled_in None octets = spelled octets
+spelled_in (Some line) octets = line_spelled octets
+
 -- its length decides first, then what it spells, and then what these octets are
-abbrev pub input_listing : MessageInput → (List ℕ → Result (Spelling × List ℕ) (Spelling × ℕ)) → List ℕ → FileListing
-input_listing input spells octets =
-    if nat_lt input_limit (length octets) then unread_listing input faults.Length None else spelled_listing input (spells octets)
+abbrev pub input_listing : MessageInput → List ℕ → FileListing
+input_listing input octets =
+    if nat_lt input_limit (length octets) then unread_listing input faults.Length None else spelled_listing input (spelled_in input.line octets)
 
 -- an input that is all of a source
 abbrev pub whole_input : Form → Profile → MessageInput
@@ -124,7 +129,7 @@ abbrev pub octets_listing : Form → Profile → List ℕ → FileListing
 octets_listing form profile octets = input_octets_listing (whole_input form profile) Octets octets
 
 unfoldable pub message_listing : Form → Profile → List ℕ → FileListing
-message_listing form profile input = input_listing (whole_input form profile) spelled input
+message_listing form profile input = input_listing (whole_input form profile) input
 
 abbrev pub IsMessageListing : Form → Profile → List ℕ → FileListing → Type 0
 IsMessageListing form profile input listing = listing ≡ message_listing form profile input

@@ -115,10 +115,6 @@ kind_from word is_field [] = []
 kind_from word is_field (octet ∷ text) =
     if ends_word octet then (if is_field then kind_from [] false text else word) else kind_from (word ++ octet ∷ []) (is_field || octet == 61) text
 
-abbrev pub has_equals_sign : List ℕ → Bool
-has_equals_sign [] = false
-has_equals_sign (octet ∷ word) = octet == 61 || has_equals_sign word
-
 abbrev pub is_refusal_line : List ℕ → Bool
 is_refusal_line text = bytes_eq (kind_from [] false text) (codes "refused")
 
@@ -219,7 +215,12 @@ pub record SameRest {W : Type 0} (old new : Output W) : Type 0 where
   pub writer : new.writer ≡ old.writer
   pub label : new.label ≡ old.label
   pub written : new.written ≡ old.written
+
+pub record KeepsAll {W : Type 0} (old new : Output W) : Type 0 where
+  pub same : SameRest old new
   pub head : new.head ≡ old.head
+  pub line : new.line.items ≡ old.line.items
+  pub text : new.text.items ≡ old.text.items
 
 -- octets without a line feed were kept
 pub record KeepsLine {W : Type 0} (old : Output W) (octets : List ℕ) (count : ℕ) (new : Output W) : Type 0 where
@@ -228,7 +229,7 @@ pub record KeepsLine {W : Type 0} (old : Output W) (octets : List ℕ) (count : 
   pub line : new.line.items ≡ old.line.items ++ octets
   pub text : new.text.items ≡ old.text.items
 
--- a line ended, and has its label
+-- a line ended
 pub record EndsLine {W : Type 0} (old : Output W) (octets : List ℕ) (count : ℕ) (new : Output W) : Type 0 where
   pub end : ℕ
   pub first : IsFirstByte (is_byte 10) octets (Some end)
@@ -238,20 +239,16 @@ pub record EndsLine {W : Type 0} (old : Output W) (octets : List ℕ) (count : �
 
 pub record TakesLine {W : Type 0} (old : Output W) (octets : List ℕ) (count : ℕ) (new : Output W) : Type 0 where
   pub same : SameRest old new
+  pub head : new.head ≡ take 256 (old.head ++ take count octets)
   pub within : count ≤ length octets
   pub takes : KeepsLine old octets count new ⊎ EndsLine old octets count new
-
-pub record KeepsAll {W : Type 0} (old new : Output W) : Type 0 where
-  pub same : SameRest old new
-  pub line : new.line.items ≡ old.line.items
-  pub text : new.text.items ≡ old.text.items
 
 -- octets were written as they are
 pub record Passes {W : Type 0} (contents : W → Option (List ℕ)) (old : Output W) (octets : List ℕ) (count : ℕ) (new : Output W) : Type 0 where
   pub label : new.label ≡ old.label
   pub line : new.line ≡ old.line
   pub text : new.text ≡ old.text
-  pub head : new.head ≡ old.head
+  pub head : new.head ≡ take 256 (old.head ++ take count octets)
   pub within : count ≤ length octets
   pub added : Appends (contents old.writer) (contents new.writer) (take count octets)
   pub written : new.written ≡ old.written + count
@@ -271,5 +268,4 @@ cut_text place label (octet ∷ line) = cut_labelled place label (octet ∷ line
 
 pub record CutsLine {W : Type 0} (old new : Output W) : Type 0 where
   pub same : SameRest old new
-  pub line : new.line.items ≡ []
   pub text : new.text.items ≡ old.text.items ++ cut_text old.label.place old.label.octets old.line.items

@@ -1,10 +1,9 @@
 //! The first octets of a listing.
 
 ghost use Rattle.std.specs.Prelude.{◌≡◌, ◌+◌, ◌++◌, ◌≤◌, [], length, take};
-ghost use Rattle.memchr.specs.Find.{IsFirstByte, is_byte2};
-ghost use Rattle.krb_tool.specs.Outputs.{has_equals_sign, is_refusal, is_refusal_line};
+ghost use Rattle.krb_tool.specs.Outputs.{is_refusal, is_refusal_line};
 
-use memchr::{memchr, memchr2};
+use memchr::memchr2;
 use std::marker::Model;
 
 /// How many octets tell of what kind the first record is: no more than this come before its kind.
@@ -71,26 +70,12 @@ fn is_refusal_line(octets: &[u8]) -> bool
     ensures { result ≡ is_refusal_line octets.now }
 {
     let mut rest = octets;
-    'words: while let Some(end) = word_end(rest) {
+    'words: while let Some(end) = memchr2(b' ', b'\n', rest) {
         let word = &rest[..end];
-        if !has_equals_sign(word) {
+        if !word.contains(&b'=') {
             return word == b"refused".as_slice();
         }
         rest = &rest[end + 1..];
     }
     false
-}
-
-/// Returns where the first word ends, if it does.
-fn word_end(octets: &[u8]) -> Option<usize>
-    ensures { IsFirstByte (is_byte2 32 10) octets.now result }
-{
-    memchr2(b' ', b'\n', octets)
-}
-
-/// Returns whether a word has a `=`.
-fn has_equals_sign(word: &[u8]) -> bool
-    ensures { result ≡ has_equals_sign word.now }
-{
-    memchr(b'=', word).is_some()
 }

@@ -1,9 +1,7 @@
 //! A run over messages that the lines of a text spell, one in each line.
 
 ghost use Rattle.std.specs.Prelude.{◌≡◌, ◌+◌, ◌++◌, ◌<◌, ◌^◌, [], length, take, IfOk, IfErr, OnOk, OnErr};
-ghost use Rattle.krb_tool.specs.MessageLines.{ListsLines, FailsLines, is_passed};
-ghost use Rattle.krb_tool.specs.Messages.{Puts, input_listing};
-ghost use Rattle.krb_input.specs.Inputs.{line_spelled};
+ghost use Rattle.krb_tool.specs.MessageLines.{ListsLines, FailsLines, end_of, is_passed};
 ghost use Rattle.krb_tool.specs.declared.run.RunFault.TheVariants as fault;
 ghost use Rattle.krb_tool.specs.inner.MessageLines.{AddsOctets, EndsLine, EndsLast, PutsLine, lines_kind};
 ghost use Rattle.krb_tool.specs.inner.Pieces.{listing_of};
@@ -14,8 +12,7 @@ use crate::run::{RunEnd, RunFault};
 use crate::stream_run::{ListStream, list_all};
 use crate::transfer::Asked;
 use krb_der::Profile;
-use krb_input::{InputFault, read_line};
-use krb_text::{Form, InputFault as Unread, TextBuffer, put_counted_stream_end};
+use krb_text::{Form, TextBuffer, put_counted_stream_end};
 use std::alloc::{AllocError, Global};
 use std::io::{Read, Write};
 
@@ -62,7 +59,7 @@ impl LineLister {
         Ok(())
     }
 
-    /// Ends the line: adds its record, unless it is passed over.
+    /// Ends the line, whose record is added, and counts it.
     fn end_line(&mut self) -> Result<(), RunFault>
         requires few { self.old.seen.octets + self.old.size + 1 < 2 ^ 64 }
         requires lines { self.old.seen.lines + 1 < 2 ^ 64 }
@@ -70,9 +67,7 @@ impl LineLister {
         ensures ended { OnOk result (EndsLine self.old self.new) }
         ensures fault { IfErr result (λ e. e ≡ fault.Memory) }
     {
-        if !self.is_passed() {
-            self.put_line()?;
-        }
+        self.put_line()?;
         self.seen.lines += 1;
         self.seen.octets += self.size + 1;
         self.size = 0;
@@ -87,20 +82,23 @@ impl LineLister {
         self.line.len() <= MOST_INPUT && is_blank_line(self.line.as_slice())
     }
 
-    /// Adds the record of the line, and counts it.
+    /// Adds the record of the line, and counts the record, unless the line is passed over.
     fn put_line(&mut self) -> Result<(), RunFault>
         requires lines { self.old.seen.lines + 1 < 2 ^ 64 }
         requires records { self.old.seen.messages + self.old.seen.refused + 1 < 2 ^ 64 }
         ensures put { OnOk result (PutsLine self.old self.new) }
         ensures fault { IfErr result (λ e. e ≡ fault.Memory) }
     {
+        if self.is_passed() {
+            return Ok(());
+        }
         let input = MessageInput {
             form: self.request.form,
             profile: self.request.profile,
             line: Some(self.seen.lines + 1),
             at: self.seen.octets,
         };
-        match put_input(self.alloc, &mut self.text, &input, self.line.as_slice())? {
+        match input.put(self.alloc, &mut self.text, self.line.as_slice())? {
             RunEnd::Clean => self.seen.messages += 1,
             RunEnd::Refused => self.seen.refused += 1,
         }
@@ -122,23 +120,14 @@ impl LineLister {
     }
 }
 
-/// Appends the record of a line.
-fn put_input(
-    alloc: Global,
-    text: &mut TextBuffer,
-    input: &MessageInput,
-    line: &[u8],
-) -> Result<RunEnd, RunFault>
-    ensures put { IfOk result (Puts text.old text.new (input_listing input.now line_spelled line.now)) }
-    ensures fault { IfErr result (λ e. e ≡ fault.Memory) }
+/// Returns how a run ends of whose lines so many are refused.
+fn end_of(refused: u64) -> RunEnd
+    ensures { result ≡ end_of refused }
 {
-    if line.len() > MOST_INPUT {
-        return input.put_unread(text, Unread::Length, None);
-    }
-    match read_line(alloc, line) {
-        Ok(made) => input.put_octets(alloc, text, made.form, made.octets.as_slice()),
-        Err(InputFault::Misspelled(fault)) => input.put_misspelling(text, fault),
-        Err(InputFault::Memory) => Err(RunFault::Memory),
+    if refused == 0 {
+        RunEnd::Clean
+    } else {
+        RunEnd::Refused
     }
 }
 
@@ -194,11 +183,7 @@ impl ListStream for LineLister {
             ..
         } = self.seen;
         put_counted_stream_end(&mut self.text, self.request.form, messages, refused)?;
-        Ok(if refused == 0 {
-            RunEnd::Clean
-        } else {
-            RunEnd::Refused
-        })
+        Ok(end_of(refused))
     }
 }
 

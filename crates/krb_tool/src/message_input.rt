@@ -1,18 +1,21 @@
 //! The record of a message, by the octets that an input spells.
 
-ghost use Rattle.std.specs.Prelude.{◌≡◌, ◌+◌, ◌<◌, ◌≤◌, ◌^◌, length, IfErr, IfOk, Some, string_bytes};
+ghost use Rattle.std.specs.Prelude.{◌≡◌, ◌+◌, ◌<◌, ◌≤◌, ◌^◌, length, IfErr, IfOk, Ok, Some, string_bytes};
 ghost use Rattle.std.specs.Option.{option_map};
+ghost use Rattle.krb_input.specs.Inputs.{IsFaultOf};
 ghost use Rattle.krb_judge.specs.Parses.{refusal_of, ticket_refusal};
 ghost use Rattle.krb_text.specs.Refusals.{path_in};
 ghost use Rattle.krb_token.specs.Seen.{path_text};
-ghost use Rattle.krb_tool.specs.Messages.{Puts, extent_of, judged_listing, layered_of, ntlm_listing, input_octets_listing, refused_listing, ticket_listing, too_long_listing, unread_listing};
+ghost use Rattle.krb_tool.specs.Messages.{Puts, extent_of, input_listing, input_octets_listing, judged_listing, layered_of, ntlm_listing, refused_listing, spelled_in, ticket_listing, too_long_listing, unread_listing, whole_input};
 ghost use Rattle.krb_tool.specs.Paths.{ticket_refused_path};
 ghost use Rattle.krb_text.specs.declared.input.InputFault.TheVariants.{Misspelled};
 
 use crate::fault_path::refused_path;
 use crate::run::{RunEnd, RunFault};
 use krb_der::{Profile, Refusal, Why};
-use krb_input::{Misspelling, Spelling};
+use krb_input::{
+    InputFault as Unspelled, Misspelling, Spelled, Spelling, read_input, read_line,
+};
 use krb_judge::law::refusals_are_inside;
 use krb_judge::{read_message_in, read_ticket_in, ticket_path};
 use krb_text::{
@@ -49,6 +52,50 @@ struct Layered<'a> {
 }
 
 impl MessageInput {
+    /// Returns an input that is all of a source.
+    pub(crate) fn whole(form: Form, profile: Profile) -> MessageInput
+        ensures { result ≡ whole_input form profile }
+    {
+        MessageInput {
+            form,
+            profile,
+            line: None,
+            at: 0,
+        }
+    }
+
+    /// Appends the record of the input.
+    pub(crate) fn put(
+        &self,
+        alloc: Global,
+        text: &mut TextBuffer,
+        input: &[u8],
+    ) -> Result<RunEnd, RunFault>
+        ensures put { IfOk result (Puts text.old text.new (input_listing self.now input.now)) }
+        ensures fault { IfErr result (λ e. e ≡ RunFault.Memory) }
+    {
+        if input.len() > MOST_INPUT {
+            return self.put_unread(text, InputFault::Length, None);
+        }
+        match self.read(alloc, input) {
+            Ok(made) => self.put_octets(alloc, text, made.form, made.octets.as_slice()),
+            Err(Unspelled::Misspelled(fault)) => self.put_misspelling(text, fault),
+            Err(Unspelled::Memory) => Err(RunFault::Memory),
+        }
+    }
+
+    /// Returns the octets that the input spells: one line of several is read as a line.
+    #[tactic(auto, unfolding(crate::specs::Messages::spelled_in))]
+    fn read(&self, alloc: Global, input: &[u8]) -> Result<Spelled, Unspelled>
+        ensures octets { IfOk result (λ made. spelled_in self.now.line input.now ≡ Ok (made.form, made.octets.items)) }
+        ensures fault { IfErr result (IsFaultOf (spelled_in self.now.line input.now)) }
+    {
+        match self.line {
+            None => read_input(alloc, input),
+            Some(_) => read_line(alloc, input),
+        }
+    }
+
     /// Appends the record of the octets that an input spells: that of the message that they are, or
     /// that lies in the layers of a token, that of a Ticket, or that of their refusal.
     #[tactic(auto, unfolding(crate::specs::Messages::input_octets_listing))]
@@ -240,7 +287,7 @@ impl MessageInput {
     }
 
     /// Appends the record of a text that spells no octets.
-    pub(crate) fn put_misspelling(
+    fn put_misspelling(
         &self,
         text: &mut TextBuffer,
         fault: Misspelling,
@@ -252,7 +299,7 @@ impl MessageInput {
     }
 
     /// Appends the record of an input of which no octets are made.
-    pub(crate) fn put_unread(
+    fn put_unread(
         &self,
         text: &mut TextBuffer,
         fault: InputFault,

@@ -1,31 +1,18 @@
 //! A run over one message, which an input spells.
 
 ghost use Rattle.std.specs.Prelude.{◌≡◌, IfErr, IfOk};
-ghost use Rattle.krb_input.specs.Inputs.{spelled};
 ghost use Rattle.krb_tool.specs.Files.{ListsFile, FailsFile, shown};
-ghost use Rattle.krb_tool.specs.Messages.{IsMessageListing, Puts, input_listing, octets_listing, whole_input};
+ghost use Rattle.krb_tool.specs.Messages.{IsMessageListing, octets_listing};
 
 use crate::file_run::{FileFormat, FileText, run_file};
 use crate::message_input::{MOST_INPUT, MessageInput};
 use crate::run::{RunEnd, RunFault};
 use crate::transfer::Asked;
 use krb_der::Profile;
-use krb_input::{InputFault, Spelling, read_input};
-use krb_text::{Form, InputFault as Unread, TextBuffer};
+use krb_input::Spelling;
+use krb_text::{Form, TextBuffer};
 use std::alloc::Global;
 use std::io::{Read, Write};
-
-/// Returns an input that is all of a source.
-fn whole_input(form: Form, profile: Profile) -> MessageInput
-    ensures { result ≡ whole_input form profile }
-{
-    MessageInput {
-        form,
-        profile,
-        line: None,
-        at: 0,
-    }
-}
 
 /// Returns the record, in a form, of the message of a profile that octets are, or of why they are
 /// none: what [`run_message_in`] writes of an input that is these octets, or spells them, but that
@@ -42,7 +29,7 @@ pub fn list_octets(
     ensures fault { IfErr result (λ e. e ≡ RunFault.Memory) }
 {
     let mut text = TextBuffer::new(alloc);
-    let input = whole_input(form, profile);
+    let input = MessageInput::whole(form, profile);
     let end = input.put_octets(alloc, &mut text, Spelling::Octets, octets)?;
     Ok(FileText { text, end })
 }
@@ -64,29 +51,8 @@ impl FileFormat for SpelledMessage {
     #[tactic(auto, unfolding(crate::specs::Messages::message_listing))]
     fn list(&self, alloc: Global, input: &[u8]) -> Result<FileText, RunFault> {
         let mut text = TextBuffer::new(alloc);
-        let place = whole_input(self.form, self.profile);
-        let end = put_input(alloc, &mut text, &place, input)?;
+        let end = MessageInput::whole(self.form, self.profile).put(alloc, &mut text, input)?;
         Ok(FileText { text, end })
-    }
-}
-
-/// Appends the record of an input.
-fn put_input(
-    alloc: Global,
-    text: &mut TextBuffer,
-    place: &MessageInput,
-    input: &[u8],
-) -> Result<RunEnd, RunFault>
-    ensures put { IfOk result (Puts text.old text.new (input_listing place.now spelled input.now)) }
-    ensures fault { IfErr result (λ e. e ≡ RunFault.Memory) }
-{
-    if input.len() > MOST_INPUT {
-        return place.put_unread(text, Unread::Length, None);
-    }
-    match read_input(alloc, input) {
-        Ok(made) => place.put_octets(alloc, text, made.form, made.octets.as_slice()),
-        Err(InputFault::Misspelled(fault)) => place.put_misspelling(text, fault),
-        Err(InputFault::Memory) => Err(RunFault::Memory),
     }
 }
 

@@ -1,7 +1,6 @@
 //! Outputs that label lines.
 
-ghost use Rattle.std.specs.Prelude.{◌≡◌, ◌+◌, ◌++◌, ◌∷◌, ◌<◌, ◌≤◌, ◌-◌, List, ℕ, [], length, take, drop, min, Some, IfOk, OnErr, OnOk, true, false, option_map};
-ghost use Rattle.std.specs.Io.KnownBytes.{WriteAppends};
+ghost use Rattle.std.specs.Prelude.{◌≡◌, ◌+◌, ◌++◌, ◌∷◌, ◌<◌, ◌≤◌, ◌-◌, List, ℕ, [], length, take, drop, min, Some, IfOk, OnErr, OnOk, option_map};
 ghost use Rattle.std.specs.Io.{WritesAtMost};
 ghost use Rattle.krb_tool.specs.Outputs.{output_contents, mark_of, label_place, label_text, line_labelled, cut_labelled, object_end, is_nowhere, Moves, Sends, Tells, TakesLine, KeepsAll, CutsLine, Passes, KeepsUnpassed};
 
@@ -146,30 +145,9 @@ impl<W: Write> Output<W> {
         Ok(())
     }
 
-    /// Takes octets of lines that have no label, which are written as they are, and returns how many.
-    fn pass(&mut self, octets: &[u8]) -> io::Result<usize>
-        requires plain { is_nowhere self.old.label.place ≡ true }
-        ensures bound { WritesAtMost result octets.now }
-        ensures bytes { WriteAppends (output_contents W.contents self.old) (output_contents W.contents self.new) result octets.now }
-    {
-        let count = self.write_plain(octets)?;
-        self.head.add(&octets[..count]);
-        Ok(count)
-    }
-
-    /// Takes octets of lines that have a label, and returns how many.
-    fn put(&mut self, octets: &[u8]) -> io::Result<usize>
-        requires labelled { is_nowhere self.old.label.place ≡ false }
-        ensures bound { WritesAtMost result octets.now }
-        ensures bytes { WriteAppends (output_contents W.contents self.old) (output_contents W.contents self.new) result octets.now }
-    {
-        let count = self.take_line(octets)?;
-        self.head.add(&octets[..count]);
-        Ok(count)
-    }
-
     /// Writes octets as they are, and returns how many.
     fn write_plain(&mut self, octets: &[u8]) -> io::Result<usize>
+        ensures bound { WritesAtMost result octets.now }
         ensures passed { IfOk result (λ count. Passes W.contents self.old octets.now count self.new) }
         ensures kept { OnErr result (KeepsUnpassed W.contents self.old self.new) }
     {
@@ -178,6 +156,7 @@ impl<W: Write> Output<W> {
         }
         let count = self.writer.write(octets)?;
         self.written += count as u64;
+        self.head.add(&octets[..count]);
         Ok(count)
     }
 
@@ -206,12 +185,14 @@ impl<W: Write> Output<W> {
     {
         let Some(end) = line_length(octets) else {
             self.line.extend_from_slice(octets)?;
+            self.head.add(octets);
             return Ok(octets.len());
         };
         let line = joined(self.alloc, self.line.as_slice(), &octets[..end + 1])?;
         let labelled = self.label.line(self.alloc, line.as_slice())?;
         self.text.extend_from_slice(labelled.as_slice())?;
         self.line.clear();
+        self.head.add(&octets[..end + 1]);
         Ok(end + 1)
     }
 
@@ -269,9 +250,9 @@ impl<W: Write> Write for Output<W> {
 
     fn write(&mut self, octets: &[u8]) -> io::Result<usize> {
         if self.label.is_nowhere() {
-            self.pass(octets)
+            self.write_plain(octets)
         } else {
-            self.put(octets)
+            Ok(self.take_line(octets)?)
         }
     }
 

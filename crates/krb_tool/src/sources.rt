@@ -70,11 +70,11 @@ fn names_of(naming: Naming, form: Form, sources: usize) -> Named
     match naming {
         Naming::Several => Named {
             has_record: sources > 1,
-            has_label: is_json & (sources > 1),
+            has_label: is_json && sources > 1,
         },
         Naming::Each => Named {
             has_record: true,
-            has_label: is_json & (sources > 1),
+            has_label: is_json && sources > 1,
         },
         Naming::Labels => Named {
             has_record: false,

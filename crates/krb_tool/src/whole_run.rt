@@ -1,9 +1,8 @@
 //! A run over one message that is all of a source, without the octets of a length: a datagram, or
 //! the file of a KRB-CRED.
 
-ghost use Rattle.std.specs.Prelude.{◌≡◌, ◌<◌, ◌≤◌, ◌^◌, length, [], IfErr, IfOk, OnErr, None};
+ghost use Rattle.std.specs.Prelude.{◌≡◌, ◌<◌, ◌≤◌, ◌^◌, length, [], IfErr, IfOk, OnErr};
 ghost use Rattle.krb_json.specs.Unsealed.{unsealed_in};
-ghost use Rattle.krb_judge.specs.Parses.{refusal_of};
 ghost use Rattle.krb_msg.specs.Views.{message_of_der};
 ghost use Rattle.krb_tool.specs.Decoding.{All, line_and, decoded_whole, DecodesWhole, FailsToDecodeWhole};
 ghost use Rattle.krb_tool.specs.Files.{ReadsSome};
@@ -16,9 +15,9 @@ use crate::fault_path::refused_path;
 use crate::json_lines::JsonLines;
 use crate::run::{PIECE_OCTETS, RunFault};
 use crate::transfer::{Asked, write_all};
-use krb_der::{Profile, Refusal, Verdict, Why};
+use krb_der::{Profile, Refusal, Why};
 use krb_frame::Limit;
-use krb_judge::judge_in;
+use krb_judge::read_message_in;
 use krb_text::Form;
 use std::alloc::Global;
 use std::io::{Read, Write};
@@ -107,30 +106,12 @@ fn decode_message(
         let why = Why::TooLong;
         return Ok(refused(alloc, Refusal { place, why }, None));
     }
-    match refusal_of(profile, octets) {
-        None => put_message(alloc, octets),
-        Some(refusal) => {
+    match read_message_in(profile, octets) {
+        Ok(_) => put_message(alloc, octets),
+        Err(refusal) => {
             let path = refused_path(alloc, Form::NamedLines, profile, octets, refusal)?;
             Ok(refused(alloc, refusal, path))
         }
-    }
-}
-
-/// Returns why octets are no message of a profile, and nothing if they are one.
-fn refusal_of(profile: Profile, octets: &[u8]) -> Option<Refusal>
-    requires short { length octets.now < 2 ^ 31 }
-    ensures refused { result ≡ refusal_of profile octets.now }
-    ensures message { result ≡ None → IsOfMessage octets.now }
-{
-    if octets.is_empty() {
-        let place = 0;
-        let why = Why::Empty;
-        return Some(Refusal { place, why });
-    }
-    match judge_in(profile, octets.len() as u32, octets) {
-        Verdict::Refused(refusal) => Some(refusal),
-        Verdict::Whole => None,
-        Verdict::Open => None,
     }
 }
 

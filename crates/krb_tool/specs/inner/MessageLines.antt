@@ -1,10 +1,8 @@
 -- What a lister of lines does with a text.
-use Rattle.std.specs.Prelude.{ℕ, ◌≡◌, ◌+◌, ◌-◌, ◌≤◌, ◌⊎◌, List, [], ◌∷◌, ◌++◌, length, take}
-use Rattle.krb_input.specs.Inputs.{line_spelled}
+use Rattle.std.specs.Prelude.{ℕ, ◌≡◌, ◌+◌, ◌≤◌, ◌⊎◌, List, [], ◌∷◌, ◌++◌, length, take}
 use Rattle.krb_tool.specs.Conversions.{Converted, after_text}
 use Rattle.krb_tool.specs.Encoding.{parts}
-use Rattle.krb_tool.specs.MessageLines.{lines_listed, next_line, none_seen, records_of, with_record}
-use Rattle.krb_tool.specs.Messages.{input_listing}
+use Rattle.krb_tool.specs.MessageLines.{lines_listed, none_seen, records_of, with_line}
 use Rattle.krb_tool.specs.declared.lines_run.LineLister.{LineLister}
 use Rattle.krb_tool.specs.declared.lines_run.LinesRequest.{LinesRequest}
 use Rattle.krb_tool.specs.declared.lines_run.Seen.{Seen}
@@ -19,7 +17,7 @@ kept_octets = 16777217
 
 -- octets came of the line
 pub record AddsOctets (old : LineLister) (octets : List ℕ) (new : LineLister) : Type 0 where
-  pub line : new.line.items ≡ old.line.items ++ take (kept_octets - length old.line.items) octets
+  pub line : length old.line.items ≤ kept_octets → new.line.items ≡ take kept_octets (old.line.items ++ octets)
   pub size : new.size ≡ old.size + length octets
   pub request : new.request ≡ old.request
   pub seen : new.seen ≡ old.seen
@@ -28,16 +26,17 @@ pub record AddsOctets (old : LineLister) (octets : List ℕ) (new : LineLister) 
 abbrev pub records_from : LinesRequest → Seen → List (List ℕ) → Converted RunEnd
 records_from request seen lines = records_of request.form request.profile seen lines
 
--- the record of the line was added, and counted
+-- The record of the line was added and counted, if it has one.
 pub record PutsLine (old new : LineLister) : Type 0 where
   pub added : List ℕ
-  pub end : RunEnd
-  pub record_is : input_listing (next_line old.request.form old.request.profile old.seen) line_spelled old.line.items ≡ record { text = added; end = end }
   pub text : new.text ≡ old.text ++ added
-  pub seen : new.seen ≡ with_record end old.seen
   pub line : new.line ≡ old.line
   pub size : new.size ≡ old.size
   pub request : new.request ≡ old.request
+  pub octets : new.seen.octets ≡ old.seen.octets
+  pub lines : new.seen.lines ≡ old.seen.lines
+  pub few : new.seen.messages + new.seen.refused ≤ old.seen.messages + old.seen.refused + 1
+  pub step : (line : List ℕ) (more : List (List ℕ)) → old.line.items ≡ take kept_octets line → records_from old.request old.seen (line ∷ more) ≡ after_text added (records_from old.request (with_line new.seen (length line)) more)
 
 -- The line has ended: its record was added, if it has one, and it was counted.
 pub record EndsLine (old new : LineLister) : Type 0 where

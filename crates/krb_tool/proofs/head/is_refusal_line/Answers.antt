@@ -12,13 +12,13 @@ words-preserved c =
     let end = c.in-Some.end in (
       c.words.invariant.0
           ∙ by-word rest end c.in-Some.ensures
-          ∙ ap (λ b. if b then kind_from [] false (drop (end + 1) rest) else take end rest) (sym c.has_equals_sign.ensures ∙ c.if-not-has_equals_sign.false)
+          ∙ ap (λ b. if b then kind_from [] false (drop (end + 1) rest) else take end rest) (sym c.contains.ensures.value ∙ c.if-not-contains.false)
           ∙ ap (kind_from [] false) (sym (take_rest rest (end + 1))),
       rw (take_rest rest (end + 1)) (let long = length-drop (end + 1) rest in omega (arith, c.words.invariant.1)),
     )
 
-pub returns-then-not-has_equals_sign : goal.returns-then-not-has_equals_sign
-returns-then-not-has_equals_sign c =
+pub returns-then-not-contains : goal.returns-then-not-contains
+returns-then-not-contains c =
     let rest = c.words.rest.now in
     let end = c.in-Some.end in
     c.eq.ensures
@@ -26,7 +26,7 @@ returns-then-not-has_equals_sign c =
     ∙ ap (λ word. bytes_eq word (codes "refused"))
     (sym (c.words.invariant.0
     ∙ by-word rest end c.in-Some.ensures
-    ∙ ap (λ b. if b then kind_from [] false (drop (end + 1) rest) else take end rest) (sym c.has_equals_sign.ensures ∙ c.if-not-has_equals_sign.true)))
+    ∙ ap (λ b. if b then kind_from [] false (drop (end + 1) rest) else take end rest) (sym c.contains.ensures.value ∙ c.if-not-contains.true)))
 
 pub returns : goal.returns
 returns c = ap (λ word. bytes_eq word (codes "refused")) (sym (c.words.invariant.0 ∙ by-none c.words.rest.now c.in_default.ensures))
