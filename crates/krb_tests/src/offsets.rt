@@ -2,9 +2,7 @@
 //! another language that follow `docs/LISTING.md`.
 
 use crate::examples::octets_of;
-use krb_tool::{
-    Form, Limit, Profile, RunEnd, RunFault, run_capture, run_stream_in,
-};
+use krb_tool::{Form, Limit, Profile, RunEnd, RunFault, run_capture, run_stream_in};
 use std::alloc::Global;
 use std::test::Fail;
 

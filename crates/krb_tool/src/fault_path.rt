@@ -48,13 +48,7 @@ pub(crate) fn frame_path(
 {
     match decoder.partial() {
         None => Ok(None),
-        Some(partial) => shown_path(
-            alloc,
-            form,
-            decoder.profile(),
-            partial.size,
-            partial.octets,
-        ),
+        Some(partial) => shown_path(alloc, form, decoder.profile(), partial.size, partial.octets),
     }
 }
 
