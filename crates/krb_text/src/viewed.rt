@@ -6,7 +6,8 @@ ghost use Rattle.krb_der.specs.Scalars.{IsTimeFrom};
 ghost use Rattle.krb_msg.specs.Basic.{flags_of_view, micros_of};
 ghost use Rattle.krb_msg.specs.Grammar.{host_address, pa_data, ticket};
 ghost use Rattle.krb_msg.specs.Types.{PrincipalNameLists, host_address_of, pa_data_of, principal_name_of, principal_name_of_view, principal_name_view_value, ticket_of};
-ghost use Rattle.krb_msg.specs.Viewed.{AreViewed, OfSome, items_of};
+ghost use Rattle.krb_msg.specs.Term.{IfPresent};
+ghost use Rattle.krb_msg.specs.Viewed.{AreViewed, items_of};
 ghost use Rattle.krb_text.specs.Messages.{padata};
 ghost use Rattle.krb_text.specs.Values.{Flags, Number, Numbers, Principal as IsPrincipal, Word, client, count, if_there, principal};
 ghost use Rattle.krb_registry.specs.declared.registry.Registry.TheVariants.{PreAuthenticationData};
@@ -43,7 +44,7 @@ pub(crate) fn optional_principal_of<'a>(
     name: &Option<PrincipalNameView<'a>>,
     realm: &'a [u8],
 ) -> Option<ViewedPrincipal<'a>>
-    requires { OfSome PrincipalNameLists name.now }
+    requires { IfPresent PrincipalNameLists name.now }
     ensures { if_there (λ p. IsPrincipal p.name_type p.components p.realm.now) result ≡ if_there (principal realm.entry.now) (option_map principal_name_of (option_map principal_name_view_value name.now)) }
 {
     match name {
@@ -58,7 +59,7 @@ pub(crate) fn client_of<'a>(
     name: &Option<PrincipalNameView<'a>>,
     realm: Option<&'a [u8]>,
 ) -> Option<ViewedPrincipal<'a>>
-    requires { OfSome PrincipalNameLists name.now }
+    requires { IfPresent PrincipalNameLists name.now }
     ensures { if_there (λ p. IsPrincipal p.name_type p.components p.realm.now) result ≡ client (option_map principal_name_of (option_map principal_name_view_value name.now)) (option_map (λ octets. octets.now) realm.entry) }
 {
     match (name, realm) {
@@ -91,7 +92,7 @@ pub(crate) fn time_of(time: &[u8]) -> Plain<'_>
 /// Returns a time, if it is there.
 #[inline(always)]
 pub(crate) fn optional_time_of(time: Option<&[u8]>) -> Option<Plain<'_>>
-    requires { OfSome (λ time. IsTimeFrom 14 time.now) time }
+    requires { IfPresent (λ time. IsTimeFrom 14 time.now) time }
     ensures { if_there Word result ≡ if_there Word (option_map (λ time. time.now) time.entry) }
 {
     match time {
@@ -122,7 +123,7 @@ pub(crate) fn optional_micros_of(micros: Option<i64>) -> Option<u64>
 /// Returns the types of pre-authentication data, if there are any.
 #[inline(always)]
 pub(crate) fn optional_types_of(items: Option<ItemsView<'_>>) -> Option<PaDataTypes<'_>>
-    requires { OfSome (λ items. AreViewed pa_data items.octets.now) items }
+    requires { IfPresent (λ items. AreViewed pa_data items.octets.now) items }
     ensures { if_there (Numbers PreAuthenticationData) result ≡ if_there padata (option_map (map pa_data_of) (option_map (λ items. items_of pa_data items.octets.now) items.entry)) }
 {
     match items {
@@ -154,7 +155,7 @@ pub(crate) fn ticket_count(items: ItemsView<'_>) -> u64
 /// Returns how many Tickets there are, if there are any.
 #[inline(always)]
 pub(crate) fn optional_ticket_count(items: Option<ItemsView<'_>>) -> Option<u64>
-    requires { OfSome (λ items. AreViewed ticket items.octets.now) items }
+    requires { IfPresent (λ items. AreViewed ticket items.octets.now) items }
     ensures { if_there (λ n. Number (pos n)) result ≡ if_there count (option_map (map ticket_of) (option_map (λ items. items_of ticket items.octets.now) items.entry)) }
 {
     match items {
@@ -166,7 +167,7 @@ pub(crate) fn optional_ticket_count(items: Option<ItemsView<'_>>) -> Option<u64>
 /// Returns how many addresses there are, if there are any.
 #[inline(always)]
 pub(crate) fn optional_address_count(items: Option<ItemsView<'_>>) -> Option<u64>
-    requires { OfSome (λ items. AreViewed host_address items.octets.now) items }
+    requires { IfPresent (λ items. AreViewed host_address items.octets.now) items }
     ensures { if_there (λ n. Number (pos n)) result ≡ if_there count (option_map (map host_address_of) (option_map (λ items. items_of host_address items.octets.now) items.entry)) }
 {
     match items {
