@@ -16,12 +16,22 @@ const MOST: usize = 0x7FFF_FFFF;
 
 /// Returns a view of the message that octets are, if they are one in the lenient profile: all of
 /// them, judged and viewed in one pass. More than 2147483647 octets are none. It allocates nothing.
+#[inline(always)]
 pub fn view_message(octets: &[u8]) -> Option<MessageView<'_>>
     ensures { MatchOption result (IsNoMessage octets.now) (λ m. IsMessageView octets.now m) }
 {
     if octets.len() > MOST {
         return None;
     }
+    view_short_message(octets)
+}
+
+/// Returns a view of the message that octets are, if they are one: [`view_message`] of at most
+/// 2147483647 octets.
+fn view_short_message(octets: &[u8]) -> Option<MessageView<'_>>
+    requires short { length octets.now < 2 ^ 31 }
+    ensures { MatchOption result (IsNoMessage octets.now) (λ m. IsMessageView octets.now m) }
+{
     let [first, ..] = octets else {
         return None;
     };
@@ -39,7 +49,7 @@ pub fn view_message_in(profile: Profile, octets: &[u8]) -> Option<MessageView<'_
     ensures { MatchOption result (judgement profile (length octets.now) octets.now ≡ Whole → ⊥) (λ m. IsMessageView octets.now m × (judgement profile (length octets.now) octets.now ≡ Whole)) }
 {
     match profile {
-        Profile::Lenient => view_message(octets),
+        Profile::Lenient => view_short_message(octets),
         Profile::Strict => view_strict(octets),
     }
 }
@@ -50,7 +60,7 @@ fn view_strict(octets: &[u8]) -> Option<MessageView<'_>>
     requires short { length octets.now < 2 ^ 31 }
     ensures { MatchOption result (judgement Strict (length octets.now) octets.now ≡ Whole → ⊥) (λ m. IsMessageView octets.now m × (judgement Strict (length octets.now) octets.now ≡ Whole)) }
 {
-    let message = view_message(octets)?;
+    let message = view_short_message(octets)?;
     if is_strict_view(&message) {
         Some(message)
     } else {
