@@ -26,7 +26,7 @@ use Rattle.krb_packet.specs.declared.pcap.Header.{Header}
 use Rattle.krb_packet.specs.declared.pcap.Magic.{Magic}
 use Rattle.krb_packet.specs.declared.pcap.Magic.TheVariants as magics
 use Rattle.krb_packet.specs.Blocks.{after_content, after_kind, block_after, block_in, body_in, content_in_file, end_in, next_block, read_body}
-use Rattle.krb_packet.specs.Bodies.{announced, content_at, enhanced_packet_at, first_interface, head_at, most_octets_at, most_of, next_kind_at, old_packet_at, section_version, simple_packet_at, timed_packet_at, value_of}
+use Rattle.krb_packet.specs.Bodies.{announced, content_at, enhanced_packet_at, first_interface, head_at, most_octets_at, most_of, next_kind_at, old_packet_at, section_version, simple_packet_at, timed_packet_at, timestamp_at, value_of}
 use Rattle.krb_packet.specs.Interfaces.{interface_at}
 use Rattle.krb_packet.specs.Numbers.{checked_number, field_in, refused_at}
 use Rattle.krb_packet.specs.Captures.{after_magic, after_packet, begin_in, next_in, packet_in, packets_from, packets_within, with_others}
@@ -97,11 +97,10 @@ module _ (count : ℕ) where
   module _ (order : ByteOrder) (bounds : Bounds) where
     timed-read : (interface : Interface) (source : Source) → OnRead IsNext (timed_packet_at order count interface bounds source)
     timed-read interface source =
-        read_next IsNext (field_in fields.Timestamp w32 order bounds source) _ (λ high.
-        read_next IsNext (field_in fields.Timestamp w32 order bounds high.1) _ (λ low.
-        read_next IsNext (field_in fields.CapturedLength w32 order bounds low.1) _ (λ captured.
+        read_next IsNext (timestamp_at order bounds source) _ (λ units.
+        read_next IsNext (field_in fields.CapturedLength w32 order bounds units.1) _ (λ captured.
         read_next IsNext (field_in fields.OriginalLength w32 order bounds captured.1) _ (λ original.
-        read_next IsNext (called fields.Data (octets_at captured.0) bounds original.1) _ (λ octets. record { is = refl })))))
+        read_next IsNext (called fields.Data (octets_at captured.0) bounds original.1) _ (λ octets. record { is = refl }))))
 
     enhanced-read : (interfaces : List Interface) (source : Source) → OnRead IsNext (enhanced_packet_at order count interfaces bounds source)
     enhanced-read interfaces source = read_next IsNext (checked_number fields.Interface w32 order (announced interfaces) bounds source) _ (λ interface. timed-read interface.0 interface.1)

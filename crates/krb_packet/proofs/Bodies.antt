@@ -19,7 +19,7 @@ use Rattle.krb_packet.specs.declared.body.Content.TheVariants as contents
 use Rattle.krb_packet.specs.Numbers.{in_order, number_in, field_in, checked_number}
 use Rattle.krb_packet.specs.Values.{link_type}
 use Rattle.krb_packet.specs.Interfaces.{padded, value_at, setting_at, option_at, with_setting, after_setting, options_within, options_at, no_options, clock_of, interface_at, clock_time}
-use Rattle.krb_packet.specs.Bodies.{announced, section_version, timed_packet_at, enhanced_packet_at, old_packet_at, most_of, most_octets_at, simple_packet_at, content_at, value_of, in_body}
+use Rattle.krb_packet.specs.Bodies.{announced, section_version, timestamp_at, timed_packet_at, enhanced_packet_at, old_packet_at, most_of, most_octets_at, simple_packet_at, content_at, value_of, in_body}
 use Rattle.krb_packet.proofs.Reaching.{Passes, Passes-succeed, Passes-then, Passes-fewer, Passes-made, Passes-piece, Passes-skipped, Passes-number_at, Passes-number, Passes-called, Passes-when, Stops, Stops-succeed, Stops-then, Stops-octets, Stops-called, Stops-field, Stops-check, Stops-checked_at, Stops-whole}
 
 Passes-value : (order : ByteOrder) (code size : ℕ) → Passes 0 (value_at order code size)
@@ -70,12 +70,14 @@ Stops-interface order =
 
 Stops-timed : (order : ByteOrder) (count : ℕ) (interface : Interface) → Stops (timed_packet_at order count interface)
 Stops-timed order count interface =
+    Stops-then (timestamp_at order) _ (
     Stops-then (field_in fields.Timestamp w32 order) _ (Stops-field fields.Timestamp w32 order) (λ high.
-    Stops-then (field_in fields.Timestamp w32 order) _ (Stops-field fields.Timestamp w32 order) (λ low.
+    Stops-then (field_in fields.Timestamp w32 order) _ (Stops-field fields.Timestamp w32 order) (λ low. Stops-succeed (high * 2 ^ 32 + low)))
+    ) (λ units.
     Stops-then (field_in fields.CapturedLength w32 order) _ (Stops-field fields.CapturedLength w32 order) (λ captured.
     Stops-then (field_in fields.OriginalLength w32 order) _ (Stops-field fields.OriginalLength w32 order) (λ original.
     Stops-then (called fields.Data (octets_at captured)) _ (Stops-called fields.Data (octets_at captured) (Stops-octets captured)) (λ octets.
-    Stops-succeed (record { number = count + 1; time = clock_time interface.clock (high * 2 ^ 32 + low); link = interface.link; octets = octets; size = max captured original }))))))
+    Stops-succeed (record { number = count + 1; time = clock_time interface.clock units; link = interface.link; octets = octets; size = max captured original })))))
 
 Stops-most : (most : ℕ) → Stops (most_octets_at most)
 Stops-most most = at_place (λ bounds place. octets_at (min most (octets_to_end bounds.end place))) (λ bounds place. Stops-octets (min most (octets_to_end bounds.end place)))

@@ -67,6 +67,10 @@ then_fails {A} one next (faults.Refused fault) MayFail old fails = record {
   refused = ap (λ (r : Result (A × Source) Fault). and_then r (λ x. next x.0 old.bounds x.1)) fails.refused;
 }
 
+-- a value was read, and then a fault was met
+pub fails_after : {A B : Type 0} (one : Reader A) (next : A → Reader B) (v : A) (e : FileFault) (MayFail : Type 0) (old mid : Cursor) → HasRead one v old mid → FailsBy e (next v) MayFail mid → FailsBy e (one >>= next) MayFail old
+fails_after one next v e MayFail old mid read fails = continues_fails (one >>= next) (next v) e MayFail old mid (continues_then (one >>= next) one next v old old mid (continues_here (one >>= next) old) read) fails
+
 -- the same at a place
 continues_as : {A : Type 0} (first second third : Reader A) (old new : Cursor) → Continues first second old new → ((rest : List ℕ) → second new.bounds (source_at new.place rest) ≡ third new.bounds (source_at new.place rest)) → Continues first third old new
 continues_as first second third old new on same = record {

@@ -90,14 +90,20 @@ is_announced (Some interface) = Ok interface
 abbrev pub announced : List Interface → ℕ → Result Interface FileWhy
 announced interfaces index = is_announced (slice_get interfaces index)
 
-abbrev pub timed_packet_at : ByteOrder → ℕ → Interface → Reader Packet
-timed_packet_at order count interface = do
+-- a time, in units of the interface
+abbrev pub timestamp_at : ByteOrder → Reader ℕ
+timestamp_at order = do
   high ← field_in fields.Timestamp w32 order
   low ← field_in fields.Timestamp w32 order
+  succeed (high * 2 ^ 32 + low)
+
+abbrev pub timed_packet_at : ByteOrder → ℕ → Interface → Reader Packet
+timed_packet_at order count interface = do
+  units ← timestamp_at order
   captured ← field_in fields.CapturedLength w32 order
   original ← field_in fields.OriginalLength w32 order
   octets ← called fields.Data (octets_at captured)
-  succeed (record { number = count + 1; time = clock_time interface.clock (high * 2 ^ 32 + low); link = interface.link; octets = octets; size = max captured original })
+  succeed (record { number = count + 1; time = clock_time interface.clock units; link = interface.link; octets = octets; size = max captured original })
 
 abbrev pub enhanced_packet_at : ByteOrder → ℕ → List Interface → Reader Packet
 enhanced_packet_at order count interfaces = do

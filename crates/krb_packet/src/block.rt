@@ -10,7 +10,7 @@ ghost use Rattle.krb_packet.specs.Numbers.{checked_number, refused_at};
 ghost use Rattle.krb_packet.specs.Bodies.{block_kind, byte_order, body_size, after_byte_order, section_head_at, head_of, head_at, same_length, next_kind_at};
 
 use crate::interface::Interface;
-use crate::order::{ByteOrder, checked, field32};
+use crate::order::{ByteOrder, checked, field32, four_octets};
 use crate::pcap::MOST_CAPTURED;
 use krb_der::Many;
 use krb_file::{FieldName, FieldReader, FileFault, FileRefusal, FileWhy, called};
@@ -123,11 +123,11 @@ fn read_byte_order<F: FieldReader>(reader: &mut F) -> Result<ByteOrder, FileFaul
 }
 
 /// Reads the octets of the length of a section header.
-fn length_octets<F: FieldReader>(octets: &mut [u8; 4], reader: &mut F) -> Result<(), FileFault>
-    ensures read { Follows (λ _. octets.new) result (called fields.Length (next_octets_at None 4)) F.MayFail (F.cursor reader.old) (F.cursor reader.new) }
+fn length_octets<F: FieldReader>(reader: &mut F) -> Result<[u8; 4], FileFault>
+    ensures read { Follows (λ octets. octets) result (called fields.Length (next_octets_at None 4)) F.MayFail (F.cursor reader.old) (F.cursor reader.new) }
     ensures keeps { Keeps (F.cursor reader.old) (F.cursor reader.new) }
 {
-    called(FieldName::Length, reader.fill(octets))
+    called(FieldName::Length, four_octets(reader))
 }
 
 /// Reads the head of a section header, after its type. The byte-order magic follows the length,
@@ -137,8 +137,7 @@ fn section_head<F: FieldReader>(reader: &mut F) -> Result<Head, FileFault>
     ensures keeps { Keeps (F.cursor reader.old) (F.cursor reader.new) }
 {
     let place = reader.place();
-    let mut octets = [0; 4];
-    length_octets(&mut octets, reader)?;
+    let octets = length_octets(reader)?;
     let order = read_byte_order(reader)?;
     let length = u32::from_be_bytes(order.highest_first(octets));
     let size = checked(FieldName::Length, place, body_size(length))?;

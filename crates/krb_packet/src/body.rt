@@ -6,7 +6,7 @@ ghost use Rattle.krb_file.specs.Fields.{Agrees, IsStreamFaultIn};
 ghost use Rattle.krb_file.specs.FieldReaders.{Follows, Keeps};
 ghost use Rattle.krb_file.specs.declared.field_name.FieldName.TheVariants as fields;
 ghost use Rattle.krb_packet.specs.Numbers.{checked_number};
-ghost use Rattle.krb_packet.specs.Bodies.{announced, section_version, timed_packet_at, enhanced_packet_at, old_packet_at, first_interface, most_of, simple_packet_at, content_at, in_body};
+ghost use Rattle.krb_packet.specs.Bodies.{announced, section_version, timestamp_at, timed_packet_at, enhanced_packet_at, old_packet_at, first_interface, most_of, simple_packet_at, content_at, in_body};
 
 use crate::block::BlockKind;
 use crate::interface::{Interface, octets_to_end, read_interface};
@@ -106,6 +106,16 @@ fn first_interface<F: FieldReader>(
     )
 }
 
+/// Reads a time, in units of the interface.
+fn timestamp<F: FieldReader>(order: ByteOrder, reader: &mut F) -> Result<u64, FileFault>
+    ensures read { Follows (λ units. units) result (timestamp_at order) F.MayFail (F.cursor reader.old) (F.cursor reader.new) }
+    ensures keeps { Keeps (F.cursor reader.old) (F.cursor reader.new) }
+{
+    let high = field32(order, FieldName::Timestamp, reader)?;
+    let low = field32(order, FieldName::Timestamp, reader)?;
+    Ok(u64::from(high) * (1 << 32) + u64::from(low))
+}
+
 /// Reads a packet of an interface, after the index of the interface.
 fn timed_packet<F: FieldReader>(
     alloc: Global,
@@ -118,17 +128,14 @@ fn timed_packet<F: FieldReader>(
     ensures read { Follows (λ packet. packet) result (timed_packet_at order count interface) F.MayFail (F.cursor reader.old) (F.cursor reader.new) }
     ensures keeps { Keeps (F.cursor reader.old) (F.cursor reader.new) }
 {
-    let high = field32(order, FieldName::Timestamp, reader)?;
-    let low = field32(order, FieldName::Timestamp, reader)?;
+    let units = timestamp(order, reader)?;
     let captured = field32(order, FieldName::CapturedLength, reader)?;
     let original = field32(order, FieldName::OriginalLength, reader)?;
     let mut octets = reader.spare_octets(alloc);
     reader.octets_field(alloc, FieldName::Data, u64::from(captured), &mut octets)?;
     Ok(Packet {
         number: count + 1,
-        time: interface
-            .clock
-            .time(u64::from(high) * (1 << 32) + u64::from(low)),
+        time: interface.clock.time(units),
         link: interface.link,
         octets: Octets::new(octets),
         size: captured.max(original),

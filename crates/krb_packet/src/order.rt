@@ -1,7 +1,8 @@
 //! The order of the octets of numbers, and numbers of either order, read.
 
-ghost use Rattle.std.specs.Prelude.{◌≡◌, ◌+◌, ◌≤◌, length};
+ghost use Rattle.std.specs.Prelude.{◌≡◌, ◌+◌, ◌≤◌, None, length};
 ghost use Rattle.std.specs.Int.{w16, w32};
+ghost use Rattle.krb_file.specs.Fields.{next_octets_at};
 ghost use Rattle.krb_file.specs.FieldReaders.{Follows, Keeps};
 ghost use Rattle.krb_packet.specs.Numbers.{highest_first, in_order, number_in, field_in, checked};
 ghost use Rattle.krb_packet.specs.inner.PacketHeads.{number_after};
@@ -59,6 +60,17 @@ pub(crate) fn number16<F: FieldReader>(order: ByteOrder, reader: &mut F) -> Resu
     let mut octets = [0; 2];
     reader.fill(&mut octets)?;
     Ok(u16::from_be_bytes(order.highest_first(octets)))
+}
+
+/// Reads four octets.
+#[inline(always)]
+pub(crate) fn four_octets<F: FieldReader>(reader: &mut F) -> Result<[u8; 4], FileFault>
+    ensures read { Follows (λ octets. octets) result (next_octets_at None 4) F.MayFail (F.cursor reader.old) (F.cursor reader.new) }
+    ensures keeps { Keeps (F.cursor reader.old) (F.cursor reader.new) }
+{
+    let mut octets = [0; 4];
+    reader.fill(&mut octets)?;
+    Ok(octets)
 }
 
 /// Reads a number of 32 bits.

@@ -12,15 +12,15 @@ returns-in_err-size-clause-read g c =
     let p = err_from_is_err_and c.from_residual-in_err-size.result c.from_residual-in_err-size.ensures.1 in
     let size = c.body_size.ensures ∙ ap body_size (c.from_be_bytes-length.ensures ∙ ap (from_be_bytes w32) c.highest_first.ensures) in
     rw (p.1, p.2)
-    (size_fails c.length_octets.new.octets c.in_ok-order.order g.F.FieldReader.MayFail (g.F.FieldReader.cursor c.args.reader.now) (g.F.FieldReader.cursor c.length_octets.new.reader) (g.F.FieldReader.cursor c.read_byte_order.new.reader)
-    c.in_ok-length_octets.ensures.read c.in_ok-order.ensures.read c.place-place.result c.in_err-size.field-0.0 c.place-place.ensures.value (sym (c.checked.ensures ∙ ap (checked fields.Length c.place-place.result) size) ∙ c.in_err-size.was))
+    (size_fails c.in_ok-octets.octets c.in_ok-order.order g.F.FieldReader.MayFail (g.F.FieldReader.cursor c.args.reader.now) (g.F.FieldReader.cursor c.length_octets.new.reader) (g.F.FieldReader.cursor c.read_byte_order.new.reader)
+    c.in_ok-octets.ensures.read c.in_ok-order.ensures.read c.place-place.result c.in_err-size.field-0.0 c.place-place.ensures.value (sym (c.checked.ensures ∙ ap (checked fields.Length c.place-place.result) size) ∙ c.in_err-size.was))
 
 pub returns-in_err-left-clause-read : goal.returns-in_err-left-clause-read
 returns-in_err-left-clause-read g c =
     let p = err_from_is_err_and c.from_residual-in_err-left.result c.from_residual-in_err-left.ensures.1 in
     let size = c.body_size.ensures ∙ ap body_size (c.from_be_bytes-length.ensures ∙ ap (from_be_bytes w32) c.highest_first.ensures) in
     rw (p.1, p.2)
-    (left_fails c.length_octets.new.octets c.in_ok-order.order g.F.FieldReader.MayFail (g.F.FieldReader.cursor c.args.reader.now) (g.F.FieldReader.cursor c.length_octets.new.reader) (g.F.FieldReader.cursor c.read_byte_order.new.reader)
-    c.in_ok-length_octets.ensures.read c.in_ok-order.ensures.read c.in_ok-size.size c.place-place.result c.in_err-left.field-0.0 c.place-place.ensures.value
+    (left_fails c.in_ok-octets.octets c.in_ok-order.order g.F.FieldReader.MayFail (g.F.FieldReader.cursor c.args.reader.now) (g.F.FieldReader.cursor c.length_octets.new.reader) (g.F.FieldReader.cursor c.read_byte_order.new.reader)
+    c.in_ok-octets.ensures.read c.in_ok-order.ensures.read c.in_ok-size.size c.place-place.result c.in_err-left.field-0.0 c.place-place.ensures.value
     (sym size ∙ checked_ok fields.Length c.place-place.result c.body_size.result c.in_ok-size.size (sym c.checked.ensures ∙ c.in_ok-size.was))
     (sym (c.checked-2.ensures ∙ ap (checked fields.ByteOrder _) c.after_byte_order.ensures) ∙ c.in_err-left.was))

@@ -11,8 +11,8 @@ returns-in-Ok-clause-read g c =
     body_read c.args.kind c.args.section.now c.args.count c.args.place c.args.head g.F.FieldReader.MayFail c.in_ok-octets.octets.items (g.F.FieldReader.cursor c.args.reader.now) (g.F.FieldReader.cursor c.body_octets.new.reader)
     c.in_ok-octets.ensures.read c.in-Ok.content checked
 
-pub returns-in-Err-clause-read : goal.returns-in-Err-clause-read
-returns-in-Err-clause-read g c =
+pub returns-clause-read : goal.returns-clause-read
+returns-clause-read g c =
     let checked : Fails c.in-Err.fault (in_body (content_at c.args.kind c.args.head.order c.args.count c.args.section.now.interfaces) c.in_ok-octets.octets.items) =
     rw (sym c.as_slice.ensures, sym c.as_slice-2.ensures.value) c.in-Err.ensures.read in
     body_fails c.args.kind c.args.section.now c.args.count c.args.place c.args.head g.F.FieldReader.MayFail c.in_ok-octets.octets.items (g.F.FieldReader.cursor c.args.reader.now) (g.F.FieldReader.cursor c.body_octets.new.reader)

@@ -1,8 +1,11 @@
 use Rattle.std.proofs.Common.{◌≡◌, Some, None, sym, arith}
 use Rattle.krb_packet.specs.declared.format.Format.TheVariants as formats
 use Rattle.krb_packet.specs.declared.packets.State.TheVariants as states
+use Rattle.krb_file.specs.Fields.{succeed}
+use Rattle.krb_packet.specs.Captures.{packet_in, after_packet}
+use Rattle.krb_packet.proofs.Options.{then_fails}
 use Rattle.krb_packet.proofs.Steps.{packet_goes}
-use Rattle.krb_packet.proofs.Streams.{pcap_step, pcap_reads, pcap_given, end_given}
+use Rattle.krb_packet.proofs.Streams.{pcap_step, pcap_reads, pcap_given, end_given, fault_given}
 use Rattle.krb_packet.proofs.packets.Packets.read_captured.Goals as goal
 
 pub invariant_of-self : goal.invariant_of-self
@@ -32,3 +35,12 @@ returns-in-Ok-None-clause-next g c =
     let read = rw (c.in-Ok-None.is, is) at c.packet-read.ensures.read in
     rw (sym c.self.view_is, c.in-Ok-None.is, is)
     (λ file given reads. end_given file given s.count (formats.Pcap c.args.header) s.reader c.packet-read.new.reader (pcap_reads file given s.count c.args.header s.state s.reader begun reads) (pcap_step c.args.header s.count None s.reader c.packet-read.new.reader read))
+
+pub returns-in-Err-clause-next : goal.returns-in-Err-clause-next
+returns-in-Err-clause-next g c =
+    let s = c.self.inside in
+    let begun : s.state ≡ states.Open (formats.Pcap c.args.header) = rw (sym c.self.view_is) at c.requires in
+    let fails = rw c.in-Err.is at c.packet-read.ensures.read in
+    rw (sym c.self.view_is, c.in-Err.is)
+    (λ file given reads. fault_given file given s.count (formats.Pcap c.args.header) c.in-Err.fault (Unit {0}) s.reader (pcap_reads file given s.count c.args.header s.state s.reader begun reads)
+    (then_fails (packet_in c.args.header s.count) (λ packet. succeed (after_packet c.args.header packet)) c.in-Err.fault (Unit {0}) s.reader fails))
