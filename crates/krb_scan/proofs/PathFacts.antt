@@ -2,6 +2,8 @@
 use Rattle.std.proofs.Common.{◌≡◌, ℕ, suc, ℤ, pos, negsuc, ◌+◌, ◌-◌, ◌*◌, ◌<◌, ◌≤◌, ◌^◌, ◌≤ℤ◌, ◌<ℤ◌, Bool, true, false, ◌||◌, nat_lt, nat_le, max, if◌then◌else◌, List, [], ◌∷◌, ◌++◌, length, refl, sym, ap, ◌∙◌, subst, arith, rules, FitsSigned, w64}
 use Rattle.std.proofs.lemmas.Bool.{ltb-false, leb-true, and_parts}
 use Rattle.std.proofs.lemmas.Int.{ints}
+use Rattle.krb_der.specs.inner.Numbers.{AreOctets-complement}
+use Rattle.krb_der.proofs.Sizes.{length-complement}
 use Rattle.krb_der.specs.Octets.{AreOctets, number, complement, integer_octets, integer_value}
 use Rattle.krb_msg.specs.Term.{Term, Integer, Bits, Tagged}
 use Rattle.krb_msg.specs.Judgement.{Head, Partial, Refused, Got, Open as OpenOutcome, head, has_size, bits_contents}
@@ -213,14 +215,6 @@ small_number32 (p ∷ q ∷ r ∷ []) a le = omega (arith, a.0, a.1.0, a.1.1.0)
 small_number32 (p ∷ q ∷ r ∷ s ∷ []) a le = omega (arith, a.0, a.1.0, a.1.1.0, a.1.1.1.0)
 small_number32 (p ∷ q ∷ r ∷ s ∷ t ∷ octets) a le = absurd (omega arith)
 
-complement_octets : (octets : List ℕ) → AreOctets (complement octets)
-complement_octets [] = tt {0}
-complement_octets (octet ∷ octets) = (omega arith, complement_octets octets)
-
-length-complement : (octets : List ℕ) → length (complement octets) ≡ length octets
-length-complement [] = refl
-length-complement (octet ∷ octets) = ap suc (length-complement octets)
-
 abbrev pub IsSmall : ℤ → Type 0
 IsSmall value = (negsuc 549755813887 ≤ℤ value) × (value <ℤ pos 549755813888)
 
@@ -228,7 +222,7 @@ small_integer : (octets : List ℕ) → AreOctets octets → length octets ≤ 4
 small_integer [] a le = (omega (arith, ints), omega (arith, ints))
 small_integer (first ∷ octets) a le =
     by_sign (nat_lt first 128) (number (first ∷ octets)) (number (complement (first ∷ octets))) (small_number32 (first ∷ octets) a le)
-    (small_number32 (complement (first ∷ octets)) (complement_octets (first ∷ octets)) (omega (arith, length-complement (first ∷ octets))))
+    (small_number32 (complement (first ∷ octets)) (AreOctets-complement (first ∷ octets)) (omega (arith, length-complement (first ∷ octets))))
   where
     by_sign : (b : Bool) (n m : ℕ) → n < 2 ^ 32 → m < 2 ^ 32 → IsSmall (if b then pos n else negsuc m)
     by_sign true n m h k = (omega (arith, ints), omega (arith, ints))

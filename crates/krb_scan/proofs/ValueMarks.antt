@@ -169,15 +169,11 @@ ended_past : (expected : Expected) (end : ℕ) (outer : List Container) (marks :
 ended_past expected end outer marks place zero rest e = refl
 ended_past expected end outer marks place (suc room) rest e = absurd (omega arith)
 
--- the first octets of an item
-begins_with_tag : (term : Term) (value : Value term) (rest : List ℕ) → der term value ++ rest ≡ tag_of term ∷ (length_octets (length (contents term value)) ++ contents term value ++ rest)
-begins_with_tag term value rest = der-append term value rest
-
 -- ---- a sole item
 only_past : (term : Term) → ReadsItem term → (value : Value term) → Fits term value → length (der term value) < 2 ^ 32 → (start : ℕ) (outer : List Container) (marks : List Mark) (rest : List ℕ) →
     scan_only (begun (scan_contents term) term) term (start + length (der term value)) outer marks start (length (der term value)) (der term value ++ rest) ≡ Past (marks ++ value_marks term start value) (start + length (der term value)) rest
 only_past term reads value f small start outer marks rest =
-    required_picks (begun (scan_contents term) term) term (OneOf (term ∷ [])) (OneOf []) end outer marks start (length (der term value)) (der term value ++ rest) _ next (der_begins term value) (begins_with_tag term value rest)
+    required_picks (begun (scan_contents term) term) term (OneOf (term ∷ [])) (OneOf []) end outer marks start (length (der term value)) (der term value ++ rest) _ next (der_begins term value) (der-append term value rest)
     ∙ ap (λ seen. scan_then seen next) (reads value f small (container_of end (OneOf []) ∷ outer) marks start rest (omega arith) (λ s. omega arith))
     ∙ ended_past (OneOf []) end outer (marks ++ value_marks term start value) end (end - end) rest (omega arith)
   where
@@ -203,7 +199,7 @@ each_past term reads (value ∷ values) f small zero end outer marks place room 
 each_past term reads (value ∷ values) f small (suc bound) end outer marks place room rest r e b =
     each_step (begun (scan_contents term) term) term bound end outer marks place room _ (omega (arith, p, l))
     ∙ ap (λ octets. scan_required (begun (scan_contents term) term) term (Each term) (Each term) end outer marks place room octets next) (append_assoc (der term value) after rest)
-    ∙ required_picks (begun (scan_contents term) term) term (Each term) (Each term) end outer marks place room (der term value ++ (after ++ rest)) _ next (omega (arith, p, l)) (begins_with_tag term value (after ++ rest))
+    ∙ required_picks (begun (scan_contents term) term) term (Each term) (Each term) end outer marks place room (der term value ++ (after ++ rest)) _ next (omega (arith, p, l)) (der-append term value (after ++ rest))
     ∙ ap (λ seen. scan_then seen next) (reads value f.0 (omega (arith, l)) (container_of end (Each term) ∷ outer) marks place (after ++ rest) (omega (arith, l)) (λ s. absurd cc))
     ∙ each_past term reads values f.1 (omega (arith, l)) bound end outer (marks ++ value_marks term place value) there (end - there) rest (omega (arith, l)) (omega (arith, l)) (omega (arith, p, l))
     ∙ ap (λ all. Past all end rest) (append_assoc marks (value_marks term place value) (list_marks (der term) (value_marks term) there values))
@@ -251,7 +247,7 @@ field_past term fields reads reads_fields value values f fs small end outer mark
 required_past : (term : Term) (fields : Fields) → ReadsItem term → ReadsFields fields → ReadsFields (Required term fields)
 required_past term fields reads reads_fields values f small end outer marks place room rest r e =
     ap (λ octets. scan_fields (Required term fields) end outer marks place room octets) (append_assoc (der term values.0) (der_of_fields fields values.1) rest)
-    ∙ required_picks (begun (scan_contents term) term) term (Listed (Required term fields)) (Listed fields) end outer marks place room _ _ _ (omega (arith, der_begins term values.0, length-append (der term values.0) (der_of_fields fields values.1))) (begins_with_tag term values.0 (der_of_fields fields values.1 ++ rest))
+    ∙ required_picks (begun (scan_contents term) term) term (Listed (Required term fields)) (Listed fields) end outer marks place room _ _ _ (omega (arith, der_begins term values.0, length-append (der term values.0) (der_of_fields fields values.1))) (der-append term values.0 (der_of_fields fields values.1 ++ rest))
     ∙ field_past term fields reads reads_fields values.0 values.1 f.0 f.1 small end outer marks place rest (omega arith)
 
 option_past : (term : Term) (fields : Fields) → ReadsItem term → ReadsFields fields → not (may_begin (tag_of term) fields) ≡ true → (value : Option (Value term)) (values : Values fields) → IfPresent (Fits term) value → AllFit fields values →
@@ -265,7 +261,7 @@ option_past term fields reads reads_fields u None values f fs small end outer ma
     ∙ ap (λ here. Past (marks ++ fields_marks fields here values) end rest) (omega arith)
 option_past term fields reads reads_fields u (Some value) values f fs small end outer marks place room rest r e =
     ap (λ octets. scan_fields (Optional term fields) end outer marks place room octets) (append_assoc (der term value) (der_of_fields fields values) rest)
-    ∙ optional_picks (begun (scan_contents term) term) term (Listed (Optional term fields)) (Listed fields) end outer marks place room _ _ _ _ (omega (arith, der_begins term value, length-append (der term value) (der_of_fields fields values))) (begins_with_tag term value (der_of_fields fields values ++ rest))
+    ∙ optional_picks (begun (scan_contents term) term) term (Listed (Optional term fields)) (Listed fields) end outer marks place room _ _ _ _ (omega (arith, der_begins term value, length-append (der term value) (der_of_fields fields values))) (der-append term value (der_of_fields fields values ++ rest))
     ∙ field_past term fields reads reads_fields value values f fs small end outer marks place rest (omega arith)
 
 end_past : (end : ℕ) (outer : List Container) (marks : List Mark) (place room : ℕ) (rest : List ℕ) → room ≡ 0 → end ≡ place + room → scan_fields End end outer marks place room ([] ++ rest) ≡ Past (marks ++ []) end rest
@@ -338,7 +334,7 @@ chosen_picks (first ∷ terms) term (inr c) expected (suc room) octets tail p e 
 chosen_past : (terms : List Term) (term : Term) → IsChosen term terms → is_unambiguous term ≡ true → (value : Value term) → Fits term value → length (der term value) < 2 ^ 32 → (rest : List ℕ) →
     scan_message terms (length (der term value)) (der term value ++ rest) ≡ Past (value_marks term 0 value) (length (der term value)) rest
 chosen_past terms term c u value f small rest =
-    chosen_picks terms term c (OneOf terms) n (der term value ++ rest) _ (der_begins term value) (begins_with_tag term value rest)
+    chosen_picks terms term c (OneOf terms) n (der term value ++ rest) _ (der_begins term value) (der-append term value rest)
     ∙ ap (λ seen. scan_then seen next) (item_read term u value f small (container_of n (OneOf []) ∷ []) [] 0 rest (omega arith) (λ s. omega arith))
     ∙ ended_past (OneOf []) n [] (value_marks term 0 value) (0 + n) (n - (0 + n)) rest (omega arith)
     ∙ ap (λ there. Past (value_marks term 0 value) there rest) (omega arith)
