@@ -132,16 +132,10 @@ printable-quoted s p = ((omega arith, omega arith), printable-append (escape s) 
 
 -- the text in a token
 abbrev pub ShowsPrintable : Token → Type 0
-ShowsPrintable token.begin_object = Unit {0}
-ShowsPrintable token.end_object = Unit {0}
-ShowsPrintable token.begin_array = Unit {0}
-ShowsPrintable token.end_array = Unit {0}
 ShowsPrintable (token.key s) = IsPrintable s
 ShowsPrintable (token.string s) = IsPrintable s
 ShowsPrintable (token.number s) = IsPrintable s
-ShowsPrintable (token.boolean b) = Unit {0}
-ShowsPrintable token.null = Unit {0}
-ShowsPrintable token.bad = Unit {0}
+ShowsPrintable other = Unit {0}
 
 printable-token : (t : Token) → ShowsPrintable t → IsPrintable (token_text t)
 printable-token token.begin_object p = from-test (token_text token.begin_object) refl

@@ -10,7 +10,7 @@ use Rattle.krb_der.specs.declared.why.Why.TheVariants as why
 use Rattle.krb_input.specs.Inputs.{spelled}
 use Rattle.krb_input.specs.Octets.{first_no_text}
 use Rattle.krb_input.specs.declared.spelling.Spelling.TheVariants as form
-use Rattle.krb_msg.specs.Judgement.{Head, Got, head}
+use Rattle.krb_msg.specs.Judgement.{Head, Partial, Refused as RefusedHead, Got, head}
 use Rattle.krb_token.specs.Items.{Item, entered, expected, item_after, item_of_head}
 use Rattle.krb_token.specs.Opened.{Fault, Opened, Part, and_then, fault_in, opened_by}
 use Rattle.krb_token.specs.Tokens.{is_ntlm, mechanism_opened, opened, whole}
@@ -70,8 +70,9 @@ by_fill made octets header size true fault found = absurd found
 by_fill made octets header size false fault found = no_text_in_part header size octets (by_contents made (0 + header) (take size (drop header octets)) found)
 
 by_head : (made : Item → Result Item Fault) (octets : List ℕ) (found_head : Head) → opened_to (and_then (item_of_head (codes "GSS") true (whole octets) found_head) (λ token. identifier_in made token.contents)) → is_some (first_no_text octets) ≡ true
+by_head made octets Partial found = absurd found
+by_head made octets (RefusedHead offset reason) found = absurd found
 by_head made octets (Got header size) found = by_fill made octets header size (true && nat_lt (header + size) (length octets)) (fault_in (codes "GSS") (0 + (header - 1)) why.Loose) found
-by_head made octets other found = absurd found
 
 gss_no_text : (octets : List ℕ) → IsFound (opened (0x60 ∷ octets)).found → is_some (first_no_text (0x60 ∷ octets)) ≡ true
 gss_no_text octets found = by_head _ (0x60 ∷ octets) (head (length (0x60 ∷ octets)) (0x60 ∷ octets)) found

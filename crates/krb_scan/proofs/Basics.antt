@@ -20,9 +20,8 @@ when_same true x y x' y' e f = e
 when_same false x y x' y' e f = f
 
 abbrev pub IsFrom : ℕ → PartScan → Type 0
-IsFrom low (Within state) = Unit {0}
-IsFrom low (Fault place reason) = Unit {0}
 IsFrom low (Past marks place rest) = low ≤ place
+IsFrom low other = Unit {0}
 
 -- a complete part ends at a place or after it
 pub record AtLeast (low : ℕ) (seen : PartScan) : Type 0 where

@@ -49,9 +49,8 @@ leafed_placed before seen (Done total) term start count stack marks octets e f m
     settle_placed before stack _ (start + count) (omega arith) (omega (arith, mark_more marks (mark_of term start count (leaf_value term octets))))
 
 abbrev pub IsFaultless : Outcome → Type 0
-IsFaultless Open = Unit {0}
 IsFaultless (Bad offset reason) = ⊥
-IsFaultless (Done count) = Unit {0}
+IsFaultless other = Unit {0}
 
 any_faultless : (b : Bool) (count : ℕ) → IsFaultless (if b then Open else Done count)
 any_faultless true count = tt {0}

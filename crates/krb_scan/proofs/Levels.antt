@@ -11,7 +11,7 @@ use Rattle.krb_msg.specs.Term.{Term, Fields, Integer, Sequence, SequenceOf, Tagg
 use Rattle.krb_msg.specs.Shape.{depth, depth_of_fields, greatest_depth}
 use Rattle.krb_msg.specs.Judgement.{Outcome, Open, Bad, Done, Head, Partial, Refused, Got, head, has_size}
 use Rattle.krb_msg.specs.Nodes.{nodes, term_in, term_at}
-use Rattle.krb_scan.specs.Scan.{Mark, Expected, Listed, Each, OneOf, Container, Tip, InHead, State, PartScan, Within, Fault, Past, scan_then, limit, sole_in, container_of, with_mark, leaf_outcome, of_leaf, scan_leaf, scan_after_head, begun, between, scan_required, scan_optional, scan_end, scan_each, scan_contents, scan_fields, scan_one_of, scan_message, lengths_at, Answer, Ongoing, Refusing, Whole, answer, scan}
+use Rattle.krb_scan.specs.Scan.{Mark, Expected, Listed, Each, OneOf, Container, Tip, InHead, State, PartScan, Within, Fault, Past, scan_then, limit, sole_in, container_of, with_mark, leaf_outcome, of_leaf, scan_leaf, scan_after_head, begun, between, scan_required, scan_optional, scan_end, scan_each, scan_contents, scan_fields, scan_one_of, scan_message, lengths_at, Answer, Ongoing, answer, scan}
 use Rattle.krb_scan.proofs.Progress.{Reader}
 use Rattle.krb_scan.proofs.Basics.{when_holds}
 
@@ -29,8 +29,7 @@ levels_of state = levels_at state.tip (length state.stack)
 
 abbrev pub NoDeeper : ℕ → PartScan → Type 0
 NoDeeper most (Within state) = levels_of state ≤ most
-NoDeeper most (Fault place reason) = Unit {0}
-NoDeeper most (Past marks place rest) = Unit {0}
+NoDeeper most other = Unit {0}
 
 pub record IsNoDeeper (most : ℕ) (seen : PartScan) : Type 0 where
   pub no_deeper : NoDeeper most seen
@@ -136,8 +135,7 @@ one_of_deep (term ∷ terms) expected end outer marks place (suc room) octets mo
 -- with the message counted, and an item whose length is being read
 abbrev pub OpenAtMost : ℕ → Answer → Type 0
 OpenAtMost most (Ongoing state) = levels_of state ≤ most
-OpenAtMost most (Refusing place reason) = Unit {0}
-OpenAtMost most (Whole marks) = Unit {0}
+OpenAtMost most other = Unit {0}
 
 -- Never more than thirteen lengths are open, of terms that nest no deeper.
 pub scan_deep : (terms : List Term) → greatest_depth terms ≤ 13 → (n : ℕ) (octets : List ℕ) → OpenAtMost 14 (scan terms n octets)

@@ -160,9 +160,8 @@ padded_push (first ∷ second ∷ octets) octet fit h =
 -- the tests before an outcome that is open have failed
 -- the place law needs these: a fault lies at the octet that is new
 abbrev pub FaultAt : ℕ → Outcome → Type 0
-FaultAt present Open = Unit {0}
 FaultAt present (Bad offset reason) = offset ≡ present
-FaultAt present (Done count) = Unit {0}
+FaultAt present other = Unit {0}
 
 pub record IsFaultAt (present : ℕ) (outcome : Outcome) : Type 0 where
   pub at : FaultAt present outcome

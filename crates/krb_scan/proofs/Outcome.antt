@@ -64,9 +64,8 @@ head_take room octets h = by_room room octets (omega arith)
 -- ---- a header that is whole fits its room
 
 abbrev pub FitsRoom : ℕ → Head → Type 0
-FitsRoom room Partial = Unit {0}
-FitsRoom room (Refused offset reason) = Unit {0}
 FitsRoom room (Got header count) = (0 < header) × (header + count ≤ room)
+FitsRoom room other = Unit {0}
 
 pub record HeadFits (room : ℕ) (got : Head) : Type 0 where
   pub fits : FitsRoom room got
@@ -96,9 +95,8 @@ head_fits room (tag ∷ octet ∷ octets) =
 -- ---- a leaf that is done is done at its count
 
 abbrev pub DoneAt : ℕ → Outcome → Type 0
-DoneAt count Open = Unit {0}
-DoneAt count (Bad offset reason) = Unit {0}
 DoneAt count (Done total) = total ≡ count
+DoneAt count other = Unit {0}
 
 pub record IsDoneAt (count : ℕ) (outcome : Outcome) : Type 0 where
   pub done : DoneAt count outcome
@@ -142,14 +140,9 @@ leaf_done_at other count octets = any_done count octets
 -- of contents after a number of octets of an item that begins at a place, in a room that they fill
 abbrev pub AgreeContents : ℕ → ℕ → ℕ → List ℕ → PartScan → Outcome → Type 0
 AgreeContents base before room octets (Within state) Open = Unit {0}
-AgreeContents base before room octets (Within state) (Bad offset because) = ⊥
-AgreeContents base before room octets (Within state) (Done count) = ⊥
-AgreeContents base before room octets (Fault place reason) Open = ⊥
 AgreeContents base before room octets (Fault place reason) (Bad offset because) = (place ≡ base + offset) × (reason ≡ because)
-AgreeContents base before room octets (Fault place reason) (Done count) = ⊥
-AgreeContents base before room octets (Past marks place rest) Open = ⊥
-AgreeContents base before room octets (Past marks place rest) (Bad offset because) = ⊥
 AgreeContents base before room octets (Past marks place rest) (Done count) = (place ≡ base + before + room) × (count ≡ before + room) × (rest ≡ drop room octets)
+AgreeContents base before room octets other another = ⊥
 
 pub record ContentsAgree (base before room : ℕ) (octets : List ℕ) (seen : PartScan) (outcome : Outcome) : Type 0 where
   pub agree : AgreeContents base before room octets seen outcome
@@ -157,14 +150,9 @@ pub record ContentsAgree (base before room : ℕ) (octets : List ℕ) (seen : Pa
 -- of an item at a place, in a room
 abbrev pub AgreeItem : ℕ → ℕ → Bool → List ℕ → PartScan → Outcome → Type 0
 AgreeItem from room sole octets (Within state) Open = Unit {0}
-AgreeItem from room sole octets (Within state) (Bad offset because) = ⊥
-AgreeItem from room sole octets (Within state) (Done count) = ⊥
-AgreeItem from room sole octets (Fault place reason) Open = ⊥
 AgreeItem from room sole octets (Fault place reason) (Bad offset because) = (place ≡ from + offset) × (reason ≡ because)
-AgreeItem from room sole octets (Fault place reason) (Done count) = ⊥
-AgreeItem from room sole octets (Past marks place rest) Open = ⊥
-AgreeItem from room sole octets (Past marks place rest) (Bad offset because) = ⊥
 AgreeItem from room sole octets (Past marks place rest) (Done count) = (place ≡ from + count) × (0 < count) × (count ≤ room) × (sole ≡ true → count ≡ room) × (rest ≡ drop count octets)
+AgreeItem from room sole octets other another = ⊥
 
 pub record ItemAgree (from room : ℕ) (sole : Bool) (octets : List ℕ) (seen : PartScan) (outcome : Outcome) : Type 0 where
   pub agree : AgreeItem from room sole octets seen outcome

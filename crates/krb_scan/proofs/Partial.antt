@@ -18,8 +18,7 @@ octets_of (InLeaf term start count octets) = octets
 
 abbrev pub HasOctets : Answer → Type 0
 HasOctets (Ongoing state) = AreOctets (octets_of state.tip)
-HasOctets (Refusing place reason) = Unit {0}
-HasOctets (Whole marks) = Unit {0}
+HasOctets other = Unit {0}
 
 pub record KeepsOctets (given : Answer) : Type 0 where
   pub keeps : HasOctets given

@@ -8,9 +8,8 @@ use Rattle.krb_scan.specs.Scan.{Mark, Expected, Listed, Each, OneOf, Container, 
 use Rattle.krb_scan.proofs.Basics.{when_holds, within_at, fault_at, past_at, AtLeast, at_least_weaken, at_least_then}
 
 abbrev pub IsSomeHead : Head → Type 0
-IsSomeHead Partial = Unit {0}
-IsSomeHead (Refused offset reason) = Unit {0}
 IsSomeHead (Got header count) = 0 < header
+IsSomeHead other = Unit {0}
 
 -- a header that is whole has octets
 pub record HeadIsSome (got : Head) : Type 0 where

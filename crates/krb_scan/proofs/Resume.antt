@@ -297,8 +297,7 @@ pub record Reached (state : State) : Type 0 where
 
 abbrev pub IsReachedAnswer : Answer → Type 0
 IsReachedAnswer (Ongoing state) = Reached state
-IsReachedAnswer (Refusing place reason) = Unit {0}
-IsReachedAnswer (Whole marks) = Unit {0}
+IsReachedAnswer other = Unit {0}
 
 pub record ReachedAnswer (given : Answer) : Type 0 where
   pub reached : IsReachedAnswer given

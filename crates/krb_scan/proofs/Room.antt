@@ -49,8 +49,7 @@ pub record IsRoomy (n : ℕ) (state : State) : Type 0 where
 
 abbrev pub RoomyAnswer : ℕ → Answer → Type 0
 RoomyAnswer n (Ongoing state) = IsRoomy n state
-RoomyAnswer n (Refusing place reason) = Unit {0}
-RoomyAnswer n (Whole marks) = Unit {0}
+RoomyAnswer n other = Unit {0}
 
 pub record AnswerIsRoomy (n : ℕ) (given : Answer) : Type 0 where
   pub roomy : RoomyAnswer n given

@@ -54,14 +54,12 @@ head_stays room (tag ∷ octet ∷ octets) more =
 
 -- The header is whole at the last of its octets.
 abbrev pub EndsAt : ℕ → Head → Type 0
-EndsAt count Partial = Unit {0}
-EndsAt count (Refused offset reason) = Unit {0}
 EndsAt count (Got header contents) = header ≡ count
+EndsAt count other = Unit {0}
 
 abbrev pub IsPartial : Head → Type 0
 IsPartial Partial = Unit {0}
-IsPartial (Refused offset reason) = ⊥
-IsPartial (Got header count) = ⊥
+IsPartial other = ⊥
 
 fitting_ends : (room header contents count : ℕ) → header ≡ count → EndsAt count (fitting room header contents)
 fitting_ends room header contents count e = by_test (nat_lt room (header + contents))
@@ -205,9 +203,8 @@ leaf_counts other count octets h = any_counts count octets
 
 -- the same fault, if it is one
 abbrev pub SameFault : Outcome → Outcome → Type 0
-SameFault Open later = Unit {0}
 SameFault (Bad offset reason) later = later ≡ Bad offset reason
-SameFault (Done count) later = Unit {0}
+SameFault other later = Unit {0}
 
 same_fault : (now : Outcome) → SameFault now now
 same_fault (Bad offset reason) = refl

@@ -7,7 +7,7 @@ use Rattle.krb_der.specs.Octets.{when, integer_octets, length_octets}
 use Rattle.krb_der.specs.declared.why.Why.TheVariants as why
 use Rattle.krb_der.specs.inner.Numbers.{integer_value-integer_octets}
 use Rattle.krb_der.specs.inner.Items.{item-append, length-length_octets}
-use Rattle.krb_msg.specs.Term.{Term, Fields, Integer, Text, Octets, Time, Bits, Sequence, SequenceOf, Tagged, Application, End, Required, Optional, tag_of, Value, Values, der, der_of_fields, octets_of_option, Fits, AllFit, IfPresent}
+use Rattle.krb_msg.specs.Term.{Term, Fields, Integer, Bits, Sequence, SequenceOf, Tagged, Application, End, Required, Optional, tag_of, Value, Values, der, der_of_fields, octets_of_option, Fits, AllFit, IfPresent}
 use Rattle.krb_msg.specs.Judgement.{Done, Got, head, has_size, contents_outcome}
 use Rattle.krb_msg.specs.Shape.{may_begin, is_unambiguous, are_unambiguous}
 use Rattle.krb_msg.specs.inner.Values.{contents, der_is, der-append, der_begins, may_begin_from_der}
@@ -30,25 +30,14 @@ use Rattle.krb_scan.proofs.Progress.{Next}
 -- ---- an item's own mark, and those of the items in it
 abbrev pub number_in : (term : Term) → Value term → ℤ
 number_in (Integer low high) value = value
-number_in (Text greatest) value = pos 0
-number_in Octets value = pos 0
-number_in Time value = pos 0
-number_in (Bits least) value = pos 0
-number_in (Sequence fields) value = pos 0
-number_in (SequenceOf empty term) value = pos 0
-number_in (Tagged index term) value = pos 0
-number_in (Application number term) value = pos 0
+number_in other value = pos 0
 
 abbrev pub inner_marks : (term : Term) → ℕ → Value term → List Mark
-inner_marks (Integer low high) start value = []
-inner_marks (Text greatest) start octets = []
-inner_marks Octets start octets = []
-inner_marks Time start octets = []
-inner_marks (Bits least) start bits = []
 inner_marks (Sequence fields) start values = fields_marks fields start values
 inner_marks (SequenceOf empty term) start values = list_marks (der term) (value_marks term) start values
 inner_marks (Tagged index term) start value = value_marks term start value
 inner_marks (Application number term) start value = value_marks term start value
+inner_marks other start another = []
 
 -- of an item whose contents begin at a place
 abbrev pub marks_from : (term : Term) → ℕ → Value term → List Mark

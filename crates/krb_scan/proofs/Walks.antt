@@ -1,11 +1,34 @@
--- A step that the walks of `src/ledger.rt` share. Assumes `Logic`.
+-- What the walks of `src/ledger.rt` share: what they cite of the logic, and a step. Assumes `Logic`.
+pub use seplogic.Ra.Ura.{Ura}
+pub use mir.Syntax.{Fn}
+pub use mir.Val.{Val, vptr}
+pub use base.Logic.{SProp, ent}
+pub use prog.Memory.{Memory}
+pub use prog.Routine.{Routine}
+pub use prog.Wp.{Calls, Loops, WpFn, Tables}
+pub use contract.Monad.{Fun}
+pub use contract.Running.{tables}
+unfoldable pub use contract.Running.{tables_of}
+pub use sound.WpLaws.{WpFn-mono}
+pub use types.Logic.{Logic}
+pub use types.Kit.{‵, raw, ◌⊛◌, ◌$◌, ◌∵◌, !, qed, move, keep, drop, split, fjoin, suffices, done, prop, fsplit, feq_l, regoal}
+pub use types.Part.{agg}
+pub use types.Run.{enter, returns, no_more}
+pub use types.ByLocal.{alloc_all, pass_all, free_all, look_at, sets}
+pub use denote.RattleType.{owns}
+pub use denote.Signature.{types_at, plain}
+pub use denote.Steps.{nothing}
+pub use denote.Triple.Clauses.{Clauses, Ended, closing}
+pub use denote.Triple.Entry.{alive}
+pub use denote.Triple.Spec.{Meets, triple_of}
+pub use denote.Triple.Table.{entered}
+pub use denote.Triple.Walked.{says, Stays, walk_of, ends_at, walk_Meets, stay_dropped, Goes-dropped}
+pub use denote.Exit.{yes}
+pub use denote.Builtin.{RefOf, usize}
 use Rattle.std.proofs.Common.{List, [], ◌∷◌, refl}
-use seplogic.Ra.Ura.{Ura}
-use mir.Val.{Val, vstruct, vnil}
-use types.Logic.{Logic}
-use types.Kit.{Goal, Step, step, Item, ‵, ◌$◌, fjoin, fpack, feq_i}
+use mir.Val.{vstruct, vnil}
+use types.Kit.{Goal, Step, step, Item, fpack, feq_i}
 use denote.RattleType.{RattleType, Valss}
-use denote.Steps.{nothing}
 use denote.Struct.Struct.{Struct, within}
 
 abbrev pub none : Val
