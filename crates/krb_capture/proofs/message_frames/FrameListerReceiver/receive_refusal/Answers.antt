@@ -1,4 +1,4 @@
-use Rattle.std.proofs.Common.{refl, ◌∙◌, ap, ap₂}
+use Rattle.std.proofs.Common.{◌∙◌, ap₂}
 use Rattle.krb_capture.specs.Found.{and_more}
 use Rattle.krb_capture.proofs.message_frames.FrameListerReceiver.receive_refusal.Goals as goal
 

@@ -1,4 +1,4 @@
-use Rattle.std.proofs.Common.{rules, ◌≡◌, true, length, take, refl, sym, ◌∙◌, ap, subst, le_refl}
+use Rattle.std.proofs.Common.{rules, ◌≡◌, true, length, refl, ◌∙◌, ap, subst, le_refl}
 use Rattle.std.proofs.lemmas.List.{take_all}
 use Rattle.krb_frame.specs.Decoding.{Decoding}
 use Rattle.krb_frame.specs.Deliveries.{DeliversPiece}
@@ -51,4 +51,4 @@ returns-in_ok-put_refusal-in-Stopped-clause-listed c = λ limit stream t.
     (subst (DeliversPiece ListsEntry _ true c.args.self.now.decoder c.args.octets.now c.take.new.decoder _ c.take.new.self) c.in-Stopped.is c.in_ok-delivered.ensures.delivered)
     (c.in_ok-put_refusal-in-Stopped.ensures.listed ∙ ap (λ (d : Decoding). with_found c.take.new.self.origin.now (entry_found c.take.new.self.offset (Fault refusal.place refusal.why d.octets)) c.take.new.self.listing.now) c.decoder.ensures)).listed limit stream t in
     rw (take_all (length c.args.octets.now) c.args.octets.now (le_refl (length c.args.octets.now)))
-    (c.listing-in-Stopped-1.given.1 (sym (c.in_ok-put_refusal-in-Stopped.ensures.same ∙ c.in_ok-delivered.ensures.same)) ∙ listed)
+    (then_is _ c.put_refusal.new.self.listing.now _ listed (search rules))
