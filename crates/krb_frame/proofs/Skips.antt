@@ -241,14 +241,14 @@ module _ (messages : List Term) where
   same_rest rest other e = cc
 
   -- the octets of a refused decoder, if the length of the frame is known
-  record HoldsRefused (d : Decoding) (rest place : ℕ) (reason : Why) : Type 0 where
+  pub record HoldsRefused (d : Decoding) (rest place : ℕ) (reason : Why) : Type 0 where
     pub found : frames messages d.limit d.octets ≡ ends (Refused place reason)
     pub last : length d.octets ≡ place + 1
     pub four : 4 ≤ length d.octets
     pub short : number (take 4 d.octets) < 2 ^ 31
     pub rest_is : rest ≡ 4 + number (take 4 d.octets) - length d.octets
 
-  holds-refused : (d : Decoding) (rest place : ℕ) (reason : Why) → IsOfOneFrame messages d → Some rest ≡ rest_to_come messages d → status_of messages d ≡ status.Refused (record { place = place; why = reason }) → HoldsRefused d rest place reason
+  pub holds-refused : (d : Decoding) (rest place : ℕ) (reason : Why) → IsOfOneFrame messages d → Some rest ≡ rest_to_come messages d → status_of messages d ≡ status.Refused (record { place = place; why = reason }) → HoldsRefused d rest place reason
   unfolding found
   holds-refused d rest place reason one e st =
       elim (cases_lt n (2 ^ 31)) [
