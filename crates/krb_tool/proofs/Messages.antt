@@ -1,5 +1,6 @@
 -- The record of a message, by what its octets are judged as.
-use Rattle.std.proofs.Common.{◌≡◌, ℕ, ◌+◌, ◌^◌, ◌<◌, ◌≤◌, false, min, take, ap₂, if◌then◌else◌, List, [], ◌∷◌, ◌++◌, length, Option, Some, None, refl, sym, ◌∙◌, ap, subst, arith, length-append}
+use Rattle.std.proofs.Common.{◌≡◌, ℕ, ◌+◌, ◌^◌, ◌<◌, ◌≤◌, false, true, min, take, ap₂, if◌then◌else◌, List, [], ◌∷◌, ◌++◌, length, Option, Some, None, refl, sym, ◌∙◌, ap, subst, arith, length-append}
+use Rattle.std.specs.Prelude.{nat_lt}
 use Rattle.std.proofs.lemmas.Bool.{lt-ltb, le-ltb}
 use Rattle.krb_der.specs.declared.profile.Profile.{Profile}
 use Rattle.krb_der.specs.declared.verdict.Refusal.{Refusal}
@@ -25,7 +26,7 @@ use Rattle.krb_token.specs.Tokens.{opened}
 use Rattle.krb_token.specs.declared.opening.Found.{Found as FoundOfCode}
 use Rattle.krb_token.specs.declared.opening.Opened.{Opened as OpenedOfCode}
 use Rattle.krb_tool.specs.Files.{FileListing}
-use Rattle.krb_tool.specs.Messages.{IsMessageListing, Layered, Puts, extent_of, found_listing, input_octets_listing, judged_listing, message_listing, opened_listing, refused_listing, refused_with, spelled_listing, ticket_listing, ticket_of_der, unread_listing, whole_input}
+use Rattle.krb_tool.specs.Messages.{IsMessageListing, Layered, Puts, extent_of, found_listing, input_limit, input_listing, input_octets_listing, judged_listing, message_listing, opened_listing, refused_listing, refused_with, spelled_in, spelled_listing, ticket_listing, ticket_of_der, unread_listing, whole_input}
 use Rattle.krb_tool.specs.Paths.{refused_path, ticket_refused_path}
 use Rattle.krb_tool.proofs.FaultPaths.{take-few}
 use Rattle.krb_tool.specs.declared.message_input.MessageInput.{MessageInput}

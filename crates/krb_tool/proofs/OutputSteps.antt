@@ -261,7 +261,7 @@ sends-by contents old mid new (Err error) c m none place label before told e =
     (s.prefix, new.text.items, appends-some before s.prefix (contents new.writer) s.has, s.whole)
 
 pub sends-kept : {W T E : Type 0} (contents : W → Option (List ℕ)) (old new : Output W) (result : Result T E) (error : E) → result ≡ Err error → KeepsAll old new → Sends contents old new.writer result
-sends-kept contents old new (Ok done) error is k = absurd cc
+sends-kept contents old new (Ok done) error is k place label before told e = absurd cc
 sends-kept contents old new (Err failed) error is k place label before told e =
     let s = sent-none contents old place label before told (known contents old place label before told e) new k in
     (s.prefix, _, appends-some before s.prefix (contents new.writer) s.has, s.whole)

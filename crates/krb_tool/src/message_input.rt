@@ -13,9 +13,7 @@ ghost use Rattle.krb_text.specs.declared.input.InputFault.TheVariants.{Misspelle
 use crate::fault_path::refused_path;
 use crate::run::{RunEnd, RunFault};
 use krb_der::{Profile, Refusal, Why};
-use krb_input::{
-    InputFault as Unspelled, Misspelling, Spelled, Spelling, read_input, read_line,
-};
+use krb_input::{InputFault as Unspelled, Misspelling, Spelled, Spelling, read_input, read_line};
 use krb_judge::law::refusals_are_inside;
 use krb_judge::{read_message_in, read_ticket_in, ticket_path};
 use krb_text::{
@@ -287,11 +285,7 @@ impl MessageInput {
     }
 
     /// Appends the record of a text that spells no octets.
-    fn put_misspelling(
-        &self,
-        text: &mut TextBuffer,
-        fault: Misspelling,
-    ) -> Result<RunEnd, RunFault>
+    fn put_misspelling(&self, text: &mut TextBuffer, fault: Misspelling) -> Result<RunEnd, RunFault>
         ensures put { IfOk result (Puts text.old text.new (unread_listing self.now (Misspelled fault.form) (Some fault.place))) }
         ensures fault { IfErr result (λ e. e ≡ RunFault.Memory) }
     {
