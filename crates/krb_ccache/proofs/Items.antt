@@ -18,11 +18,10 @@ module _ {A : Type 0} (item_at : Reader A) where
   items-fault-step others limit s f rest (Ok (x, t)) moves faults e = IsFault-then (limited limit) s t f (moves x t refl) (rest t e)
 
   items-fault : Steps item_at → (bound : ℕ) (limit : Option ℕ) (place : ℕ) (octets : List ℕ) (f : Fault) → (items_within bound item_at limit (at place octets)).end ≡ Err f → IsFault (limited limit) (at place octets) f
-  items-fault steps zero limit place octets f e = absurd cc
-  items-fault steps (suc bound) limit place [] f e = absurd cc
   items-fault steps (suc bound) limit place (octet ∷ octets) f e =
       let s = at place (octet ∷ octets) in
       items-fault-step (items_within bound item_at limit) limit s f (λ t. items-fault steps bound limit t.place t.octets f) (item_at (limited limit) s) (λ x t h. steps.moves (limited limit) s x t h) (λ g h. steps.faults (limited limit) s g h) e
+  items-fault steps other limit place another f e = absurd cc
 
   pub items_after-fault : Steps item_at → (limit : Option ℕ) (s : Source) (f : Fault) → (items_after item_at limit s).end ≡ Err f → IsFault (limited limit) s f
   items_after-fault steps limit s f e = items-fault steps (length s.octets) limit s.place s.octets f e

@@ -216,8 +216,6 @@ module _ (version : ℕ) where
       → (more : ℕ) (limit : Option ℕ) (octets after other : List ℕ) → 0 < length octets → IsAlike masked_credential item_at None k octets after other
       → masked_items (items_within more item_at limit (at place (before ++ (octets ++ after)))) ≡ masked_items (items_within more item_at limit (at place (before ++ (octets ++ other))))
   items-alike bound place before k le e zero limit octets after other some same = refl
-  items-alike zero place [] k le e (suc more) limit octets after other some same = some-alike more limit place octets after other some (subst (λ (p : ℕ). IsAlike masked_credential item_at None p octets after other) (sym (ok_is place k e)) same)
-  items-alike (suc bound) place [] k le e (suc more) limit octets after other some same = some-alike more limit place octets after other some (subst (λ (p : ℕ). IsAlike masked_credential item_at None p octets after other) (sym (ok_is place k e)) same)
   items-alike zero place (octet ∷ before) k le e (suc more) limit octets after other some same = absurd (omega arith)
   items-alike (suc bound) place (octet ∷ before) k le e (suc more) limit octets after other some same =
       let s = at place (octet ∷ before) in
@@ -225,6 +223,7 @@ module _ (version : ℕ) where
       let shorter = (Shortens-credential one_enctype version).shorter (limited None) s f.first f.after f.read in
       step-alike more limit place (octet ∷ before) (octets ++ after) (octets ++ other) f.first f.after f.read
       (items-alike bound f.after.place f.after.octets k (omega (arith, shorter, le)) f.others more limit octets after other some same)
+  items-alike another place [] k le e (suc more) limit octets after other some same = some-alike more limit place octets after other some (subst (λ (p : ℕ). IsAlike masked_credential item_at None p octets after other) (sym (ok_is place k e)) same)
 
 -- ---- a file
 Shortens-key_size : (version : ℕ) → Shortens (key_size_at version)

@@ -175,12 +175,11 @@ module _ (most : ℕ) (file : List ℕ) (version : ℕ) where
 
   within-cut : (bound place : ℕ) (octets : List ℕ) → IsOf file (at place octets)
       → (items_within bound item_at (Some most) (at place octets) ≡ items_within bound item_at None (at place octets)) ⊎ AreCut most file (items_within bound item_at (Some most) (at place octets)) (items_within bound item_at None (at place octets))
-  within-cut zero place octets is = inl refl
-  within-cut (suc bound) place [] is = inl refl
   within-cut (suc bound) place (octet ∷ octets) is =
       let s = at place (octet ∷ octets) in
       cut-either (items_within bound item_at (Some most)) (items_within bound item_at None) (item_at (limited (Some most)) s) (item_at (limited None) s) (each.same s is)
       (cut-step (items_within bound item_at (Some most)) (items_within bound item_at None) (λ t h. within-cut bound t.place t.octets h) (item_at (limited None) s) (λ c t e. each.stays s c t is e))
+  within-cut other place another is = inl refl
 
 -- ---- a whole file
 pub limits-add : (most : ℕ) (file : List ℕ)

@@ -40,12 +40,11 @@ module _ {A B : Type 0} (part : A → B) where
 
   module _ (item_at : Reader A) (other_at : Reader B) (mapped : Mapped item_at other_at) (limit : Option ℕ) where
     within-mapped : (bound place : ℕ) (octets : List ℕ) → of_items (items_within bound item_at limit (at place octets)) ≡ items_within bound other_at limit (at place octets)
-    within-mapped zero place octets = refl
-    within-mapped (suc bound) place [] = refl
     within-mapped (suc bound) place (octet ∷ octets) =
         let s = at place (octet ∷ octets) in
         and-mapped (item_at (limited limit) s) (items_within bound item_at limit) (items_within bound other_at limit) (λ t. within-mapped bound t.place t.octets)
         ∙ ap (λ (r : Result (B × Source) Fault). item_and r (items_within bound other_at limit)) (mapped (limited limit) s)
+    within-mapped other place another = refl
 
     pub items-mapped : (s : Source) → of_items (items_after item_at limit s) ≡ items_after other_at limit s
     items-mapped s = within-mapped (length s.octets) s.place s.octets

@@ -66,15 +66,12 @@ module _ {A : Type 0} (item_at : Reader A) (shortens : Shortens item_at) where
 
   -- any bound that is large enough
   pub items_within-same : (b c : ℕ) (limit : Option ℕ) (place : ℕ) (octets : List ℕ) → length octets ≤ b → length octets ≤ c → items_within b item_at limit (at place octets) ≡ items_within c item_at limit (at place octets)
-  items_within-same zero zero limit place octets p q = refl
-  items_within-same zero (suc c) limit place [] p q = refl
   items_within-same zero (suc c) limit place (octet ∷ octets) p q = absurd (omega arith)
-  items_within-same (suc b) zero limit place [] p q = refl
   items_within-same (suc b) zero limit place (octet ∷ octets) p q = absurd (omega arith)
-  items_within-same (suc b) (suc c) limit place [] p q = refl
   items_within-same (suc b) (suc c) limit place (octet ∷ octets) p q =
       let s = at place (octet ∷ octets) in
       item_and-same (item_at (limited limit) s) (items_within b item_at limit) (items_within c item_at limit) (λ x t e. items_within-same b c limit t.place t.octets (omega (arith, shortens.shorter (limited limit) s x t e)) (omega (arith, shortens.shorter (limited limit) s x t e)))
+  items_within-same other another limit place third p q = refl
 
   after-step : (limit : Option ℕ) (place octet : ℕ) (octets : List ℕ) → items_after item_at limit (at place (octet ∷ octets)) ≡ item_and (item_at (limited limit) (at place (octet ∷ octets))) (items_after item_at limit)
   after-step limit place octet octets =

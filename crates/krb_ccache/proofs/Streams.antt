@@ -106,8 +106,6 @@ module _ (limit : Option ℕ) (file : List ℕ) (count : ℕ) (start : Start) (s
       }
 
   pub fault_given : (e : FileFault) (MayFail : Type 0) (after : State) → FailsReading e next MayFail old → ReturnsNext limit file count (Err e) new start after
-  fault_given faults.Read MayFail after fails = tt
-  fault_given faults.Memory MayFail after fails = tt
   fault_given (faults.Refused fault) MayFail after fails =
       let s = source_at old.place fails.octets in
       let f = is_fault one_enctype start.version (limited limit) s fault (of_rest fails.octets (Err fault) fails.refused) in
@@ -116,15 +114,15 @@ module _ (limit : Option ℕ) (file : List ℕ) (count : ℕ) (start : Start) (s
         counted = ap (λ (i : Items Credential). length i.items) whole ∙ ap length (append-nil reads.given) ∙ reads.counted;
         is = ap (λ (i : Items Credential). i.end) whole;
       }
+  fault_given other MayFail after fails = tt
 
 -- ---- a refusal is at a place of the file or at its end
 start_inside : (limit : Option ℕ) (file : List ℕ) (f : Fault) → file_start limit file ≡ Err f → f.place ≤ length file
 start_inside limit file f e = let p = (Steps-start (3 ∷ 4 ∷ [])).faults (limited limit) (source_of file) f e in omega (arith, p.upto)
 
 start_met : (limit : Option ℕ) (file : List ℕ) (e : FileFault) → FailsReading e (start_at (3 ∷ 4 ∷ [])) (Unit {0}) (unread limit (Some file)) → IsStreamFaultIn file e
-start_met limit file faults.Read fails = tt
-start_met limit file faults.Memory fails = tt
 start_met limit file (faults.Refused fault) fails = start_inside limit file fault (ap (file_start limit) (sym fails.there) ∙ fails.refused)
+start_met limit file other fails = tt
 
 pub start_refusal_in_file : (limit : Option ℕ) (file : List ℕ) (known : Option (List ℕ)) (e : FileFault) → known ≡ Some file → FailsReading e (start_at (3 ∷ 4 ∷ [])) (Unit {0}) (unread limit known) → IsStreamFaultIn file e
 start_refusal_in_file limit file known e is fails = start_met limit file e (subst (λ (k : Option (List ℕ)). FailsReading e (start_at (3 ∷ 4 ∷ [])) (Unit {0}) (unread limit k)) is fails)

@@ -106,13 +106,12 @@ module _ (limit : Option ℕ) where
   each-step P (Ok (c, t)) others each = each c t refl
 
   each-within : (bound place : ℕ) (octets : List ℕ) → AreOctets octets → AllByRecursion (IsReadAgain (credential_at one_enctype 4) credential limit) (items_within bound (credential_at one_enctype 3) limit (at place octets)).items
-  each-within zero place octets fits = tt
-  each-within (suc bound) place [] fits = tt
   each-within (suc bound) place (octet ∷ octets) fits =
       let s = at place (octet ∷ octets) in
       each-step (IsReadAgain (credential_at one_enctype 4) credential limit) (credential_at one_enctype 3 (limited limit) s) (items_within bound (credential_at one_enctype 3) limit) (λ c t e.
       let a = parts-again s t c fits e in
       (one-again c a.0, each-within bound t.place t.octets a.1))
+  each-within other place another fits = tt
 
   each-again : (s : Source) → AreOctets s.octets → AllByRecursion (IsReadAgain (credential_at one_enctype 4) credential limit) (items_after (credential_at one_enctype 3) limit s).items
   each-again s fits = each-within (length s.octets) s.place s.octets fits

@@ -41,19 +41,17 @@ when-begins true path one other p q = p
 when-begins false path one other p q = q
 
 head-begins : (term : Term) → ContentsBegin term → (h : Head) (names : Names) (path : List ℕ) (room : ℕ) (sole : Bool) (octets : List ℕ) → BeginsPath path (within_head h path room sole octets (contents_path term names path))
-head-begins term begin Partial names path room sole octets = begins-same path
-head-begins term begin (Refused k r) names path room sole octets = begins-same path
 head-begins term begin (Got header contents) names path room sole octets =
     when-begins (sole && nat_lt (header + contents) room) path path (contents_path term names path contents (take contents (drop header octets))) (begins-same path) (begin.begin names path contents (take contents (drop header octets)))
+head-begins term begin other names path room sole octets = begins-same path
 
 item-begins : (term : Term) → ContentsBegin term → (names : Names) (path : List ℕ) (room : ℕ) (sole : Bool) (octets : List ℕ) → BeginsPath path (item_path term names path room sole octets)
 item-begins term begin names path room sole octets =
     when-begins (begins_with (tag_of term) octets) path (within_head (head room octets) path room sole octets (contents_path term names path)) path (head-begins term begin (head room octets) names path room sole octets) (begins-same path)
 
 done-begins : (o : Outcome) (path found : List ℕ) (next : ℕ → List ℕ) → ((count : ℕ) → BeginsPath path (next count)) → BeginsPath path found → BeginsPath path (after_done o next (λ _. found))
-done-begins Open path found next later here = here
-done-begins (Bad k r) path found next later here = here
 done-begins (Done count) path found next later here = later count
+done-begins other path found next later here = here
 
 elements-begin : (term : Term) → ContentsBegin term → (names : Names) (path : List ℕ) (bound index room : ℕ) (octets : List ℕ) → BeginsPath path (elements_path (contents_path term names) term path bound index room octets)
 elements-begin term begin names path zero index room octets = begins-same path
@@ -74,15 +72,11 @@ first-begins term begin fields names path index room octets later =
 
 mutual
   pub contents-begin : (term : Term) → ContentsBegin term
-  contents-begin (Integer low high) = record { begin = λ names path room octets. begins-same path }
-  contents-begin (Text greatest) = record { begin = λ names path room octets. begins-same path }
-  contents-begin Octets = record { begin = λ names path room octets. begins-same path }
-  contents-begin Time = record { begin = λ names path room octets. begins-same path }
-  contents-begin (Bits least) = record { begin = λ names path room octets. begins-same path }
   contents-begin (Sequence fields) = record { begin = λ names path room octets. fields-begin fields names path 0 room octets }
   contents-begin (SequenceOf empty term) = record { begin = λ names path room octets. elements-begin term (contents-begin term) names path (length octets) 0 room octets }
   contents-begin (Tagged index term) = record { begin = λ names path room octets. item-begins term (contents-begin term) names path room true octets }
   contents-begin (Application number term) = record { begin = λ names path room octets. item-begins term (contents-begin term) names path room true octets }
+  contents-begin other = record { begin = λ names path room octets. begins-same path }
 
   fields-begin : (fields : Fields) (names : Names) (path : List ℕ) (index room : ℕ) (octets : List ℕ) → BeginsPath path (fields_path fields names path index room octets)
   fields-begin End names path index room octets = begins-same path
@@ -120,14 +114,11 @@ then-from before offset reason (Bad k r) next e later = omega (arith, bad_is (be
 then-from before offset reason (Done count) next e later = omega (arith, later count e)
 
 fields-from : (fields : Fields) (before room : ℕ) (octets : List ℕ) (offset : ℕ) (reason : Why) → (gone reason → ⊥) → fields_outcome fields before room octets ≡ Bad offset reason → before ≤ offset
-fields-from End before zero octets offset reason some e = absurd cc
-fields-from End before (suc room) [] offset reason some e = absurd cc
 fields-from End before (suc room) (octet ∷ octets) offset reason some e = omega (arith, bad_is before offset why.Tag reason e)
 fields-from (Required term fields) before zero octets offset reason some e = absurd (some (sym (why_is (before - 1) offset why.Missing reason e)))
 fields-from (Required term fields) before (suc room) octets offset reason some e =
     then-from before offset reason (item_outcome term (suc room) false octets) _ e (λ count f. fields-from fields (before + count) (suc room - count) (drop count octets) offset reason some f)
 fields-from (Optional term fields) before zero octets offset reason some e = fields-from fields before zero octets offset reason some e
-fields-from (Optional term fields) before (suc room) [] offset reason some e = absurd cc
 fields-from (Optional term fields) before (suc room) (octet ∷ octets) offset reason some e =
     by_tag (octet == tag_of term) e (λ f. then-from before offset reason (item_outcome term (suc room) false (octet ∷ octets)) _ f (λ count g. fields-from fields (before + count) (suc room - count) (drop count (octet ∷ octets)) offset reason some g))
     (λ f. fields-from fields before (suc room) (octet ∷ octets) offset reason some f)
@@ -137,6 +128,7 @@ fields-from (Optional term fields) before (suc room) (octet ∷ octets) offset r
         → (fields_outcome fields before (suc room) (octet ∷ octets) ≡ Bad offset reason → before ≤ offset) → before ≤ offset
     by_tag true f here later = here f
     by_tag false f here later = later f
+fields-from other before another third offset reason some e = absurd cc
 
 items-from : (one : ℕ → List ℕ → Outcome) (bound before room : ℕ) (octets : List ℕ) (offset : ℕ) (reason : Why) → items_contents one bound before room octets ≡ Bad offset reason → before ≤ offset
 items-from one bound before zero octets offset reason e = absurd cc
@@ -154,15 +146,11 @@ field-lies-from (Optional term fields) names path index offset found room octets
 field-lies-from (Optional term fields) names path index offset found room octets before (inr (inr absent)) = field-lies-from fields names path (index + 1) offset found room octets before absent.1
 
 lies-from : (term : Term) (names : Names) (path : List ℕ) (offset : ℕ) (found : List ℕ) (room : ℕ) (octets : List ℕ) (before : ℕ) → LiesInside ⊥ term names path offset found room octets before → before ≤ offset
-lies-from (Integer low high) names path offset found room octets before lie = absurd lie
-lies-from (Text greatest) names path offset found room octets before lie = absurd lie
-lies-from Octets names path offset found room octets before lie = absurd lie
-lies-from Time names path offset found room octets before lie = absurd lie
-lies-from (Bits least) names path offset found room octets before lie = absurd lie
 lies-from (Sequence fields) names path offset found room octets before lie = field-lies-from fields names path 0 offset found room octets before lie
 lies-from (SequenceOf empty term) names path offset found room octets before lie = omega (arith, lie.3)
 lies-from (Tagged index term) names path offset found room octets before lie = lie.0
 lies-from (Application number term) names path offset found room octets before lie = lie.0
+lies-from other names path offset found room octets before lie = absurd lie
 
 -- ---- an item, by what is known of its contents
 pub record ContentsDeep (term : Term) : Type 0 where
@@ -188,13 +176,12 @@ got-deep term deep names path header contents room sole octets offset reason fal
 
 of_head-deep : (term : Term) → ContentsDeep term → (names : Names) (path : List ℕ) (room : ℕ) (sole : Bool) (octets : List ℕ) (offset : ℕ) (reason : Why) (h : Head) → (gone reason → ⊥) → head room octets ≡ h → length octets ≡ suc offset → of_head term h room sole octets (contents_outcome term) ≡ Bad offset reason
     → (header contents : ℕ) → h ≡ Got header contents → (other : List ℕ) → LiesInside ⊥ term names path offset other contents (take contents (drop header octets)) header → BeginsPath other (within_head h path room sole octets (contents_path term names path))
-of_head-deep term deep names path room sole octets offset reason Partial present is len e header contents got other lie = absurd cc
-of_head-deep term deep names path room sole octets offset reason (Refused k r) present is len e header contents got other lie = absurd cc
 of_head-deep term deep names path room sole octets offset reason (Got h c) present is len e header contents got other lie =
     let same = got_is h c header contents got in
     let here : LiesInside ⊥ term names path offset other c (take c (drop h octets)) h =
     subst (λ (n : ℕ). LiesInside ⊥ term names path offset other c (take c (drop n octets)) n) (sym same.0) (subst (λ (n : ℕ). LiesInside ⊥ term names path offset other n (take n (drop header octets)) header) (sym same.1) lie) in
     got-deep term deep names path h c room sole octets offset reason (sole && nat_lt (h + c) room) (has_size term c) present (head-positive room octets h c is) refl refl len e other here
+of_head-deep term deep names path room sole octets offset reason another present is len e header contents got other lie = absurd cc
 
 pub item-deep : (term : Term) → ContentsBegin term → ContentsDeep term → (names : Names) (path : List ℕ) (room : ℕ) (sole : Bool) (octets : List ℕ) (offset : ℕ) (reason : Why) → (gone reason → ⊥) → length octets ≤ room → length octets ≡ suc offset → item_outcome term room sole octets ≡ Bad offset reason
     → (other : List ℕ) → LiesIn ⊥ term names path room octets offset other → BeginsPath other (item_path term names path room sole octets)
@@ -321,11 +308,6 @@ optional-deep term fields names path index room octet octets before offset reaso
 -- ---- all terms
 mutual
   pub contents-deep : (term : Term) → ContentsDeep term
-  contents-deep (Integer low high) = record { deep = λ names path room octets before offset reason present some size fits len e other lie. absurd lie }
-  contents-deep (Text greatest) = record { deep = λ names path room octets before offset reason present some size fits len e other lie. absurd lie }
-  contents-deep Octets = record { deep = λ names path room octets before offset reason present some size fits len e other lie. absurd lie }
-  contents-deep Time = record { deep = λ names path room octets before offset reason present some size fits len e other lie. absurd lie }
-  contents-deep (Bits least) = record { deep = λ names path room octets before offset reason present some size fits len e other lie. absurd lie }
   contents-deep (Sequence fields) = record { deep = λ names path room octets before offset reason present some size fits len e other lie. fields-deep fields names path 0 room octets before offset reason present fits len e other lie }
   contents-deep (SequenceOf empty term) = record {
     deep = λ names path room octets before offset reason present some size fits len e other lie.
@@ -334,6 +316,7 @@ mutual
   }
   contents-deep (Tagged index term) = record { deep = λ names path room octets before offset reason present some size fits len e other lie. only-deep term (contents-begin term) (contents-deep term) names path room octets before offset reason present fits len e other lie }
   contents-deep (Application number term) = record { deep = λ names path room octets before offset reason present some size fits len e other lie. only-deep term (contents-begin term) (contents-deep term) names path room octets before offset reason present fits len e other lie }
+  contents-deep another = record { deep = λ names path room octets before offset reason present some size fits len e other lie. absurd lie }
 
   fields-deep : (fields : Fields) (names : Names) (path : List ℕ) (index room : ℕ) (octets : List ℕ) (before offset : ℕ) (reason : Why) → (gone reason → ⊥) → length octets ≤ room → before + length octets ≡ suc offset → fields_outcome fields before room octets ≡ Bad offset reason
       → (other : List ℕ) → LiesInField ⊥ fields names path index offset other room octets before → BeginsPath other (fields_path fields names path index room octets)

@@ -16,9 +16,8 @@ use Rattle.krb_judge.specs.Laws.{IsInside, RefusalsAreInside}
 chosen : (long empty : Bool) (first second : Refusal) (v : Verdict) (r : Refusal) (n : ℕ) → first.place ≡ 0 → second.place ≡ 0 → 0 < n → ((p : Refusal) → v ≡ verdict.Refused p → p.place < n) → (if long then Some first else if empty then Some second else refused v) ≡ Some r → r.place < n
 chosen true empty first second v r n f s some within e = let same : first ≡ r = cc in omega (arith, f, some, ap (λ (x : Refusal). x.place) same)
 chosen false true first second v r n f s some within e = let same : second ≡ r = cc in omega (arith, s, some, ap (λ (x : Refusal). x.place) same)
-chosen false false first second verdict.Open r n f s some within e = absurd cc
-chosen false false first second verdict.Whole r n f s some within e = absurd cc
 chosen false false first second (verdict.Refused p) r n f s some within e = let same : p ≡ r = cc in omega (arith, within p refl, ap (λ (x : Refusal). x.place) same)
+chosen false false first second other r n f s some within e = absurd cc
 
 inside : (judge : ℕ → List ℕ → Verdict) → ((octets : List ℕ) (p : Refusal) → judge (length octets) octets ≡ verdict.Refused p → p.place < length octets) → IsInside (refusal_by judge)
 inside judge within octets r some e =

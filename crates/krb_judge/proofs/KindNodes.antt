@@ -37,12 +37,4 @@ strict_node kind.KrbError = refl
 
 pub fields_have_names : FieldsHaveNames
 fields_have_names kind.AsReq = refl
-fields_have_names kind.AsRep = refl
-fields_have_names kind.TgsReq = refl
-fields_have_names kind.TgsRep = refl
-fields_have_names kind.ApReq = refl
-fields_have_names kind.ApRep = refl
-fields_have_names kind.KrbSafe = refl
-fields_have_names kind.KrbPriv = refl
-fields_have_names kind.KrbCred = refl
-fields_have_names kind.KrbError = refl
+fields_have_names other = refl

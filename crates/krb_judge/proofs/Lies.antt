@@ -29,9 +29,8 @@ abbrev pub gone : Why → Type 0
 gone reason = reason ≡ why.Missing
 
 pub after-bad : (before offset : ℕ) (reason : Why) (o : Outcome) → after before o ≡ Bad offset reason → (k : ℕ) × (o ≡ Bad k reason) × (offset ≡ before + k)
-after-bad before offset reason Open e = absurd cc
 after-bad before offset reason (Bad k r) e = (k, ap (λ (x : Why). Bad k x) cc, sym (bad_is (before + k) offset r reason e))
-after-bad before offset reason (Done count) e = absurd cc
+after-bad before offset reason other e = absurd cc
 
 -- a refusal of contents is at one of their octets, or right before them
 pub record Within (before offset : ℕ) (octets : List ℕ) : Type 0 where
@@ -89,15 +88,10 @@ pub record ContentsLie (term : Term) : Type 0 where
 
 -- contents of no size that is possible, of which none is present
 no-contents : (term : Term) (names : Names) (path : List ℕ) (room : ℕ) → has_size term room ≡ false → contents_path term names path room [] ≡ path
-no-contents (Integer low high) names path room e = refl
-no-contents (Text greatest) names path room e = refl
-no-contents Octets names path room e = refl
-no-contents Time names path room e = refl
-no-contents (Bits least) names path room e = refl
 no-contents (Sequence fields) names path room e = absurd cc
-no-contents (SequenceOf empty term) names path room e = refl
 no-contents (Tagged index term) names path room e = absurd cc
 no-contents (Application number term) names path room e = absurd cc
+no-contents other names path room e = refl
 
 -- the path in an item whose head is known
 abbrev head_lies : (Absent : Type 0) → Head → Term → Names → List ℕ → ℕ → List ℕ → ℕ → List ℕ → Type 0
@@ -221,8 +215,6 @@ field-lies : (term : Term) → ContentsLie term → (fields : Fields) (names : N
     (when begins (λ _. after_done o (λ count. fields_path fields names path (index + 1) (room - count) (drop count octets)) (λ _. item_path term (field_at names index).inside (field_path path (field_at names index).name) room false octets)) (λ _. path))
     room octets before
 field-lies term lies fields names path index room octets before offset fits o is stop later false b = inl refl
-field-lies term lies fields names path index room octets before offset fits Open is stop later true b = here-lies term lies fields names path index room octets before offset Open is fits stop b
-field-lies term lies fields names path index room octets before offset fits (Bad k r) is stop later true b = here-lies term lies fields names path index room octets before offset (Bad k r) is fits stop b
 field-lies term lies fields names path index room octets before offset fits (Done count) is stop later true b =
     let there = done_within term room false octets count fits is in
     by_later (later count is (stops-at (fields_outcome fields (before + count) (room - count) (drop count octets)) (before + length octets) ((before + count) + length (drop count octets)) offset (omega (arith, length-drop count octets, there)) stop))
@@ -231,6 +223,7 @@ field-lies term lies fields names path index room octets before offset fits (Don
         → FieldLies (Missed (fields_outcome fields (before + count) (room - count) (drop count octets))) term fields names path index offset (fields_path fields names path (index + 1) (room - count) (drop count octets)) room octets before
     by_later (inl same) = inl same
     by_later (inr lie) = inr (inr (count, is, lie))
+field-lies term lies fields names path index room octets before offset fits other is stop later true b = here-lies term lies fields names path index room octets before offset other is fits stop b
 
 -- ---- items of a SEQUENCE OF
 abbrev ElementLies : (Absent : Type 0) → Term → Names → (path : List ℕ) → (index offset : ℕ) → (found : List ℕ) → (room : ℕ) → (octets : List ℕ) → (before : ℕ) → Type 0
@@ -284,12 +277,11 @@ element-lies : (term : Term) → ContentsLie term → (names : Names) (path : Li
     (when begins (λ _. after_done o (λ count. elements_path (contents_path term names) term path more (index + 1) (room - count) (drop count octets)) (λ _. item_path term names (element_path path index) room false octets)) (λ _. path))
     room octets before
 element-lies term lies names path more index room octets before offset next fits o is stop later false b = inl refl
-element-lies term lies names path more index room octets before offset next fits Open is stop later true b = this-lies term lies names path index room octets before offset Open is fits stop b
-element-lies term lies names path more index room octets before offset next fits (Bad k r) is stop later true b = this-lies term lies names path index room octets before offset (Bad k r) is fits stop b
 element-lies term lies names path more index room octets before offset next fits (Done count) is stop later true b =
     let there = done_within term room false octets count fits is in
     elements-done (Missed (next count)) term names path index offset count room (elements_path (contents_path term names) term path more (index + 1) (room - count) (drop count octets)) octets before is
     (later count is (stops-at (next count) (before + length octets) ((before + count) + length (drop count octets)) offset (omega (arith, length-drop count octets, there)) stop))
+element-lies term lies names path more index room octets before offset next fits other is stop later true b = this-lies term lies names path index room octets before offset other is fits stop b
 
 elements-lie : (term : Term) → ContentsLie term → (names : Names) (path : List ℕ) (bound more index room : ℕ) (octets : List ℕ) (before offset : ℕ) → length octets ≤ room → room ≤ bound → length octets ≤ more
     → Stops (items_contents (λ left. item_with (contents_outcome term) term left false) bound before room octets) (before + length octets) offset
@@ -316,9 +308,8 @@ only-lies term lies names path (suc room) octets before offset fits stop = by_ou
   where
     by_outcome : (o : Outcome) → item_outcome term (suc room) true octets ≡ o → Stops (after before o) (before + length octets) offset
         → (item_path term names path (suc room) true octets ≡ path) ⊎ ((before ≤ offset) × LiesIn (Missed (after before o)) term names path (suc room) octets (offset - before) (item_path term names path (suc room) true octets))
-    by_outcome Open is stop = let s = stops-inside before (length octets) offset Open stop in inr (s.from, known-lies term lies names path (suc room) true octets (offset - before) Open is fits s.inner)
-    by_outcome (Bad k r) is stop = let s = stops-inside before (length octets) offset (Bad k r) stop in inr (s.from, known-lies term lies names path (suc room) true octets (offset - before) (Bad k r) is fits s.inner)
     by_outcome (Done count) is stop = absurd stop
+    by_outcome other is stop = let s = stops-inside before (length octets) offset other stop in inr (s.from, known-lies term lies names path (suc room) true octets (offset - before) other is fits s.inner)
 
 elements-of : (term : Term) → ContentsLie term → (empty : Bool) (names : Names) (path : List ℕ) (room : ℕ) (octets : List ℕ) (before offset : ℕ) → length octets ≤ room → Stops (items_contents (λ left. item_with (contents_outcome term) term left false) room before room octets) (before + length octets) offset
     → LiesOrIs (Missed (items_contents (λ left. item_with (contents_outcome term) term left false) room before room octets)) (SequenceOf empty term) names path room octets before offset (elements_path (contents_path term names) term path (length octets) 0 room octets)
@@ -368,15 +359,11 @@ optional-lies term fields names path index room octet octets before offset false
 
 mutual
   pub contents-lie : (term : Term) → ContentsLie term
-  contents-lie (Integer low high) = record { lie = λ names path room octets before offset some size fits stop. inl refl }
-  contents-lie (Text greatest) = record { lie = λ names path room octets before offset some size fits stop. inl refl }
-  contents-lie Octets = record { lie = λ names path room octets before offset some size fits stop. inl refl }
-  contents-lie Time = record { lie = λ names path room octets before offset some size fits stop. inl refl }
-  contents-lie (Bits least) = record { lie = λ names path room octets before offset some size fits stop. inl refl }
   contents-lie (Sequence fields) = record { lie = λ names path room octets before offset some size fits stop. fields-lie fields names path 0 room octets before offset some fits stop }
   contents-lie (SequenceOf empty term) = record { lie = λ names path room octets before offset some size fits stop. elements-of term (contents-lie term) empty names path room octets before offset fits stop }
   contents-lie (Tagged index term) = record { lie = λ names path room octets before offset some size fits stop. only-lies term (contents-lie term) names path room octets before offset fits stop }
   contents-lie (Application number term) = record { lie = λ names path room octets before offset some size fits stop. only-lies term (contents-lie term) names path room octets before offset fits stop }
+  contents-lie other = record { lie = λ names path room octets before offset some size fits stop. inl refl }
 
   fields-lie : (fields : Fields) (names : Names) (path : List ℕ) (index room : ℕ) (octets : List ℕ) (before offset : ℕ) → 0 < before → length octets ≤ room → Stops (fields_outcome fields before room octets) (before + length octets) offset → LaterLies (Missed (fields_outcome fields before room octets)) fields names path index offset room octets before
   fields-lie End names path index room octets before offset some fits stop = inl refl

@@ -21,25 +21,8 @@ use Rattle.krb_judge.proofs.Deepest.{contents-begin, contents-deep, item-deep}
 -- octets that begin with the tag of a kind are judged by its term
 judged-by : (profile : Profile) (k : Kind) (n : ℕ) (octets : List ℕ) → message_outcome (messages profile) n (kind_tag k ∷ octets) ≡ item_outcome (kind_term_in profile k) n true (kind_tag k ∷ octets)
 judged-by Lenient kind.AsReq n octets = refl
-judged-by Lenient kind.AsRep n octets = refl
-judged-by Lenient kind.TgsReq n octets = refl
-judged-by Lenient kind.TgsRep n octets = refl
-judged-by Lenient kind.ApReq n octets = refl
-judged-by Lenient kind.ApRep n octets = refl
-judged-by Lenient kind.KrbSafe n octets = refl
-judged-by Lenient kind.KrbPriv n octets = refl
-judged-by Lenient kind.KrbCred n octets = refl
-judged-by Lenient kind.KrbError n octets = refl
 judged-by Strict kind.AsReq n octets = refl
-judged-by Strict kind.AsRep n octets = refl
-judged-by Strict kind.TgsReq n octets = refl
-judged-by Strict kind.TgsRep n octets = refl
-judged-by Strict kind.ApReq n octets = refl
-judged-by Strict kind.ApRep n octets = refl
-judged-by Strict kind.KrbSafe n octets = refl
-judged-by Strict kind.KrbPriv n octets = refl
-judged-by Strict kind.KrbCred n octets = refl
-judged-by Strict kind.KrbError n octets = refl
+judged-by other another n octets = refl
 
 some_is : (x y : List ℕ) → Some x ≡ Some y → x ≡ y
 some_is x y e = cc

@@ -39,19 +39,4 @@ own fields e =
 
 pub names_are_own : NamesAreOwn
 names_are_own names.Basic = own _ refl
-names_are_own names.PrincipalName = own _ refl
-names_are_own names.HostAddress = own _ refl
-names_are_own names.PaData = own _ refl
-names_are_own names.EncryptedData = own _ refl
-names_are_own names.Checksum = own _ refl
-names_are_own names.Ticket = own _ refl
-names_are_own names.KdcReqBody = own _ refl
-names_are_own names.KdcReq = own _ refl
-names_are_own names.KdcRep = own _ refl
-names_are_own names.ApReq = own _ refl
-names_are_own names.ApRep = own _ refl
-names_are_own names.KrbSafeBody = own _ refl
-names_are_own names.KrbSafe = own _ refl
-names_are_own names.KrbPriv = own _ refl
-names_are_own names.KrbCred = own _ refl
-names_are_own names.KrbError = own _ refl
+names_are_own other = own _ refl

@@ -34,9 +34,8 @@ are_of profile m w e = record { in_profile = subst (IsInProfile profile) (same_m
 
 -- ---- no refusal
 chosen_none : (long empty : Bool) (first second : Refusal) (v : Verdict) → (if long then Some first else if empty then Some second else refused v) ≡ None → (long ≡ false) × (empty ≡ false) × (refused v ≡ None)
-chosen_none true empty first second v e = absurd cc
-chosen_none false true first second v e = absurd cc
 chosen_none false false first second v e = (refl, refl, e)
+chosen_none other another first second v e = absurd cc
 
 none_chosen : (long empty : Bool) (first second : Refusal) (v : Verdict) → long ≡ false → empty ≡ false → v ≡ verdict.Whole → (if long then Some first else if empty then Some second else refused v) ≡ None
 none_chosen long empty first second v p q e = rw (p, q, e) refl

@@ -57,9 +57,7 @@ its_extent path extent h = (its_path path, (h.at, (optional_number extent.length
 
 spelled : (s : Spelling) → Prints (spelling_name s)
 spelled spellings.Octets = word _ refl
-spelled spellings.Hex = word _ refl
-spelled spellings.Dump = word _ refl
-spelled spellings.Base64 = word _ refl
+spelled other = word _ refl
 
 optional_spelling : (s : Option Spelling) → ValueFits (if_there (λ s. Word (spelling_name s)) s)
 optional_spelling None = tt
@@ -71,19 +69,14 @@ its_reason why = (omega (arith, small_reason why), (reasons.name why).all)
 
 small_file_reason : (why : FileWhy) → nat_le (file_reason_number why) 255 ≡ true
 small_file_reason files.Magic = refl
-small_file_reason files.Version = refl
-small_file_reason files.Truncated = refl
-small_file_reason files.Overrun = refl
-small_file_reason (files.WrongLength length) = refl
-small_file_reason (files.TooLong length) = refl
+small_file_reason other = refl
 
 its_file_reason : (why : FileWhy) → (file_reason_number why < 2 ^ 64) × IsPrintable (file_reason_name why)
 its_file_reason why = (omega (arith, leb-true (file_reason_number why) 255 (small_file_reason why)), (reasons.file_name why).all)
 
 worded : (fault : InputFault) → Prints (input_word fault)
-worded faults.Length = word _ refl
 worded (faults.Misspelled s) = spelled s
-worded faults.Ntlm = word _ refl
+worded other = word _ refl
 
 -- ---- refusals and ends
 frame_refused : (messages place : ℕ) (reason : Why) (path : Option (List ℕ)) (extent : Extent) → messages < 2 ^ 63 → place < 2 ^ 63 → IsExtent extent → PrintsJson (refused_record forms.Json messages place reason path extent)

@@ -55,12 +55,9 @@ its_parts (message.AsReq m) good = kdc_req_inside m (its_value (message.AsReq m)
 its_parts (message.AsRep m) good = padata_inside false m.padata
 its_parts (message.TgsReq m) good = kdc_req_inside m (its_value (message.TgsReq m) refl good).1.1.1.0
 its_parts (message.TgsRep m) good = padata_inside false m.padata
-its_parts (message.ApReq m) good = tt
-its_parts (message.ApRep m) good = tt
-its_parts (message.KrbSafe m) good = tt
-its_parts (message.KrbPriv m) good = tt
 its_parts (message.KrbCred m) good = tickets_inside m.tickets (its_value (message.KrbCred m) refl good).1.1.0.1
 its_parts (message.KrbError m) good = error_inside m
+its_parts other good = tt
 
 abbrev its_fields : Message → List Field
 its_fields m = fields_of m ++ the (codes "notes") (notes (notes_of m)) ∷ []
@@ -71,15 +68,7 @@ values m good = fields_fit (its_fields m) (record_is_plain m good).fields (with_
 
 fits : (m : Message) → IsInProfile profiles.Lenient m → FitsFrom (kind_name (kind_of m)) (its_fields m) (inside_of m)
 fits (message.AsReq m) good = record { kind_plain = refl; plain = refl; apart = refl; values = values (message.AsReq m) good; parts = its_parts (message.AsReq m) good }
-fits (message.AsRep m) good = record { kind_plain = refl; plain = refl; apart = refl; values = values (message.AsRep m) good; parts = its_parts (message.AsRep m) good }
-fits (message.TgsReq m) good = record { kind_plain = refl; plain = refl; apart = refl; values = values (message.TgsReq m) good; parts = its_parts (message.TgsReq m) good }
-fits (message.TgsRep m) good = record { kind_plain = refl; plain = refl; apart = refl; values = values (message.TgsRep m) good; parts = its_parts (message.TgsRep m) good }
-fits (message.ApReq m) good = record { kind_plain = refl; plain = refl; apart = refl; values = values (message.ApReq m) good; parts = its_parts (message.ApReq m) good }
-fits (message.ApRep m) good = record { kind_plain = refl; plain = refl; apart = refl; values = values (message.ApRep m) good; parts = its_parts (message.ApRep m) good }
-fits (message.KrbSafe m) good = record { kind_plain = refl; plain = refl; apart = refl; values = values (message.KrbSafe m) good; parts = its_parts (message.KrbSafe m) good }
-fits (message.KrbPriv m) good = record { kind_plain = refl; plain = refl; apart = refl; values = values (message.KrbPriv m) good; parts = its_parts (message.KrbPriv m) good }
-fits (message.KrbCred m) good = record { kind_plain = refl; plain = refl; apart = refl; values = values (message.KrbCred m) good; parts = its_parts (message.KrbCred m) good }
-fits (message.KrbError m) good = record { kind_plain = refl; plain = refl; apart = refl; values = values (message.KrbError m) good; parts = its_parts (message.KrbError m) good }
+fits other good = record { kind_plain = refl; plain = refl; apart = refl; values = values other good; parts = its_parts other good }
 
 -- a message from an origin
 pub message_from : (origin : List Field) (m : Message) → IsOrigin origin → IsInProfile profiles.Lenient m → PrintsJson (with_origin origin (message_record m))

@@ -30,10 +30,6 @@ IsCounted value = Unit {0}
 fits : (value : Value) → IsShown value → IsCounted value → ValueFits value
 fits Absent s h = tt
 fits NoTicket s h = tt
-fits (Number n) s h = h
-fits (Named registry n) s h = h
-fits (Numbers registry ns) s h = h
-fits (ErrorCode code) s h = h
 fits (Reason n name) s h = (h, s)
 fits NoReason s h = tt
 fits (String octets) s h = tt
@@ -41,17 +37,11 @@ fits (Quoted octets) s h = tt
 fits (FileName octets) s h = tt
 fits (Word text) s h = s
 fits (Hex octets) s h = tt
-fits (Flags registry bits) s h = h
 fits (TicketFlags flags) s h = tt
-fits (Sealed etype kvno size) s h = h
-fits (Principal name_type components realm) s h = h
-fits (Address addr_type octets) s h = h
-fits (Digest cksumtype size) s h = h
 fits (YesNo holds) s h = tt
-fits (Offset seconds microseconds) s h = h
-fits (RefusedTicket refusal) s h = h
 fits (Flow transport source target) s h = ((s.0, h.0), (s.1, h.1))
 fits (Layers layers) s h = tt
+fits other s h = h
 
 abbrev pub AreCounted : List Field → Type 0
 AreCounted fields = AllByRecursion (λ (f : Field). IsCounted f.value) fields

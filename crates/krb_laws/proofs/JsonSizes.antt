@@ -32,14 +32,11 @@ abbrev mutual
   -- whether each INTEGER of a term is of 64 bits
   pub is_narrow : Term → Bool
   is_narrow (Integer low high) = int_le (negsuc 9223372036854775806) low && int_le high (pos 9223372036854775807)
-  is_narrow (Text greatest) = true
-  is_narrow Octets = true
-  is_narrow Time = true
-  is_narrow (Bits least) = true
   is_narrow (Sequence fields) = are_narrow fields
   is_narrow (SequenceOf empty term) = is_narrow term
   is_narrow (Tagged index term) = is_narrow term
   is_narrow (Application number term) = is_narrow term
+  is_narrow other = true
 
   pub are_narrow : Fields → Bool
   are_narrow End = true
@@ -81,9 +78,7 @@ brief-if term each (Some v) fit short = each v fit short
 mutual
   pub brief : (term : Term) → is_narrow term ≡ true → AreBriefAll term
   brief (Integer low high) narrow value fit short = small low high value narrow fit.0 fit.1
-  brief (Text greatest) narrow octets fit short = tt
   brief Octets narrow octets fit short = omega (arith, item-longer 0x04 octets, short)
-  brief Time narrow octets fit short = tt
   brief (Bits least) narrow bits fit short = omega (arith, item-longer 0x03 (bits.0 ∷ bits.1), short)
   brief (Sequence fields) narrow values fit short = brief-fields fields narrow values fit (omega (arith, item-longer 0x30 (der_of_fields fields values), short))
   brief (SequenceOf empty term) narrow values fit short = (
@@ -92,6 +87,7 @@ mutual
   )
   brief (Tagged index term) narrow value fit short = brief term narrow value fit (omega (arith, item-longer (0xA0 + index) (der term value), short))
   brief (Application number term) narrow value fit short = brief term narrow value fit (omega (arith, item-longer (0x60 + number) (der term value), short))
+  brief other narrow octets fit short = tt
 
   brief-fields : (fields : Fields) → are_narrow fields ≡ true → (values : Values fields) → AllFit fields values → length (der_of_fields fields values) < 2 ^ 31 → AreBrief fields values
   brief-fields End narrow values fit short = tt

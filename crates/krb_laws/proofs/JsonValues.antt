@@ -129,22 +129,7 @@ record IsReason (why : Why) : Type 0 where
 
 reason : (why : Why) → IsReason why
 reason whys.HighBit = record { number = refl; name = refl }
-reason whys.TooLong = record { number = refl; name = refl }
-reason whys.Empty = record { number = refl; name = refl }
-reason whys.Tag = record { number = refl; name = refl }
-reason whys.Overrun = record { number = refl; name = refl }
-reason whys.Indefinite = record { number = refl; name = refl }
-reason whys.LengthWide = record { number = refl; name = refl }
-reason whys.LengthNotMinimal = record { number = refl; name = refl }
-reason whys.Loose = record { number = refl; name = refl }
-reason whys.Size = record { number = refl; name = refl }
-reason whys.IntegerNotMinimal = record { number = refl; name = refl }
-reason whys.Range = record { number = refl; name = refl }
-reason whys.Time = record { number = refl; name = refl }
-reason whys.Bits = record { number = refl; name = refl }
-reason whys.Missing = record { number = refl; name = refl }
-reason whys.Truncated = record { number = refl; name = refl }
-reason whys.Charset = record { number = refl; name = refl }
+reason other = record { number = refl; name = refl }
 
 -- the number of a reason is small, and its name is plain
 pub small_reason : (why : Why) → reason_number why < 2 ^ 63

@@ -149,14 +149,12 @@ state_back (state ∷ octet ∷ octets) are = absurd (grind (arith, nat_tests, a
 -- ---- any
 pub contents_form : (type : Simple) (octets : List ℕ) → IsContents type octets → AreJudged type octets
 contents_form simple.Identifier octets is = identifier_form octets is
-contents_form simple.Text octets is = record { has_size = refl; unrefused = rw (le-ltb (length octets) (length octets) (omega arith)) refl }
 contents_form simple.Flags octets is = subst (AreJudged simple.Flags) (sym is.1.1.0) (flags_form is.0 is.1.0 is.1.1.1)
 contents_form simple.State octets is = subst (AreJudged simple.State) (sym is.1.0) (state_form is.0 is.1.1)
-contents_form simple.Octets octets is = record { has_size = refl; unrefused = rw (le-ltb (length octets) (length octets) (omega arith)) refl }
+contents_form other octets is = record { has_size = refl; unrefused = rw (le-ltb (length octets) (length octets) (omega arith)) refl }
 
 pub contents_back : (type : Simple) (octets : List ℕ) → AreJudged type octets → IsContents type octets
 contents_back simple.Identifier octets are = identifier_back octets are
-contents_back simple.Text octets are = tt
 contents_back simple.Flags octets are = flags_back octets are
 contents_back simple.State octets are = state_back octets are
-contents_back simple.Octets octets are = tt
+contents_back other octets are = tt

@@ -256,14 +256,13 @@ OfToken Holding (Some token) = Holding token.octets
 
 mutual
   of_held : (Holding : List ℕ → Type 0) → IsOfParts Holding → (holds : Holds) (before found : Option Part) (part : Part) → IsHeld holds before found part → Holding part.octets → OfToken Holding before → OfToken Holding found
-  of_held Holding parts (One type) before found part is h b = subst (OfToken Holding) (sym is.1) b
-  of_held Holding parts (Many type) before found part is h b = subst (OfToken Holding) (sym is.1) b
   of_held Holding parts Token before found part is h b = subst (OfToken Holding) (sym is.2) (parts 0x04 part is.0 _ (begins_alone 0x04 part is.0 is.1) h).0
   of_held Holding parts (OctetsOr fields) before found part is h b =
       elim is [
         | inl octets ↦ subst (OfToken Holding) (sym octets.1) b
         | inr sequence ↦ of_token Holding parts fields before found sequence.0 sequence.2 (parts 0x30 part sequence.0 _ (begins_alone 0x30 part sequence.0 sequence.1) h).0 b
       ]
+  of_held Holding parts other before found part is h b = subst (OfToken Holding) (sym is.1) b
 
   pub of_token : (Holding : List ℕ → Type 0) → IsOfParts Holding → (fields : Fields) (before found : Option Part) (part : Part) → AreFields fields before found part → Holding part.octets → OfToken Holding before → OfToken Holding found
   of_token Holding parts End before found part are h b = subst (OfToken Holding) (sym are.1) b

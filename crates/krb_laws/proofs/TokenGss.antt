@@ -138,13 +138,12 @@ token_back layers wanted inner message e = go inner.octets refl e
     }
 
     named_by : (high : ℕ) (tag : Option ℕ) (octets : List ℕ) → inner.octets ≡ high ∷ octets → message_tag high ≡ tag → token_of layers tag inner.place octets ≡ under wanted (Message message) → IsTokenIn layers wanted inner message
-    named_by high None octets same named e = absurd (no_message layers wanted _ message e)
-    named_by high (Some tag) [] same named e = absurd (no_message layers wanted _ message e)
     named_by high (Some tag) (low ∷ octets) same named e = tested (cases_Bool (low == 0))
       where
         tested : ((low == 0) ≡ true) ⊎ ((low == 0) ≡ false) → IsTokenIn layers wanted inner message
         tested (inl t) = after_low high tag low octets same named (eqb-true low 0 t) (message_back layers wanted tag (inner.place + 2) octets message (rw t at e))
         tested (inr t) = absurd (no_message layers wanted (fault_in (codes "GSS.token-id") (inner.place + 1) why.Range) message (rw t at e))
+    named_by high other another same named e = absurd (no_message layers wanted _ message e)
 
     go : (octets : List ℕ) → inner.octets ≡ octets → kerberos_opened layers inner.place octets ≡ under wanted (Message message) → IsTokenIn layers wanted inner message
     go [] same e = absurd (no_message layers wanted _ message e)

@@ -88,8 +88,6 @@ record IsGot (path : List ℕ) (sole : Bool) (part : Part) (read : Head) (found 
   room : sole ≡ true → length part.octets ≤ header + size
 
 got_back : (path : List ℕ) (sole : Bool) (part : Part) (read : Head) (found : Item) → item_of_head path sole part read ≡ Ok found → IsGot path sole part read found
-got_back path sole part Partial found e = absurd cc
-got_back path sole part (Refused offset reason) found e = absurd cc
 got_back path sole part (Got header size) found e = go (cases_Bool (sole && ltb (header + size) (length part.octets)))
   where
     go : (sole && ltb (header + size) (length part.octets) ≡ true) ⊎ (sole && ltb (header + size) (length part.octets) ≡ false) → IsGot path sole part (Got header size) found
@@ -97,6 +95,7 @@ got_back path sole part (Got header size) found e = go (cases_Bool (sole && ltb 
     go (inr t) =
         let f : Ok (item_after header size part) ≡ Ok found = rw t at e in
         record { header = header; size = size; got = refl; after = cc; room = λ s. ltb-false (header + size) (length part.octets) (rw s at t) }
+got_back path sole part other found e = absurd cc
 
 is_read : (tag : ℕ) (sole : Bool) (place : ℕ) (contents rest : List ℕ) → (sole ≡ true → rest ≡ []) → IsRead tag sole (part_at place (item tag contents ++ rest)) (item_at place contents rest)
 unfolding header_of

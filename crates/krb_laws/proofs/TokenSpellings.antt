@@ -70,9 +70,8 @@ by_fill made octets header size true fault found = absurd found
 by_fill made octets header size false fault found = no_text_in_part header size octets (by_contents made (0 + header) (take size (drop header octets)) found)
 
 by_head : (made : Item → Result Item Fault) (octets : List ℕ) (found_head : Head) → opened_to (and_then (item_of_head (codes "GSS") true (whole octets) found_head) (λ token. identifier_in made token.contents)) → is_some (first_no_text octets) ≡ true
-by_head made octets Partial found = absurd found
-by_head made octets (RefusedHead offset reason) found = absurd found
 by_head made octets (Got header size) found = by_fill made octets header size (true && nat_lt (header + size) (length octets)) (fault_in (codes "GSS") (0 + (header - 1)) why.Loose) found
+by_head made octets other found = absurd found
 
 gss_no_text : (octets : List ℕ) → IsFound (opened (0x60 ∷ octets)).found → is_some (first_no_text (0x60 ∷ octets)) ≡ true
 gss_no_text octets found = by_head _ (0x60 ∷ octets) (head (length (0x60 ∷ octets)) (0x60 ∷ octets)) found

@@ -47,9 +47,8 @@ no_message_in layers tag place [] = λ e. absurd cc
 no_message_in layers tag place (octet ∷ octets) = either (octet == tag) _ _ (λ e. absurd cc) (λ e. absurd cc)
 
 no_token_of : (layers : List Layer) (tag : Option ℕ) (place : ℕ) (octets : List ℕ) → NoTicket (token_of layers tag place octets)
-no_token_of layers None place octets = λ e. absurd cc
-no_token_of layers (Some tag) place [] = λ e. absurd cc
 no_token_of layers (Some tag) place (low ∷ octets) = either (low == 0) _ _ (no_message_in layers tag (place + 2) octets) (λ e. absurd cc)
+no_token_of layers other place another = λ e. absurd cc
 
 no_kerberos : (layers : List Layer) (place : ℕ) (octets : List ℕ) → NoTicket (kerberos_opened layers place octets)
 no_kerberos layers place [] = λ e. absurd cc

@@ -22,10 +22,8 @@ is_unfit octet = not (is_hex_digit octet || is_mark octet || is_x octet)
 
 -- ---- in a text
 unfit_parts : (digit mark x after_zero : Bool) → not (digit || mark || x) ≡ true → (digit || mark || after_zero && x) ≡ false
-unfit_parts true mark x after_zero is = absurd (cc)
-unfit_parts false true x after_zero is = absurd (cc)
-unfit_parts false false true after_zero is = absurd (cc)
 unfit_parts false false false after_zero is = and_right after_zero false refl
+unfit_parts other another third after_zero is = absurd (cc)
 
 unfit_here : (after_zero : Bool) (octet : ℕ) (text : List ℕ) → is_unfit octet ≡ true → is_some (first_unfit after_zero (octet ∷ text)) ≡ true
 unfit_here after_zero octet text is =
@@ -62,12 +60,9 @@ head_unfit second third few small (inr long) = inl (unfit_symbol (second % 16 * 
 
 -- ---- base64
 or_third : (a b c d e : Bool) → (c ≡ true) ⊎ (d ≡ true) → (a || (b || (c || (d || e)))) ≡ true
-or_third true b c d e one = refl
-or_third false true c d e one = refl
-or_third false false true d e one = refl
-or_third false false false true e one = refl
 or_third false false false false e (inl is) = absurd (cc)
 or_third false false false false e (inr is) = absurd (cc)
+or_third other another third fourth e one = refl
 
 pub headed_unfit : (first second third : ℕ) (others : List ℕ) → second < 256 → third < 256 → IsHead second third → list_any is_unfit (base64_text (first ∷ second ∷ third ∷ others)) ≡ true
 unfolding encode_symbols

@@ -58,13 +58,11 @@ keytab_end_shown form count stops.Zero = one_line form (keytab_end count stops.Z
 -- ---- what is read of octets is octets
 contents_at : (h : Head) (octets : List ℕ) → AreOctets octets → AreOctets (split_at_head h octets).contents
 contents_at (Got header contents) octets a = AreOctets-take contents _ (AreOctets-drop header octets a)
-contents_at Partial octets a = tt
-contents_at (Refused place reason) octets a = tt
+contents_at other octets a = tt
 
 after_at : (h : Head) (octets : List ℕ) → AreOctets octets → AreOctets (split_at_head h octets).rest
 after_at (Got header contents) octets a = AreOctets-drop contents _ (AreOctets-drop header octets a)
-after_at Partial octets a = tt
-after_at (Refused place reason) octets a = tt
+after_at other octets a = tt
 
 contents : (octets : List ℕ) → AreOctets octets → AreOctets (split_item octets).contents
 contents octets a = contents_at (head (length octets) octets) octets a

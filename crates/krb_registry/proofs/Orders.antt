@@ -17,8 +17,7 @@ is_sorted (number ∷ others) = list_all (λ other. is_lt (int_cmp number other)
 
 less : (order : Ordering) → is_lt order ≡ true → order ≡ Less
 less Less test = refl
-less Equal test = cc
-less Greater test = cc
+less other test = cc
 
 below : (number : ℤ) (others : List ℤ) → list_all (λ other. is_lt (int_cmp number other)) others ≡ true → AllByRecursion (λ other. int_cmp number other ≡ Less) others
 below number [] test = tt

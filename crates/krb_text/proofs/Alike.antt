@@ -47,15 +47,11 @@ some_same P each (Some a) = each a
 
 mutual
   pub same : (term : Term) (v : Value term) → Alike term v v
-  same (Integer low high) v = refl
-  same (Text greatest) v = refl
   same Octets v = replace_same v
-  same Time v = refl
-  same (Bits least) v = refl
   same (Sequence fields) v = all_same fields v
-  same (SequenceOf empty term) v = refl
   same (Tagged index term) v = same term v
   same (Application number term) v = same term v
+  same other v = refl
 
   all_same : (fields : Fields) (v : Values fields) → AllAlike fields v v
   all_same End v = tt
@@ -72,20 +68,15 @@ same_both a b c d e f = length-append a b ∙ ap₂ (λ (m n : ℕ). m + n) e f 
 some_as_many : {A : Type 0} (P : A → A → Type 0) (octets : A → List ℕ) → ((a b : A) → P a b → length (octets a) ≡ length (octets b)) → (v w : Option A) → SomeAlike P v w → length (octets_of_option octets v) ≡ length (octets_of_option octets w)
 some_as_many P octets each None None a = refl
 some_as_many P octets each (Some v) (Some w) a = each v w a
-some_as_many P octets each None (Some w) a = absurd a
-some_as_many P octets each (Some v) None a = absurd a
+some_as_many P octets each other another a = absurd a
 
 mutual
   pub as_many : (term : Term) (v w : Value term) → Alike term v w → length (der term v) ≡ length (der term w)
-  as_many (Integer low high) v w a = ap (λ x. length (der (Integer low high) x)) a
-  as_many (Text greatest) v w a = ap (λ x. length (der (Text greatest) x)) a
   as_many Octets v w a = same_item 0x04 v w a.many
-  as_many Time v w a = ap (λ x. length (der Time x)) a
-  as_many (Bits least) v w a = ap (λ x. length (der (Bits least) x)) a
   as_many (Sequence fields) v w a = same_item 0x30 (der_of_fields fields v) (der_of_fields fields w) (all_as_many fields v w a)
-  as_many (SequenceOf empty term) v w a = ap (λ x. length (der (SequenceOf empty term) x)) a
   as_many (Tagged index term) v w a = same_item (0xA0 + index) (der term v) (der term w) (as_many term v w a)
   as_many (Application number term) v w a = same_item (0x60 + number) (der term v) (der term w) (as_many term v w a)
+  as_many other v w a = ap (λ x. length (der other x)) a
 
   all_as_many : (fields : Fields) (v w : Values fields) → AllAlike fields v w → length (der_of_fields fields v) ≡ length (der_of_fields fields w)
   all_as_many End v w a = refl
@@ -102,15 +93,11 @@ some_fit_as P F each (Some v) None a fit = absurd a
 
 mutual
   pub fits_as : (term : Term) (v w : Value term) → Alike term v w → Fits term w → Fits term v
-  fits_as (Integer low high) v w a fits = subst (Fits (Integer low high)) (sym a) fits
-  fits_as (Text greatest) v w a fits = subst (Fits (Text greatest)) (sym a) fits
   fits_as Octets v w a fits = a.octets fits
-  fits_as Time v w a fits = subst (Fits Time) (sym a) fits
-  fits_as (Bits least) v w a fits = subst (Fits (Bits least)) (sym a) fits
   fits_as (Sequence fields) v w a fits = all_fit_as fields v w a fits
-  fits_as (SequenceOf empty term) v w a fits = subst (Fits (SequenceOf empty term)) (sym a) fits
   fits_as (Tagged index term) v w a fits = fits_as term v w a fits
   fits_as (Application number term) v w a fits = fits_as term v w a fits
+  fits_as other v w a fits = subst (Fits other) (sym a) fits
 
   all_fit_as : (fields : Fields) (v w : Values fields) → AllAlike fields v w → AllFit fields w → AllFit fields v
   all_fit_as End v w a fit = tt

@@ -53,8 +53,7 @@ octets_shown (Some octets) h = h
 
 pub path_shown : (form : Form) (path : Option (List ℕ)) → IfSome path AreOctets → AreShown (path_in form path)
 path_shown forms.Lines path h = tt
-path_shown forms.NamedLines path h = (octets_shown path h, tt)
-path_shown forms.Json path h = (octets_shown path h, tt)
+path_shown other path h = (octets_shown path h, tt)
 
 -- the path, and where the octets lie
 number_shown : (n : Option ℕ) → IsShown (if_there (λ n. Number (pos n)) n)
@@ -68,15 +67,12 @@ located_is_plain forms.Json path extent = refl
 
 pub located_shown : (form : Form) (path : Option (List ℕ)) (extent : Extent) → IfSome path AreOctets → AreShown (path_in form path ++ extent_in form extent)
 located_shown forms.Lines path extent h = tt
-located_shown forms.NamedLines path extent h = (octets_shown path h, (tt, (number_shown extent.length, tt)))
-located_shown forms.Json path extent h = (octets_shown path h, (tt, (number_shown extent.length, tt)))
+located_shown other path extent h = (octets_shown path h, (tt, (number_shown extent.length, tt)))
 
 -- and how they are spelled
 spelled : (s : Spelling) → Prints (spelling_name s)
 spelled spellings.Octets = word _ refl
-spelled spellings.Hex = word _ refl
-spelled spellings.Dump = word _ refl
-spelled spellings.Base64 = word _ refl
+spelled other = word _ refl
 
 spelling_shown : (s : Option Spelling) → IsShown (if_there (λ s. Word (spelling_name s)) s)
 spelling_shown None = tt
@@ -89,8 +85,7 @@ spelled_is_plain forms.Json path extent s = refl
 
 pub spelled_shown : (form : Form) (path : Option (List ℕ)) (extent : Extent) (s : Spelling) → IfSome path AreOctets → AreShown (path_in form path ++ extent_in form extent ++ spelling_in form s)
 spelled_shown forms.Lines path extent s h = tt
-spelled_shown forms.NamedLines path extent s h = (octets_shown path h, (tt, (number_shown extent.length, ((spelled s).all, tt))))
-spelled_shown forms.Json path extent s h = (octets_shown path h, (tt, (number_shown extent.length, ((spelled s).all, tt))))
+spelled_shown other path extent s h = (octets_shown path h, (tt, (number_shown extent.length, ((spelled s).all, tt))))
 
 -- where a message comes from
 pub origin_is_plain : (line : Option ℕ) (layers : List Layer) → names_are_plain (message_origin line layers) ≡ true
@@ -101,9 +96,8 @@ origin_is_plain (Some line) (first ∷ others) = refl
 
 pub origin_shown : (line : Option ℕ) (layers : List Layer) → AreShown (message_origin line layers)
 origin_shown None [] = tt
-origin_shown None (first ∷ others) = (tt, tt)
-origin_shown (Some line) [] = (tt, tt)
 origin_shown (Some line) (first ∷ others) = (tt, (tt, tt))
+origin_shown other another = (tt, tt)
 
 -- a record that comes from a message
 pub message_line_from : (form : Form) (line : Option ℕ) (layers : List Layer) (r : Printed) → list_all is_printable r.kind ≡ true → names_are_plain r.fields ≡ true → AreShown r.fields → IfPresent ArePlainParts r.inside → IsOneLine (record_line form (with_origin (message_origin line layers) r))
@@ -111,9 +105,8 @@ message_line_from form line layers r kind names h inside = line_from form (messa
 
 -- ---- refused input
 worded : (fault : InputFault) → Prints (input_word fault)
-worded faults.Length = word _ refl
 worded (faults.Misspelled spelling) = spelled spelling
-worded faults.Ntlm = word _ refl
+worded other = word _ refl
 
 pub kind_is_plain : (form : Form) (fault : InputFault) → list_all is_printable (input_kind form fault) ≡ true
 kind_is_plain forms.Json fault = refl

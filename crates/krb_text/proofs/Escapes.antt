@@ -143,13 +143,12 @@ stops-others (other ∷ others) realm = inl refl
 
 same_others : (os ps : List (List ℕ)) (r s : List ℕ) → AllAreOctets os → AllAreOctets ps → AreOctets r → AreOctets s → others_text os ++ (64 ∷ escape r) ≡ others_text ps ++ (64 ∷ escape s) → (os ≡ ps) × (r ≡ s)
 same_others [] [] r s h k hr ks e = (refl, escape-injective r s hr ks (tail-same _ _ _ _ e))
-same_others [] (p ∷ ps) r s h k hr ks e = absurd (omega (arith, head-same _ _ _ _ e))
-same_others (o ∷ os) [] r s h k hr ks e = absurd (omega (arith, head-same _ _ _ _ e))
 same_others (o ∷ os) (p ∷ ps) r s h k hr ks e =
     let f = sym (append_assoc (escape o) (others_text os) (64 ∷ escape r)) ∙ tail-same _ _ _ _ e ∙ append_assoc (escape p) (others_text ps) (64 ∷ escape s) in
     let first = same_escaped o p _ _ h.0 k.0 (stops-others os r) (stops-others ps s) f in
     let more = same_others os ps r s h.1 k.1 hr ks first.1 in
     (rw (first.0, more.0) refl, more.1)
+same_others other another r s h k hr ks e = absurd (omega (arith, head-same _ _ _ _ e))
 
 -- no component's text begins with `\-`
 no_dash_by : (x : ℕ) (xs rest : List ℕ) → (p : Bool) → is_plain x ≡ p → escape_octet x ++ xs ≡ 92 ∷ 45 ∷ rest → ⊥

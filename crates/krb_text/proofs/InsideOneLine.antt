@@ -96,7 +96,6 @@ pac (Some include) = (record { kind = refl; names = refl; fields = (tt, tt) }, t
 
 of_type : (type : ClearType) (octets : List ℕ) → AreOctets octets → ArePlainParts (clear_parts type octets)
 of_type types.TgsReq octets a = one ap_req _ refl tgs_req octets
-of_type types.EncTimestamp octets a = one encrypted_data _ refl (λ v fits. record { kind = refl; names = refl; fields = (tt, tt) }) octets
 of_type types.PwSalt octets a = (record { kind = refl; names = refl; fields = (a, tt) }, tt)
 of_type types.EtypeInfo octets a = entries etype_info_entry _ refl etype_info_shown octets
 of_type types.EtypeInfo2 octets a = entries etype_info2_entry _ refl etype_info2_shown octets
@@ -104,9 +103,9 @@ of_type types.PacRequest octets a = pac (pac_request_in octets)
 of_type types.ForUser octets a = one pa_for_user _ refl for_user octets
 of_type types.FastRequest octets a = one pa_fx_fast_request _ refl fast_request octets
 of_type types.FastReply octets a = one pa_fx_fast_reply _ refl (λ v fits. record { kind = refl; names = refl; fields = (tt, (tt, (tt, (tt, tt)))) }) octets
-of_type types.EncryptedChallenge octets a = one encrypted_data _ refl (λ v fits. record { kind = refl; names = refl; fields = (tt, tt) }) octets
 of_type types.PacOptions octets a = one pa_pac_options _ refl (λ v fits. record { kind = refl; names = refl; fields = (fits.0.1, tt) }) octets
 of_type types.Other octets a = tt
+of_type other octets a = one encrypted_data _ refl (λ v fits. record { kind = refl; names = refl; fields = (tt, tt) }) octets
 
 -- ---- each message
 items_inside : (in_request : Bool) (items : List PaData) → AllByRecursion (λ p. AreOctets p.padata_value) items → ArePlainParts (flat_map (item_parts in_request) items)

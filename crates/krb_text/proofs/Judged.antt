@@ -57,24 +57,20 @@ is_judged term octets value u e = by (are_octets octets) (term_judgement term (l
     by false v t w found =
         let none : None ≡ Some value = sym (ap (λ are. judged_if are term octets) t) ∙ found in
         absurd cc
-    by true verdict.Open t w found =
-        let none : None ≡ Some value = sym (ap (λ are. judged_if are term octets) t ∙ ap (λ v. if_whole v term octets) w) ∙ found in
-        absurd cc
-    by true (verdict.Refused refusal) t w found =
-        let none : None ≡ Some value = sym (ap (λ are. judged_if are term octets) t ∙ ap (λ v. if_whole v term octets) w) ∙ found in
-        absurd cc
     by true verdict.Whole t w found =
         let some : Some (value_of_der term octets) ≡ Some value = sym (ap (λ are. judged_if are term octets) t ∙ ap (λ v. if_whole v term octets) w) ∙ found in
         let h = and_parts (nat_lt (length octets) 2147483648) (list_all (λ o. nat_lt o 256) octets) t in
         let a : AreOctets octets = each_octet octets h.1 in
         of_der term octets value u a (omega (arith, ltb-true (length octets) 2147483648 h.0)) (ap (or_else value) some) (whole_is_value term octets a w)
+    by true other t w found =
+        let none : None ≡ Some value = sym (ap (λ are. judged_if are term octets) t ∙ ap (λ v. if_whole v term octets) w) ∙ found in
+        absurd cc
 
 -- octets that are not whole
 none_if : (are : Bool) (v : Verdict) (term : Term) (octets : List ℕ) → (v ≡ verdict.Whole → ⊥) → term_judgement term (length octets) octets ≡ v → judged_if are term octets ≡ None
 none_if false v term octets not_whole e = refl
-none_if true verdict.Open term octets not_whole e = ap (λ v. if_whole v term octets) e
 none_if true verdict.Whole term octets not_whole e = absurd (not_whole refl)
-none_if true (verdict.Refused refusal) term octets not_whole e = ap (λ v. if_whole v term octets) e
+none_if true other term octets not_whole e = ap (λ v. if_whole v term octets) e
 
 pub not_judged : (term : Term) (octets : List ℕ) → IsNotWhole term octets → judged term octets ≡ None
 unfolding judged

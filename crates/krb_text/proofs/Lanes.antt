@@ -48,9 +48,8 @@ or-true true = refl
 or-true false = refl
 
 swapped : (a b c d : Bool) → ((a || b) || (c || d)) ≡ ((a || c) || (b || d))
-swapped true b c d = refl
 swapped false b true d = or-true b
-swapped false b false d = refl
+swapped other b another d = refl
 
 -- an element passes one test or the other
 any_or : {X : Type 0} (p q : X → Bool) (xs : List X) → (list_any p xs || list_any q xs) ≡ list_any (λ x. p x || q x) xs

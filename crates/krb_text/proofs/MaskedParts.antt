@@ -177,7 +177,6 @@ kept_request octets (Some include) e = refl
 
 pub clear_same : (type : ClearType) (octets : List ℕ) → clear_parts type (masked_clear type octets) ≡ clear_parts type octets
 clear_same types.TgsReq octets = masked_same ap_req masked_ap_req_value _ tgs_req_same octets (ap_req_masked octets)
-clear_same types.EncTimestamp octets = masked_same encrypted_data masked_sealed_value _ (sealed_same _) octets (sealed_masked octets)
 clear_same types.PwSalt octets = refl
 clear_same types.EtypeInfo octets = ap (each_if _) (kept_judged etype_info (λ e. absurd cc) octets)
 clear_same types.EtypeInfo2 octets = ap (each_if _) (kept_judged etype_info2 (λ e. absurd cc) octets)
@@ -185,13 +184,12 @@ clear_same types.PacRequest octets = ap (one_if _) (kept_request octets (pac_req
 clear_same types.ForUser octets = masked_same pa_for_user masked_for_user _ for_user_same octets (for_user_masked octets)
 clear_same types.FastRequest octets = masked_same pa_fx_fast_request masked_fast_request _ fast_request_same octets (fast_request_masked octets)
 clear_same types.FastReply octets = masked_same pa_fx_fast_reply masked_fast_reply _ fast_reply_same octets (fast_reply_masked octets)
-clear_same types.EncryptedChallenge octets = masked_same encrypted_data masked_sealed_value _ (sealed_same _) octets (sealed_masked octets)
 clear_same types.PacOptions octets = ap (one_if _) (kept_judged pa_pac_options (λ e. absurd cc) octets)
 clear_same types.Other octets = refl
+clear_same other octets = masked_same encrypted_data masked_sealed_value _ (sealed_same _) octets (sealed_masked octets)
 
 pub clear_replaced : (type : ClearType) (octets : List ℕ) → Replace (masked_clear type octets) octets
 clear_replaced types.TgsReq octets = (ap_req_masked octets).replace
-clear_replaced types.EncTimestamp octets = (sealed_masked octets).replace
 clear_replaced types.PwSalt octets = replace_same octets
 clear_replaced types.EtypeInfo octets = kept octets (judged etype_info octets)
 clear_replaced types.EtypeInfo2 octets = kept octets (judged etype_info2 octets)
@@ -199,9 +197,9 @@ clear_replaced types.PacRequest octets = kept octets (pac_request_in octets)
 clear_replaced types.ForUser octets = (for_user_masked octets).replace
 clear_replaced types.FastRequest octets = (fast_request_masked octets).replace
 clear_replaced types.FastReply octets = (fast_reply_masked octets).replace
-clear_replaced types.EncryptedChallenge octets = (sealed_masked octets).replace
 clear_replaced types.PacOptions octets = kept octets (judged pa_pac_options octets)
 clear_replaced types.Other octets = replace_zeros octets
+clear_replaced other octets = (sealed_masked octets).replace
 
 pub items_same : (in_request : Bool) (items : List PaData) → flat_map (item_parts in_request) (map (masked_item in_request) items) ≡ flat_map (item_parts in_request) items
 items_same in_request [] = refl

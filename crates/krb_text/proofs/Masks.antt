@@ -86,10 +86,8 @@ data-same false None = refl
 data-same false (Some octets) = rw (length-zeros (length octets)) refl
 
 methods-same : (asks failed : Bool) (code : ℤ) (octets : Option (List ℕ)) → asks_for_preauth code ≡ asks → methods code (opaque_unless (asks || failed) octets) ≡ methods code octets
-methods-same true failed code octets e = refl
-methods-same false true code octets e = refl
-methods-same false false code None e = refl
 methods-same false false code (Some octets) e = rw e refl
+methods-same other another code third e = refl
 
 krb_error-same : (m : KrbError) → krb_error_fields (masked_krb_error m) ≡ krb_error_fields m
 krb_error-same m =
@@ -105,10 +103,7 @@ empty-same HighOctet value mask [] = refl
 empty-same FewFlags value mask [] = refl
 empty-same Negative value mask [] = refl
 empty-same EmptyList value mask [] = refl
-empty-same HighOctet value mask (x ∷ xs) = refl
-empty-same FewFlags value mask (x ∷ xs) = refl
-empty-same Negative value mask (x ∷ xs) = refl
-empty-same EmptyList value mask (x ∷ xs) = refl
+empty-same other value mask (x ∷ xs) = refl
 
 -- what a note says of a list and of its items, if it is the same of each item masked
 items-same : {A : Type 0} (note : Note) (term : Term) (value : A → Value term) (mask : A → A) → ((x : A) → has note term (value (mask x)) ≡ has note term (value x)) → (xs : List A)
@@ -135,10 +130,9 @@ kdc_req_body-has : (note : Note) (b : KdcReqBody) → has note kdc_req_body (kdc
 kdc_req_body-has note b = go b.enc_authorization_data b.additional_tickets
   where
     go : (e : Option EncryptedData) (tickets : Option (List Ticket)) → has note kdc_req_body (kdc_req_body_value (masked_req_body (body_with b e tickets))) ≡ has note kdc_req_body (kdc_req_body_value (body_with b e tickets))
-    go None None = refl
-    go (Some e) None = refl
     go None (Some tickets) = rw (items-same note ticket ticket_value masked_ticket (ticket-same note) tickets) refl
     go (Some e) (Some tickets) = rw (items-same note ticket ticket_value masked_ticket (ticket-same note) tickets) refl
+    go other None = refl
 
 item-same : (note : Note) (in_request : Bool) (item : PaData) → has note pa_data (pa_data_value (masked_item in_request item)) ≡ has note pa_data (pa_data_value item)
 item-same note in_request item = refl
@@ -173,12 +167,9 @@ message-has note (message.AsReq m) = kdc_req-has note 10 m
 message-has note (message.AsRep m) = kdc_rep-has note 11 m
 message-has note (message.TgsReq m) = kdc_req-has note 12 m
 message-has note (message.TgsRep m) = kdc_rep-has note 13 m
-message-has note (message.ApReq m) = refl
-message-has note (message.ApRep m) = refl
-message-has note (message.KrbSafe m) = refl
-message-has note (message.KrbPriv m) = refl
 message-has note (message.KrbCred m) = krb_cred-has note m
 message-has note (message.KrbError m) = krb_error-has note m
+message-has note other = refl
 
 notes-same : (m : Message) → notes_of (masked m) ≡ notes_of m
 notes-same m = rw (message-has HighOctet m, message-has FewFlags m, message-has Negative m, message-has EmptyList m) refl
@@ -215,12 +206,9 @@ inside-same (message.AsReq m) = ap Some (kdc_req-inside m)
 inside-same (message.AsRep m) = ap Some (padata-inside false m.padata)
 inside-same (message.TgsReq m) = ap Some (kdc_req-inside m)
 inside-same (message.TgsRep m) = ap Some (padata-inside false m.padata)
-inside-same (message.ApReq m) = refl
-inside-same (message.ApRep m) = refl
-inside-same (message.KrbSafe m) = refl
-inside-same (message.KrbPriv m) = refl
 inside-same (message.KrbCred m) = ap Some (tickets-inside m.tickets)
 inside-same (message.KrbError m) = ap Some (krb_error-inside m)
+inside-same other = refl
 
 -- ---- records
 made : (kind : List ℕ) (fields others : List Field) (m : Message) → fields ≡ others

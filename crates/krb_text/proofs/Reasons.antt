@@ -11,30 +11,11 @@ use Rattle.krb_text.proofs.Printable.{Prints, ascii, word}
 
 pub file_name : (reason : FileWhy) → Prints (file_reason_name reason)
 file_name files.Magic = word _ refl
-file_name files.Version = word _ refl
-file_name files.Truncated = word _ refl
-file_name files.Overrun = word _ refl
-file_name (files.WrongLength length) = word _ refl
-file_name (files.TooLong length) = word _ refl
+file_name other = word _ refl
 
 pub name : (reason : Why) → Prints (reason_name reason)
 name whys.HighBit = word _ refl
-name whys.TooLong = word _ refl
-name whys.Empty = word _ refl
-name whys.Tag = word _ refl
-name whys.Overrun = word _ refl
-name whys.Indefinite = word _ refl
-name whys.LengthWide = word _ refl
-name whys.LengthNotMinimal = word _ refl
-name whys.Loose = word _ refl
-name whys.Size = word _ refl
-name whys.IntegerNotMinimal = word _ refl
-name whys.Range = word _ refl
-name whys.Time = word _ refl
-name whys.Bits = word _ refl
-name whys.Missing = word _ refl
-name whys.Truncated = word _ refl
-name whys.Charset = word _ refl
+name other = word _ refl
 
 pub reason_is_ascii : (reason : Why) → IsAscii (reason_name reason)
 reason_is_ascii reason = ascii (reason_name reason) (name reason).all
