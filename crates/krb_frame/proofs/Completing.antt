@@ -5,7 +5,7 @@ use Rattle.krb_der.specs.declared.verdict.Verdict.TheVariants as verdict
 use Rattle.krb_msg.specs.Grammar.{messages}
 use Rattle.krb_msg.specs.Judgement.{judgement_by}
 use Rattle.krb_frame.specs.Decoding.{Decoding, decoding_of}
-use Rattle.krb_frame.specs.GoingOn.{Entry, Contents}
+use Rattle.krb_frame.specs.GoingOn.{Entry}
 use Rattle.krb_frame.specs.inner.Deliveries.{CompletesWith, DeliversContents}
 use Rattle.krb_frame.specs.inner.Phases.{HasPart, IsFedContents, IsPhaseOf}
 use Rattle.krb_frame.specs.declared.decoder.Fed.{Fed}

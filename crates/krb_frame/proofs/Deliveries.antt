@@ -1,18 +1,17 @@
 -- Frames that are delivered one after another.
-use Rattle.std.proofs.Common.{◌≡◌, ℕ, zero, suc, ◌+◌, ◌-◌, ◌^◌, ◌<◌, ◌≤◌, ◌⊎◌, inl, inr, min, Bool, true, false, List, [], ◌∷◌, ◌++◌, length, take, drop, Some, None, refl, sym, ◌∙◌, ap, subst, arith, le_refl, append_assoc, append-nil, length-append, length-take, length-drop, take-append-drop}
+use Rattle.std.proofs.Common.{◌≡◌, ℕ, zero, suc, ◌+◌, ◌-◌, ◌<◌, ◌≤◌, ◌⊎◌, inl, inr, min, Bool, true, false, List, [], ◌∷◌, ◌++◌, length, take, drop, Some, None, refl, sym, ◌∙◌, ap, subst, arith, le_refl, append_assoc, append-nil, length-append, length-take, length-drop, take-append-drop}
 use Rattle.std.specs.Prelude.{Option, is_some, if◌then◌else◌}
 use Rattle.std.specs.List.{AllByRecursion}
 use Rattle.std.proofs.lemmas.List.{drop_all}
 use Rattle.krb_der.specs.declared.profile.Profile.{Profile}
 use Rattle.krb_der.specs.declared.verdict.Refusal.{Refusal}
 use Rattle.krb_msg.specs.Grammar.{messages}
-use Rattle.krb_msg.specs.ViewValues.{IsMessageView, message_of_view}
+use Rattle.krb_msg.specs.ViewValues.{message_of_view}
 use Rattle.krb_msg.specs.Views.{message_der}
-use Rattle.krb_msg.specs.declared.message_view.MessageView.{MessageView}
 use Rattle.krb_frame.specs.Decoding.{Decoding, borrowed, found, status_of}
 use Rattle.krb_frame.specs.Decoded.{HasDecoded}
 use Rattle.krb_frame.specs.Deliveries.{Received, IsMessage, contents_in, IsFollowed, status_in, due, Delivers, DeliversBefore, DeliversPrefix, DeliversUpTo}
-use Rattle.krb_frame.specs.Feeds.{Clears, Feeds}
+use Rattle.krb_frame.specs.Feeds.{Clears}
 use Rattle.krb_frame.specs.Frame.{framed}
 use Rattle.krb_frame.specs.GoingOn.{Entry, Contents, Fault, Skipping, GoesOn, FeedsAfter, PassesEntry, ClearsEntry, GivesUp, Skips, passed_by, rest_to_come, unless_skipping}
 use Rattle.krb_frame.specs.Passes.{contents_of, passed_after}

@@ -1,7 +1,7 @@
 use Rattle.krb_msg.specs.Grammar.{messages}
 use Rattle.krb_scan.specs.Machine.{ledger_of, profile_of}
 use Rattle.std.specs.Prelude.{vec_capacity}
-use Rattle.std.proofs.Common.{ℕ, ◌≡◌, ◌+◌, ◌-◌, ◌≤◌, ◌++◌, List, true, length, take, sym, ◌∙◌, ap, subst, arith, length-take}
+use Rattle.std.proofs.Common.{ℕ, ◌≡◌, ◌+◌, ◌-◌, ◌≤◌, ◌++◌, List, true, length, sym, ◌∙◌, ap, subst, arith, length-take}
 use Rattle.krb_frame.specs.Decoding.{Decoding, decoding_of}
 use Rattle.krb_frame.specs.inner.Deliveries.{CompletesWith, DeliversContents}
 use Rattle.krb_frame.specs.inner.Phases.{HasPart, IsPhaseOf}

@@ -1,14 +1,14 @@
 use Rattle.krb_msg.specs.Grammar.{messages}
 use Rattle.krb_scan.specs.Machine.{ledger_of, profile_of}
-use Rattle.std.specs.Prelude.{vec_capacity, Some, None}
-use Rattle.std.proofs.Common.{ℕ, ◌≡◌, ◌-◌, ◌<◌, ◌^◌, length, sym, ◌∙◌, ap, subst, arith}
+use Rattle.std.specs.Prelude.{vec_capacity, Some}
+use Rattle.std.proofs.Common.{ℕ, ◌≡◌, ◌-◌, length, sym, ◌∙◌, ap, subst, arith}
 use Rattle.krb_der.specs.Octets.{number}
 use Rattle.krb_frame.specs.Decoding.{decoding_of}
-use Rattle.krb_frame.specs.GoingOn.{rest_of, rest_to_come}
+use Rattle.krb_frame.specs.GoingOn.{rest_to_come}
 use Rattle.krb_frame.specs.declared.decoder.Phase.TheVariants as phase
 use Rattle.krb_frame.specs.inner.Phases.{IsPhaseOf, HasRefused}
 use Rattle.krb_frame.proofs.DecoderFrames.{from_be_bytes-number}
-use Rattle.krb_frame.proofs.GoingOn.{rest-none, rest-refused, rest-known, rest-unknown}
+use Rattle.krb_frame.proofs.GoingOn.{rest-none, rest-refused, rest-known}
 use Rattle.krb_frame.proofs.decoder.Decoder.rest_to_come.Goals as goal
 
 pub returns-in_default : goal.returns-in_default

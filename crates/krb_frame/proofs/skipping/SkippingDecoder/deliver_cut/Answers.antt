@@ -1,4 +1,4 @@
-use Rattle.std.proofs.Common.{drop, subst}
+use Rattle.std.proofs.Common.{subst}
 use Rattle.std.proofs.lemmas.List.{take_rest}
 use Rattle.std.proofs.lemmas.Result.{IfOk-weaker}
 use Rattle.krb_frame.specs.inner.Deliveries.{CompletesEntry}
