@@ -18,23 +18,20 @@ use Rattle.krb_msg.proofs.Messages.{IsChosen, one_of_chosen, one_of_passes, chos
 
 -- ---- the verdict and the outcome
 pub whole_outcome : (outcome : Outcome) → verdict_of outcome ≡ verdict.Whole → (count : ℕ) × (outcome ≡ Done count)
-whole_outcome Open e = absurd cc
-whole_outcome (Bad offset reason) e = absurd cc
 whole_outcome (Done count) e = (count, refl)
+whole_outcome other e = absurd cc
 
 pub refused_outcome : (outcome : Outcome) (place : ℕ) (reason : Why) → verdict_of outcome ≡ verdict.Refused (record { place = place; why = reason }) → outcome ≡ Bad place reason
-refused_outcome Open place reason e = absurd cc
 refused_outcome (Bad offset other) place reason e =
     let there : Refusal = record { place = offset; why = other } in
     let here : Refusal = record { place = place; why = reason } in
     let same : there ≡ here = cc in
     λ i. Bad ((same i).place) ((same i).why)
-refused_outcome (Done count) place reason e = absurd cc
+refused_outcome other place reason e = absurd cc
 
 pub open_outcome : (outcome : Outcome) → verdict_of outcome ≡ verdict.Open → outcome ≡ Open
 open_outcome Open e = refl
-open_outcome (Bad offset reason) e = absurd cc
-open_outcome (Done count) e = absurd cc
+open_outcome other e = absurd cc
 
 -- ---- any term
 pub whole_is_value : (term : Term) (octets : List ℕ) → AreOctets octets → term_judgement term (length octets) octets ≡ verdict.Whole → IsDer term octets

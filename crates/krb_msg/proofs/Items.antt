@@ -179,8 +179,6 @@ module _ (contents_of : ℕ → ℕ → List ℕ → Outcome) (term : Term) (roo
       t = grind (arith, nat_tests)
 
       by_head : (found : Head) → head room (octet ∷ rest) ≡ found → ItemDone (octet ∷ rest) count
-      by_head Partial f = absurd (grind (arith, nat_tests))
-      by_head (Refused offset reason) f = absurd (grind (arith, nat_tests))
       by_head (Got header contents) f =
           let w : header + contents ≤ room = head-within room (octet ∷ rest) header contents f in
           record {
@@ -193,6 +191,7 @@ module _ (contents_of : ℕ → ℕ → List ℕ → Outcome) (term : Term) (roo
             sized = grind (arith, nat_tests);
             inner = grind (arith, nat_tests);
           }
+      by_head other f = absurd (grind (arith, nat_tests))
 
   pub item_open : (octets : List ℕ) → 0 < room → length octets ≡ room → item_of octets ≡ Open → ItemOpen octets
   item_open [] p l e = absurd (omega arith)

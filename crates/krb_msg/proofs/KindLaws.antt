@@ -57,28 +57,12 @@ kind_has_message kind.KrbError value f = IsValueOfMessage-same (message.KrbError
 -- the term of the kind with this tag, by computation
 pub chosen : (k : Kind) (n : ℕ) (rest : List ℕ) → judgement Lenient n (kind_tag k ∷ rest) ≡ term_judgement (kind_term k) n (kind_tag k ∷ rest)
 chosen kind.AsReq n rest = refl
-chosen kind.AsRep n rest = refl
-chosen kind.TgsReq n rest = refl
-chosen kind.TgsRep n rest = refl
-chosen kind.ApReq n rest = refl
-chosen kind.ApRep n rest = refl
-chosen kind.KrbSafe n rest = refl
-chosen kind.KrbPriv n rest = refl
-chosen kind.KrbCred n rest = refl
-chosen kind.KrbError n rest = refl
+chosen other n rest = refl
 
 -- the kind with a tag
 pub kind_tags : (k : Kind) → (kind_with_tag (kind_tag k) ≡ Some k) × (kind_of_tag (kind_tag k) ≡ k) × (tag_of (kind_term k) ≡ kind_tag k)
 kind_tags kind.AsReq = (refl, refl, refl)
-kind_tags kind.AsRep = (refl, refl, refl)
-kind_tags kind.TgsReq = (refl, refl, refl)
-kind_tags kind.TgsRep = (refl, refl, refl)
-kind_tags kind.ApReq = (refl, refl, refl)
-kind_tags kind.ApRep = (refl, refl, refl)
-kind_tags kind.KrbSafe = (refl, refl, refl)
-kind_tags kind.KrbPriv = (refl, refl, refl)
-kind_tags kind.KrbCred = (refl, refl, refl)
-kind_tags kind.KrbError = (refl, refl, refl)
+kind_tags other = (refl, refl, refl)
 
 pub kind_from_tag : (k : Kind) (tag : ℕ) → kind_with_tag tag ≡ Some k → kind_tag k ≡ tag
 kind_from_tag k tag =

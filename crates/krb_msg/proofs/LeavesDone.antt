@@ -12,19 +12,16 @@ use Rattle.krb_msg.proofs.Leaves.{each-next, each-bad, each-open, each-done}
 
 -- ---- parts after others
 pub done_from_after : (before : ℕ) (outcome : Outcome) (total : ℕ) → after before outcome ≡ Done total → (count : ℕ) × (outcome ≡ Done count) × (total ≡ before + count)
-done_from_after before Open total e = absurd cc
-done_from_after before (Bad offset reason) total e = absurd cc
 done_from_after before (Done count) total e = (count, refl, cc)
+done_from_after before other total e = absurd cc
 
 pub done_from_then_after : (before : ℕ) (outcome : Outcome) (next : ℕ → Outcome) (total : ℕ) → then_after before outcome next ≡ Done total → (count : ℕ) × (outcome ≡ Done count) × (next count ≡ Done total)
-done_from_then_after before Open next total e = absurd cc
-done_from_then_after before (Bad offset reason) next total e = absurd cc
 done_from_then_after before (Done count) next total e = (count, refl, e)
+done_from_then_after before other next total e = absurd cc
 
 pub open_from_after : (before : ℕ) (outcome : Outcome) → after before outcome ≡ Open → outcome ≡ Open
 open_from_after before Open e = refl
-open_from_after before (Bad offset reason) e = absurd cc
-open_from_after before (Done count) e = absurd cc
+open_from_after before other e = absurd cc
 
 pub open_from_then_after : (before : ℕ) (outcome : Outcome) (next : ℕ → Outcome) → then_after before outcome next ≡ Open → (outcome ≡ Open) ⊎ ((count : ℕ) × (outcome ≡ Done count) × (next count ≡ Open))
 open_from_then_after before Open next e = inl refl
@@ -134,8 +131,6 @@ abbrev pub time_contents : ℕ → List ℕ → Outcome
 time_contents = each_contents time_octet why.Time 15
 
 pub time_done : (digits place : ℕ) (octets : List ℕ) (count : ℕ) → place + digits ≡ 14 → place + length octets ≤ 15 → time_contents place octets ≡ Done count → IsTimeFrom digits octets
-time_done zero place [] count p l e = let f : Open ≡ Done count = sym (each-open time_octet why.Time 15 place (omega arith)) ∙ e in absurd cc
-time_done (suc digits) place [] count p l e = let f : Open ≡ Done count = sym (each-open time_octet why.Time 15 place (omega arith)) ∙ e in absurd cc
 time_done zero place (octet ∷ next ∷ octets) count p l e = absurd (omega arith)
 time_done zero place (octet ∷ []) count p l e =
     let t : time_octet place octet ≡ true = (each-passed time_octet why.Time 15 place octet [] count e).0 in
@@ -144,6 +139,7 @@ time_done (suc digits) place (octet ∷ octets) count p l e =
     let t : (time_octet place octet ≡ true) × (time_contents (place + 1) octets ≡ Done count) = each-passed time_octet why.Time 15 place octet octets count e in
     let d : (leb 48 octet ≡ true) × (leb octet 57 ≡ true) = and_parts (leb 48 octet) (leb octet 57) (rw (lt-ltb place 14 (omega arith)) at t.0) in
     (leb-true 48 octet d.0, leb-true octet 57 d.1, time_done digits (place + 1) octets count (omega arith) (omega arith) t.1)
+time_done other place [] count p l e = let f : Open ≡ Done count = sym (each-open time_octet why.Time 15 place (omega arith)) ∙ e in absurd cc
 
 pub time_accepts : (digits place : ℕ) (octets : List ℕ) → place + digits ≡ 14 → IsTimeFrom digits octets → (time_contents place octets ≡ Done 15) × (length octets ≡ suc digits)
 time_accepts zero place [] p t = absurd t

@@ -19,15 +19,9 @@ only_empty [] = refl
 only_empty (value ∷ values) = refl
 
 list_notes : (term : Term) (value : Value term) → empty_list_note (is_list_that_has EmptyList term value) ≡ notes_by (λ note. is_list_that_has note term value)
-list_notes (Integer low high) value = refl
-list_notes (Text greatest) value = refl
-list_notes Octets value = refl
-list_notes Time value = refl
-list_notes (Bits least) value = refl
-list_notes (Sequence fields) value = refl
 list_notes (SequenceOf empty term) value = only_empty value
 list_notes (Tagged index term) value = list_notes term value
-list_notes (Application number term) value = refl
+list_notes other value = refl
 
 -- the notes on a value of a field that may be left out
 pub optional-has : (term : Term) (value : Value term) → either (empty_list_note (is_list_that_has EmptyList term value)) (notes_by (λ note. has note term value)) ≡ notes_by (λ note. is_list_that_has note term value || has note term value)

@@ -10,15 +10,11 @@ use Rattle.krb_msg.proofs.Profiles.{maps_back, option_back, widened_value, widen
 -- ---- to the lenient term and back
 mutual
   widened_narrowed : (optional : Bool) (term : Term) (value : Value term) → widened_value optional term (narrowed_value optional term value) ≡ value
-  widened_narrowed optional (Integer low high) value = refl
-  widened_narrowed optional (Text greatest) octets = refl
-  widened_narrowed optional Octets octets = refl
-  widened_narrowed optional Time octets = refl
-  widened_narrowed optional (Bits least) bits = refl
   widened_narrowed optional (Sequence fields) values = widened_narrowed_fields fields values
   widened_narrowed optional (SequenceOf empty term) values = maps_back (widened_value false term) (narrowed_value false term) (widened_narrowed false term) values
   widened_narrowed optional (Tagged index term) value = widened_narrowed optional term value
   widened_narrowed optional (Application number term) value = widened_narrowed false term value
+  widened_narrowed optional other another = refl
 
   widened_narrowed_fields : (fields : Fields) (values : Values fields) → widened_values fields (narrowed_values fields values) ≡ values
   widened_narrowed_fields End values = refl

@@ -26,15 +26,12 @@ is_common reason = true
 abbrev mutual
   -- whether each string of a term may have any octets
   pub allows_any_octet : Term → Bool
-  allows_any_octet (Integer low high) = true
   allows_any_octet (Text greatest) = leb 255 greatest
-  allows_any_octet Octets = true
-  allows_any_octet Time = true
-  allows_any_octet (Bits least) = true
   allows_any_octet (Sequence fields) = allow_any_octet fields
   allows_any_octet (SequenceOf empty term) = allows_any_octet term
   allows_any_octet (Tagged index term) = allows_any_octet term
   allows_any_octet (Application number term) = allows_any_octet term
+  allows_any_octet other = true
 
   pub allow_any_octet : Fields → Bool
   allow_any_octet End = true

@@ -42,8 +42,7 @@ take-append_right xs ys k h =
 
 pub not_open : (outcome : Outcome) → Open ≡ outcome → IsDecided outcome → ⊥
 not_open Open e d = d
-not_open (Bad offset reason) e d = cc
-not_open (Done count) e d = cc
+not_open other e d = cc
 
 -- judgements that agree
 pub IsStable-same : (room before : ℕ) (judge other : List ℕ → Outcome) → ((octets : List ℕ) → judge octets ≡ other octets) → IsStable room before judge → IsStable room before other

@@ -47,11 +47,6 @@ module _ (messages : List Term) (limit : ℕ) where
 
   pub frames_within-same : (b c : ℕ) (octets : List ℕ) → length octets ≤ b → length octets ≤ c → frames_within b messages limit octets ≡ frames_within c messages limit octets
   frames_within-same zero zero [] p q = refl
-  frames_within-same zero (suc c) [] p q = refl
-  frames_within-same (suc b) zero [] p q = refl
-  frames_within-same (suc b) (suc c) [] p q = refl
-  frames_within-same zero c (octet ∷ rest) p q = absurd (omega arith)
-  frames_within-same (suc b) zero (octet ∷ rest) p q = absurd (omega arith)
   frames_within-same (suc b) (suc c) (octet ∷ rest) p q =
       elim (cases_lt (length (octet ∷ rest)) 4) [
         | inl h ↦ frames_within-short (suc b) octet rest h ∙ sym (frames_within-short (suc c) octet rest h)
@@ -61,6 +56,8 @@ module _ (messages : List Term) (limit : ℕ) where
             (frames_within-same b c (drop (number (take 4 (octet ∷ rest))) (drop 4 (octet ∷ rest))) (length-drop_two (octet ∷ rest) b p) (length-drop_two (octet ∷ rest) c q))
             ∙ sym (frames_within-step c (octet ∷ rest) h)
       ]
+  frames_within-same other another [] p q = refl
+  frames_within-same other another (octet ∷ rest) p q = absurd (omega arith)
 
   -- ---- a frame, and then others
   length_and-message : (contents rest : List ℕ) (f : List ℕ → Frames) → IsMessage contents → length_and messages limit (length contents) (contents ++ rest) f ≡ with_first contents (f rest)

@@ -21,9 +21,8 @@ row_of rows node none h le = row_from nodes rows nodes node none _ h le
 
 all_there : (terms : List Term) (rows : List Node) (others : List Term) → RowsAre terms rows others → length others ≤ length rows
 all_there terms [] [] h = omega arith
-all_there terms [] (term ∷ others) h = absurd h
-all_there terms (row ∷ rows) [] h = absurd h
 all_there terms (row ∷ rows) (term ∷ others) h = omega (arith, all_there terms rows others h.1)
+all_there terms other another h = absurd h
 
 -- facts of twenty rows, and then those of the rows after them
 pub twenty : {A1 A2 A3 A4 A5 A6 A7 A8 A9 A10 A11 A12 A13 A14 A15 A16 A17 A18 A19 A20 B : Type 0} → A1 × (A2 × (A3 × (A4 × (A5 × (A6 × (A7 × (A8 × (A9 × (A10 × (A11 × (A12 × (A13 × (A14 × (A15 × (A16 × (A17 × (A18 × (A19 × (A20))))))))))))))))))) → B → A1 × (A2 × (A3 × (A4 × (A5 × (A6 × (A7 × (A8 × (A9 × (A10 × (A11 × (A12 × (A13 × (A14 × (A15 × (A16 × (A17 × (A18 × (A19 × (A20 × (B))))))))))))))))))))

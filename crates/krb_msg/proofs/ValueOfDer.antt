@@ -86,14 +86,11 @@ option-read term fields read rest u (Some value) values small =
 mutual
   pub contents-read : (term : Term) → is_unambiguous term ≡ true → IsRead term
   contents-read (Integer low high) u value small = integer_value-integer_octets value
-  contents-read (Text greatest) u octets small = refl
-  contents-read Octets u octets small = refl
-  contents-read Time u octets small = refl
-  contents-read (Bits least) u bits small = refl
   contents-read (Sequence fields) u values small = fields-read fields u values small
   contents-read (SequenceOf empty term) u values small = items-read term (contents-read term u) values (length (flat_map (der term) values)) (omega arith) small
   contents-read (Tagged index term) u value small = sole-read term (contents-read term u) value small
   contents-read (Application number term) u value small = sole-read term (contents-read term u) value small
+  contents-read other u another small = refl
 
   fields-read : (fields : Fields) → are_unambiguous fields ≡ true → (values : Values fields) → length (der_of_fields fields values) < 2 ^ 32 → values_of fields (der_of_fields fields values) ≡ values
   fields-read End u values small = refl
