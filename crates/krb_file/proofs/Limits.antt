@@ -115,8 +115,9 @@ octets-same most Long end size s long = either (exceeds (s.place + size) end) (e
 
     either : (overrun over : Bool) → over ≡ exceeds size (Some most)
         → IsSameOrTooLong Long (when overrun (λ _. refused s why.Overrun) (λ _. when over (λ _. refused s (why.TooLong size)) last)) (when overrun (λ _. refused s why.Overrun) last)
+    either true over e = inl refl
+    either false false e = inl refl
     either false true e = inr (record { fault = fault_of s.place (why.TooLong size); is = refl; size = size; reason = refl; long = long (grind (arith, nat_tests)) })
-    either other another e = inl refl
 
 -- ---- readers made of these
 pub Limited-number : (file : List ℕ) (most : ℕ) (Long : ℕ → ℕ → Type 0) (end : Option ℕ) (w : Width) → Limited file most Long end (number_at w)

@@ -214,8 +214,10 @@ octets-alike {R} F size bounds place octets other after le same_length same =
     by_tests : (a b c : Bool)
         → F (when a (λ _. refused (at place []) why.Overrun) (λ _. when b (λ _. refused (at place []) (why.TooLong size)) (λ _. when c (λ _. refused (at place []) why.Truncated) (λ _. Ok (v, at (place + size) (drop size (other ++ after)))))))
         ≡ F (when a (λ _. refused (at place []) why.Overrun) (λ _. when b (λ _. refused (at place []) (why.TooLong size)) (λ _. when c (λ _. refused (at place []) why.Truncated) (λ _. Ok (w, at (place + size) (drop size (other ++ after)))))))
+    by_tests true b c = refl
+    by_tests false true c = refl
+    by_tests false false true = refl
     by_tests false false false = same v w (at (place + size) (drop size (other ++ after))) (omega (arith, length-take size (octets ++ after), length-take size (other ++ after), lengths))
-    by_tests other another third = refl
 
 -- two readers that read the same but for what a mask hides
 pub record IsSame {A B : Type 0} (mask : A → B) (one other : Reader A) : Type 0 where

@@ -174,17 +174,19 @@ truncated limit size start k fault taken old now left begins inside under took f
 
 pub taking-fails : (e : FileFault) (limit : Option ℕ) (size start k : ℕ) (taken : List ℕ) (old now left : Cursor) → start ≡ old.place → exceeds (old.place + size) old.bounds.end ≡ false → exceeds size limit ≡ false → Takes old now taken → length taken + k ≤ size
     → FailsTaking e start now left k → FailsBy e (next_octets_at limit size) (Unit {0}) old
+taking-fails faults.Read limit size start k taken old now left begins inside under took fits fails = tt
+taking-fails faults.Memory limit size start k taken old now left begins inside under took fits fails = tt
 taking-fails (faults.Refused fault) limit size start k taken old now left begins inside under took fits fails =
     truncated limit size start k fault taken old now left begins inside under took fits fails.0 fails.1
-taking-fails other limit size start k taken old now left begins inside under took fits fails = tt
 
 -- ---- the same of a field of octets, under its limit
 met : (size : ℕ) (fault : Fault) (old : Cursor) → HasMet (next_octets_at old.bounds.limit size) fault old → HasMet (octets_at size) fault old
 met size fault old m = record { octets = m.octets; there = m.there; refused = m.refused }
 
 fails_so : (e : FileFault) (size : ℕ) (old : Cursor) → FailsBy e (next_octets_at old.bounds.limit size) (Unit {0}) old → FailsBy e (octets_at size) (Unit {0}) old
+fails_so faults.Read size old f = tt
+fails_so faults.Memory size old f = tt
 fails_so (faults.Refused fault) size old f = met size fault old f
-fails_so other size old f = tt
 
 pub octets-fails : (e : FileFault) (size start k : ℕ) (taken : List ℕ) (old now left : Cursor) → start ≡ old.place → exceeds (old.place + size) old.bounds.end ≡ false → exceeds size old.bounds.limit ≡ false → Takes old now taken → length taken + k ≤ size
     → FailsTaking e start now left k → FailsBy e (octets_at size) (Unit {0}) old
@@ -234,8 +236,9 @@ skip-met size fault old m = record { octets = m.octets; there = m.there; refused
     given x = Ok x
 
 pub skip-refused : (e : FileFault) (size : ℕ) (old : Cursor) → FailsBy e (next_octets_at None size) (Unit {0}) old → FailsBy e (skipped_at size) (Unit {0}) old
+skip-refused faults.Read size old f = tt
+skip-refused faults.Memory size old f = tt
 skip-refused (faults.Refused fault) size old f = skip-met size fault old f
-skip-refused other size old f = tt
 
 pub skip-fails : (e : FileFault) (size start k rest : ℕ) (zeros : Bool) (old now left : Cursor) → start ≡ old.place → exceeds (old.place + size) old.bounds.end ≡ false → Passes old now zeros rest size → k ≤ rest → FailsTaking e start now left k → FailsBy e (skipped_at size) (Unit {0}) old
 skip-fails e size start k rest zeros old now left begins inside p few fails = skip-refused e size old (taking-fails e None size start k p.taken old now left begins inside refl p.took (omega (arith, p.counted, few)) fails)

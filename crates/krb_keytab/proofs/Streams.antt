@@ -93,11 +93,12 @@ ends_so limit file count fault given left counted is whole =
     }
 
 pub fault_given : (limit : Option ℕ) (file : List ℕ) (count : ℕ) (e : FileFault) (MayFail : Type 0) (state : State) (old new : Cursor) → Reads limit old states.Open file count → FailsBy e record_at MayFail old → ReturnsNext limit file count (Err e) new state
+fault_given limit file count faults.Read MayFail state old new reads fails = tt
+fault_given limit file count faults.Memory MayFail state old new reads fails = tt
 fault_given limit file count (faults.Refused fault) MayFail state old new reads fails =
     let b = reads.rest fails.octets fails.there in
     let e : record_at (limited limit) (source_at old.place fails.octets) ≡ Err fault = subst (λ (k : Bounds). record_at k (source_at old.place fails.octets) ≡ Err fault) reads.bounds fails.refused in
     ends_so limit file count fault reads.given b.0 reads.counted (b.1 ∙ after-fault limit (source_at old.place fails.octets) fault e) b.2
-fault_given limit file count other MayFail state old new reads fails = tt
 
 -- a fault in the next record, and where that begins
 pub fault_begun_given : (limit : Option ℕ) (file : List ℕ) (count : ℕ) (e told : FileFault) (begin : ℕ) (MayFail : Type 0) (state : State) (old new : Cursor) → begin ≡ old.place → told ≡ fault_begun begin e → Reads limit old states.Open file count → FailsBy e next_record_at MayFail old → ReturnsNext limit file count (Err told) new state
@@ -106,11 +107,12 @@ fault_begun_given limit file count e told begin MayFail state old new here tells
     subst (λ (fault : FileFault). ReturnsNext limit file count (Err fault) new state) same (fault_given limit file count (fault_begun old.place e) MayFail state old new reads (part_fails next_record_at e MayFail old fails))
 
 pub version_refused : (limit : Option ℕ) (file : List ℕ) (count : ℕ) (e : FileFault) (MayFail : Type 0) (state : State) (old new : Cursor) → Reads limit old states.Start file count → FailsBy e (version_at (2 ∷ [])) MayFail old → ReturnsNext limit file count (Err e) new state
+version_refused limit file count faults.Read MayFail state old new reads fails = tt
+version_refused limit file count faults.Memory MayFail state old new reads fails = tt
 version_refused limit file count (faults.Refused fault) MayFail state old new reads fails =
     let b = reads.rest fails.octets fails.there in
     let e : version_at (2 ∷ []) (limited limit) (source_at old.place fails.octets) ≡ Err fault = subst (λ (k : Bounds). version_at (2 ∷ []) k (source_at old.place fails.octets) ≡ Err fault) reads.bounds fails.refused in
     ends_so limit file count fault reads.given b.0 reads.counted (b.1 ∙ ap (λ (r : Result (ℕ × Source) Fault). after_version r (items_after limit)) e) b.2
-version_refused limit file count other MayFail state old new reads fails = tt
 
 pub not_done : (limit : Option ℕ) (file : List ℕ) (count : ℕ) (stop : Stop) (cursor : Cursor) → Reads limit cursor (states.Done stop) file count → ⊥
 not_done limit file count stop cursor reads = let now = some_rest cursor in (reads.rest now.rest now.there).1
