@@ -2,7 +2,6 @@
 use Rattle.std.proofs.Common.{◌≡◌, ℕ, suc, ◌+◌, ◌-◌, ◌<◌, ◌≤◌, true, false, List, [], ◌∷◌, length, Result, Ok, Err, Option, refl, sym, ◌∙◌, ap, arith}
 use Rattle.krb_der.specs.declared.why.Why.TheVariants as why
 use Rattle.krb_judge.specs.Paths.{element_path}
-use Rattle.krb_judge.proofs.Descent.{begins_some}
 use Rattle.krb_msg.specs.ValueOfDer.{begins_with}
 use Rattle.krb_token.specs.Spnego.{Holds, Fields, Field, fields_read, held}
 use Rattle.krb_token.specs.Items.{Item, entered, simple_tag, simple_item, simple_items}
@@ -24,10 +23,14 @@ items_other type path bound index part (octet ∷ octets) t some = rw t refl
 one_more : (n index left : ℕ) → 0 < left → index + left ≤ n → n - index ≡ suc (n - (index + 1))
 one_more n index left some fits = omega arith
 
+some_from_tag : (tag : ℕ) (octets : List ℕ) → begins_with tag octets ≡ true → 0 < length octets
+some_from_tag tag [] t = absurd cc
+some_from_tag tag (octet ∷ octets) t = omega arith
+
 read_first : (type : Simple) (path own : List ℕ) (n index : ℕ) (part : Part) (read : Result Item Fault) → begins_with (simple_tag type) part.octets ≡ true → index + length part.octets ≤ n → own ≡ element_path path index → simple_item type own false part ≡ read →
     simple_items type path (n - index) index part part.octets ≡ and_then read (λ item. simple_items type path (n - (index + 1)) (index + 1) item.rest item.rest.octets)
 read_first type path own n index part read t fits o e =
-    ap (λ bound. simple_items type path bound index part part.octets) (one_more n index (length part.octets) (begins_some (simple_tag type) part.octets t) fits)
+    ap (λ bound. simple_items type path bound index part part.octets) (one_more n index (length part.octets) (some_from_tag (simple_tag type) part.octets t) fits)
     ∙ items_first type path (n - (index + 1)) index part part.octets t
     ∙ ap (λ found. and_then found (λ item. simple_items type path (n - (index + 1)) (index + 1) item.rest item.rest.octets)) (ap (λ p. simple_item type p false part) (sym o) ∙ e)
 
