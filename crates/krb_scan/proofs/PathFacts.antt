@@ -7,7 +7,7 @@ use Rattle.krb_der.proofs.Sizes.{length-complement}
 use Rattle.krb_der.specs.Octets.{AreOctets, number, complement, integer_octets, integer_value}
 use Rattle.krb_der.specs.inner.Numbers.{AreOctets-complement}
 use Rattle.krb_der.proofs.Sizes.{length-complement}
-use Rattle.krb_msg.specs.Term.{Term, Integer, Bits, Tagged}
+use Rattle.krb_msg.specs.Term.{Term, Integer, Bits}
 use Rattle.krb_msg.specs.Judgement.{Head, Partial, Refused, Got, Open as OpenOutcome, head, has_size, bits_contents}
 use Rattle.krb_scan.specs.Scan as scan
 use Rattle.krb_scan.specs.Scan.{Container, Mark as Marked, Tip, Between, InHead, InLeaf, Ongoing, limit, leaf_outcome}

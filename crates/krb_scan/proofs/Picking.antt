@@ -6,7 +6,7 @@ use Rattle.krb_der.specs.declared.verdict.Verdict.{Verdict}
 use Rattle.krb_der.specs.declared.verdict.Verdict.TheVariants as verdict
 use Rattle.krb_der.specs.declared.why.Why.TheVariants as why
 use Rattle.krb_msg.specs.Term.{Term}
-use Rattle.krb_msg.specs.Judgement.{Head, Refused, Got}
+use Rattle.krb_msg.specs.Judgement.{Head, Got}
 use Rattle.krb_scan.specs.Scan as scan
 use Rattle.krb_scan.specs.Scan.{Container, Mark as Marked, container_of, state_of, limit, sole_in}
 use Rattle.krb_msg.specs.Nodes.{term_at}

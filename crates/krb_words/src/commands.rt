@@ -3,7 +3,7 @@
 ghost use Rattle.std.specs.Prelude.{◌≡◌, false, IfOk};
 ghost use Rattle.clap.specs.Words.{app_of, new_app, rule_of};
 ghost use Rattle.clap.specs.declared.builder.command.Command.TheViews.{out-Command};
-ghost use Rattle.krb_words.specs.Words.{now_option, option, with_output, with_files, number_option, limit_option, flag, strict_flag, with_messages, list_app, stream_app, message_app, keytab_app, ccache_app, capture_app, decode_app, encode_app, krbls};
+ghost use Rattle.krb_words.specs.Words.{now_option, option, with_output, with_files, number_option, limit_option, flag, file_names, names_flag, json_flag, strict_flag, with_filename_flag, with_messages, list_app, stream_app, message_app, keytab_app, ccache_app, capture_app, decode_app, encode_app, krbls};
 
 use crate::help::{
     CAPTURE_HELP, CCACHE_HELP, CommandHelp, DECODE_HELP, ENCODE_HELP, KEYTAB_HELP, KRBLS_HELP,
@@ -52,6 +52,17 @@ fn now_option<'a>(alloc: Global) -> Arg<'a>
     )
 }
 
+/// Returns the words `FILE..`, which come after all options of a command.
+fn file_names<'a>(alloc: Global) -> Arg<'a>
+    ensures rule { rule_of result ≡ file_names }
+    ensures local { result.global ≡ false }
+{
+    Arg::new(alloc, "file names")
+        .num_args(0..)
+        .value_name("FILE")
+        .help("Files to read, - for the standard input [-]")
+}
+
 /// Returns an option with no value.
 fn flag<'a>(alloc: Global, name: &'a str, help: &'a str) -> Arg<'a>
     ensures rule { rule_of result ≡ flag name.entry.now }
@@ -69,6 +80,43 @@ fn strict_flag<'a>(alloc: Global) -> Arg<'a>
     ensures local { result.global ≡ false }
 {
     flag(alloc, "strict", "Refuses messages that have a note")
+}
+
+/// Returns the option `--names`.
+fn names_flag<'a>(alloc: Global) -> Arg<'a>
+    ensures rule { rule_of result ≡ names_flag }
+    ensures local { result.global ≡ false }
+{
+    flag(
+        alloc,
+        "names",
+        "Adds the names of numbers: 18:aes256-cts-hmac-sha1-96",
+    )
+}
+
+/// Returns the option `--json`.
+fn json_flag<'a>(alloc: Global) -> Arg<'a>
+    ensures rule { rule_of result ≡ json_flag }
+    ensures local { result.global ≡ false }
+{
+    flag(
+        alloc,
+        "json",
+        "Prints each line as a JSON object, with the names",
+    )
+}
+
+/// Returns the option `-H`, `--with-filename`.
+fn with_filename_flag<'a>(alloc: Global) -> Arg<'a>
+    ensures rule { rule_of result ≡ with_filename_flag }
+    ensures local { result.global ≡ false }
+{
+    flag(
+        alloc,
+        "with-filename",
+        "Begins each line with the file that it is of: file=NAME",
+    )
+    .short('H')
 }
 
 /// Returns an option whose value is a number that a parser accepts.
@@ -110,24 +158,9 @@ fn with_output<'a>(alloc: Global, command: Command<'a>) -> Result<Command<'a>, A
     ensures { IfOk result (λ c. (app_of c ≡ with_output (app_of command.entry)) × ((out-Command c).has_globals ≡ false)) }
 {
     command
-        .arg(flag(
-            alloc,
-            "names",
-            "Adds the names of numbers: 18:aes256-cts-hmac-sha1-96",
-        ))?
-        .arg(flag(
-            alloc,
-            "json",
-            "Prints each line as a JSON object, with the names",
-        ))?
-        .arg(
-            flag(
-                alloc,
-                "with-filename",
-                "Begins each line with the file that it is of: file=NAME",
-            )
-            .short('H'),
-        )
+        .arg(names_flag(alloc))?
+        .arg(json_flag(alloc))?
+        .arg(with_filename_flag(alloc))
 }
 
 /// Returns a command with the words that name files.
@@ -135,10 +168,6 @@ fn with_files<'a>(alloc: Global, command: Command<'a>) -> Result<Command<'a>, Al
     requires local { (out-Command command).has_globals ≡ false }
     ensures { IfOk result (λ c. (app_of c ≡ with_files (app_of command.entry)) × ((out-Command c).has_globals ≡ false)) }
 {
-    let names = Arg::new(alloc, "file names")
-        .num_args(0..)
-        .value_name("FILE")
-        .help("Files to read, - for the standard input [-]");
     command
         .arg(text_option(
             alloc,
@@ -146,7 +175,7 @@ fn with_files<'a>(alloc: Global, command: Command<'a>) -> Result<Command<'a>, Al
             "PATH",
             "Reads this file before those that are named",
         ))?
-        .arg(names)
+        .arg(file_names(alloc))
 }
 
 /// Returns a command with the options and words of one that turns messages into another form.

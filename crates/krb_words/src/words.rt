@@ -126,10 +126,7 @@ fn wrong(text: Result<String, AllocError>) -> WordsFault {
 
 /// Returns the fault of words that `clap` accepts and that are no command line. There are none.
 fn not_read(alloc: Global) -> WordsFault {
-    wrong(String::from_str(
-        alloc,
-        "error: the command line is not read\n",
-    ))
+    wrong(String::from_str(alloc, "error: the command line is not read\n"))
 }
 
 /// Returns the fault of a text that says no time.
