@@ -19,9 +19,9 @@ use crate::message::put_ap_req;
 use crate::number::Numbered;
 use crate::part::{Clear, PartPlace, put_part_opening, view_judged};
 use crate::put_field;
-use crate::shown::{HexText, QuotedText};
+use crate::shown::QuotedText;
 use crate::text_buffer::TextBuffer;
-use crate::viewed::{ABSENT, flags_of, principal_of};
+use crate::viewed::{ABSENT, flags_of, optional_hex, optional_quoted, principal_of};
 use krb_msg::{ApReq, ApReqView, EncryptedData, EncryptedDataView, Ticket};
 use krb_padata::{
     EtypeInfo2Entry, EtypeInfoEntry, KrbFastArmorView, PaForUser, PaFxFastReply, PaFxFastRequest,
@@ -53,7 +53,7 @@ impl<'a> Clear<'a> for EtypeInfoEntry {
     fn put_part(text: &mut TextBuffer, at: PartPlace, seen: &Self::Of) -> Result<(), AllocError> {
         put_part_opening(text, at, "PA-ETYPE-INFO")?;
         put_etype_field(text, at.form, &seen.etype)?;
-        put_field!(text, at.form, "salt": &seen.salt.map(QuotedText))?;
+        put_field!(text, at.form, "salt": &optional_quoted(seen.salt))?;
         put_closing(text, at.form)
     }
 }
@@ -66,8 +66,8 @@ impl<'a> Clear<'a> for EtypeInfo2Entry {
     fn put_part(text: &mut TextBuffer, at: PartPlace, seen: &Self::Of) -> Result<(), AllocError> {
         put_part_opening(text, at, "PA-ETYPE-INFO2")?;
         put_etype_field(text, at.form, &seen.etype)?;
-        put_field!(text, at.form, "salt": &seen.salt.map(QuotedText))?;
-        put_field!(text, at.form, "params": &seen.s2kparams.map(HexText))?;
+        put_field!(text, at.form, "salt": &optional_quoted(seen.salt))?;
+        put_field!(text, at.form, "params": &optional_hex(seen.s2kparams))?;
         put_closing(text, at.form)
     }
 }

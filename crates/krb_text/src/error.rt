@@ -16,11 +16,11 @@ use crate::item::{put_name_member, put_named};
 use crate::list::PaDataTypes;
 use crate::part::view_judged;
 use crate::put_field;
-use crate::shown::{QuotedText, Shown, put_begin};
+use crate::shown::{Shown, put_begin};
 use crate::text_buffer::TextBuffer;
 use crate::viewed::{
-    client_of, micros_of, optional_micros_of, optional_size_of, optional_time_of, principal_of,
-    time_of,
+    client_of, micros_of, optional_micros_of, optional_quoted, optional_size_of, optional_time_of,
+    principal_of, time_of,
 };
 use krb_der::Many;
 use krb_msg::{ItemsView, KrbErrorView, PaData};
@@ -144,7 +144,7 @@ fn put_last_fields(
 {
     put_field!(text, form, "stime": &time_of(error.stime))?;
     put_field!(text, form, "susec": &micros_of(error.susec))?;
-    put_field!(text, form, "text": &error.e_text.map(QuotedText))?;
+    put_field!(text, form, "text": &optional_quoted(error.e_text))?;
     put_field!(text, form, "data": &optional_size_of(error.e_data))?;
     put_field!(text, form, "methods": &methods_of(error))
 }

@@ -9,13 +9,13 @@ ghost use Rattle.krb_msg.specs.Types.{PrincipalNameLists, host_address_of, pa_da
 ghost use Rattle.krb_msg.specs.Term.{IfPresent};
 ghost use Rattle.krb_msg.specs.Viewed.{AreViewed, items_of};
 ghost use Rattle.krb_text.specs.Messages.{padata};
-ghost use Rattle.krb_text.specs.Values.{Flags, Number, Numbers, Principal as IsPrincipal, Word, client, count, if_there, principal};
+ghost use Rattle.krb_text.specs.Values.{Flags, Hex, Number, Numbers, Principal as IsPrincipal, Quoted, Word, client, count, if_there, principal};
 ghost use Rattle.krb_registry.specs.declared.registry.Registry.TheVariants.{PreAuthenticationData};
 
 use crate::flags::FlagBits;
 use crate::list::{PaDataTypes, count_items};
 use crate::principal::{Principal, ViewedStrings};
-use crate::shown::Plain;
+use crate::shown::{HexText, Plain, QuotedText};
 use krb_msg::{FlagsView, HostAddress, ItemsView, PrincipalNameView, Ticket};
 use krb_registry::Registry;
 
@@ -99,6 +99,22 @@ pub(crate) fn optional_time_of(time: Option<&[u8]>) -> Option<Plain<'_>>
         None => None,
         Some(time) => Some(time_of(time)),
     }
+}
+
+/// Returns a string that a line has between quotes, if it is there.
+#[inline(always)]
+pub(crate) fn optional_quoted(octets: Option<&[u8]>) -> Option<QuotedText<'_>>
+    ensures { if_there (λ text. Quoted text.0.now) result ≡ if_there Quoted (option_map (λ octets. octets.now) octets.entry) }
+{
+    octets.map(QuotedText)
+}
+
+/// Returns octets that are shown in hexadecimal, if they are there.
+#[inline(always)]
+pub(crate) fn optional_hex(octets: Option<&[u8]>) -> Option<HexText<'_>>
+    ensures { if_there (λ text. Hex text.0.now) result ≡ if_there Hex (option_map (λ octets. octets.now) octets.entry) }
+{
+    octets.map(HexText)
 }
 
 /// Returns microseconds as a number that is not negative.

@@ -1,0 +1,14 @@
+use Rattle.std.proofs.Common.{codes}
+use Rattle.std.proofs.lemmas.Result.{on_ok_weaker}
+use Rattle.krb_text.specs.Forms.{closing, opening, part_text}
+use Rattle.krb_text.specs.inner.Parts.{separator}
+use Rattle.krb_text.proofs.Appended.{part_of_two}
+use Rattle.krb_text.proofs.clear.EtypeInfoEntryClear.put_part.Goals as goal
+
+pub returns : goal.returns
+unfolding part_text
+returns c =
+    on_ok_weaker
+    c.put_closing.result
+    (part_of_two c.args.text.now (separator c.args.at.form c.args.at.told) (opening c.args.at.form (codes "PA-ETYPE-INFO")) _ _ (closing c.args.at.form) c.in_ok-put_part_opening.ensures c.in_ok-put_etype_field.ensures (rw c.optional_quoted.ensures at c.in_ok-put_field.ensures))
+    c.put_closing.ensures
