@@ -1,11 +1,10 @@
 -- The listings that C is given: those of the commands.
-use Rattle.std.specs.Prelude.{ℕ, ◌≡◌, Bool, true, false, List, [], Option, Some}
+use Rattle.std.specs.Prelude.{ℕ, ◌≡◌, Bool, List, [], Option, Some}
 use Rattle.krb_der.specs.declared.profile.Profile.{Profile}
 use Rattle.krb_text.specs.declared.form.Form.{Form}
 use Rattle.krb_tool.specs.Captures.{capture_listing}
 use Rattle.krb_tool.specs.Files.{FileListing, RecordListing, ccache_listing, keytab_listing, text_of}
-use Rattle.krb_tool.specs.GoingOn.{ListsAll}
-use Rattle.krb_tool.specs.Listing.{Lists}
+use Rattle.krb_tool.specs.GoingOn.{ListsStream}
 use Rattle.krb_tool.specs.Messages.{octets_listing}
 use Rattle.krb_tool.specs.declared.run.RunEnd.{RunEnd}
 
@@ -18,8 +17,7 @@ IsMessageListing form profile octets = IsOf (octets_listing form profile octets)
 
 -- The listing of a stream. The run over it had all the octets, and wrote the text after nothing; those after a refusal that ends it may be left.
 abbrev pub IsStreamListing : (goes_on : Bool) → Form → Profile → (limit : ℕ) → List ℕ → List ℕ → RunEnd → Type 0
-IsStreamListing false form profile limit octets text end = (left : List ℕ) × Lists form profile limit (Some octets) (Some left) (Some []) (Some text) end
-IsStreamListing true form profile limit octets text end = (left : List ℕ) × ListsAll form profile limit (Some octets) (Some left) (Some []) (Some text) end
+IsStreamListing goes_on form profile limit octets text end = (left : List ℕ) × ListsStream goes_on form profile limit (Some octets) (Some left) (Some []) (Some text) end
 
 -- a listing of records, and how it ends
 abbrev pub IsRecords : RecordListing → List ℕ → RunEnd → Type 0

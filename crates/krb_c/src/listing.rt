@@ -1,6 +1,6 @@
 //! Octets that are listed, as `krbls` lists them.
 
-ghost use Rattle.std.specs.Prelude.{◌≡◌, IfOk, true, false};
+ghost use Rattle.std.specs.Prelude.{◌≡◌, IfOk};
 ghost use Rattle.krb_c.specs.Numbers.{form_of, goes_on, limit_of, now_of, port_of, profile_of};
 ghost use Rattle.krb_c.specs.Listed.{IsCaptureListing, IsCcacheListing, IsKeytabListing, IsMessageListing, IsStreamListing};
 ghost use Rattle.krb_c.specs.Written.{IsListed};
@@ -9,7 +9,7 @@ use crate::numbers::{form_of, goes_on, limit_of, now_of, port_of, profile_of};
 use crate::writing::{Listing, answer};
 use krb_tool::{
     Form, Limit, Profile, RunFault, list_octets, run_capture, run_ccache_in, run_keytab_in,
-    run_stream_going_on, run_stream_in,
+    run_stream_in,
 };
 use std::alloc::Global;
 
@@ -28,38 +28,6 @@ fn message_listing(
     Ok(Listing { text, end })
 }
 
-/// Returns the listing of a stream up to its end or its first refusal.
-fn stream_listing_to_refusal(
-    alloc: Global,
-    form: Form,
-    profile: Profile,
-    limit: Limit,
-    octets: &[u8],
-) -> Result<Listing, RunFault>
-    ensures { IfOk result (λ made. IsStreamListing false form profile limit octets.now made.text.items made.end) }
-{
-    let mut reader = octets;
-    let mut text = Vec::new(alloc);
-    let end = run_stream_in(alloc, form, profile, &mut reader, &mut text, limit)?;
-    Ok(Listing { text, end })
-}
-
-/// Returns the listing of a stream that goes on after refusals.
-fn stream_listing_going_on(
-    alloc: Global,
-    form: Form,
-    profile: Profile,
-    limit: Limit,
-    octets: &[u8],
-) -> Result<Listing, RunFault>
-    ensures { IfOk result (λ made. IsStreamListing true form profile limit octets.now made.text.items made.end) }
-{
-    let mut reader = octets;
-    let mut text = Vec::new(alloc);
-    let end = run_stream_going_on(alloc, form, profile, &mut reader, &mut text, limit)?;
-    Ok(Listing { text, end })
-}
-
 /// Returns the listing of a stream, which may go on after refusals.
 fn stream_listing(
     alloc: Global,
@@ -71,11 +39,10 @@ fn stream_listing(
 ) -> Result<Listing, RunFault>
     ensures { IfOk result (λ made. IsStreamListing goes_on form profile limit octets.now made.text.items made.end) }
 {
-    if goes_on {
-        stream_listing_going_on(alloc, form, profile, limit, octets)
-    } else {
-        stream_listing_to_refusal(alloc, form, profile, limit, octets)
-    }
+    let mut reader = octets;
+    let mut text = Vec::new(alloc);
+    let end = run_stream_in(alloc, form, profile, goes_on, &mut reader, &mut text, limit)?;
+    Ok(Listing { text, end })
 }
 
 /// Returns the listing of a keytab.

@@ -28,7 +28,15 @@ impl Run {
     ) -> Result<RunEnd, RunFault> {
         match self {
             Run::Stream(profile) => {
-                run_stream_in(alloc, Form::Lines, profile, reader, writer, Limit::DEFAULT)
+                run_stream_in(
+                    alloc,
+                    Form::Lines,
+                    profile,
+                    false,
+                    reader,
+                    writer,
+                    Limit::DEFAULT,
+                )
             }
             Run::Message(profile) => run_message_in(alloc, Form::Lines, profile, reader, writer),
             Run::Lines(profile) => run_lines_in(alloc, Form::Lines, profile, reader, writer),

@@ -2,9 +2,7 @@
 //! another language that follow `docs/LISTING.md`.
 
 use crate::examples::octets_of;
-use krb_tool::{
-    Form, Limit, Profile, RunEnd, RunFault, run_capture, run_stream_going_on, run_stream_in,
-};
+use krb_tool::{Form, Limit, Profile, RunEnd, RunFault, run_capture, run_stream_in};
 use std::alloc::Global;
 use std::test::Fail;
 
@@ -67,8 +65,8 @@ fn list(
     let mut octets = octets;
     let (form, profile, limit) = (Form::NamedLines, Profile::Lenient, Limit::DEFAULT);
     match source {
-        Source::Stream => run_stream_in(alloc, form, profile, &mut octets, listed, limit),
-        Source::GoingOn => run_stream_going_on(alloc, form, profile, &mut octets, listed, limit),
+        Source::Stream => run_stream_in(alloc, form, profile, false, &mut octets, listed, limit),
+        Source::GoingOn => run_stream_in(alloc, form, profile, true, &mut octets, listed, limit),
         Source::Capture => run_capture(alloc, form, &mut octets, listed, limit, 88),
     }
 }

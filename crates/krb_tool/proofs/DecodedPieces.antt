@@ -19,7 +19,7 @@ use Rattle.krb_frame.specs.declared.decoder.Status.{Status}
 use Rattle.krb_frame.specs.declared.decoder.Status.TheVariants as status
 use Rattle.krb_frame.specs.declared.pass.Passed.{Passed}
 use Rattle.krb_frame.proofs.Ends.{none_found, refused_end, found_of, refusal_ends}
-use Rattle.krb_tool.specs.Conversions.{StopsInPiece}
+use Rattle.krb_tool.specs.Listing.{StopsInPiece}
 use Rattle.krb_tool.specs.Decoding.{Unsealed, ending_of, ending_at, decoded, AllAreSealed, GoesOn}
 use Rattle.krb_tool.specs.Listing.{IsNotRefused}
 use Rattle.krb_tool.specs.Paths.{frame_path, end_path}

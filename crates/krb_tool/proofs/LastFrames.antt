@@ -51,17 +51,3 @@ last-at d stream more cleared h same none rest =
 
 pub path-at : (d : Decoding) (stream more : List ℕ) (cleared : List (List ℕ)) → HasDecoded (messages d.profile) d stream cleared → frames (messages d.profile) d.limit (stream ++ more) ≡ frames (messages d.profile) d.limit stream → (found (messages d.profile) d).contents ≡ [] → (IsNotRefused (found (messages d.profile) d).end → more ≡ []) → end_path d.profile d.limit (stream ++ more) ≡ frame_path d.profile d.octets
 path-at d stream more cleared h same none rest = ap (frame_path d.profile) (last-at d stream more cleared h same none rest).last
-
--- the path in the last frame, and where that is
-pub record LastIs (d : Decoding) (octets : List ℕ) (offset : ℕ) : Type 0 where
-  pub path : end_path d.profile d.limit octets ≡ frame_path d.profile d.octets
-  pub extent : end_extent d.profile d.limit octets ≡ frame_extent offset d.octets
-
-pub last-is : (d : Decoding) (stream more : List ℕ) (cleared : List (List ℕ)) (offset : ℕ) → HasDecoded (messages d.profile) d stream cleared → offset + length d.octets ≡ length stream → frames (messages d.profile) d.limit (stream ++ more) ≡ frames (messages d.profile) d.limit stream → (found (messages d.profile) d).contents ≡ [] → (IsNotRefused (found (messages d.profile) d).end → more ≡ []) → LastIs d (stream ++ more) offset
-last-is d stream more cleared offset h size same none rest =
-    let last : IsLastOf d (stream ++ more) cleared = last-at d stream more cleared h same none rest in
-    let counted : frames_size cleared ≡ offset = omega (arith, size, h.counted, ap length h.last.parts, length-append h.last.before d.octets) in
-    record {
-      path = ap (frame_path d.profile) last.last;
-      extent = ap₂ frame_extent (ap frames_size last.contents ∙ counted) last.last;
-    }

@@ -4,6 +4,7 @@ pub mod Transfers
 pub mod StreamRuns
 pub mod Pieces
 pub mod LastFrames
+pub mod FirstRefusals
 pub mod ListedPieces
 pub mod Files
 pub mod Messages
@@ -12,8 +13,6 @@ pub mod KeytabLines
 pub mod CredentialLines
 pub mod Upgrades
 pub mod KnownLengths
-pub mod CountedListings
-pub mod CountedPieces
 pub mod SourceRuns
 mod FaultPaths
 pub mod FilePaths

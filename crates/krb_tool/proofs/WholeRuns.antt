@@ -23,7 +23,7 @@ use Rattle.krb_msg.proofs.MessageOfDer.{message_of_der_is_message}
 use Rattle.krb_text.specs.Refusals.{path_in}
 use Rattle.krb_text.specs.Values.{Value, Absent, String, Field, if_there}
 use Rattle.krb_text.specs.declared.form.Form.TheVariants as forms
-use Rattle.krb_tool.specs.Conversions.{StopsInPiece}
+use Rattle.krb_tool.specs.Listing.{StopsInPiece}
 use Rattle.krb_tool.specs.Decoding.{Refusing, message_decoded, decoded_whole, DecodesWhole, FailsToDecodeWhole}
 use Rattle.krb_tool.specs.Files.{AppendsPrefix, ReadsSome}
 use Rattle.krb_tool.specs.declared.whole_run.MessageLine.{MessageLine}

@@ -1,7 +1,7 @@
 -- What a run that writes one text of what it reads, messages as lines or lines as messages, does to its reader and its writer.
 use Rattle.std.specs.Prelude.{ℕ, ◌≡◌, ◌≤◌, List, ◌++◌, length, Option}
 use Rattle.std.specs.Io.KnownBytes.{Consumes, Appends, IsAtEnd}
-use Rattle.krb_tool.specs.Listing.{WritesPrefix}
+use Rattle.krb_tool.specs.Listing.{StopsInPiece, WritesPrefix}
 
 -- what octets become: a text, and how it ends
 pub record Converted (E : Type 0) : Type 0 where
@@ -11,14 +11,6 @@ pub record Converted (E : Type 0) : Type 0 where
 -- with a text before it
 abbrev pub after_text : {E : Type 0} → List ℕ → Converted E → Converted E
 after_text text others = record { text = text ++ others.text; end = others.end }
-
--- no more was read than octets after which more are asked for, and then one piece
-pub record StopsInPiece (GoesOn : List ℕ → Type 0) (read : List ℕ) : Type 0 where
-  pub prefix : List ℕ
-  pub piece : List ℕ
-  pub parts : read ≡ prefix ++ piece
-  pub goes_on : GoesOn prefix
-  pub short : length piece ≤ 65536
 
 -- A run read octets that its reader had, and appended what they become to what is written. If it could go on nothing is left unread.
 pub record Converts {E : Type 0} (convert : List ℕ → Converted E) (GoesOn : List ℕ → Type 0) (had left written_before written_after : Option (List ℕ)) (ended : E) : Type 0 where

@@ -1,5 +1,5 @@
 -- The listing of a stream that goes on after refusals, and what a run does to its reader and its writer.
-use Rattle.std.specs.Prelude.{ℕ, zero, suc, ◌+◌, ◌≡◌, ◌≤◌, ◌⊎◌, List, [], ◌∷◌, ◌++◌, length, map, Option}
+use Rattle.std.specs.Prelude.{ℕ, zero, suc, Bool, true, false, ◌+◌, ◌≡◌, ◌≤◌, ◌⊎◌, List, [], ◌∷◌, ◌++◌, length, map, Option}
 use Rattle.std.specs.Io.KnownBytes.{Consumes, Appends, IsAtEnd}
 use Rattle.krb_der.specs.declared.profile.Profile.{Profile}
 use Rattle.krb_der.specs.declared.why.Why.{Why}
@@ -16,7 +16,7 @@ use Rattle.krb_tool.specs.declared.run.RunEnd.{RunEnd}
 use Rattle.krb_tool.specs.declared.run.RunEnd.TheVariants as run
 use Rattle.krb_tool.specs.declared.run.RunFault.{RunFault}
 use Rattle.krb_tool.specs.declared.run.RunFault.TheVariants as fault
-use Rattle.krb_tool.specs.Listing.{WritesPrefix}
+use Rattle.krb_tool.specs.Listing.{Fails, Lists, StopsInPiece, WritesPrefix}
 
 -- what is listed of a frame: its message, or what it is refused for, with its octets up to the refused one
 pub data Listed : Type 0 where
@@ -67,14 +67,6 @@ pub record EndsUnknown (found : List Entry) : Type 0 where
   pub length_octets : List ℕ
   pub parts : found ≡ before ++ Fault 3 HighBit length_octets ∷ []
 
--- no more was read than octets whose last frame has a known length, and then one piece
-pub record StopsInPiece (profile : Profile) (limit : ℕ) (read : List ℕ) : Type 0 where
-  pub prefix : List ℕ
-  pub piece : List ℕ
-  pub parts : read ≡ prefix ++ piece
-  pub goes_on : EndsUnknown (entries (messages profile) limit prefix) → ⊥
-  pub short : length piece ≤ 65536
-
 -- A run read octets that its reader had, and appended their listing to what is written. It left none, unless the length of the last frame is not known.
 pub record ListsAll (form : Form) (profile : Profile) (limit : ℕ) (had left written_before written_after : Option (List ℕ)) (ended : RunEnd) : Type 0 where
   pub read : List ℕ
@@ -84,7 +76,8 @@ pub record ListsAll (form : Form) (profile : Profile) (limit : ℕ) (had left wr
   pub listed : IsCountedListing form profile limit read written
   pub ended_so : ended ≡ counted_run_end (refused_in listed.found)
   pub all_read : IsAtEnd left ⊎ EndsUnknown (entries (messages profile) limit read)
-  pub stops : StopsInPiece profile limit read
+  -- no more than octets whose last frame has a known length, and then one piece
+  pub stops : StopsInPiece (λ prefix. EndsUnknown (entries (messages profile) limit prefix) → ⊥) read
 
 -- The text is the lines of the first frames of the stream, in order.
 pub record AreCountedLines (form : Form) (profile : Profile) (limit : ℕ) (stream text : List ℕ) : Type 0 where
@@ -98,3 +91,12 @@ abbrev pub FailsAll : Form → Profile → ℕ → Option (List ℕ) → Option 
 FailsAll form profile limit had left written_before written_after (fault.Write error) = WritesPrefix (IsCountedListing form profile limit) had left written_before written_after
 FailsAll form profile limit had left written_before written_after (fault.Read error) = WritesPrefix (AreCountedLines form profile limit) had left written_before written_after
 FailsAll form profile limit had left written_before written_after fault.Memory = WritesPrefix (AreCountedLines form profile limit) had left written_before written_after
+
+-- what a run does that goes on after refusals if it is asked to
+abbrev pub ListsStream : (keep_going : Bool) → Form → Profile → (limit : ℕ) → (had left written_before written_after : Option (List ℕ)) → RunEnd → Type 0
+ListsStream true form profile limit had left written_before written_after ended = ListsAll form profile limit had left written_before written_after ended
+ListsStream false form profile limit had left written_before written_after ended = Lists form profile limit had left written_before written_after ended
+
+abbrev pub FailsStream : (keep_going : Bool) → Form → Profile → (limit : ℕ) → (had left written_before written_after : Option (List ℕ)) → RunFault → Type 0
+FailsStream true form profile limit had left written_before written_after fault = FailsAll form profile limit had left written_before written_after fault
+FailsStream false form profile limit had left written_before written_after fault = Fails form profile limit had left written_before written_after fault

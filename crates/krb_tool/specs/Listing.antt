@@ -44,12 +44,12 @@ IsNotRefused Boundary = Unit {0}
 IsNotRefused (Within present) = Unit {0}
 IsNotRefused (Refused place reason) = ⊥
 
--- no more was read than octets that are not refused, and then one piece
-pub record StopsInPiece (profile : Profile) (limit : ℕ) (read : List ℕ) : Type 0 where
+-- no more was read than octets after which others are asked for, and then one piece
+pub record StopsInPiece (GoesOn : List ℕ → Type 0) (read : List ℕ) : Type 0 where
   pub prefix : List ℕ
   pub piece : List ℕ
   pub parts : read ≡ prefix ++ piece
-  pub goes_on : IsNotRefused (end_of profile limit prefix)
+  pub goes_on : GoesOn prefix
   pub short : length piece ≤ 65536
 
 -- A run read octets that its reader had, and appended their listing to what is written; the reader has the rest.
@@ -61,7 +61,8 @@ pub record Lists (form : Form) (profile : Profile) (limit : ℕ) (had left writt
   pub listed : IsListing form profile limit read written
   pub ended_so : ended ≡ run_end (end_of profile limit read)
   pub all_read : AllIsRead (end_of profile limit read) left
-  pub stops : StopsInPiece profile limit read
+  -- no more than octets that are not refused, and then one piece
+  pub stops : StopsInPiece (λ prefix. IsNotRefused (end_of profile limit prefix)) read
 
 -- The text is the lines of messages whose DER fill the first frames of the stream, in order.
 pub record AreLines (form : Form) (profile : Profile) (limit : ℕ) (stream text : List ℕ) : Type 0 where

@@ -1,7 +1,6 @@
 pub mod Streams
 pub mod Pieces
 pub mod Listers
-pub mod CountingListers
 pub mod Transfers
 pub mod FileRuns
 pub mod RecordRuns

@@ -6,8 +6,8 @@
 //!
 //! - [`run_stream`] lists framed messages, [`run_message`] one message that an input
 //!   spells, [`run_lines_in`] messages that lines spell, [`run_keytab`] a keytab and [`run_ccache`] a credential cache. [`run_stream_in`] and its like
-//!   take the form of the records ([`Form`]) and the profile of messages ([`Profile`]);
-//!   [`run_stream_going_on`] goes on after refusals.
+//!   take the form of the records ([`Form`]) and the profile of messages ([`Profile`]), and a
+//!   stream whether it is gone on with after refusals.
 //! - [`run_decode`] writes framed messages as lines of JSON, and [`run_encode`] the messages that
 //!   such lines spell as frames; [`run_decode_unframed`] and [`run_encode_unframed`] do so for one
 //!   message without its length.
@@ -28,7 +28,6 @@ mod extent;
 mod fault_path;
 mod file_path;
 mod file_run;
-mod going_on;
 mod head;
 mod json_lines;
 mod json_reader;
@@ -52,7 +51,6 @@ pub use capture_run::run_capture;
 pub use decode_run::{DecodeEnd, run_decode};
 pub use encode_run::{EncodeEnd, run_encode, run_encode_unframed};
 pub use file_run::FileText;
-pub use going_on::run_stream_going_on;
 pub use krb_der::Profile;
 pub use krb_frame::Limit;
 pub use krb_text::Form;

@@ -1,6 +1,7 @@
 //! Runs over a reader and a writer.
 
 ghost use Rattle.std.specs.Prelude.{◌≡◌, IfErr, IfOk};
+ghost use Rattle.krb_tool.specs.GoingOn.{ListsStream, FailsStream};
 ghost use Rattle.krb_tool.specs.Listing.{Lists, Fails, status_of};
 ghost use Rattle.krb_tool.specs.declared.run.RunFault.TheVariants as fault;
 
@@ -88,31 +89,45 @@ pub fn run_stream<R: Read, W: Write>(
     ensures listed { IfOk result (Lists Form.Lines Profile.Lenient limit (R.remaining reader.old) (R.remaining reader.new) (W.contents writer.old) (W.contents writer.new)) }
     ensures fault { IfErr result (Fails Form.Lines Profile.Lenient limit (R.remaining reader.old) (R.remaining reader.new) (W.contents writer.old) (W.contents writer.new)) }
 {
-    run_stream_in(alloc, Form::Lines, Profile::Lenient, reader, writer, limit)
+    run_stream_in(
+        alloc,
+        Form::Lines,
+        Profile::Lenient,
+        false,
+        reader,
+        writer,
+        limit,
+    )
 }
 
 /// Lists a stream of framed messages (RFC 4120, 7.2.2) of a profile in a form: writes a line for
 /// each message, and then the line of the end, or of the first refusal, after which nothing is
-/// looked at. Frames of more than `limit` octets are refused. The reader is asked at most 2^40
-/// times, for 64 KiB each, and the lines of what came are written before it is asked again. It is
-/// not asked again after an error, its end or a refusal. If a read fails or memory runs out, the
-/// lines of the messages before that are written, all or the first of them, and no last line.
+/// looked at. If `keep_going` is true it goes on after refusals: it writes a line for each frame
+/// that is refused, too, and then a line that counts both; the frame after one that is refused
+/// begins at its end, and nothing is looked at after a frame whose length has its high bit set,
+/// since its length is not known. Frames of more than `limit` octets are refused. The reader is
+/// asked at most 2^40 times, for 64 KiB each, and the lines of what came are written before it is
+/// asked again. It is not asked again after an error, its end or the refusal that ends the run. If
+/// a read fails or memory runs out, the lines of the frames before that are written, all or the
+/// first of them, and no last line.
 pub fn run_stream_in<R: Read, W: Write>(
     alloc: Global,
     form: Form,
     profile: Profile,
+    keep_going: bool,
     reader: &mut R,
     writer: &mut W,
     limit: Limit,
 ) -> Result<RunEnd, RunFault>
-    ensures listed { IfOk result (Lists form profile limit (R.remaining reader.old) (R.remaining reader.new) (W.contents writer.old) (W.contents writer.new)) }
-    ensures fault { IfErr result (Fails form profile limit (R.remaining reader.old) (R.remaining reader.new) (W.contents writer.old) (W.contents writer.new)) }
+    ensures listed { IfOk result (ListsStream keep_going form profile limit (R.remaining reader.old) (R.remaining reader.new) (W.contents writer.old) (W.contents writer.new)) }
+    ensures fault { IfErr result (FailsStream keep_going form profile limit (R.remaining reader.old) (R.remaining reader.new) (W.contents writer.old) (W.contents writer.new)) }
 {
     let mut asked = Asked::new(reader);
     let request = Request {
         form,
         profile,
         limit,
+        keep_going,
     };
     list_all::<Lister, _, _>(alloc, request, &mut asked, writer)
 }

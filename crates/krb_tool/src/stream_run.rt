@@ -12,13 +12,14 @@ use krb_text::Form;
 use std::alloc::Global;
 use std::io::{Read, Write};
 
-/// What a listing is asked for: its form, the profile of the messages, and the greatest length of a
-/// frame.
+/// What a listing is asked for: its form, the profile of the messages, the greatest length of a
+/// frame, and whether it goes on after refusals.
 #[derive(Drop)]
 pub(crate) struct Request {
     pub form: Form,
     pub profile: Profile,
     pub limit: Limit,
+    pub keep_going: bool,
 }
 
 /// A lister of a stream whose octets come in pieces.

@@ -16,7 +16,7 @@ use krb_text::{FileName, TextBuffer};
 use krb_tool::{
     Begun, DecodeEnd, EncodeEnd, Form, Limit, ListSource, Output, Profile, RunEnd, RunFault,
     run_capture, run_ccache_in, run_decode, run_decode_unframed, run_encode, run_encode_unframed,
-    run_keytab_in, run_lines_in, run_message_in, run_stream_going_on, run_stream_in,
+    run_keytab_in, run_lines_in, run_message_in, run_stream_in,
 };
 use krb_words::{AfterRefusal, Framing, Inputs, Job, Source, USUAL_PORT, When};
 use std::alloc::{AllocError, Global};
@@ -75,10 +75,10 @@ impl<H: Host> Lister<'_, H> {
         let form = self.form;
         match job {
             Job::Stream(limit, profile, AfterRefusal::Ends) => {
-                run_stream_in(alloc, form, *profile, reader, writer, *limit)
+                run_stream_in(alloc, form, *profile, false, reader, writer, *limit)
             }
             Job::Stream(limit, profile, AfterRefusal::GoesOn) => {
-                run_stream_going_on(alloc, form, *profile, reader, writer, *limit)
+                run_stream_in(alloc, form, *profile, true, reader, writer, *limit)
             }
             Job::Message(profile, Inputs::Whole) => {
                 run_message_in(alloc, form, *profile, reader, writer)

@@ -1,7 +1,8 @@
 -- What a lister that converts writes of octets, and how its run ends.
 use Rattle.std.specs.Prelude.{ℕ, ◌≡◌, List, ◌++◌, Option}
 use Rattle.std.specs.Io.KnownBytes.{IsAtEnd}
-use Rattle.krb_tool.specs.Conversions.{Converted, StopsInPiece}
+use Rattle.krb_tool.specs.Conversions.{Converted}
+use Rattle.krb_tool.specs.Listing.{StopsInPiece}
 use Rattle.krb_tool.specs.inner.Streams.{Rules}
 
 pub record IsBeginning (text whole : List ℕ) : Type 0 where

@@ -4,7 +4,8 @@ use Rattle.std.specs.Option.{option_map}
 use Rattle.krb_json.specs.Lines.{line_spells}
 use Rattle.krb_json.specs.Reading.{line_fault_of}
 use Rattle.krb_json.specs.declared.line_fault.LineFault.{LineFault}
-use Rattle.krb_tool.specs.Conversions.{Converted, after_text, StopsInPiece}
+use Rattle.krb_tool.specs.Conversions.{Converted, after_text}
+use Rattle.krb_tool.specs.Listing.{StopsInPiece}
 use Rattle.krb_tool.specs.Encoding.{Ending, ending_of, ending_after, parts, message_and, encoded_lines, encoded, IsNoFault, GoesOn}
 use Rattle.krb_tool.specs.declared.encode_run.EncodeEnd.{EncodeEnd}
 use Rattle.krb_tool.specs.declared.json_reader.EncodeRequest.{EncodeRequest}

@@ -13,7 +13,7 @@ use Rattle.krb_frame.specs.Feeds.{Clears}
 use Rattle.krb_frame.specs.declared.decoder.Status.TheVariants as status
 use Rattle.krb_json.specs.Lines.{line_of}
 use Rattle.krb_json.specs.Unsealed.{unsealed_in}
-use Rattle.krb_tool.specs.Conversions.{StopsInPiece}
+use Rattle.krb_tool.specs.Listing.{StopsInPiece}
 use Rattle.krb_tool.specs.Decoding.{decoded, AllAreSealed, GoesOn, ending_of}
 use Rattle.krb_tool.specs.inner.Conversions.{conversion_rules}
 use Rattle.krb_tool.specs.inner.Pieces.{NeedsMore, Kind, IsFed}

@@ -1,93 +1,175 @@
--- What a lister does with a stream, up to its end or the first refusal.
-use Rattle.std.specs.Prelude.{ℕ, ◌≡◌, ◌+◌, true, List, [], ◌++◌, length, map, Option, Some}
-use Rattle.std.specs.List.{flat_map}
+-- What a lister does with a stream, up to its end or its first refusal, or also after refusals.
+use Rattle.std.specs.Prelude.{ℕ, zero, suc, ◌≡◌, ◌+◌, ◌*◌, ◌≤◌, ◌<◌, ◌^◌, ◌⊎◌, Bool, true, false, List, [], ◌∷◌, ◌++◌, length, map, Option, Some, None, Result, Ok, Err}
+use Rattle.std.specs.Option.{unwrap_or}
+use Rattle.std.specs.Io.KnownBytes.{IsAtEnd}
 use Rattle.krb_der.specs.declared.profile.Profile.{Profile}
+use Rattle.krb_der.specs.declared.why.Why.TheVariants.{HighBit}
 use Rattle.krb_der.specs.declared.verdict.Refusal.{Refusal}
 use Rattle.krb_msg.specs.declared.message.Message.{Message}
 use Rattle.krb_msg.specs.Grammar.{messages as grammar}
-use Rattle.krb_msg.specs.Stream.{Refused, frames}
+use Rattle.krb_msg.specs.Stream.{Refused}
 use Rattle.krb_msg.specs.Views.{message_der}
-use Rattle.krb_frame.specs.Decoding.{found, status_of, borrowed}
-use Rattle.krb_frame.specs.Decoded.{HasDecoded}
-use Rattle.krb_frame.specs.Feeds.{Clears}
+use Rattle.krb_frame.specs.Decoding.{Decoding, announced, found, status_of, borrowed, finish_of}
+use Rattle.krb_frame.specs.GoingOn.{Entry, entries, rest_to_come, GoesOn, ClearsEntry, Skips}
 use Rattle.krb_frame.specs.declared.decoder.Status.TheVariants as status
-use Rattle.krb_tool.specs.Lines.{message_line}
-use Rattle.krb_tool.specs.Lines.{end_line}
+use Rattle.krb_text.specs.Streams.{stream_end_line}
+use Rattle.krb_text.specs.declared.form.Form.{Form}
+use Rattle.krb_tool.specs.Lines.{message_line, refused_line, counted_end_line}
 use Rattle.krb_tool.specs.Paths.{frame_extent, frame_path}
-use Rattle.krb_tool.specs.Listing.{end_of, run_end, IsListing, AllIsRead, StopsInPiece, AreLines}
+use Rattle.krb_tool.specs.Listing.{end_of, run_end, IsListing, AllIsRead, AreLines, IsNotRefused, StopsInPiece}
+use Rattle.krb_tool.specs.GoingOn.{Listed, Faulty, entry_of, messages_in, refused_in, lines_after, IsCountedListing, AreCountedLines, EndsUnknown, counted_run_end, octets_in}
 use Rattle.krb_tool.specs.inner.Streams.{Rules, Taken}
-use Rattle.krb_tool.specs.inner.Pieces.{request_of, NeedsMore, Kind}
+use Rattle.krb_tool.specs.inner.Pieces.{NeedsMore, Kind}
 use Rattle.krb_tool.specs.declared.listing.Lister.{Lister}
+use Rattle.krb_tool.specs.declared.listing.StreamLines.{StreamLines}
 use Rattle.krb_tool.specs.declared.run.RunEnd.{RunEnd}
 use Rattle.krb_tool.specs.declared.stream_run.Request.{Request}
 
--- The frames that the decoder cleared of a stream are messages. Their lines are in what was written and then in the text, and they and their octets are counted.
+-- ---- lines
+-- the line of a message was added, which is counted, with the octets of its frame
+pub record AddsLine (message : Message) (size : ℕ) (old new : StreamLines) : Type 0 where
+  pub line : new.text ≡ old.text ++ message_line old.request.form message
+  pub messages : new.messages ≡ old.messages + 1
+  pub refused : new.refused ≡ old.refused
+  pub offset : new.offset ≡ old.offset + size
+  pub same : new.request ≡ old.request
+
+-- the line of the frame that a decoder refused or has a part of was added, which is counted
+pub record AddsRefused (d : Decoding) (refusal : Refusal) (old new : StreamLines) : Type 0 where
+  pub line : new.text ≡ old.text ++ refused_line old.request.form old.messages refusal.place refusal.why (frame_path d.profile d.octets) (frame_extent old.offset d.octets)
+  pub messages : new.messages ≡ old.messages
+  pub refused : new.refused ≡ old.refused + 1
+  pub same : new.request ≡ old.request
+
+-- the last line: if refused frames are counted, with their number, and else that of a stream without any
+abbrev pub closing : Bool → Form → (messages refused : ℕ) → List ℕ
+closing true form messages refused = counted_end_line form messages refused
+closing false form messages zero = stream_end_line form messages
+closing false form messages (suc refused) = []
+
+-- it was added
+pub record PutsClosing (old new : StreamLines) (ended : RunEnd) : Type 0 where
+  pub line : new.text ≡ old.text ++ closing old.request.keep_going old.request.form old.messages old.refused
+  pub ended_so : ended ≡ counted_run_end old.refused
+
+-- ---- frames
+-- The frames of a stream that were cleared or skipped are listed. Their lines are in what was written and then in the text, and they and their octets are counted.
 pub record HasListed (lister : Lister) (stream written : List ℕ) : Type 0 where
-  pub messages : List Message
-  pub decoded : HasDecoded (grammar lister.decoder.profile) lister.decoder stream (map message_der messages)
-  pub lines : written ++ lister.text ≡ flat_map (message_line lister.form) messages
-  pub counted : lister.messages ≡ length messages
-  pub offset : lister.offset + length lister.decoder.octets ≡ length stream
+  pub listed : List Listed
+  pub goes_on : GoesOn (grammar lister.decoder.current.profile) lister.decoder stream (map entry_of listed)
+  -- the length of the last of them is known
+  pub known : EndsUnknown (map entry_of listed) → ⊥
+  -- none is refused, unless the lister goes on
+  pub whole : lister.lines.request.keep_going ≡ false → refused_in listed ≡ 0
+  pub lines : written ++ lister.lines.text ≡ lines_after lister.lines.request.form lister.decoder.current.profile 0 0 listed
+  pub messages : lister.lines.messages ≡ messages_in listed
+  pub refused : lister.lines.refused ≡ refused_in listed
+  pub offset : lister.lines.offset ≡ octets_in listed
+  -- of these only those that are to be skipped are not in the stream
+  pub within : lister.lines.offset + length lister.decoder.current.octets ≤ length stream + lister.decoder.skipped
+  pub short : lister.decoder.skipped < 2 ^ 32
 
 -- the line of the message that is ready was added, and its frame is cleared
 pub record ListsReady (old new : Lister) : Type 0 where
   pub contents : List ℕ
-  pub is_ready : borrowed (grammar old.decoder.profile) old.decoder ≡ Some contents
+  pub is_ready : borrowed (grammar old.decoder.current.profile) old.decoder.current ≡ Some contents
   pub message : Message
   pub form : message_der message ≡ contents
-  pub line : new.text ≡ old.text ++ message_line old.form message
-  pub counted : new.messages ≡ old.messages + 1
-  pub offset : new.offset ≡ old.offset + length old.decoder.octets
-  pub same_form : new.form ≡ old.form
-  pub cleared : Clears (grammar old.decoder.profile) old.decoder new.decoder true
+  pub added : AddsLine message (length old.decoder.current.octets) old.lines new.lines
+  pub cleared : ClearsEntry (grammar old.decoder.current.profile) old.decoder new.decoder true
 
--- the line of a message was added, which is counted, with the octets of its frame
-pub record AddsLine (message : Message) (size : ℕ) (old new : Lister) : Type 0 where
-  pub line : new.text ≡ old.text ++ message_line old.form message
-  pub counted : new.messages ≡ old.messages + 1
-  pub offset : new.offset ≡ old.offset + size
-  pub same_form : new.form ≡ old.form
+-- the line of the frame that is refused or cut was added
+pub record PutsRefused (old : Lister) (refusal : Refusal) (new : Lister) : Type 0 where
+  pub added : AddsRefused old.decoder.current refusal old.lines new.lines
+  pub offset : new.lines.offset ≡ old.lines.offset
   pub same_decoder : new.decoder ≡ old.decoder
 
--- the line of the end was added
+-- and the frame, whose length is known, is skipped
+pub record ListsRefused (old : Lister) (refusal : Refusal) (new : Lister) : Type 0 where
+  pub asked : old.lines.request.keep_going ≡ true
+  pub added : AddsRefused old.decoder.current refusal old.lines new.lines
+  pub offset : new.lines.offset ≡ old.lines.offset + (4 + unwrap_or (announced old.decoder.current.octets) 0)
+  pub skipped : Skips (grammar old.decoder.current.profile) old.decoder new.decoder true
+
+-- unless the lister goes on, and the length is known, nothing changes
+abbrev pub SkipsRefused : Lister → Refusal → Lister → Bool → Type 0
+SkipsRefused old refusal new true = ListsRefused old refusal new
+SkipsRefused old refusal new false = (new ≡ old) × (old.lines.request.keep_going ≡ true → rest_to_come (grammar old.decoder.current.profile) old.decoder.current ≡ None)
+
+-- what is listed of the end of a stream, if the frame is refused or cut in which it ends, with the octets of that frame
+abbrev pub last_listed : Result (Unit {0}) Refusal → List ℕ → List Listed
+last_listed (Ok done) octets = []
+last_listed (Err refusal) octets = Faulty refusal.place refusal.why octets ∷ []
+
+-- what a lister lists of the end of its stream
+abbrev pub last_of : Lister → List Listed
+last_of lister = last_listed (finish_of (grammar lister.decoder.current.profile) lister.decoder.current) lister.decoder.current.octets
+
+-- the lines of the end were added
 pub record AddsEnd (old new : Lister) (ended : RunEnd) : Type 0 where
-  pub line : new.text ≡ old.text ++ end_line old.form old.messages (found (grammar old.decoder.profile) old.decoder).end (frame_path old.decoder.profile old.decoder.octets) (frame_extent old.offset old.decoder.octets)
-  pub ended_so : ended ≡ run_end (found (grammar old.decoder.profile) old.decoder).end
+  pub lines : new.lines.text ≡ old.lines.text ++ (lines_after old.lines.request.form old.decoder.current.profile old.lines.messages old.lines.offset (last_of old) ++ closing old.lines.request.keep_going old.lines.request.form old.lines.messages (old.lines.refused + refused_in (last_of old)))
+  pub ended_so : ended ≡ counted_run_end (old.lines.refused + refused_in (last_of old))
 
 -- ---- a lister of a stream
--- An octet of the last piece is refused. The frames before it are listed, and the octets of the frame that were used end with it. The rest of the piece was not used.
-pub record IsRefusedAfter (lister : Lister) (taken : Taken) : Type 0 where
-  pub stream : List ℕ
-  pub listed : HasListed lister stream taken.written
-  pub rest : List ℕ
-  pub parts : taken.octets ≡ stream ++ rest
-  pub same_frames : frames (grammar lister.decoder.profile) lister.decoder.limit taken.octets ≡ frames (grammar lister.decoder.profile) lister.decoder.limit stream
-  pub none : (found (grammar lister.decoder.profile) lister.decoder).contents ≡ []
-  pub refusal : Refusal
-  pub end : (found (grammar lister.decoder.profile) lister.decoder).end ≡ Refused refusal.place refusal.why
-  pub stops : StopsInPiece lister.decoder.profile lister.decoder.limit taken.octets
+-- after these octets others are read
+abbrev pub AsksAfter : Bool → Profile → ℕ → List ℕ → Type 0
+AsksAfter true profile limit octets = EndsUnknown (entries (grammar profile) limit octets) → ⊥
+AsksAfter false profile limit octets = IsNotRefused (end_of profile limit octets)
 
--- how a run ends that listed octets
+-- No piece follows. The frames before the one in which the stream ends, or after which nothing is looked at, are listed.
+pub record IsDone (lister : Lister) (taken : Taken) : Type 0 where
+  pub listed : List Listed
+  pub others : List Entry
+  pub all : entries (grammar lister.decoder.current.profile) lister.decoder.current.limit taken.octets ≡ map entry_of listed ++ (map entry_of (last_of lister) ++ others)
+  -- none of those before is refused, unless the lister goes on
+  pub whole : lister.lines.request.keep_going ≡ false → refused_in listed ≡ 0
+  -- nothing comes after a frame that is cut
+  pub cut : IsNotRefused (found (grammar lister.decoder.current.profile) lister.decoder.current).end → others ≡ []
+  -- and if the lister goes on, nothing comes after a refusal, since the length of its frame is not known
+  pub unknown : lister.lines.request.keep_going ≡ true → (others ≡ []) × (IsNotRefused (found (grammar lister.decoder.current.profile) lister.decoder.current).end ⊎ ((found (grammar lister.decoder.current.profile) lister.decoder.current).end ≡ Refused 3 HighBit))
+  pub lines : taken.written ++ lister.lines.text ≡ lines_after lister.lines.request.form lister.decoder.current.profile 0 0 listed
+  pub messages : lister.lines.messages ≡ messages_in listed
+  pub refused : lister.lines.refused ≡ refused_in listed
+  pub offset : lister.lines.offset ≡ octets_in listed
+  pub few : lister.lines.refused ≤ 65536 * taken.pieces
+  pub stops : StopsInPiece (AsksAfter lister.lines.request.keep_going lister.decoder.current.profile lister.decoder.current.limit) taken.octets
+
+-- how a run ends that listed octets, up to the end or the first refusal
 pub record EndsAt (profile : Profile) (limit : ℕ) (octets : List ℕ) (left : Option (List ℕ)) (ended : RunEnd) : Type 0 where
   pub ended_so : ended ≡ run_end (end_of profile limit octets)
   pub all_read : AllIsRead (end_of profile limit octets) left
-  pub stops : StopsInPiece profile limit octets
+  pub stops : StopsInPiece (AsksAfter false profile limit) octets
 
-abbrev pub stopping_rules : Request → Rules RunEnd
-stopping_rules request = record {
-  IsListing = IsListing request.form request.profile request.limit;
-  AreLines = AreLines request.form request.profile request.limit;
-  Ends = λ octets text listing left ended. EndsAt request.profile request.limit octets left ended;
+-- and also after refusals
+pub record EndsAfter (profile : Profile) (limit : ℕ) (octets : List ℕ) (listed : List Listed) (left : Option (List ℕ)) (ended : RunEnd) : Type 0 where
+  pub ended_so : ended ≡ counted_run_end (refused_in listed)
+  pub all_read : IsAtEnd left ⊎ EndsUnknown (entries (grammar profile) limit octets)
+  pub stops : StopsInPiece (AsksAfter true profile limit) octets
+
+abbrev pub rules_of : (keep_going : Bool) → Form → Profile → (limit : ℕ) → Rules RunEnd
+rules_of true form profile limit = record {
+  IsListing = IsCountedListing form profile limit;
+  AreLines = AreCountedLines form profile limit;
+  Ends = λ octets text listing left ended. EndsAfter profile limit octets listing.found left ended;
+}
+rules_of false form profile limit = record {
+  IsListing = IsListing form profile limit;
+  AreLines = AreLines form profile limit;
+  Ends = λ octets text listing left ended. EndsAt profile limit octets left ended;
 }
 
-abbrev pub stopping : Kind Lister Request RunEnd
-stopping = record {
-  rules = stopping_rules;
-  request = λ lister. request_of lister.form lister.decoder;
-  text = λ lister. lister.text;
-  count = λ lister. lister.messages;
+-- what a request is, of a decoder
+abbrev pub request_of : Request → Decoding → Request
+request_of request decoding = record { form = request.form; profile = decoding.profile; limit = decoding.limit; keep_going = request.keep_going }
+
+abbrev pub frames_kind : Kind Lister Request RunEnd
+frames_kind = record {
+  rules = λ request. rules_of request.keep_going request.form request.profile request.limit;
+  request = λ lister. request_of lister.lines.request lister.decoder.current;
+  text = λ lister. lister.lines.text;
+  count = λ lister. lister.lines.messages + lister.lines.refused;
   HasListed = HasListed;
-  IsWaiting = λ lister. NeedsMore lister.decoder;
-  IsRefused = λ lister. (refusal : Refusal) × (status_of (grammar lister.decoder.profile) lister.decoder ≡ status.Refused refusal);
-  Stops = IsRefusedAfter;
+  IsWaiting = λ lister. NeedsMore lister.decoder.current;
+  IsRefused = λ lister. (refusal : Refusal) × (status_of (grammar lister.decoder.current.profile) lister.decoder.current ≡ status.Refused refusal) × (lister.lines.request.keep_going ≡ true → rest_to_come (grammar lister.decoder.current.profile) lister.decoder.current ≡ None);
+  Stops = λ lister taken. IsDone lister taken × (IsNotRefused (found (grammar lister.decoder.current.profile) lister.decoder.current).end → ⊥);
 }

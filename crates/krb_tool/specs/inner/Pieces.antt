@@ -4,13 +4,7 @@ use Rattle.std.specs.Io.KnownBytes.{IsAtEnd}
 use Rattle.krb_msg.specs.Grammar.{messages}
 use Rattle.krb_frame.specs.Decoding.{Decoding, status_of}
 use Rattle.krb_frame.specs.declared.decoder.Status.TheVariants as status
-use Rattle.krb_text.specs.declared.form.Form.{Form}
-use Rattle.krb_tool.specs.declared.stream_run.Request.{Request}
 use Rattle.krb_tool.specs.inner.Streams.{Rules, Taken, Listing}
-
--- what the lister of a decoder was asked for
-abbrev pub request_of : Form → Decoding → Request
-request_of form decoding = record { form = form; profile = decoding.profile; limit = decoding.limit }
 
 -- a decoder needs more octets
 abbrev pub NeedsMore : Decoding → Type 0

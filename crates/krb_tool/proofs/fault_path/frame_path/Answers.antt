@@ -1,4 +1,5 @@
 use Rattle.std.proofs.Common.{sym, ◌∙◌, ap, ap₂, take}
+use Rattle.std.proofs.lemmas.Result.{IfOk-weaker}
 use Rattle.krb_der.specs.Octets.{number}
 use Rattle.krb_judge.specs.Paths.{message_path}
 use Rattle.krb_text.specs.Refusals.{path_in}
@@ -9,10 +10,11 @@ pub returns-in-None-clause-path : goal.returns-in-None-clause-path
 unfolding frame_path
 returns-in-None-clause-path c = ap (path_in c.args.form) (sym (ap (message_path c.args.decoder.now.profile (number (take 4 c.args.decoder.now.octets))) c.in-None.ensures))
 
-pub returns-in_ok-path-in-Some-clause-path : goal.returns-in_ok-path-in-Some-clause-path
+pub returns-in-Some-clause-path : goal.returns-in-Some-clause-path
 unfolding frame_path
-returns-in_ok-path-in-Some-clause-path c =
-    ap (path_in c.args.form)
-    (c.in_ok-path-in-Some.ensures
-    ∙ ap (λ profile. message_path profile c.in-Some.partial.size c.in-Some.partial.octets.now) c.profile.ensures
-    ∙ ap₂ (message_path c.args.decoder.now.profile) c.in-Some.ensures.announced c.in-Some.ensures.kept)
+returns-in-Some-clause-path c =
+    IfOk-weaker c.shown_path.result _ _ (λ path e.
+    e
+    ∙ ap (path_in c.args.form)
+    (ap (λ profile. message_path profile c.in-Some.partial.size c.in-Some.partial.octets.now) c.profile.ensures
+    ∙ ap₂ (message_path c.args.decoder.now.profile) c.in-Some.ensures.announced c.in-Some.ensures.kept)) c.shown_path.ensures.path
