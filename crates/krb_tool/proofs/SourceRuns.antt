@@ -1,7 +1,6 @@
 -- Sources that are listed one after another.
 use Rattle.std.proofs.Common.{◌≡◌, ℕ, max, true, false, List, [], ◌∷◌, Option, Result, Ok, Err, refl, sym, ◌∙◌, ap, subst, arith}
 use Rattle.std.specs.Ordering.{ord_max, nat_cmp}
-use Rattle.krb_tool.specs.declared.run.RunFault.TheVariants as fault
 use Rattle.krb_tool.specs.Files.{AppendsPrefix}
 use Rattle.krb_tool.specs.Listing.{status_of}
 use Rattle.krb_tool.specs.Outputs.{IsSent, Sends, labelled, mark_of, output_contents}
