@@ -24,7 +24,7 @@ use krb_padata::{EtypeInfo2, EtypeInfo2Entry, view_pac_request};
 use krb_registry::{Registry, name_of};
 use krb_scan::Scanner;
 use krb_tool::{DecodeEnd, EncodeEnd, run_decode, run_encode, run_keytab, status};
-use krb_words::{Job, WordsFault, read_words};
+use krb_words::{Command, WordsFault, read_words};
 use std::alloc::{AllocError, Global};
 use std::io::Read;
 use std::str;
@@ -328,7 +328,7 @@ fn encoded(alloc: Global, lines: &[u8]) -> (Vec<u8>, bool) {
 /// Returns whether words are a command that lists a keytab.
 fn is_keytab_command(alloc: Global, words: &[Vec<u8>]) -> Result<bool, WordsFault> {
     let command_line = read_words(alloc, words)?;
-    Ok(matches!(command_line.job, Job::Keytab))
+    Ok(matches!(command_line.command, Command::Keytab))
 }
 
 /// A stream of a frame that is refused at its contents octet, and of an AP-REP.

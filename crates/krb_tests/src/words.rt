@@ -3,7 +3,7 @@
 use krb_der::Profile;
 use krb_text::FileName;
 use krb_words::{
-    AfterRefusal, Form, Framing, Inputs, Job, NamedPath, Naming, Order, Source, When, WordsFault,
+    AfterRefusal, Form, Framing, Inputs, Command, NamedPath, Naming, CommandLine, Source, When, WordsFault,
     read_words,
 };
 use std::alloc::Global;
@@ -59,7 +59,7 @@ fn message_name(profile: Profile, inputs: Inputs) -> &'static str {
     }
 }
 
-/// Returns the names of a job with a time, without one and with that of the clock, and the time.
+/// Returns the names of a command with a time, without one and with that of the clock, and the time.
 fn timed<'a>(name: &'a str, by_clock: &'a str, when: Option<When>) -> (&'a str, Option<u32>) {
     match when {
         None => (name, None),
@@ -68,32 +68,32 @@ fn timed<'a>(name: &'a str, by_clock: &'a str, when: Option<When>) -> (&'a str, 
     }
 }
 
-/// Returns a short name of a job, and its limit or time, if it has one.
-fn named(job: &Job) -> (&str, Option<u32>) {
-    match job {
-        Job::List(when) => timed("list", "list now", *when),
-        Job::Stream(limit, profile, after) => (stream_name(*profile, *after), Some(limit.get())),
-        Job::Message(profile, inputs) => (message_name(*profile, *inputs), None),
-        Job::Keytab => ("keytab", None),
-        Job::Ccache(when) => timed("ccache", "ccache now", *when),
-        Job::Capture(limit, _) => ("capture", Some(limit.get())),
-        Job::Decode(limit, profile, framing) => (
+/// Returns a short name of a command, and its limit or time, if it has one.
+fn named(command: &Command) -> (&str, Option<u32>) {
+    match command {
+        Command::List(when) => timed("list", "list now", *when),
+        Command::Stream(limit, profile, after) => (stream_name(*profile, *after), Some(limit.get())),
+        Command::Message(profile, inputs) => (message_name(*profile, *inputs), None),
+        Command::Keytab => ("keytab", None),
+        Command::Ccache(when) => timed("ccache", "ccache now", *when),
+        Command::Capture(limit, _) => ("capture", Some(limit.get())),
+        Command::Decode(limit, profile, framing) => (
             conversion_name(true, *profile, *framing),
             Some(limit.get()),
         ),
-        Job::Encode(limit, profile, framing) => (
+        Command::Encode(limit, profile, framing) => (
             conversion_name(false, *profile, *framing),
             Some(limit.get()),
         ),
-        Job::Help(text) => (first_line(text.as_str()), None),
-        Job::Version(text) => (first_line(text.as_str()), None),
+        Command::Help(text) => (first_line(text.as_str()), None),
+        Command::Version(text) => (first_line(text.as_str()), None),
     }
 }
 
-/// Returns the port of a job, if it has one.
-fn port_of(job: &Job) -> Option<u16> {
-    match job {
-        Job::Capture(_, port) => Some(*port),
+/// Returns the port of a command, if it has one.
+fn port_of(command: &Command) -> Option<u16> {
+    match command {
+        Command::Capture(_, port) => Some(*port),
         _ => None,
     }
 }
@@ -126,22 +126,22 @@ fn form_name(form: Form) -> &'static str {
     }
 }
 
-/// Returns a short name of an order.
-fn shown_order(alloc: Global, order: &Order) -> Result<String, Fail> {
-    let (name, number) = named(&order.job);
+/// Returns a short name of a command line.
+fn shown_command_line(alloc: Global, command_line: &CommandLine) -> Result<String, Fail> {
+    let (name, number) = named(&command_line.command);
     let mut shown = match number {
         Some(number) => format!(in alloc; "{name} {number}")?,
         None => String::from_str(alloc, name)?,
     };
-    if let Some(port) = port_of(&order.job) {
+    if let Some(port) = port_of(&command_line.command) {
         let text = format!(in alloc; " {port}")?;
         shown.push_str(text.as_str())?;
     }
-    shown.push_str(form_name(order.form))?;
-    if order.naming == Naming::Each {
+    shown.push_str(form_name(command_line.form))?;
+    if command_line.naming == Naming::Each {
         shown.push_str(" labelled")?;
     }
-    for source in &order.sources {
+    for source in &command_line.sources {
         shown.push_str(", ")?;
         shown.push_str(source_name(alloc, source)?.as_str())?;
     }
@@ -152,9 +152,9 @@ fn shown_order(alloc: Global, order: &Order) -> Result<String, Fail> {
 fn shown(alloc: Global, line: &str) -> Result<String, Fail> {
     let words = words(alloc, line)?;
     match read_words(alloc, words.as_slice()) {
-        Ok(order) => {
-            let text = shown_order(alloc, &order);
-            drop(order);
+        Ok(command_line) => {
+            let text = shown_command_line(alloc, &command_line);
+            drop(command_line);
             text
         }
         Err(WordsFault::Wrong(text)) => Ok(text),
@@ -162,7 +162,7 @@ fn shown(alloc: Global, line: &str) -> Result<String, Fail> {
     }
 }
 
-/// Words, and what they ask for: the job with its numbers, the form, and the sources.
+/// Words, and what they ask for: the command with its numbers, the form, and the sources.
 const ORDERS: [(&str, &str); 67] = [
     ("list a", "list, a"),
     ("--json -", "list json, -"),

@@ -20,9 +20,9 @@ use Rattle.krb_words.specs.declared.words.Naming.{Naming}
 use Rattle.krb_words.specs.declared.words.Naming.TheVariants as naming
 use Rattle.krb_words.specs.declared.words.Framing.{Framing}
 use Rattle.krb_words.specs.declared.words.Framing.TheVariants as framing
-use Rattle.krb_words.specs.declared.words.Job.{Job}
-use Rattle.krb_words.specs.declared.words.Job.TheVariants as job
-use Rattle.krb_words.specs.declared.words.Order.{Order}
+use Rattle.krb_words.specs.declared.words.Command.{Command}
+use Rattle.krb_words.specs.declared.words.Command.TheVariants as commands
+use Rattle.krb_words.specs.declared.words.CommandLine.{CommandLine}
 use Rattle.krb_words.specs.declared.words.WordsFault.{WordsFault}
 use Rattle.krb_words.specs.declared.words.WordsFault.TheVariants as fault
 use Rattle.krb_text.specs.FileNames.{name_text}
@@ -176,46 +176,46 @@ IsForm rows form.Lines = IsGiven (first_of (codes "json") rows) false × IsGiven
 abbrev pub LacksFile : Text → List Row → Type 0
 LacksFile command rows = sources_of command rows ≡ []
 
--- the job of a command and its options
-abbrev pub IsJob : Text → List Row → Job → Type 0
-IsJob name rows (job.List when) = (name ≡ codes "list") × IsWhenIf (first_of (codes "now") rows) when
-IsJob name rows (job.Stream limit chosen refused) = (name ≡ codes "stream") × IsNumberOr 16777216 (one_of (codes "limit") rows) limit × IsProfile (first_of (codes "strict") rows) chosen × IsAfter (first_of (codes "keep-going") rows) refused
-IsJob name rows (job.Message chosen each) = (name ≡ codes "message") × IsProfile (first_of (codes "strict") rows) chosen × IsInputs (first_of (codes "lines") rows) each
-IsJob name rows job.Keytab = name ≡ codes "keytab"
-IsJob name rows (job.Ccache when) = (name ≡ codes "ccache") × IsWhenIf (first_of (codes "now") rows) when
-IsJob name rows (job.Capture limit port) = (name ≡ codes "capture") × IsNumberOr 16777216 (one_of (codes "limit") rows) limit × IsNumberOr 88 (one_of (codes "port") rows) port
-IsJob name rows (job.Decode limit chosen framed) = (name ≡ codes "decode") × IsNumberOr 16777216 (one_of (codes "limit") rows) limit × IsProfile (first_of (codes "strict") rows) chosen × IsFraming (first_of (codes "unframed") rows) framed
-IsJob name rows (job.Encode limit chosen framed) = (name ≡ codes "encode") × IsNumberOr 16777216 (one_of (codes "limit") rows) limit × IsProfile (first_of (codes "strict") rows) chosen × IsFraming (first_of (codes "unframed") rows) framed
-IsJob name rows (job.Help text) = ⊥
-IsJob name rows (job.Version text) = ⊥
+-- a command by its name and its options
+abbrev pub IsCommand : Text → List Row → Command → Type 0
+IsCommand name rows (commands.List when) = (name ≡ codes "list") × IsWhenIf (first_of (codes "now") rows) when
+IsCommand name rows (commands.Stream limit chosen refused) = (name ≡ codes "stream") × IsNumberOr 16777216 (one_of (codes "limit") rows) limit × IsProfile (first_of (codes "strict") rows) chosen × IsAfter (first_of (codes "keep-going") rows) refused
+IsCommand name rows (commands.Message chosen each) = (name ≡ codes "message") × IsProfile (first_of (codes "strict") rows) chosen × IsInputs (first_of (codes "lines") rows) each
+IsCommand name rows commands.Keytab = name ≡ codes "keytab"
+IsCommand name rows (commands.Ccache when) = (name ≡ codes "ccache") × IsWhenIf (first_of (codes "now") rows) when
+IsCommand name rows (commands.Capture limit port) = (name ≡ codes "capture") × IsNumberOr 16777216 (one_of (codes "limit") rows) limit × IsNumberOr 88 (one_of (codes "port") rows) port
+IsCommand name rows (commands.Decode limit chosen framed) = (name ≡ codes "decode") × IsNumberOr 16777216 (one_of (codes "limit") rows) limit × IsProfile (first_of (codes "strict") rows) chosen × IsFraming (first_of (codes "unframed") rows) framed
+IsCommand name rows (commands.Encode limit chosen framed) = (name ≡ codes "encode") × IsNumberOr 16777216 (one_of (codes "limit") rows) limit × IsProfile (first_of (codes "strict") rows) chosen × IsFraming (first_of (codes "unframed") rows) framed
+IsCommand name rows (commands.Help text) = ⊥
+IsCommand name rows (commands.Version text) = ⊥
 
--- The command line has the job of the command that was found, the form of records, which of them name their file, and the sources, of which there is one at least.
-abbrev pub IsOrderOf : Option (Text × List Row) → Order → Type 0
-IsOrderOf None order = ⊥
-IsOrderOf (Some met) order =
-    IsJob met.0 met.1 order.job × IsForm met.1 order.form × IsNaming (first_of (codes "with-filename") met.1) order.naming
-    × (map place_of order.sources.items ≡ sources_of met.0 met.1) × (LacksFile met.0 met.1 → ⊥)
+-- The command line has the command that was found, the form of records, which of them name their file, and the sources, of which there is one at least.
+abbrev pub IsCommandLineOf : Option (Text × List Row) → CommandLine → Type 0
+IsCommandLineOf None command_line = ⊥
+IsCommandLineOf (Some met) command_line =
+    IsCommand met.0 met.1 command_line.command × IsForm met.1 command_line.form × IsNaming (first_of (codes "with-filename") met.1) command_line.naming
+    × (map place_of command_line.sources.items ≡ sources_of met.0 met.1) × (LacksFile met.0 met.1 → ⊥)
 
--- the job is to print the text of an error of `clap`
-abbrev pub IsTextBy : ErrorKind → Job → Type 0
-IsTextBy kind (job.Help text) = kind ≡ DisplayHelp
-IsTextBy kind (job.Version text) = kind ≡ DisplayVersion
-IsTextBy kind job = ⊥
+-- the command is to print the text of an error of `clap`
+abbrev pub IsTextBy : ErrorKind → Command → Type 0
+IsTextBy kind (commands.Help text) = kind ≡ DisplayHelp
+IsTextBy kind (commands.Version text) = kind ≡ DisplayVersion
+IsTextBy kind command = ⊥
 
 -- The command line by the kinds of error that `clap` may return for the words: that of their matches if there is none, or else the text of an error of one of them, and no source.
-abbrev pub IsOrderBy : Kinds → List Text → Order → Type 0
-IsOrderBy [] words order = IsOrderOf (subcommand_of krbls words) order
-IsOrderBy (first ∷ kinds) words order = (kind : ErrorKind) × IsAmong kind (first ∷ kinds) × IsTextBy kind order.job × (order.sources.items ≡ [])
+abbrev pub IsCommandLineBy : Kinds → List Text → CommandLine → Type 0
+IsCommandLineBy [] words command_line = IsCommandLineOf (subcommand_of krbls words) command_line
+IsCommandLineBy (first ∷ kinds) words command_line = (kind : ErrorKind) × IsAmong kind (first ∷ kinds) × IsTextBy kind command_line.command × (command_line.sources.items ≡ [])
 
-abbrev pub IsOrderFor : List Text → Order → Type 0
-IsOrderFor texts order = IsOrderBy (fault_of krbls texts) texts order
+abbrev pub IsCommandLineFor : List Text → CommandLine → Type 0
+IsCommandLineFor texts command_line = IsCommandLineBy (fault_of krbls texts) texts command_line
 
 -- what `clap` reads in place of words: those of a command, each as the names of files are shown
 abbrev pub texts_of : List (List ℕ) → List Text
 texts_of words = map name_text (as_command words)
 
-abbrev pub IsOrderIn : List (List ℕ) → Order → Type 0
-IsOrderIn words order = IsOrderFor (texts_of words) order
+abbrev pub IsCommandLineIn : List (List ℕ) → CommandLine → Type 0
+IsCommandLineIn words command_line = IsCommandLineFor (texts_of words) command_line
 
 -- ---- words that are no command line
 -- a text that is no number from the least to the greatest one

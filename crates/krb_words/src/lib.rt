@@ -2,10 +2,10 @@
 //!
 //! The main calls:
 //!
-//! - [`read_words`] returns the [`Order`] of the words after the program's name, or what is wrong with
+//! - [`read_words`] returns the [`CommandLine`] of the words after the program's name, or what is wrong with
 //!   them. Words are octets, as the system has them: what is not UTF-8 names a file like any other.
-//! - [`Order`] has what is to be listed ([`Job`]), in which form ([`Form`]), which records name their
-//!   file ([`Naming`]), and from which sources ([`Source`]). A [`Job`] may also be a text to print: a
+//! - [`CommandLine`] has what is to be listed ([`Command`]), in which form ([`Form`]), which records name their
+//!   file ([`Naming`]), and from which sources ([`Source`]). A [`Command`] may also be a text to print: a
 //!   help or the version.
 //! - [`When`] is the time that credentials are compared with: the clock's, which the program reads,
 //!   or a number of seconds.
@@ -28,5 +28,5 @@ pub use krb_text::Form;
 pub use sources::{NamedPath, Source};
 pub use when::When;
 pub use words::{
-    AfterRefusal, Framing, Inputs, Job, Naming, Order, USUAL_PORT, WordsFault, read_words,
+    AfterRefusal, Framing, Inputs, Command, Naming, CommandLine, USUAL_PORT, WordsFault, read_words,
 };

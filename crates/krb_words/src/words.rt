@@ -4,7 +4,7 @@ ghost use Rattle.std.specs.Prelude.{◌≡◌, codes, map, [], Some, IfOk, IfErr
 ghost use Rattle.clap.specs.Words.{found_of, kind_of, rows_of, subcommand_rows_of, first_of, one_of};
 ghost use Rattle.krb_words.specs.Sources.{place_of, sources_of};
 ghost use Rattle.krb_words.specs.Times.{IsNoWhen, IsWhenIf};
-ghost use Rattle.krb_words.specs.Words.{IsTextBy, IsJob, IsProfile, IsAfter, IsFraming, IsInputs, IsNaming, IsForm, IsGiven, IsOrderFor, IsOrderOf, IsOrderIn, IsFaultFor, IsFaultIn, IsNumber, IsNumberOr, IsNoNumber, LacksFile};
+ghost use Rattle.krb_words.specs.Words.{IsTextBy, IsCommand, IsProfile, IsAfter, IsFraming, IsInputs, IsNaming, IsForm, IsGiven, IsCommandLineFor, IsCommandLineOf, IsCommandLineIn, IsFaultFor, IsFaultIn, IsNumber, IsNumberOr, IsNoNumber, LacksFile};
 ghost use Rattle.krb_words.specs.declared.words.WordsFault.TheVariants as fault;
 ghost use Rattle.krb_words.specs.inner.NotRead.{FindsNoJob, IfWrong, IsNoJob, IsNoText};
 
@@ -57,7 +57,7 @@ pub enum Naming {
 
 /// What is to be done with the sources: listed, or turned into another form.
 #[derive(Drop)]
-pub enum Job {
+pub enum Command {
     /// Each source by the command that its first octets say, without options but the time at which
     /// credentials may have expired.
     List(Option<When>),
@@ -84,9 +84,9 @@ pub enum Job {
 
 /// A command line that was read.
 #[derive(Drop)]
-pub struct Order {
+pub struct CommandLine {
     /// What is to be done.
-    pub job: Job,
+    pub command: Command,
     /// How records are printed.
     pub form: Form,
     /// Which of them name their file.
@@ -293,28 +293,28 @@ fn form_of(found: &ArgMatches<'_>) -> Form
     }
 }
 
-/// Returns the job of a command with its options.
-fn job_of(alloc: Global, name: &str, found: &ArgMatches<'_>) -> Result<Job, WordsFault>
-    ensures job { IfOk result (IsJob name.now (rows_of (found_of found.now))) }
+/// Returns the command of a name with its options.
+fn command_of(alloc: Global, name: &str, found: &ArgMatches<'_>) -> Result<Command, WordsFault>
+    ensures command { IfOk result (IsCommand name.now (rows_of (found_of found.now))) }
     ensures fault { IfErr result (λ e. IfWrong e (IsNoJob name.now (rows_of (found_of found.now)))) }
 {
     match name {
-        "list" => Ok(Job::List(when_of(alloc, found)?)),
-        "stream" => Ok(Job::Stream(
+        "list" => Ok(Command::List(when_of(alloc, found)?)),
+        "stream" => Ok(Command::Stream(
             limit_of(alloc, found)?,
             profile_of(found),
             after_refusal_of(found),
         )),
-        "message" => Ok(Job::Message(profile_of(found), inputs_of(found))),
-        "keytab" => Ok(Job::Keytab),
-        "ccache" => Ok(Job::Ccache(when_of(alloc, found)?)),
-        "capture" => Ok(Job::Capture(limit_of(alloc, found)?, port_of(alloc, found)?)),
-        "decode" => Ok(Job::Decode(
+        "message" => Ok(Command::Message(profile_of(found), inputs_of(found))),
+        "keytab" => Ok(Command::Keytab),
+        "ccache" => Ok(Command::Ccache(when_of(alloc, found)?)),
+        "capture" => Ok(Command::Capture(limit_of(alloc, found)?, port_of(alloc, found)?)),
+        "decode" => Ok(Command::Decode(
             limit_of(alloc, found)?,
             profile_of(found),
             framing_of(found),
         )),
-        "encode" => Ok(Job::Encode(
+        "encode" => Ok(Command::Encode(
             limit_of(alloc, found)?,
             profile_of(found),
             framing_of(found),
@@ -341,17 +341,17 @@ fn some_sources_of(
 }
 
 /// Returns the command line of the matches.
-fn order_of(alloc: Global, matches: &ArgMatches<'_>) -> Result<Order, WordsFault>
-    ensures order { IfOk result (IsOrderOf (subcommand_rows_of matches.now)) }
+fn command_line_of(alloc: Global, matches: &ArgMatches<'_>) -> Result<CommandLine, WordsFault>
+    ensures command_line { IfOk result (IsCommandLineOf (subcommand_rows_of matches.now)) }
     ensures fault { IfErr result (λ e. IfWrong e (FindsNoJob (subcommand_rows_of matches.now))) }
 {
     match matches.subcommand() {
         None => Err(not_read(alloc)),
         Some((name, found)) => {
-            let job = job_of(alloc, name, found)?;
+            let command = command_of(alloc, name, found)?;
             let sources = some_sources_of(alloc, name, found)?;
-            Ok(Order {
-                job,
+            Ok(CommandLine {
+                command,
                 form: form_of(found),
                 naming: naming_of(found),
                 sources,
@@ -361,19 +361,19 @@ fn order_of(alloc: Global, matches: &ArgMatches<'_>) -> Result<Order, WordsFault
 }
 
 /// Returns the command line that prints a text, if words that `clap` does not accept ask for it.
-fn text_of(alloc: Global, error: &Error) -> Result<Order, WordsFault>
-    ensures text { IfOk result (λ order. IsTextBy (kind_of error.now) order.job × (order.sources.items ≡ [])) }
+fn text_of(alloc: Global, error: &Error) -> Result<CommandLine, WordsFault>
+    ensures text { IfOk result (λ command_line. IsTextBy (kind_of error.now) command_line.command × (command_line.sources.items ≡ [])) }
     ensures fault { IfErr result (λ e. IfWrong e (IsNoText (kind_of error.now))) }
 {
     let text = format!(in alloc; "{error}")?;
-    let job = match error.kind() {
-        ErrorKind::DisplayHelp => Job::Help(text),
-        ErrorKind::DisplayVersion => Job::Version(text),
+    let command = match error.kind() {
+        ErrorKind::DisplayHelp => Command::Help(text),
+        ErrorKind::DisplayVersion => Command::Version(text),
         ErrorKind::OutOfMemory => return Err(WordsFault::Memory),
         _ => return Err(WordsFault::Wrong(text)),
     };
-    Ok(Order {
-        job,
+    Ok(CommandLine {
+        command,
         form: Form::Lines,
         naming: Naming::Before,
         sources: Vec::new(alloc),
@@ -382,21 +382,21 @@ fn text_of(alloc: Global, error: &Error) -> Result<Order, WordsFault>
 
 /// Returns the command line of texts, as `clap` reads them: a command, its options and the files to
 /// read.
-fn read_texts(alloc: Global, texts: &[String]) -> Result<Order, WordsFault>
-    ensures order { IfOk result (IsOrderFor (map string_bytes texts.now)) }
+fn read_texts(alloc: Global, texts: &[String]) -> Result<CommandLine, WordsFault>
+    ensures command_line { IfOk result (IsCommandLineFor (map string_bytes texts.now)) }
     ensures fault { IfErr result (IsFaultFor (map string_bytes texts.now)) }
 {
     let command = krbls_command(alloc)?;
     match command.try_get_matches_from(texts) {
-        Ok(matches) => order_of(alloc, &matches),
+        Ok(matches) => command_line_of(alloc, &matches),
         Err(error) => text_of(alloc, &error),
     }
 }
 
 /// Returns the command line of the words after the program's name. Words are octets, as the system
 /// has them.
-pub fn read_words(alloc: Global, words: &[Vec<u8>]) -> Result<Order, WordsFault>
-    ensures order { IfOk result (IsOrderIn (map (λ word. word.items) words.now)) }
+pub fn read_words(alloc: Global, words: &[Vec<u8>]) -> Result<CommandLine, WordsFault>
+    ensures command_line { IfOk result (IsCommandLineIn (map (λ word. word.items) words.now)) }
     ensures fault { IfErr result (IsFaultIn (map (λ word. word.items) words.now)) }
 {
     let texts = command_words(alloc, words)?;

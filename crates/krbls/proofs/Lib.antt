@@ -1,4 +1,4 @@
 mod Conversions
 mod EachSource
-mod Jobs
+mod Commands
 mod Stand

@@ -1,5 +1,5 @@
 pub mod Around
 pub mod Ends
 pub mod Expanded
-pub mod Jobs
+pub mod Commands
 pub mod Program

@@ -16,21 +16,21 @@ use Rattle.krb_tool.specs.declared.output.Place.{Place}
 use Rattle.krb_tool.specs.declared.run.RunFault.{RunFault}
 use Rattle.krb_tool.specs.declared.run.RunFault.TheVariants as fault
 use Rattle.krb_words.specs.Sources.{place_of}
-use Rattle.krb_words.specs.Words.{IsFaultIn, IsOrderIn}
+use Rattle.krb_words.specs.Words.{IsFaultIn, IsCommandLineIn}
 use Rattle.krb_words.specs.declared.sources.Source.{Source}
 use Rattle.krb_words.specs.declared.sources.Source.TheVariants as source
 use Rattle.krb_words.specs.declared.when.When.{When}
 use Rattle.krb_words.specs.declared.when.When.TheVariants as when
-use Rattle.krb_words.specs.declared.words.Job.{Job}
-use Rattle.krb_words.specs.declared.words.Job.TheVariants as job
+use Rattle.krb_words.specs.declared.words.Command.{Command}
+use Rattle.krb_words.specs.declared.words.Command.TheVariants as commands
 use Rattle.krb_words.specs.declared.words.Naming.{Naming}
 use Rattle.krb_words.specs.declared.words.Naming.TheVariants as naming
-use Rattle.krb_words.specs.declared.words.Order.{Order}
+use Rattle.krb_words.specs.declared.words.CommandLine.{CommandLine}
 use Rattle.krb_words.specs.declared.words.WordsFault.{WordsFault}
 use Rattle.krb_words.specs.declared.words.WordsFault.TheVariants as words_fault
 use Rattle.krbls.specs.Around.{Around}
 use Rattle.krbls.specs.Expanded.{Expands}
-use Rattle.krbls.specs.Jobs.{Does, chosen, hint_by, kind_used}
+use Rattle.krbls.specs.Commands.{Does, chosen, hint_by, kind_used}
 
 -- the name of a source, as it was given
 abbrev pub name_of : Source → List ℕ
@@ -39,10 +39,10 @@ name_of (source.File file) = file.name.items
 name_of (source.Directory directory) = directory.name.items
 
 -- ---- times
--- the time that a job compares credentials with
-abbrev pub when_of : Job → Option When
-when_of (job.List when) = when
-when_of (job.Ccache when) = when
+-- the time that a command compares credentials with
+abbrev pub when_of : Command → Option When
+when_of (commands.List when) = when
+when_of (commands.Ccache when) = when
 when_of _ = None
 
 -- it is a number of seconds, or what the clock says
@@ -71,8 +71,8 @@ abbrev pub Hints : Around → Source → Option SourceKind → Option Hint → (
 Hints around s given hint written_after =
     (place : Place) (label before told : List ℕ) → written_after ≡ Some (mark_of place label before ++ told) → IsHintedIf (is_refusal (head_of told)) around s given hint
 
--- A job is done with a source that begins with some octets, and a hint is told.
-pub record ListsBy (around : Around) (form : Form) (now : Option ℕ) (command : Job) (s : Source) (used : Job) (first : List ℕ) (had written_before written_after : Option (List ℕ)) (outcome : Outcome) : Type 0 where
+-- A command is done with a source that begins with some octets, and a hint is told.
+pub record ListsBy (around : Around) (form : Form) (now : Option ℕ) (command : Command) (s : Source) (used : Command) (first : List ℕ) (had written_before written_after : Option (List ℕ)) (outcome : Outcome) : Type 0 where
   pub left : Option (List ℕ)
   pub result : Outcome
   pub does : Does (around.IsEndTold s) form now used had left written_before written_after result
@@ -84,8 +84,8 @@ abbrev pub BeginsWith : (first : List ℕ) → Option (List ℕ) → Type 0
 BeginsWith first None = Unit {0}
 BeginsWith first (Some octets) = (rest : List ℕ) × (octets ≡ first ++ rest)
 
--- A source was opened, and its job was done: that of the command line, or, if this has none, that of its first octets, of which 16 are looked at, or all that could be read at first.
-pub record DoesOpened (around : Around) (form : Form) (now : Option ℕ) (command : Job) (s : Source) (written_before written_after : Option (List ℕ)) (outcome : Outcome) : Type 0 where
+-- A source was opened, and its command was done: that of the command line, or, if this has none, that of its first octets, of which 16 are looked at, or all that could be read at first.
+pub record DoesOpened (around : Around) (form : Form) (now : Option ℕ) (command : Command) (s : Source) (written_before written_after : Option (List ℕ)) (outcome : Outcome) : Type 0 where
   pub first : List ℕ
   pub begins : BeginsWith first (around.octets s)
   pub had : Option (List ℕ)
@@ -93,15 +93,15 @@ pub record DoesOpened (around : Around) (form : Form) (now : Option ℕ) (comman
   pub lists : ListsBy around form now command s (chosen command first) first had written_before written_after outcome
 
 -- a source was opened, or it could not be
-abbrev pub DoesFrom : Around → Form → Option ℕ → Job → Source → Run
+abbrev pub DoesFrom : Around → Form → Option ℕ → Command → Source → Run
 DoesFrom around form now command s written_before written_after outcome =
     DoesOpened around form now command s written_before written_after outcome
     ⊎ ((written_after ≡ written_before) × IsUnread outcome)
 
 -- messages and lines of JSON are turned into each other
-abbrev pub is_converted : Job → Bool
-is_converted (job.Decode limit profile how) = true
-is_converted (job.Encode limit profile how) = true
+abbrev pub is_converted : Command → Bool
+is_converted (commands.Decode limit profile how) = true
+is_converted (commands.Encode limit profile how) = true
 is_converted _ = false
 
 -- Each cache of a directory has its record, even if it is the only one.
@@ -114,26 +114,26 @@ abbrev pub labels_by : Naming → List Source → Labels
 labels_by naming.Each sources = labels.Labels
 labels_by naming.Before sources = if list_any is_directory sources then labels.Each else labels.Several
 
-abbrev pub labels_of : Order → Labels
-labels_of order = labels_by order.naming order.sources.items
+abbrev pub labels_of : CommandLine → Labels
+labels_of command_line = labels_by command_line.naming command_line.sources.items
 
 -- which names are printed of so many sources; what sources become is written without their names
-abbrev pub names_for : Order → ℕ → Named
-names_for order count = if is_converted order.job then unnamed else names_of (labels_of order) order.form count
+abbrev pub names_for : CommandLine → ℕ → Named
+names_for command_line count = if is_converted command_line.command then unnamed else names_of (labels_of command_line) command_line.form count
 
-abbrev pub ListsSources : Around → Order → Option ℕ → List Source → RunOver
-ListsSources around order now sources =
-    ListsEach (λ s. Reports (around.IsFaultTold s) (ListsOne order.form (names_for order (length sources)) (name_of s) (DoesFrom around order.form now order.job s))) sources
+abbrev pub ListsSources : Around → CommandLine → Option ℕ → List Source → RunOver
+ListsSources around command_line now sources =
+    ListsEach (λ s. Reports (around.IsFaultTold s) (ListsOne command_line.form (names_for command_line (length sources)) (name_of s) (DoesFrom around command_line.form now command_line.command s))) sources
 
--- The job of a command line is done with each of its sources, each cache of a directory among them, and the fault by which a run ends is told.
-pub record DoesEach (around : Around) (order : Order) (written_before written_after : Option (List ℕ)) (status : ℕ) : Type 0 where
+-- The command of a command line is done with each of its sources, each cache of a directory among them, and the fault by which a run ends is told.
+pub record DoesEach (around : Around) (command_line : CommandLine) (written_before written_after : Option (List ℕ)) (status : ℕ) : Type 0 where
   pub sources : List Source
   pub now : Option ℕ
   pub unread : ℕ
   pub listed : ℕ
-  pub expands : Expands around order.sources.items (map place_of sources) unread
-  pub time : IsTime around (when_of order.job) now
-  pub lists : ListsSources around order now sources written_before written_after listed
+  pub expands : Expands around command_line.sources.items (map place_of sources) unread
+  pub time : IsTime around (when_of command_line.command) now
+  pub lists : ListsSources around command_line now sources written_before written_after listed
   pub greatest : status ≡ max listed unread
 
 -- ---- a text
@@ -145,23 +145,23 @@ Prints around text written_before written_after status =
 
 -- ---- the words
 -- the text that a command line asks for
-abbrev pub text_of : Job → Option (List ℕ)
-text_of (job.Help text) = Some (string_bytes text)
-text_of (job.Version text) = Some (string_bytes text)
+abbrev pub text_of : Command → Option (List ℕ)
+text_of (commands.Help text) = Some (string_bytes text)
+text_of (commands.Version text) = Some (string_bytes text)
 text_of _ = None
 
--- the job is done, or memory ran out before, which is told
-abbrev pub DoesAny : Around → Order → RunOver
-DoesAny around order written_before written_after status =
-    DoesEach around order written_before written_after status
+-- the command is done, or memory ran out before, which is told
+abbrev pub DoesAny : Around → CommandLine → RunOver
+DoesAny around command_line written_before written_after status =
+    DoesEach around command_line written_before written_after status
     ⊎ (around.IsFaultTold source.Input fault.Memory × (status ≡ 3) × (written_after ≡ written_before))
 
-abbrev pub CarriesOutBy : Option (List ℕ) → Around → Order → RunOver
-CarriesOutBy (Some text) around order written_before written_after status = Prints around text written_before written_after status
-CarriesOutBy None around order written_before written_after status = DoesAny around order written_before written_after status
+abbrev pub RunsCommandBy : Option (List ℕ) → Around → CommandLine → RunOver
+RunsCommandBy (Some text) around command_line written_before written_after status = Prints around text written_before written_after status
+RunsCommandBy None around command_line written_before written_after status = DoesAny around command_line written_before written_after status
 
-abbrev pub CarriesOut : Around → Order → RunOver
-CarriesOut around order written_before written_after status = CarriesOutBy (text_of order.job) around order written_before written_after status
+abbrev pub RunsCommand : Around → CommandLine → RunOver
+RunsCommand around command_line written_before written_after status = RunsCommandBy (text_of command_line.command) around command_line written_before written_after status
 
 -- what is wrong is told
 abbrev pub Refuses : Around → WordsFault → ℕ → Type 0
@@ -169,10 +169,10 @@ Refuses around (words_fault.Wrong text) status = around.AreWordsTold (string_byt
 Refuses around words_fault.Memory status = around.IsFaultTold source.Input fault.Memory × (status ≡ 3)
 
 -- by what the words are found to be
-abbrev pub RunsBy : Around → List (List ℕ) → Result Order WordsFault → RunOver
-RunsBy around words (Ok order) written_before written_after status = IsOrderIn words order × CarriesOut around order written_before written_after status
+abbrev pub RunsBy : Around → List (List ℕ) → Result CommandLine WordsFault → RunOver
+RunsBy around words (Ok command_line) written_before written_after status = IsCommandLineIn words command_line × RunsCommand around command_line written_before written_after status
 RunsBy around words (Err fault) written_before written_after status = IsFaultIn words fault × Refuses around fault status × (written_after ≡ written_before)
 
 -- The words after the program's name are read, and what they say is done.
 abbrev pub Runs : Around → List (List ℕ) → RunOver
-Runs around words written_before written_after status = (read : Result Order WordsFault) × RunsBy around words read written_before written_after status
+Runs around words written_before written_after status = (read : Result CommandLine WordsFault) × RunsBy around words read written_before written_after status

@@ -6,7 +6,7 @@ ghost use Rattle.krb_tool.specs.Begun.{begun_remaining, first_of};
 ghost use Rattle.krb_tool.specs.Encoding.{FailsToEncode};
 ghost use Rattle.krb_tool.specs.Outputs.{output_contents};
 ghost use Rattle.krbls.specs.Ends.{decode_end_line, encode_end_line};
-ghost use Rattle.krbls.specs.Jobs.{DecodesBy, Does, EncodesBy, FailsToDecodeBy, TellsEnd, Turns, chosen, hint_by, is_framed, job_for, kind_used, octets_awaited};
+ghost use Rattle.krbls.specs.Commands.{DecodesBy, Does, EncodesBy, FailsToDecodeBy, TellsEnd, Turns, chosen, hint_by, is_framed, listing_for, kind_used, octets_awaited};
 ghost use Rattle.krbls.specs.Program.{DoesFrom, IsHinted, ListsBy, name_of};
 
 use crate::ends::{put_decode_end, put_encode_end};
@@ -18,84 +18,84 @@ use krb_tool::{
     run_capture, run_ccache_in, run_decode, run_decode_unframed, run_encode, run_encode_unframed,
     run_keytab_in, run_lines_in, run_message_in, run_stream_in,
 };
-use krb_words::{AfterRefusal, Framing, Inputs, Job, Source, USUAL_PORT, When};
+use krb_words::{AfterRefusal, Framing, Inputs, Command, Source, USUAL_PORT, When};
 use std::alloc::{AllocError, Global};
 use std::io::{Read, Write};
 
-/// What does the job of a command line with sources.
+/// What does the command of a command line with sources.
 #[derive(Clone, Copy)]
 pub(crate) struct Lister<'a, H> {
     pub(crate) alloc: Global,
     pub(crate) host: &'a H,
-    pub(crate) job: &'a Job,
+    pub(crate) command: &'a Command,
     pub(crate) form: Form,
     /// The time that credentials are compared with, in seconds since 1970, if there is one.
     pub(crate) time: Option<u32>,
 }
 
-/// Returns the job that lists a source of a kind, without options but a time.
-fn job_for(kind: SourceKind, when: Option<When>) -> Job
-    ensures { result ≡ job_for kind when }
+/// Returns the command that lists a source of a kind, without options but a time.
+fn listing_for(kind: SourceKind, when: Option<When>) -> Command
+    ensures { result ≡ listing_for kind when }
 {
     match kind {
-        SourceKind::Keytab => Job::Keytab,
-        SourceKind::Ccache => Job::Ccache(when),
-        SourceKind::Capture => Job::Capture(Limit::DEFAULT, USUAL_PORT),
-        SourceKind::Message => Job::Message(Profile::Lenient, Inputs::Whole),
-        SourceKind::Stream => { Job::Stream(Limit::DEFAULT, Profile::Lenient, AfterRefusal::Ends) }
+        SourceKind::Keytab => Command::Keytab,
+        SourceKind::Ccache => Command::Ccache(when),
+        SourceKind::Capture => Command::Capture(Limit::DEFAULT, USUAL_PORT),
+        SourceKind::Message => Command::Message(Profile::Lenient, Inputs::Whole),
+        SourceKind::Stream => { Command::Stream(Limit::DEFAULT, Profile::Lenient, AfterRefusal::Ends) }
     }
 }
 
-/// Returns the kind of the sources that a job lists, if it lists.
-fn kind_used(job: &Job) -> Option<SourceKind>
-    ensures { result ≡ kind_used job.now }
+/// Returns the kind of the sources that a command lists, if it lists.
+fn kind_used(command: &Command) -> Option<SourceKind>
+    ensures { result ≡ kind_used command.now }
 {
-    match job {
-        Job::Keytab => Some(SourceKind::Keytab),
-        Job::Ccache(_) => Some(SourceKind::Ccache),
-        Job::Capture(..) => Some(SourceKind::Capture),
-        Job::Message(..) => Some(SourceKind::Message),
-        Job::Stream(..) => Some(SourceKind::Stream),
+    match command {
+        Command::Keytab => Some(SourceKind::Keytab),
+        Command::Ccache(_) => Some(SourceKind::Ccache),
+        Command::Capture(..) => Some(SourceKind::Capture),
+        Command::Message(..) => Some(SourceKind::Message),
+        Command::Stream(..) => Some(SourceKind::Stream),
         _ => None,
     }
 }
 
 impl<H: Host> Lister<'_, H> {
-    /// Lists what a reader reads of a source by a job, or turns it into another form.
+    /// Lists what a reader reads of a source by a command, or turns it into another form.
     fn run<R: Read, W: Write>(
         &self,
         source: &Source,
-        job: &Job,
+        command: &Command,
         reader: &mut R,
         writer: &mut W,
     ) -> Result<RunEnd, RunFault>
-        ensures { Does ((H.around self.now.host.now).IsEndTold source.now) self.now.form self.now.time job.now (R.remaining reader.old) (R.remaining reader.new) (W.contents writer.old) (W.contents writer.new) result }
+        ensures { Does ((H.around self.now.host.now).IsEndTold source.now) self.now.form self.now.time command.now (R.remaining reader.old) (R.remaining reader.new) (W.contents writer.old) (W.contents writer.new) result }
     {
         let alloc = self.alloc;
         let form = self.form;
-        match job {
-            Job::Stream(limit, profile, AfterRefusal::Ends) => {
+        match command {
+            Command::Stream(limit, profile, AfterRefusal::Ends) => {
                 run_stream_in(alloc, form, *profile, false, reader, writer, *limit)
             }
-            Job::Stream(limit, profile, AfterRefusal::GoesOn) => {
+            Command::Stream(limit, profile, AfterRefusal::GoesOn) => {
                 run_stream_in(alloc, form, *profile, true, reader, writer, *limit)
             }
-            Job::Message(profile, Inputs::Whole) => {
+            Command::Message(profile, Inputs::Whole) => {
                 run_message_in(alloc, form, *profile, reader, writer)
             }
-            Job::Message(profile, Inputs::EachLine) => {
+            Command::Message(profile, Inputs::EachLine) => {
                 run_lines_in(alloc, form, *profile, reader, writer)
             }
-            Job::Keytab => run_keytab_in(alloc, form, reader, writer),
-            Job::Ccache(_) => run_ccache_in(alloc, form, reader, writer, self.time),
-            Job::Capture(limit, port) => run_capture(alloc, form, reader, writer, *limit, *port),
-            Job::Decode(limit, profile, framing) => {
+            Command::Keytab => run_keytab_in(alloc, form, reader, writer),
+            Command::Ccache(_) => run_ccache_in(alloc, form, reader, writer, self.time),
+            Command::Capture(limit, port) => run_capture(alloc, form, reader, writer, *limit, *port),
+            Command::Decode(limit, profile, framing) => {
                 self.run_decode(source, *framing, *profile, reader, writer, *limit)
             }
-            Job::Encode(limit, profile, framing) => {
+            Command::Encode(limit, profile, framing) => {
                 self.run_encode(source, *framing, *profile, reader, writer, *limit)
             }
-            Job::List(_) | Job::Help(_) | Job::Version(_) => Ok(RunEnd::Clean),
+            Command::List(_) | Command::Help(_) | Command::Version(_) => Ok(RunEnd::Clean),
         }
     }
 
@@ -187,11 +187,11 @@ fn encode<R: Read, W: Write>(
     }
 }
 
-/// Returns the hint for a source that begins with these octets and is listed by a job.
-fn hint_by(job: &Job, first: &[u8]) -> Option<Hint>
-    ensures { result ≡ hint_by job.now first.now }
+/// Returns the hint for a source that begins with these octets and is listed by a command.
+fn hint_by(command: &Command, first: &[u8]) -> Option<Hint>
+    ensures { result ≡ hint_by command.now first.now }
 {
-    match kind_used(job) {
+    match kind_used(command) {
         Some(kind) => hint_of(kind, first),
         None => None,
     }
@@ -200,51 +200,51 @@ fn hint_by(job: &Job, first: &[u8]) -> Option<Hint>
 impl<H: Host> Lister<'_, H> {
     /// Tells what a source is, if that is known.
     fn tell_hint(&self, source: &Source, hint: Option<Hint>) -> Result<(), AllocError>
-        ensures { OnOk result (IsHinted (H.around self.now.host.now) source.now (kind_used self.now.job.now) hint) }
+        ensures { OnOk result (IsHinted (H.around self.now.host.now) source.now (kind_used self.now.command.now) hint) }
     {
         let Some(hint) = hint else {
             return Ok(());
         };
         let name = shown_name(self.alloc, source)?;
-        let text = hint.text(self.alloc, kind_used(self.job), name.as_str())?;
+        let text = hint.text(self.alloc, kind_used(self.command), name.as_str())?;
         self.host.tell_hint(source, text.as_str());
         Ok(())
     }
 
-    /// Lists what a reader reads of a source by a job, and tells a hint if its first record is that
+    /// Lists what a reader reads of a source by a command, and tells a hint if its first record is that
     /// of a refusal.
     fn list_by<R: Read, W: Write>(
         &self,
         source: &Source,
-        job: &Job,
+        command: &Command,
         reader: &mut Begun<R>,
         output: &mut Output<W>,
     ) -> Result<RunEnd, RunFault>
-        ensures { ListsBy (H.around self.now.host.now) self.now.form self.now.time self.now.job.now source.now job.now (first_of reader.old) (begun_remaining R.remaining reader.old) (output_contents W.contents output.old) (output_contents W.contents output.new) result }
+        ensures { ListsBy (H.around self.now.host.now) self.now.form self.now.time self.now.command.now source.now command.now (first_of reader.old) (begun_remaining R.remaining reader.old) (output_contents W.contents output.old) (output_contents W.contents output.new) result }
     {
-        let hint = hint_by(job, reader.first());
-        let end = self.run(source, job, reader, output)?;
+        let hint = hint_by(command, reader.first());
+        let end = self.run(source, command, reader, output)?;
         if output.began_with_refusal() {
             self.tell_hint(source, hint)?;
         }
         Ok(end)
     }
 
-    /// Does the job with what a reader reads of a source.
+    /// Does the command with what a reader reads of a source.
     fn list_begun<R: Read, W: Write>(
         &self,
         source: &Source,
         reader: &mut Begun<R>,
         output: &mut Output<W>,
     ) -> Result<RunEnd, RunFault>
-        ensures { ListsBy (H.around self.now.host.now) self.now.form self.now.time self.now.job.now source.now (chosen self.now.job.now (first_of reader.old)) (first_of reader.old) (begun_remaining R.remaining reader.old) (output_contents W.contents output.old) (output_contents W.contents output.new) result }
+        ensures { ListsBy (H.around self.now.host.now) self.now.form self.now.time self.now.command.now source.now (chosen self.now.command.now (first_of reader.old)) (first_of reader.old) (begun_remaining R.remaining reader.old) (output_contents W.contents output.old) (output_contents W.contents output.new) result }
     {
-        match self.job {
-            Job::List(when) => {
-                let job = job_for(kind_of(reader.first()), *when);
-                self.list_by(source, &job, reader, output)
+        match self.command {
+            Command::List(when) => {
+                let command = listing_for(kind_of(reader.first()), *when);
+                self.list_by(source, &command, reader, output)
             }
-            job => self.list_by(source, job, reader, output),
+            command => self.list_by(source, command, reader, output),
         }
     }
 }
@@ -268,11 +268,11 @@ fn octets_name(source: &Source) -> &[u8]
 
 /// Returns how many octets of a source are awaited before it is listed: those by which its command
 /// or a hint is chosen. A stream is listed as it comes, since it may be live.
-fn octets_awaited(job: &Job) -> usize
-    ensures { result ≡ octets_awaited job.now }
+fn octets_awaited(command: &Command) -> usize
+    ensures { result ≡ octets_awaited command.now }
 {
-    match job {
-        Job::Stream(..) | Job::Decode(..) | Job::Encode(..) => 1,
+    match command {
+        Command::Stream(..) | Command::Decode(..) | Command::Encode(..) => 1,
         _ => 16,
     }
 }
@@ -280,7 +280,7 @@ fn octets_awaited(job: &Job) -> usize
 impl<H: Host> ListSource<Source> for Lister<'_, H> {
     ghost called = { name_of };
 
-    ghost Lists = { λ lister source. DoesFrom (H.around lister.host.now) lister.form lister.time lister.job.now source };
+    ghost Lists = { λ lister source. DoesFrom (H.around lister.host.now) lister.form lister.time lister.command.now source };
 
     ghost IsReported = { λ lister source fault. (H.around lister.host.now).IsFaultTold source fault };
 
@@ -291,7 +291,7 @@ impl<H: Host> ListSource<Source> for Lister<'_, H> {
     fn list<W: Write>(&self, source: &Source, output: &mut Output<W>) -> Result<RunEnd, RunFault> {
         match self.host.open(source) {
             Ok(reader) => {
-                let mut begun = Begun::begin(reader, octets_awaited(self.job));
+                let mut begun = Begun::begin(reader, octets_awaited(self.command));
                 self.list_begun(source, &mut begun, output)
             }
             Err(error) => Err(RunFault::Read(error)),

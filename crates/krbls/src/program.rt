@@ -3,13 +3,13 @@
 ghost use Rattle.std.specs.Prelude.{◌≡◌, map, option_map};
 ghost use Rattle.std.specs.List.{list_any};
 ghost use Rattle.std.specs.Process.{exit_status};
-ghost use Rattle.krbls.specs.Program.{CarriesOut, DoesAny, IsTime, ListsSources, Prints, Refuses, Runs, is_converted, is_directory, labels_of, text_of, when_of};
+ghost use Rattle.krbls.specs.Program.{RunsCommand, DoesAny, IsTime, ListsSources, Prints, Refuses, Runs, is_converted, is_directory, labels_of, text_of, when_of};
 
 use crate::host::Host;
 use crate::lister::Lister;
 use crate::sources::expand;
 use krb_tool::{Naming as Labels, RunFault, run_sources, run_sources_unnamed};
-use krb_words::{Job, Naming, Order, Source, When, WordsFault, read_words};
+use krb_words::{Command, Naming, CommandLine, Source, When, WordsFault, read_words};
 use std::alloc::Global;
 use std::io::Write;
 use std::process::ExitCode;
@@ -20,7 +20,7 @@ const WRONG_COMMAND_LINE: u8 = 2;
 /// The status of a fault before anything is read.
 const FAULT: u8 = 3;
 
-/// Does what the words after the program's name say: the job of their command with each source, or
+/// Does what the words after the program's name say: the command of their command with each source, or
 /// the printing of a text. Tells what is wrong with them if they are no command line. Returns the
 /// writer, too.
 pub(crate) fn run_words<H: Host, W: Write>(
@@ -32,53 +32,53 @@ pub(crate) fn run_words<H: Host, W: Write>(
     ensures { Runs (H.around host.now) (map (λ word. word.items) words.now) (W.contents writer) (W.contents result.0) (exit_status result.1) }
 {
     match read_words(alloc, words) {
-        Ok(order) => carry_out(alloc, host, &order, writer),
+        Ok(command_line) => run_command(alloc, host, &command_line, writer),
         Err(fault) => (writer, refuse(host, &fault)),
     }
 }
 
 /// Does what a command line says.
-fn carry_out<H: Host, W: Write>(alloc: Global, host: &H, order: &Order, writer: W) -> (W, ExitCode)
-    ensures { CarriesOut (H.around host.now) order.now (W.contents writer) (W.contents result.0) (exit_status result.1) }
+fn run_command<H: Host, W: Write>(alloc: Global, host: &H, command_line: &CommandLine, writer: W) -> (W, ExitCode)
+    ensures { RunsCommand (H.around host.now) command_line.now (W.contents writer) (W.contents result.0) (exit_status result.1) }
 {
-    match text_of(&order.job) {
+    match text_of(&command_line.command) {
         Some(text) => print_text(host, text, writer),
-        None => do_each(alloc, host, order, writer),
+        None => do_each(alloc, host, command_line, writer),
     }
 }
 
 /// Returns the text that is to be printed, if there is one.
-fn text_of(job: &Job) -> Option<&str>
-    ensures { option_map (λ text. text.now) result ≡ text_of job.now }
+fn text_of(command: &Command) -> Option<&str>
+    ensures { option_map (λ text. text.now) result ≡ text_of command.now }
 {
-    match job {
-        Job::Help(text) | Job::Version(text) => Some(text.as_str()),
+    match command {
+        Command::Help(text) | Command::Version(text) => Some(text.as_str()),
         _ => None,
     }
 }
 
-/// Returns whether a job turns sources into another form.
-fn is_converted(job: &Job) -> bool
-    ensures { result ≡ is_converted job.now }
+/// Returns whether a command turns sources into another form.
+fn is_converted(command: &Command) -> bool
+    ensures { result ≡ is_converted command.now }
 {
-    matches!(job, Job::Decode(..) | Job::Encode(..))
+    matches!(command, Command::Decode(..) | Command::Encode(..))
 }
 
-/// Returns the time that a job compares credentials with, if there is one.
-fn when_of(job: &Job) -> Option<When>
-    ensures { result ≡ when_of job.now }
+/// Returns the time that a command compares credentials with, if there is one.
+fn when_of(command: &Command) -> Option<When>
+    ensures { result ≡ when_of command.now }
 {
-    match job {
-        Job::List(when) | Job::Ccache(when) => *when,
+    match command {
+        Command::List(when) | Command::Ccache(when) => *when,
         _ => None,
     }
 }
 
 /// Returns that time in seconds since 1970: the clock is read if it is asked for.
-fn time_of<H: Host>(host: &H, job: &Job) -> Option<u32>
-    ensures { IsTime (H.around host.now) (when_of job.now) result }
+fn time_of<H: Host>(host: &H, command: &Command) -> Option<u32>
+    ensures { IsTime (H.around host.now) (when_of command.now) result }
 {
-    match when_of(job) {
+    match when_of(command) {
         None => None,
         Some(When::Seconds(seconds)) => Some(seconds),
         Some(When::Clock) => Some(host.now()),
@@ -97,42 +97,42 @@ fn has_directory(sources: &[Source]) -> bool
 }
 
 /// Returns how the records of a command line say which file they are of.
-fn labels_of(order: &Order) -> Labels
-    ensures { result ≡ labels_of order.now }
+fn labels_of(command_line: &CommandLine) -> Labels
+    ensures { result ≡ labels_of command_line.now }
 {
-    match order.naming {
+    match command_line.naming {
         Naming::Each => Labels::Labels,
-        Naming::Before if has_directory(order.sources.as_slice()) => Labels::Each,
+        Naming::Before if has_directory(command_line.sources.as_slice()) => Labels::Each,
         Naming::Before => Labels::Several,
     }
 }
 
-/// Does the job with sources that can be opened, one after another, and returns the writer and the
+/// Does the command with sources that can be opened, one after another, and returns the writer and the
 /// greatest of their statuses.
 fn list_each<H: Host, W: Write>(
     alloc: Global,
     host: &H,
-    order: &Order,
+    command_line: &CommandLine,
     now: Option<u32>,
     sources: &[Source],
     writer: W,
 ) -> (W, u8)
-    ensures { ListsSources (H.around host.now) order.now now sources.now (W.contents writer) (W.contents result.0) result.1 }
+    ensures { ListsSources (H.around host.now) command_line.now now sources.now (W.contents writer) (W.contents result.0) result.1 }
 {
     let lister = Lister {
         alloc,
         host,
-        job: &order.job,
-        form: order.form,
+        command: &command_line.command,
+        form: command_line.form,
         time: now,
     };
-    if is_converted(&order.job) {
+    if is_converted(&command_line.command) {
         run_sources_unnamed(alloc, &lister, sources, writer)
     } else {
         run_sources(
             alloc,
-            order.form,
-            labels_of(order),
+            command_line.form,
+            labels_of(command_line),
             &lister,
             sources,
             writer,
@@ -140,15 +140,15 @@ fn list_each<H: Host, W: Write>(
     }
 }
 
-/// Does the job with each source, and returns the writer and the greatest of their statuses.
-fn do_each<H: Host, W: Write>(alloc: Global, host: &H, order: &Order, writer: W) -> (W, ExitCode)
-    ensures { DoesAny (H.around host.now) order.now (W.contents writer) (W.contents result.0) (exit_status result.1) }
+/// Does the command with each source, and returns the writer and the greatest of their statuses.
+fn do_each<H: Host, W: Write>(alloc: Global, host: &H, command_line: &CommandLine, writer: W) -> (W, ExitCode)
+    ensures { DoesAny (H.around host.now) command_line.now (W.contents writer) (W.contents result.0) (exit_status result.1) }
 {
-    match expand(alloc, host, order.sources.as_slice()) {
+    match expand(alloc, host, command_line.sources.as_slice()) {
         Ok(expanded) => {
-            let now = time_of(host, &order.job);
+            let now = time_of(host, &command_line.command);
             let sources = expanded.sources.as_slice();
-            let (writer, status) = list_each(alloc, host, order, now, sources, writer);
+            let (writer, status) = list_each(alloc, host, command_line, now, sources, writer);
             (writer, ExitCode::from(status.max(expanded.status)))
         }
         Err(_) => (writer, refuse(host, &WordsFault::Memory)),

@@ -1,4 +1,4 @@
-use Rattle.krbls.proofs.Jobs.{of_job}
+use Rattle.krbls.proofs.Commands.{of_job}
 use Rattle.krbls.proofs.lister.Lister.run.Goals as goal
 
 pub returns-in-Keytab : goal.returns-in-Keytab

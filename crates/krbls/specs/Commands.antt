@@ -1,4 +1,4 @@
--- What is done with a source by a job: the run of its command, in the form and by the profile, the limit and the numbers of the job.
+-- What is done with a source by a command: the run of its command, in the form and by the profile, the limit and the numbers of the command.
 use Rattle.std.specs.Prelude.{ℕ, ◌≡◌, Bool, true, false, List, [], ◌∷◌, Option, Some, None, IfOk, IfErr, OnErr}
 use Rattle.std.specs.Option.{option_and_then}
 use Rattle.krb_der.specs.declared.profile.Profile.{Profile}
@@ -27,8 +27,8 @@ use Rattle.krb_words.specs.declared.words.Framing.{Framing}
 use Rattle.krb_words.specs.declared.words.Framing.TheVariants as framing
 use Rattle.krb_words.specs.declared.when.When.{When}
 use Rattle.krb_words.specs.declared.words.Inputs.TheVariants as inputs
-use Rattle.krb_words.specs.declared.words.Job.{Job}
-use Rattle.krb_words.specs.declared.words.Job.TheVariants as job
+use Rattle.krb_words.specs.declared.words.Command.{Command}
+use Rattle.krb_words.specs.declared.words.Command.TheVariants as commands
 use Rattle.krbls.specs.Ends.{decode_end_line, encode_end_line}
 
 -- The standard error has a line of a source if it was not turned into another form to its end, and then the run has refused something.
@@ -59,61 +59,61 @@ pub record Turns {E : Type 0} (TurnsTo : E → Type 0) (line : E → List ℕ) (
   pub told : TellsEnd IsTold (line end) ended
 
 -- ---- the command of a source
--- the job that lists a source of a kind, without options but a time
-abbrev pub job_for : SourceKind → Option When → Job
-job_for kind.Keytab when = job.Keytab
-job_for kind.Ccache when = job.Ccache when
-job_for kind.Capture when = job.Capture 16777216 88
-job_for kind.Message when = job.Message profile.Lenient inputs.Whole
-job_for kind.Stream when = job.Stream 16777216 profile.Lenient after.Ends
+-- the command that lists a source of a kind, without options but a time
+abbrev pub listing_for : SourceKind → Option When → Command
+listing_for kind.Keytab when = commands.Keytab
+listing_for kind.Ccache when = commands.Ccache when
+listing_for kind.Capture when = commands.Capture 16777216 88
+listing_for kind.Message when = commands.Message profile.Lenient inputs.Whole
+listing_for kind.Stream when = commands.Stream 16777216 profile.Lenient after.Ends
 
--- the job that a source has by its first octets, if there is no command
-abbrev pub chosen : Job → (first : List ℕ) → Job
-chosen (job.List when) first = job_for (command_for first) when
+-- the command that a source has by its first octets, if there is no command
+abbrev pub chosen : Command → (first : List ℕ) → Command
+chosen (commands.List when) first = listing_for (command_for first) when
 chosen named first = named
 
--- the kind of the sources that a job lists
-abbrev pub kind_used : Job → Option SourceKind
-kind_used job.Keytab = Some kind.Keytab
-kind_used (job.Ccache when) = Some kind.Ccache
-kind_used (job.Capture limit port) = Some kind.Capture
-kind_used (job.Message profile each) = Some kind.Message
-kind_used (job.Stream limit profile refused) = Some kind.Stream
+-- the kind of the sources that a command lists
+abbrev pub kind_used : Command → Option SourceKind
+kind_used commands.Keytab = Some kind.Keytab
+kind_used (commands.Ccache when) = Some kind.Ccache
+kind_used (commands.Capture limit port) = Some kind.Capture
+kind_used (commands.Message profile each) = Some kind.Message
+kind_used (commands.Stream limit profile refused) = Some kind.Stream
 kind_used _ = None
 
 -- how many octets of a source are awaited before its run begins: the first one of a stream, which may be live, else those by which a command or a hint is chosen
-abbrev pub octets_awaited : Job → ℕ
-octets_awaited (job.Stream limit profile refused) = 1
-octets_awaited (job.Decode limit profile how) = 1
-octets_awaited (job.Encode limit profile how) = 1
+abbrev pub octets_awaited : Command → ℕ
+octets_awaited (commands.Stream limit profile refused) = 1
+octets_awaited (commands.Decode limit profile how) = 1
+octets_awaited (commands.Encode limit profile how) = 1
 octets_awaited _ = 16
 
--- the hint for a source that is listed by a job, by its first octets
-abbrev pub hint_by : Job → (first : List ℕ) → Option Hint
+-- the hint for a source that is listed by a command, by its first octets
+abbrev pub hint_by : Command → (first : List ℕ) → Option Hint
 hint_by used first = option_and_then (λ kind. hint_for kind first) (kind_used used)
 
--- ---- a job over a reader that had octets and has others left, and what is written
-abbrev pub Does : (IsTold : List ℕ → Type 0) → Form → (now : Option ℕ) → Job → (had left : Option (List ℕ)) → Run
-Does IsTold form now (job.Stream limit profile after.Ends) had left written_before written_after outcome =
+-- ---- a command over a reader that had octets and has others left, and what is written
+abbrev pub Does : (IsTold : List ℕ → Type 0) → Form → (now : Option ℕ) → Command → (had left : Option (List ℕ)) → Run
+Does IsTold form now (commands.Stream limit profile after.Ends) had left written_before written_after outcome =
     IfOk outcome (Lists form profile limit had left written_before written_after) × IfErr outcome (Fails form profile limit had left written_before written_after)
-Does IsTold form now (job.Stream limit profile after.GoesOn) had left written_before written_after outcome =
+Does IsTold form now (commands.Stream limit profile after.GoesOn) had left written_before written_after outcome =
     IfOk outcome (ListsAll form profile limit had left written_before written_after) × IfErr outcome (FailsAll form profile limit had left written_before written_after)
-Does IsTold form now (job.Message profile inputs.Whole) had left written_before written_after outcome =
+Does IsTold form now (commands.Message profile inputs.Whole) had left written_before written_after outcome =
     IfOk outcome (ListsFile (IsMessageListing form profile) had left written_before written_after) × IfErr outcome (FailsFile (IsMessageListing form profile) had left written_before written_after)
-Does IsTold form now (job.Message profile inputs.EachLine) had left written_before written_after outcome =
+Does IsTold form now (commands.Message profile inputs.EachLine) had left written_before written_after outcome =
     IfOk outcome (ListsLines form profile had left written_before written_after) × OnErr outcome (FailsLines form profile had left written_before written_after)
-Does IsTold form now job.Keytab had left written_before written_after outcome =
+Does IsTold form now commands.Keytab had left written_before written_after outcome =
     (file : List ℕ) → had ≡ Some file → ListsRecords (keytab_listing form file) written_before written_after outcome
-Does IsTold form now (job.Ccache when) had left written_before written_after outcome =
+Does IsTold form now (commands.Ccache when) had left written_before written_after outcome =
     (file : List ℕ) → had ≡ Some file → ListsRecords (ccache_listing form now file) written_before written_after outcome
-Does IsTold form now (job.Capture limit port) had left written_before written_after outcome =
+Does IsTold form now (commands.Capture limit port) had left written_before written_after outcome =
     (file : List ℕ) → had ≡ Some file → ListsRecords (capture_listing (record { form = form; limit = limit; port = port }) file) written_before written_after outcome
-Does IsTold form now (job.Decode limit profile how) had left written_before written_after outcome =
+Does IsTold form now (commands.Decode limit profile how) had left written_before written_after outcome =
     IfOk outcome (Turns (DecodesBy how profile limit had left written_before written_after) (decode_end_line how) IsTold)
     × OnErr outcome (FailsToDecodeBy how profile limit had left written_before written_after)
-Does IsTold form now (job.Encode limit profile how) had left written_before written_after outcome =
+Does IsTold form now (commands.Encode limit profile how) had left written_before written_after outcome =
     IfOk outcome (Turns (EncodesBy how profile limit had left written_before written_after) encode_end_line IsTold)
     × OnErr outcome (FailsToEncode (is_framed how) profile limit had left written_before written_after)
-Does IsTold form now (job.List when) had left written_before written_after outcome = written_after ≡ written_before
-Does IsTold form now (job.Help text) had left written_before written_after outcome = written_after ≡ written_before
-Does IsTold form now (job.Version text) had left written_before written_after outcome = written_after ≡ written_before
+Does IsTold form now (commands.List when) had left written_before written_after outcome = written_after ≡ written_before
+Does IsTold form now (commands.Help text) had left written_before written_after outcome = written_after ≡ written_before
+Does IsTold form now (commands.Version text) had left written_before written_after outcome = written_after ≡ written_before
