@@ -42,9 +42,9 @@ def principal(realm, *components):
 def ticket(realm, *components):
     names = item(0x30, b"".join(item(0x1B, component) for component in components))
     name = item(0x30, item(0xA0, integer(1)) + item(0xA1, names))
-    sealed = integer(18), integer(1), item(0x04, bytes(range(CIPHER_OCTETS)))
-    sealed = item(0x30, b"".join(item(0xA0 + place, part) for place, part in enumerate(sealed)))
-    fields = integer(5), item(0x1B, realm), name, sealed
+    encrypted = integer(18), integer(1), item(0x04, bytes(range(CIPHER_OCTETS)))
+    encrypted = item(0x30, b"".join(item(0xA0 + place, part) for place, part in enumerate(encrypted)))
+    fields = integer(5), item(0x1B, realm), name, encrypted
     return item(0x61, item(0x30, b"".join(item(0xA0 + place, part) for place, part in enumerate(fields))))
 
 

@@ -24,7 +24,7 @@ while size := sys.stdin.buffer.read(4):
 """
 
 
-def is_sealed(frame):
+def is_encrypted(frame):
     """Whether a message is none that is refused because it is not encrypted: a KRB-CRED with an encryption type 0."""
     return frame[4] != 0x76 or b"\xa0\x03\x02\x01\x00" not in frame
 
@@ -41,7 +41,7 @@ def print_costs(name, commands, path):
 
 
 def main():
-    octets = b"".join(filter(is_sealed, real_frames()))
+    octets = b"".join(filter(is_encrypted, real_frames()))
     with repeated(octets, max(1, (int(sys.argv[1]) << 20) // len(octets))) as stream, tempfile.NamedTemporaryFile() as lines:
         print_costs("mixed messages", {"decode": DECODE, "stream --json": STREAM}, stream.name)
         lines.write(output_of(DECODE, stream.name))

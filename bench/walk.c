@@ -25,7 +25,7 @@ struct principal {
     struct span names;
 };
 
-struct sealed {
+struct encrypted {
     long long etype, kvno;
     bool has_kvno;
     struct span cipher;
@@ -44,7 +44,7 @@ struct address {
 struct ticket {
     struct span realm;
     struct principal server;
-    struct sealed sealed;
+    struct encrypted encrypted;
 };
 
 static size_t size_of(struct span in)
@@ -201,7 +201,7 @@ static bool principal(struct span *in, int number, struct principal *name, unsig
     return true;
 }
 
-static bool sealed(struct span *in, int number, struct sealed *data, unsigned *notes)
+static bool encrypted(struct span *in, int number, struct encrypted *data, unsigned *notes)
 {
     struct span contents;
     if (!field(in, number, 0x30, &contents) || !int32(&contents, 0, &data->etype))
@@ -217,7 +217,7 @@ static bool ticket_in(struct span contents, struct ticket *ticket, unsigned *not
     struct span fields;
     return item(&contents, 0x30, &fields) && ends(contents) && fixed(&fields, 0, 5) &&
            string(&fields, 1, &ticket->realm, notes) && principal(&fields, 2, &ticket->server, notes) &&
-           sealed(&fields, 3, &ticket->sealed, notes) && ends(fields);
+           encrypted(&fields, 3, &ticket->encrypted, notes) && ends(fields);
 }
 
 static bool ticket(struct span *in, int number, struct ticket *ticket, unsigned *notes)
@@ -372,7 +372,7 @@ static char *put_optional_number(char *to, bool is_there, long long number)
     return is_there ? put_number(to, number) : PUT(to, "-");
 }
 
-static char *put_sealed(char *to, const struct sealed *data)
+static char *put_encrypted(char *to, const struct encrypted *data)
 {
     if (data->has_kvno)
         return to + sprintf(to, "%lld:%lld:%zu", data->etype, data->kvno, size_of(data->cipher));
@@ -456,7 +456,7 @@ struct kdc_req_body {
     struct span realm, from, till, rtime, etypes;
     long long nonce;
     size_t addresses, tickets;
-    struct sealed authdata;
+    struct encrypted authdata;
 };
 
 static bool kdc_req_body(struct span in, struct kdc_req_body *body, unsigned *notes)
@@ -479,7 +479,7 @@ static bool kdc_req_body(struct span in, struct kdc_req_body *body, unsigned *no
         return false;
     if ((body->has_addresses = next_field(in, 9)) && !addresses(&in, 9, &body->addresses, notes))
         return false;
-    if ((body->has_authdata = next_field(in, 10)) && !sealed(&in, 10, &body->authdata, notes))
+    if ((body->has_authdata = next_field(in, 10)) && !encrypted(&in, 10, &body->authdata, notes))
         return false;
     if ((body->has_tickets = next_field(in, 11)) && !tickets(&in, 11, &body->tickets, notes))
         return false;
@@ -522,7 +522,7 @@ static char *put_kdc_req(char *to, struct span in, int number)
     to = PUT(to, " addresses=");
     to = put_optional_number(to, body.has_addresses, body.addresses);
     to = PUT(to, " authdata=");
-    to = body.has_authdata ? put_sealed(to, &body.authdata) : PUT(to, "-");
+    to = body.has_authdata ? put_encrypted(to, &body.authdata) : PUT(to, "-");
     to = PUT(to, " tickets=");
     to = put_optional_number(to, body.has_tickets, body.tickets);
     return put_notes(to, notes);
@@ -533,7 +533,7 @@ static char *put_kdc_rep(char *to, struct span in, int number)
     struct span items, realm;
     struct principal client;
     struct ticket granted;
-    struct sealed enc;
+    struct encrypted enc;
     bool has_padata;
     unsigned notes = 0;
     if (!fixed(&in, 0, 5) || !fixed(&in, 1, number))
@@ -541,7 +541,7 @@ static char *put_kdc_rep(char *to, struct span in, int number)
     if ((has_padata = next_field(in, 2)) && !padata(&in, 2, &items, &notes))
         return NULL;
     if (!string(&in, 3, &realm, &notes) || !principal(&in, 4, &client, &notes) ||
-        !ticket(&in, 5, &granted, &notes) || !sealed(&in, 6, &enc, &notes) || !ends(in))
+        !ticket(&in, 5, &granted, &notes) || !encrypted(&in, 6, &enc, &notes) || !ends(in))
         return NULL;
     to = number == 11 ? PUT(to, "AS-REP client=") : PUT(to, "TGS-REP client=");
     to = put_principal(to, &client, realm);
@@ -550,9 +550,9 @@ static char *put_kdc_rep(char *to, struct span in, int number)
     to = PUT(to, " padata=");
     to = put_types(to, has_padata, items);
     to = PUT(to, " ticket=");
-    to = put_sealed(to, &granted.sealed);
+    to = put_encrypted(to, &granted.encrypted);
     to = PUT(to, " enc=");
-    to = put_sealed(to, &enc);
+    to = put_encrypted(to, &enc);
     return put_notes(to, notes);
 }
 
@@ -560,31 +560,31 @@ static char *put_ap_req(char *to, struct span in)
 {
     struct flags options;
     struct ticket shown;
-    struct sealed auth;
+    struct encrypted auth;
     unsigned notes = 0;
     if (!fixed(&in, 0, 5) || !fixed(&in, 1, 14) || !flags(&in, 2, &options, &notes) ||
-        !ticket(&in, 3, &shown, &notes) || !sealed(&in, 4, &auth, &notes) || !ends(in))
+        !ticket(&in, 3, &shown, &notes) || !encrypted(&in, 4, &auth, &notes) || !ends(in))
         return NULL;
     to = PUT(to, "AP-REQ server=");
     to = put_principal(to, &shown.server, shown.realm);
     to = PUT(to, " options=");
     to = put_flags(to, &options);
     to = PUT(to, " ticket=");
-    to = put_sealed(to, &shown.sealed);
+    to = put_encrypted(to, &shown.encrypted);
     to = PUT(to, " auth=");
-    to = put_sealed(to, &auth);
+    to = put_encrypted(to, &auth);
     return put_notes(to, notes);
 }
 
 /* An AP-REP or a KRB-PRIV. */
-static char *put_sealed_alone(char *to, struct span in, const char *kind, int number, int place)
+static char *put_encrypted_alone(char *to, struct span in, const char *kind, int number, int place)
 {
-    struct sealed enc;
+    struct encrypted enc;
     unsigned notes = 0;
-    if (!fixed(&in, 0, 5) || !fixed(&in, 1, number) || !sealed(&in, place, &enc, &notes) || !ends(in))
+    if (!fixed(&in, 0, 5) || !fixed(&in, 1, number) || !encrypted(&in, place, &enc, &notes) || !ends(in))
         return NULL;
     to += sprintf(to, "%s enc=", kind);
-    to = put_sealed(to, &enc);
+    to = put_encrypted(to, &enc);
     return put_notes(to, notes);
 }
 
@@ -626,14 +626,14 @@ static char *put_krb_safe(char *to, struct span in)
 
 static char *put_krb_cred(char *to, struct span in)
 {
-    struct sealed enc;
+    struct encrypted enc;
     size_t count;
     unsigned notes = 0;
-    if (!fixed(&in, 0, 5) || !fixed(&in, 1, 22) || !tickets(&in, 2, &count, &notes) || !sealed(&in, 3, &enc, &notes) ||
+    if (!fixed(&in, 0, 5) || !fixed(&in, 1, 22) || !tickets(&in, 2, &count, &notes) || !encrypted(&in, 3, &enc, &notes) ||
         !ends(in))
         return NULL;
     to += sprintf(to, "KRB-CRED tickets=%zu enc=", count);
-    to = put_sealed(to, &enc);
+    to = put_encrypted(to, &enc);
     return put_notes(to, notes);
 }
 
@@ -707,9 +707,9 @@ static char *put_message(char *to, struct span in)
     case 0x6C: return put_kdc_req(to, fields, 12);
     case 0x6D: return put_kdc_rep(to, fields, 13);
     case 0x6E: return put_ap_req(to, fields);
-    case 0x6F: return put_sealed_alone(to, fields, "AP-REP", 15, 2);
+    case 0x6F: return put_encrypted_alone(to, fields, "AP-REP", 15, 2);
     case 0x74: return put_krb_safe(to, fields);
-    case 0x75: return put_sealed_alone(to, fields, "KRB-PRIV", 21, 3);
+    case 0x75: return put_encrypted_alone(to, fields, "KRB-PRIV", 21, 3);
     case 0x76: return put_krb_cred(to, fields);
     case 0x7E: return put_krb_error(to, fields);
     default: return NULL;

@@ -55,21 +55,21 @@ def frame(message):
     return len(message).to_bytes(4, "big") + message
 
 
-def sealed(cipher):
+def encrypted(cipher):
     return item(0x30, field(0, number(18)) + field(2, item(0x04, cipher)))
 
 
 def ap_rep(cipher):
-    return item(0x6F, item(0x30, field(0, number(5)) + field(1, number(15)) + field(2, sealed(cipher))))
+    return item(0x6F, item(0x30, field(0, number(5)) + field(1, number(15)) + field(2, encrypted(cipher))))
 
 
 def as_rep(count):
     """A reply with this many empty PA-DATA."""
     padata = item(0x30, field(1, number(0)) + field(2, item(0x04, b"")))
-    ticket = field(0, number(5)) + field(1, text(b"R")) + field(2, name(b"s")) + field(3, sealed(b""))
+    ticket = field(0, number(5)) + field(1, text(b"R")) + field(2, name(b"s")) + field(3, encrypted(b""))
     fields = field(0, number(5)) + field(1, number(11)) + field(2, item(0x30, count * padata))
     fields += field(3, text(b"R")) + field(4, name(b"c"))
-    fields += field(5, item(0x61, item(0x30, ticket))) + field(6, sealed(b""))
+    fields += field(5, item(0x61, item(0x30, ticket))) + field(6, encrypted(b""))
     return item(0x6B, item(0x30, fields))
 
 

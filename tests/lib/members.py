@@ -53,7 +53,7 @@ def members(**shapes):
 is_name = or_null(is_text)
 is_hex = spelled("([0-9a-f]{2})*")
 is_flags = members(bits=is_number, hex=is_hex, names=list_of(is_text))
-is_sealed = members(etype=is_number, etype_name=is_name, kvno=or_null(is_number), size=is_number)
+is_encrypted = members(etype=is_number, etype_name=is_name, kvno=or_null(is_number), size=is_number)
 is_refused_ticket = members(refused=members(place=is_number, why=is_number, why_name=is_text))
 
 is_endpoint = members(address=is_text, port=is_number)
@@ -78,8 +78,8 @@ SHAPES = {
     "yes or no": is_truth,
     "flags": is_flags,
     "ticket flags": is_flags,
-    "sealed": is_sealed,
-    "ticket": or_null(lambda value: is_sealed(value) or is_refused_ticket(value)),
+    "encrypted": is_encrypted,
+    "ticket": or_null(lambda value: is_encrypted(value) or is_refused_ticket(value)),
     "principal": members(
         text=is_text, type=is_number, type_name=is_name, components=list_of(is_text), realm=is_text
     ),

@@ -12,7 +12,7 @@ use krb_ccache::{Ccache, Credentials, TicketStateView, read3, ticket_view_of, up
 use krb_der::{Int32, KString, Many, Memory, Octets, Profile, Refusal, Verdict};
 use krb_file::{Field, FieldLimit, FieldReader, FileFault, SliceReader, String16};
 use krb_frame::{Decoder, Limit, SkippingDecoder, Status, frame};
-use krb_json::{LineFault, Scratch, put_text, read_line, unsealed_path};
+use krb_json::{LineFault, Scratch, put_text, read_line, unencrypted_path};
 use krb_judge::{ParseFault, judge, parse, read_ticket};
 use krb_keytab::{Next, Record, Records};
 use krb_list::{Form, TextBuffer, message_line, principal_text};
@@ -39,8 +39,8 @@ fn user(alloc: Global, name: &str) -> Result<PrincipalName, AllocError> {
 }
 
 /// Returns an AP-REP with an encrypted part of encryption type 18.
-fn ap_rep(alloc: Global, sealed: &[u8]) -> Result<Message, AllocError> {
-    let cipher = Octets::new(Vec::from_slice(alloc, sealed)?);
+fn ap_rep(alloc: Global, encrypted: &[u8]) -> Result<Message, AllocError> {
+    let cipher = Octets::new(Vec::from_slice(alloc, encrypted)?);
     let enc_part = EncryptedData {
         etype: Int32::new(18),
         kvno: None,
@@ -84,7 +84,7 @@ fn first_salt(info: &[u8]) -> Option<&[u8]> {
 /// Returns the JSON of a message, and nothing if some of it is not encrypted.
 fn json_of(alloc: Global, octets: &[u8]) -> Result<Vec<u8>, Memory> {
     let text = Vec::new(alloc);
-    if octets.len() > 65536 || unsealed_path(alloc, octets)?.is_some() {
+    if octets.len() > 65536 || unencrypted_path(alloc, octets)?.is_some() {
         return Ok(text);
     }
     put_text(alloc, text, octets)

@@ -1,4 +1,4 @@
--- What is found in octets is the path of what is not sealed in their value.
+-- What is found in octets is the path of what is not encrypted in their value.
 use Rattle.std.proofs.Common.{◌≡◌, ℕ, ℤ, pos, negsuc, zero, suc, ◌+◌, ◌-◌, ◌≤◌, true, false, ◌&&◌, ◌==◌, not, Bool, if◌then◌else◌, List, [], ◌∷◌, ◌++◌, length, take, drop, get_or, append_assoc, append-nil, Option, Some, None, Result, Ok, Err, codes, decimal, refl, sym, ◌∙◌, ap, ap₂, subst, arith}
 use Rattle.std.specs.Prelude.{IfOk}
 use Rattle.std.proofs.lemmas.Bool.{true≢false, not-true, eqb-true, ne_eqb}
@@ -17,7 +17,7 @@ use Rattle.krb_msg.specs.Viewed.{AreFields, HasNoItem}
 use Rattle.krb_judge.specs.FieldNames.{Named, field_at, names_of_kind}
 use Rattle.krb_judge.specs.Paths.{field_path, element_path}
 use Rattle.krb_judge.specs.declared.locating.names.Names.{Names}
-use Rattle.krb_json.specs.Unsealed.{unsealed, unsealed_fields, unsealed_items, unsealed_in, is_zero_number, begin_with_zero, is_encrypted_data, first_of}
+use Rattle.krb_json.specs.Unencrypted.{unencrypted, unencrypted_fields, unencrypted_items, unencrypted_in, is_zero_number, begin_with_zero, is_encrypted_data, first_of}
 use Rattle.krb_json.specs.inner.Writing.{slot_node}
 use Rattle.krb_json.specs.inner.Searching.{after_path, Finds, FindsInFields, FindsInItems, FindsInMessage, IsZero, BeginWithZero, is_single_zero}
 use Rattle.krb_msg.specs.inner.Values.{may_begin_from_der}
@@ -103,30 +103,30 @@ indexed-path path index more =
 -- ---- fields
 module _ (node : ℕ) (slots : List Slot) (names : Names) (index : ℕ) (octets own rest : List ℕ) (parts : octets ≡ item (tag_of (term_at node)) own ++ rest) where
   -- one in this field
-  there : (m : List ℕ) → Finds (term_at node) (field_at names index).inside own (Some m) → (value : Value (term_at node)) (values : Values (fields_from nodes slots)) → Fits (term_at node) value → octets ≡ der (term_at node) value ++ der_of_fields (fields_from nodes slots) values → (path : List ℕ) → (others : Option (List ℕ)) → first_of (unsealed (term_at node) (field_at names index).inside (field_path path (field_at names index).name) value) others ≡ Some (path ++ (codes "." ++ (field_at names index).name ++ m))
+  there : (m : List ℕ) → Finds (term_at node) (field_at names index).inside own (Some m) → (value : Value (term_at node)) (values : Values (fields_from nodes slots)) → Fits (term_at node) value → octets ≡ der (term_at node) value ++ der_of_fields (fields_from nodes slots) values → (path : List ℕ) → (others : Option (List ℕ)) → first_of (unencrypted (term_at node) (field_at names index).inside (field_path path (field_at names index).name) value) others ≡ Some (path ++ (codes "." ++ (field_at names index).name ++ m))
   there m found value values fits is path others =
       let p = own-item (term_at node) octets own rest (der_of_fields (fields_from nodes slots) values) value parts fits is in
       ap (λ o. first_of o others) (found value p.0 (field_path path (field_at names index).name)) ∙ ap Some (named-path path (field_at names index).name m)
 
   -- none in it
-  others-there : (more : Option (List ℕ)) → Finds (term_at node) (field_at names index).inside own None → FindsInFields (fields_from nodes slots) names (index + 1) rest more → (value : Value (term_at node)) (values : Values (fields_from nodes slots)) → Fits (term_at node) value → AllFit (fields_from nodes slots) values → octets ≡ der (term_at node) value ++ der_of_fields (fields_from nodes slots) values → (path : List ℕ) → first_of (unsealed (term_at node) (field_at names index).inside (field_path path (field_at names index).name) value) (unsealed_fields (fields_from nodes slots) names path (index + 1) values) ≡ after_path path more
+  others-there : (more : Option (List ℕ)) → Finds (term_at node) (field_at names index).inside own None → FindsInFields (fields_from nodes slots) names (index + 1) rest more → (value : Value (term_at node)) (values : Values (fields_from nodes slots)) → Fits (term_at node) value → AllFit (fields_from nodes slots) values → octets ≡ der (term_at node) value ++ der_of_fields (fields_from nodes slots) values → (path : List ℕ) → first_of (unencrypted (term_at node) (field_at names index).inside (field_path path (field_at names index).name) value) (unencrypted_fields (fields_from nodes slots) names path (index + 1) values) ≡ after_path path more
   others-there more none found value values fits fit is path =
       let p = own-item (term_at node) octets own rest (der_of_fields (fields_from nodes slots) values) value parts fits is in
-      ap (λ o. first_of o (unsealed_fields (fields_from nodes slots) names path (index + 1) values)) (none value p.0 (field_path path (field_at names index).name))
+      ap (λ o. first_of o (unencrypted_fields (fields_from nodes slots) names path (index + 1) values)) (none value p.0 (field_path path (field_at names index).name))
       ∙ found values record { fit = fit; form = p.1 } path
 
   absent-not : (values : Values (fields_from nodes slots)) → not (may_begin (tag_of (term_at node)) (fields_from nodes slots)) ≡ true → octets ≡ der_of_fields (fields_from nodes slots) values → ⊥
   absent-not values apart is = true≢false (sym (may_begin_from_der (fields_from nodes slots) values (tag_of (term_at node)) _ (sym is ∙ parts)) ∙ not-true (may_begin (tag_of (term_at node)) (fields_from nodes slots)) apart)
 
   pub one-required : (m : List ℕ) → Finds (term_at node) (field_at names index).inside own (Some m) → FindsInFields (Required (term_at node) (fields_from nodes slots)) names index octets (Some (codes "." ++ (field_at names index).name ++ m))
-  one-required m found values a path = there m found values.0 values.1 a.fit.0 a.form path (unsealed_fields (fields_from nodes slots) names path (index + 1) values.1)
+  one-required m found values a path = there m found values.0 values.1 a.fit.0 a.form path (unencrypted_fields (fields_from nodes slots) names path (index + 1) values.1)
 
   pub one-optional : not (may_begin (tag_of (term_at node)) (fields_from nodes slots)) ≡ true → (m : List ℕ) → Finds (term_at node) (field_at names index).inside own (Some m) → FindsInFields (Optional (term_at node) (fields_from nodes slots)) names index octets (Some (codes "." ++ (field_at names index).name ++ m))
   one-optional apart m found values a path = by values.0 values.1 a
     where
-      by : (value : Option (Value (term_at node))) (values : Values (fields_from nodes slots)) → AreFields (Optional (term_at node) (fields_from nodes slots)) octets (value, values) → unsealed_fields (Optional (term_at node) (fields_from nodes slots)) names path index (value, values) ≡ Some (path ++ (codes "." ++ (field_at names index).name ++ m))
+      by : (value : Option (Value (term_at node))) (values : Values (fields_from nodes slots)) → AreFields (Optional (term_at node) (fields_from nodes slots)) octets (value, values) → unencrypted_fields (Optional (term_at node) (fields_from nodes slots)) names path index (value, values) ≡ Some (path ++ (codes "." ++ (field_at names index).name ++ m))
       by None values a = absurd (absent-not values apart a.form)
-      by (Some value) values a = there m found value values a.fit.0 a.form path (unsealed_fields (fields_from nodes slots) names path (index + 1) values)
+      by (Some value) values a = there m found value values a.fit.0 a.form path (unencrypted_fields (fields_from nodes slots) names path (index + 1) values)
 
   pub no-required : (more : Option (List ℕ)) → Finds (term_at node) (field_at names index).inside own None → FindsInFields (fields_from nodes slots) names (index + 1) rest more → FindsInFields (Required (term_at node) (fields_from nodes slots)) names index octets more
   no-required more none found values a path = others-there more none found values.0 values.1 a.fit.0 a.fit.1 a.form path
@@ -134,7 +134,7 @@ module _ (node : ℕ) (slots : List Slot) (names : Names) (index : ℕ) (octets 
   pub no-optional : not (may_begin (tag_of (term_at node)) (fields_from nodes slots)) ≡ true → (more : Option (List ℕ)) → Finds (term_at node) (field_at names index).inside own None → FindsInFields (fields_from nodes slots) names (index + 1) rest more → FindsInFields (Optional (term_at node) (fields_from nodes slots)) names index octets more
   no-optional apart more none found values a path = by values.0 values.1 a
     where
-      by : (value : Option (Value (term_at node))) (values : Values (fields_from nodes slots)) → AreFields (Optional (term_at node) (fields_from nodes slots)) octets (value, values) → unsealed_fields (Optional (term_at node) (fields_from nodes slots)) names path index (value, values) ≡ after_path path more
+      by : (value : Option (Value (term_at node))) (values : Values (fields_from nodes slots)) → AreFields (Optional (term_at node) (fields_from nodes slots)) octets (value, values) → unencrypted_fields (Optional (term_at node) (fields_from nodes slots)) names path index (value, values) ≡ after_path path more
       by None values a = absurd (absent-not values apart a.form)
       by (Some value) values a = others-there more none found value values a.fit.0 a.fit.1 a.form path
 
@@ -150,7 +150,7 @@ pub no-slot : (field : Slot) (slots : List Slot) (names : Names) (index : ℕ) (
 no-slot (slot.Required node) slots names index octets more none found values a path = absurd (none-begins (term_at node) octets (der_of_fields (fields_from nodes slots) values.1) values.0 none a.form)
 no-slot (slot.Optional node) slots names index octets more none found values a path = by values.0 values.1 a
   where
-    by : (value : Option (Value (term_at node))) (values : Values (fields_from nodes slots)) → AreFields (Optional (term_at node) (fields_from nodes slots)) octets (value, values) → unsealed_fields (Optional (term_at node) (fields_from nodes slots)) names path index (value, values) ≡ after_path path more
+    by : (value : Option (Value (term_at node))) (values : Values (fields_from nodes slots)) → AreFields (Optional (term_at node) (fields_from nodes slots)) octets (value, values) → unencrypted_fields (Optional (term_at node) (fields_from nodes slots)) names path index (value, values) ≡ after_path path more
     by None values a = found values record { fit = a.fit.1; form = a.form } path
     by (Some value) values a = absurd (none-begins (term_at node) octets (der_of_fields (fields_from nodes slots) values) value none a.form)
 
@@ -220,20 +220,20 @@ module _ (names : Names) (octets : List ℕ) where
   finds-list node none term more f found value a = absurd f
 
   -- an EncryptedData that begins with the number 0
-  pub finds-here : (slots : Bor (List Slot)) (term : Term) (sealing nought : Bool) → IsFormOf nodes (form.Fields slots) term → sealing ≡ is_encrypted_data names → BeginWithZero (fields_from nodes slots.now) octets nought → (sealing && nought) ≡ true → Finds term names octets (Some [])
-  finds-here slots (Sequence fields) sealing nought f same begin both values a path =
+  pub finds-here : (slots : Bor (List Slot)) (term : Term) (encryption nought : Bool) → IsFormOf nodes (form.Fields slots) term → encryption ≡ is_encrypted_data names → BeginWithZero (fields_from nodes slots.now) octets nought → (encryption && nought) ≡ true → Finds term names octets (Some [])
+  finds-here slots (Sequence fields) encryption nought f same begin both values a path =
       let z : begin_with_zero fields values ≡ nought = subst (λ fs. BeginWithZero fs octets nought) f.1 begin values record { fit = a.fits; form = own-contents (Sequence fields) octets values a } in
-      ap (λ b. if b then Some path else unsealed_fields fields names path 0 values) (ap₂ (λ s t. s && t) (sym same) z ∙ both) ∙ ap Some (sym (append-nil path))
-  finds-here slots term sealing nought f same begin both values a path = absurd f
+      ap (λ b. if b then Some path else unencrypted_fields fields names path 0 values) (ap₂ (λ s t. s && t) (sym same) z ∙ both) ∙ ap Some (sym (append-nil path))
+  finds-here slots term encryption nought f same begin both values a path = absurd f
 
   -- and any other SEQUENCE
-  pub finds-inside : (slots : Bor (List Slot)) (term : Term) (sealing nought : Bool) (more : Option (List ℕ)) → IsFormOf nodes (form.Fields slots) term → sealing ≡ is_encrypted_data names → BeginWithZero (fields_from nodes slots.now) octets nought → (sealing && nought) ≡ false → FindsInFields (fields_from nodes slots.now) names 0 octets more → Finds term names octets more
-  finds-inside slots (Sequence fields) sealing nought more f same begin not_both found values a path =
+  pub finds-inside : (slots : Bor (List Slot)) (term : Term) (encryption nought : Bool) (more : Option (List ℕ)) → IsFormOf nodes (form.Fields slots) term → encryption ≡ is_encrypted_data names → BeginWithZero (fields_from nodes slots.now) octets nought → (encryption && nought) ≡ false → FindsInFields (fields_from nodes slots.now) names 0 octets more → Finds term names octets more
+  finds-inside slots (Sequence fields) encryption nought more f same begin not_both found values a path =
       let fields_of : AreFields fields octets values = record { fit = a.fits; form = own-contents (Sequence fields) octets values a } in
       let z : begin_with_zero fields values ≡ nought = subst (λ fs. BeginWithZero fs octets nought) f.1 begin values fields_of in
-      ap (λ b. if b then Some path else unsealed_fields fields names path 0 values) (ap₂ (λ s t. s && t) (sym same) z ∙ not_both)
+      ap (λ b. if b then Some path else unencrypted_fields fields names path 0 values) (ap₂ (λ s t. s && t) (sym same) z ∙ not_both)
       ∙ subst (λ fs. FindsInFields fs names 0 octets more) f.1 found values fields_of path
-  finds-inside slots term sealing nought more f same begin not_both found values a path = absurd f
+  finds-inside slots term encryption nought more f same begin not_both found values a path = absurd f
 
 -- ---- items
 -- those that are left have what there is
@@ -241,7 +241,7 @@ pub record IsSearched (term : Term) (names : Names) (values : List (Value term))
   pub left : List (Value term)
   pub fit : AllByRecursion (Fits term) left
   pub form : rest ≡ flat_map (der term) left
-  pub same : (path : List ℕ) → unsealed_items (unsealed term names) path 0 values ≡ unsealed_items (unsealed term names) path index left
+  pub same : (path : List ℕ) → unencrypted_items (unencrypted term names) path 0 values ≡ unencrypted_items (unencrypted term names) path index left
 
 abbrev pub AreSearched : Term → Names → (octets rest : List ℕ) → ℕ → Type 0
 AreSearched term names octets rest index = (values : List (Value term)) → AllByRecursion (Fits term) values → octets ≡ flat_map (der term) values → IsSearched term names values rest index
@@ -250,7 +250,7 @@ module _ (term : Term) (names : Names) (octets rest own after : List ℕ) (index
   pub one-searched : Finds term names own None → AreSearched term names octets after (index + 1)
   one-searched none values fit form = by (searched values fit form)
     where
-      of : (left : List (Value term)) → AllByRecursion (Fits term) left → rest ≡ flat_map (der term) left → ((path : List ℕ) → unsealed_items (unsealed term names) path 0 values ≡ unsealed_items (unsealed term names) path index left) → IsSearched term names values after (index + 1)
+      of : (left : List (Value term)) → AllByRecursion (Fits term) left → rest ≡ flat_map (der term) left → ((path : List ℕ) → unencrypted_items (unencrypted term names) path 0 values ≡ unencrypted_items (unencrypted term names) path index left) → IsSearched term names values after (index + 1)
       of [] fit form same = absurd (omega (arith, ap length (sym parts ∙ form)))
       of (v ∷ left) fit form same =
           let p = own-item term rest own after (flat_map (der term) left) v parts fit.0 form in
@@ -258,7 +258,7 @@ module _ (term : Term) (names : Names) (octets rest own after : List ℕ) (index
             left = left;
             fit = fit.1;
             form = p.1;
-            same = λ path. same path ∙ ap (λ o. first_of o (unsealed_items (unsealed term names) path (index + 1) left)) (none v p.0 (element_path path index));
+            same = λ path. same path ∙ ap (λ o. first_of o (unencrypted_items (unencrypted term names) path (index + 1) left)) (none v p.0 (element_path path index));
           }
 
       by : IsSearched term names values rest index → IsSearched term names values after (index + 1)
@@ -267,23 +267,23 @@ module _ (term : Term) (names : Names) (octets rest own after : List ℕ) (index
   pub one-found : (m : List ℕ) → Finds term names own (Some m) → FindsInItems term names octets (Some (codes "[" ++ decimal index ++ codes "]" ++ m))
   one-found m found values fit form path = by (searched values fit form)
     where
-      of : (left : List (Value term)) → AllByRecursion (Fits term) left → rest ≡ flat_map (der term) left → unsealed_items (unsealed term names) path index left ≡ Some (path ++ (codes "[" ++ decimal index ++ codes "]" ++ m))
+      of : (left : List (Value term)) → AllByRecursion (Fits term) left → rest ≡ flat_map (der term) left → unencrypted_items (unencrypted term names) path index left ≡ Some (path ++ (codes "[" ++ decimal index ++ codes "]" ++ m))
       of [] fit form = absurd (omega (arith, ap length (sym parts ∙ form)))
       of (v ∷ left) fit form =
           let p = own-item term rest own after (flat_map (der term) left) v parts fit.0 form in
-          ap (λ o. first_of o (unsealed_items (unsealed term names) path (index + 1) left)) (found v p.0 (element_path path index)) ∙ ap Some (indexed-path path index m)
+          ap (λ o. first_of o (unencrypted_items (unencrypted term names) path (index + 1) left)) (found v p.0 (element_path path index)) ∙ ap Some (indexed-path path index m)
 
-      by : IsSearched term names values rest index → unsealed_items (unsealed term names) path 0 values ≡ Some (path ++ (codes "[" ++ decimal index ++ codes "]" ++ m))
+      by : IsSearched term names values rest index → unencrypted_items (unencrypted term names) path 0 values ≡ Some (path ++ (codes "[" ++ decimal index ++ codes "]" ++ m))
       by s = s.same path ∙ of s.left s.fit s.form
 
 pub none-left : (term : Term) (names : Names) (octets rest : List ℕ) (index : ℕ) → HasNoItem (tag_of term) rest → AreSearched term names octets rest index → FindsInItems term names octets None
 none-left term names octets rest index none searched values fit form path = by (searched values fit form)
   where
-    of : (left : List (Value term)) → rest ≡ flat_map (der term) left → unsealed_items (unsealed term names) path index left ≡ None
+    of : (left : List (Value term)) → rest ≡ flat_map (der term) left → unencrypted_items (unencrypted term names) path index left ≡ None
     of [] form = refl
     of (v ∷ left) form = absurd (none-begins term rest (flat_map (der term) left) v none form)
 
-    by : IsSearched term names values rest index → unsealed_items (unsealed term names) path 0 values ≡ None
+    by : IsSearched term names values rest index → unencrypted_items (unencrypted term names) path 0 values ≡ None
     by s = s.same path ∙ of s.left s.form
 
 -- ---- a message
@@ -291,7 +291,7 @@ pub finds-message : (kind : Kind) (node tag : ℕ) (octets own rest : List ℕ) 
 finds-message kind node tag octets own rest more termed tagged parts found m i same form =
     of (termed ∙ ap kind_term (sym same)) (subst (λ k. Finds (term_at node) (names_of_kind k) own more) (sym same) found) ∙ ap (λ k. after_path (kind_name k) more) same
   where
-    of : term_at node ≡ kind_term (kind_of m) → Finds (term_at node) (names_of_kind (kind_of m)) own more → unsealed_in m ≡ after_path (kind_name (kind_of m)) more
+    of : term_at node ≡ kind_term (kind_of m) → Finds (term_at node) (names_of_kind (kind_of m)) own more → unencrypted_in m ≡ after_path (kind_name (kind_of m)) more
     of termed found =
         let p = own-item (kind_term (kind_of m)) octets own rest [] (message_value m) (parts ∙ ap (λ n. item n own ++ rest) (tagged ∙ ap tag_of termed)) i.fits (sym form ∙ sym (append-nil (message_der m))) in
         subst (λ t. Finds t (names_of_kind (kind_of m)) own more) termed found (message_value m) p.0 (kind_name (kind_of m))

@@ -15,7 +15,7 @@ use Rattle.krb_msg.specs.declared.message.Message.{Message}
 use Rattle.krb_judge.specs.FieldNames.{names_of_kind}
 use Rattle.krb_json.specs.Lines.{LineFault, message_text, value_spells, line_fault_text}
 use Rattle.krb_json.specs.Masked.{masked_in}
-use Rattle.krb_json.specs.Unsealed.{unsealed_in}
+use Rattle.krb_json.specs.Unencrypted.{unencrypted_in}
 use Rattle.krb_json.specs.OtherCase.{InOtherCase, MessageInOtherCase}
 
 abbrev text : List ℕ → List ℕ
@@ -24,14 +24,14 @@ text octets = message_text (message_of_der (hex octets))
 abbrev ticket : List ℕ
 ticket = codes "612B3029 A003020105 A1031B0141 A20E300C A003020102 A10530031B0168 A30D300B A003020112 A2040402BEEF"
 
-abbrev sealed : List ℕ
-sealed = codes "300B A003020112 A2040402BEEF"
+abbrev encrypted : List ℕ
+encrypted = codes "300B A003020112 A2040402BEEF"
 
 a_as_req : text (codes "6A3A3038 A103020105 A20302010A A42C302A A00403020140 A2031B0141 A511180F31393730303130313030303030305A A7030201FF A8053003020112") ≡ codes "{\"AS-REQ\":{\"pvno\":5,\"msg-type\":10,\"req-body\":{\"kdc-options\":{\"value\":\"40\",\"length\":7},\"realm\":\"A\",\"till\":\"19700101000000Z\",\"nonce\":-1,\"etype\":[18]}}}"
 unfolding digits encode_with print_from escape_byte
 a_as_req = refl
 
-a_as_rep : text (codes "6B5F305D A003020105 A10302010B A3031B0141 A40E300C A003020101 A10530031B0175 A52D " ++ ticket ++ codes " A60D " ++ sealed) ≡ codes "{\"AS-REP\":{\"pvno\":5,\"msg-type\":11,\"crealm\":\"A\",\"cname\":{\"name-type\":1,\"name-string\":[\"u\"]},\"ticket\":{\"tkt-vno\":5,\"realm\":\"A\",\"sname\":{\"name-type\":2,\"name-string\":[\"h\"]},\"enc-part\":{\"etype\":18,\"cipher\":\"beef\"}},\"enc-part\":{\"etype\":18,\"cipher\":\"beef\"}}}"
+a_as_rep : text (codes "6B5F305D A003020105 A10302010B A3031B0141 A40E300C A003020101 A10530031B0175 A52D " ++ ticket ++ codes " A60D " ++ encrypted) ≡ codes "{\"AS-REP\":{\"pvno\":5,\"msg-type\":11,\"crealm\":\"A\",\"cname\":{\"name-type\":1,\"name-string\":[\"u\"]},\"ticket\":{\"tkt-vno\":5,\"realm\":\"A\",\"sname\":{\"name-type\":2,\"name-string\":[\"h\"]},\"enc-part\":{\"etype\":18,\"cipher\":\"beef\"}},\"enc-part\":{\"etype\":18,\"cipher\":\"beef\"}}}"
 unfolding digits encode_with print_from escape_byte
 a_as_rep = refl
 
@@ -39,11 +39,11 @@ a_tgs_req : text (codes "6C6B3069 A103020105 A20302010C A45D305B A00703050000000
 unfolding digits encode_with print_from escape_byte
 a_tgs_req = refl
 
-a_tgs_rep : text (codes "6D5F305D A003020105 A10302010D A3031B0141 A40E300C A003020101 A10530031B0175 A52D " ++ ticket ++ codes " A60D " ++ sealed) ≡ codes "{\"TGS-REP\":{\"pvno\":5,\"msg-type\":13,\"crealm\":\"A\",\"cname\":{\"name-type\":1,\"name-string\":[\"u\"]},\"ticket\":{\"tkt-vno\":5,\"realm\":\"A\",\"sname\":{\"name-type\":2,\"name-string\":[\"h\"]},\"enc-part\":{\"etype\":18,\"cipher\":\"beef\"}},\"enc-part\":{\"etype\":18,\"cipher\":\"beef\"}}}"
+a_tgs_rep : text (codes "6D5F305D A003020105 A10302010D A3031B0141 A40E300C A003020101 A10530031B0175 A52D " ++ ticket ++ codes " A60D " ++ encrypted) ≡ codes "{\"TGS-REP\":{\"pvno\":5,\"msg-type\":13,\"crealm\":\"A\",\"cname\":{\"name-type\":1,\"name-string\":[\"u\"]},\"ticket\":{\"tkt-vno\":5,\"realm\":\"A\",\"sname\":{\"name-type\":2,\"name-string\":[\"h\"]},\"enc-part\":{\"etype\":18,\"cipher\":\"beef\"}},\"enc-part\":{\"etype\":18,\"cipher\":\"beef\"}}}"
 unfolding digits encode_with print_from escape_byte
 a_tgs_rep = refl
 
-a_ap_req : text (codes "6E533051 A003020105 A10302010E A20703050000000000 A32D " ++ ticket ++ codes " A40D " ++ sealed) ≡ codes "{\"AP-REQ\":{\"pvno\":5,\"msg-type\":14,\"ap-options\":{\"value\":\"00000000\",\"length\":32},\"ticket\":{\"tkt-vno\":5,\"realm\":\"A\",\"sname\":{\"name-type\":2,\"name-string\":[\"h\"]},\"enc-part\":{\"etype\":18,\"cipher\":\"beef\"}},\"authenticator\":{\"etype\":18,\"cipher\":\"beef\"}}}"
+a_ap_req : text (codes "6E533051 A003020105 A10302010E A20703050000000000 A32D " ++ ticket ++ codes " A40D " ++ encrypted) ≡ codes "{\"AP-REQ\":{\"pvno\":5,\"msg-type\":14,\"ap-options\":{\"value\":\"00000000\",\"length\":32},\"ticket\":{\"tkt-vno\":5,\"realm\":\"A\",\"sname\":{\"name-type\":2,\"name-string\":[\"h\"]},\"enc-part\":{\"etype\":18,\"cipher\":\"beef\"}},\"authenticator\":{\"etype\":18,\"cipher\":\"beef\"}}}"
 unfolding digits encode_with print_from escape_byte
 a_ap_req = refl
 
@@ -55,11 +55,11 @@ a_krb_safe : text (codes "743B3039 A003020105 A103020114 A21E301C A0040402CAFE A
 unfolding digits encode_with print_from escape_byte
 a_krb_safe = refl
 
-a_krb_priv : text (codes "751B3019 A003020105 A103020115 A30D " ++ sealed) ≡ codes "{\"KRB-PRIV\":{\"pvno\":5,\"msg-type\":21,\"enc-part\":{\"etype\":18,\"cipher\":\"beef\"}}}"
+a_krb_priv : text (codes "751B3019 A003020105 A103020115 A30D " ++ encrypted) ≡ codes "{\"KRB-PRIV\":{\"pvno\":5,\"msg-type\":21,\"enc-part\":{\"etype\":18,\"cipher\":\"beef\"}}}"
 unfolding digits encode_with print_from escape_byte
 a_krb_priv = refl
 
-a_krb_cred : text (codes "764C304A A003020105 A103020116 A22F302D " ++ ticket ++ codes " A30D " ++ sealed) ≡ codes "{\"KRB-CRED\":{\"pvno\":5,\"msg-type\":22,\"tickets\":[{\"tkt-vno\":5,\"realm\":\"A\",\"sname\":{\"name-type\":2,\"name-string\":[\"h\"]},\"enc-part\":{\"etype\":18,\"cipher\":\"beef\"}}],\"enc-part\":{\"etype\":18,\"cipher\":\"beef\"}}}"
+a_krb_cred : text (codes "764C304A A003020105 A103020116 A22F302D " ++ ticket ++ codes " A30D " ++ encrypted) ≡ codes "{\"KRB-CRED\":{\"pvno\":5,\"msg-type\":22,\"tickets\":[{\"tkt-vno\":5,\"realm\":\"A\",\"sname\":{\"name-type\":2,\"name-string\":[\"h\"]},\"enc-part\":{\"etype\":18,\"cipher\":\"beef\"}}],\"enc-part\":{\"etype\":18,\"cipher\":\"beef\"}}}"
 unfolding digits encode_with print_from escape_byte
 a_krb_cred = refl
 
@@ -77,7 +77,7 @@ spells profile limit j = outcome (value_spells profile limit (Some j))
 
 -- an AP-REP with an enc-part
 abbrev ap_rep : Json → Json
-ap_rep sealed = object (member (codes "AP-REP") (object (member (codes "pvno") (number (codes "5")) (member (codes "msg-type") (number (codes "15")) (member (codes "enc-part") sealed no_members)))) no_members)
+ap_rep encrypted = object (member (codes "AP-REP") (object (member (codes "pvno") (number (codes "5")) (member (codes "msg-type") (number (codes "15")) (member (codes "enc-part") encrypted no_members)))) no_members)
 
 -- an AS-REQ with flags
 abbrev as_req : Json → Json
@@ -175,18 +175,18 @@ limit : spells Lenient 30 (ap_rep (object (member (codes "etype") (number (codes
 unfolding digits encode_with decode_pairs
 limit = refl
 
--- ---- what is not sealed
-a_sealed_message : unsealed_in (message_of_der (hex (codes "6F1D301B A003020105 A10302010F A20F300D A003020112 A2060404DEADBEEF"))) ≡ None
-a_sealed_message = refl
+-- ---- what is not encrypted
+an_encrypted_message : unencrypted_in (message_of_der (hex (codes "6F1D301B A003020105 A10302010F A20F300D A003020112 A2060404DEADBEEF"))) ≡ None
+an_encrypted_message = refl
 
-an_unsealed_message : unsealed_in (message_of_der (hex (codes "6F193017 A003020105 A10302010F A20B3009 A003020100 A2020400"))) ≡ Some (codes "AP-REP.enc-part")
-an_unsealed_message = refl
+an_unencrypted_message : unencrypted_in (message_of_der (hex (codes "6F193017 A003020105 A10302010F A20B3009 A003020100 A2020400"))) ≡ Some (codes "AP-REP.enc-part")
+an_unencrypted_message = refl
 
 -- with a cipher, and with zeros in its place
 masked_cipher : masked_in (message_of_der (hex (codes "6F1D301B A003020105 A10302010F A20F300D A003020100 A2060404DEADBEEF"))) ≡ masked_in (message_of_der (hex (codes "6F1D301B A003020105 A10302010F A20F300D A003020100 A206040400000000")))
 masked_cipher = refl
 
--- a sealed one stays
+-- an encrypted one stays
 kept_cipher : masked_in (message_of_der (hex (codes "6F1D301B A003020105 A10302010F A20F300D A003020112 A2060404DEADBEEF"))) ≡ (ApRep, message_value (message_of_der (hex (codes "6F1D301B A003020105 A10302010F A20F300D A003020112 A2060404DEADBEEF"))))
 kept_cipher = refl
 

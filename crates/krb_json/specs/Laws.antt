@@ -17,7 +17,7 @@ use Rattle.krb_json.specs.Lines.{message_text, line_spells, value_of_line}
 use Rattle.krb_json.specs.Masked.{masked_in}
 use Rattle.krb_json.specs.Reordered.{Reordered}
 use Rattle.krb_json.specs.OtherCase.{MessageInOtherCase}
-use Rattle.krb_json.specs.Unsealed.{unsealed_in}
+use Rattle.krb_json.specs.Unencrypted.{unencrypted_in}
 
 -- ---- terms and names
 -- whether the field at an index has a name, which no field before it has
@@ -82,9 +82,9 @@ abbrev pub LinesSpellMessages : Type 0
 LinesSpellMessages = (profile : Profile) (limit : ℕ) (text : List ℕ) (m : Message) → limit < 2147483648 → line_spells profile limit text ≡ Ok m → IsSpelled profile limit m
 
 -- Of two messages that differ in nothing but the ciphers of EncryptedDatas of encryption type 0 the first path to one is the same; and if there is none, so is the text.
-pub record UnsealedChangesNothing : Type 0 where
-  pub paths : (m other : Message) → masked_in m ≡ masked_in other → unsealed_in m ≡ unsealed_in other
-  pub texts : (m other : Message) → masked_in m ≡ masked_in other → unsealed_in m ≡ None → message_text m ≡ message_text other
+pub record UnencryptedChangesNothing : Type 0 where
+  pub paths : (m other : Message) → masked_in m ≡ masked_in other → unencrypted_in m ≡ unencrypted_in other
+  pub texts : (m other : Message) → masked_in m ≡ masked_in other → unencrypted_in m ≡ None → message_text m ≡ message_text other
 
 -- The order of members, blanks, JSON's escapes and the case of hexadecimal digits change nothing of a line that spells a message; and all but the order nothing of a fault.
 pub record SpellingChangesNothing : Type 0 where

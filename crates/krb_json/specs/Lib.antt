@@ -2,7 +2,7 @@ pub mod Spelling
 pub mod Objects
 pub mod Faults
 pub mod Spelled
-pub mod Unsealed
+pub mod Unencrypted
 pub mod Masked
 pub mod AllKinds
 pub mod Lines

@@ -1,4 +1,4 @@
--- A value without what is not sealed: the cipher of each EncryptedData of encryption type 0 is as many zeros.
+-- A value without what is not encrypted: the cipher of each EncryptedData of encryption type 0 is as many zeros.
 use Rattle.std.specs.Prelude.{ℕ, ◌+◌, ◌&&◌, if◌then◌else◌, length, map, option_map, replicate}
 use Rattle.krb_msg.specs.Term.{Term, Fields, Integer, Text, Octets, Time, Bits, Sequence, SequenceOf, Tagged, Application, End, Required, Optional, Value, Values}
 use Rattle.krb_msg.specs.Views.{kind_of, kind_term, message_value}
@@ -6,7 +6,7 @@ use Rattle.krb_msg.specs.declared.message.Kind.{Kind}
 use Rattle.krb_msg.specs.declared.message.Message.{Message}
 use Rattle.krb_judge.specs.FieldNames.{field_at, names_of_kind}
 use Rattle.krb_judge.specs.declared.locating.names.Names.{Names}
-use Rattle.krb_json.specs.Unsealed.{begin_with_zero, is_encrypted_data}
+use Rattle.krb_json.specs.Unencrypted.{begin_with_zero, is_encrypted_data}
 
 -- an OCTET STRING as zeros
 abbrev pub zeroed : (term : Term) → Value term → Value term

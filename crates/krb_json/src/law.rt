@@ -1,6 +1,6 @@
 //! The laws of the JSON of messages, each the contract of a function that does nothing.
 
-ghost use Rattle.krb_json.specs.Laws.{LinesSpellMessages, MessagesAreNamed, SpelledFits, SpellingChangesNothing, TextsAreJson, TextsComeBack, TextsDiffer, UnsealedChangesNothing, ValuesComeBack};
+ghost use Rattle.krb_json.specs.Laws.{LinesSpellMessages, MessagesAreNamed, SpelledFits, SpellingChangesNothing, TextsAreJson, TextsComeBack, TextsDiffer, UnencryptedChangesNothing, ValuesComeBack};
 
 /// Each field of each message has a name of its own.
 pub fn messages_are_named()
@@ -37,10 +37,10 @@ pub fn lines_spell_messages()
     ensures { LinesSpellMessages }
 {}
 
-/// Messages that differ in nothing but what is not sealed have the same path to it, and the same text
+/// Messages that differ in nothing but what is not encrypted have the same path to it, and the same text
 /// if there is none.
-pub fn unsealed_changes_nothing()
-    ensures { UnsealedChangesNothing }
+pub fn unencrypted_changes_nothing()
+    ensures { UnencryptedChangesNothing }
 {}
 
 /// What a line spells it spells in any order of members, with any blanks, any of JSON's escapes and

@@ -2,11 +2,11 @@
 //! one member for each message, whose members have the names of RFC 4120, appendix A.
 //!
 //! - [`put_text`] appends the JSON of a message to octets, from its DER. The text determines the
-//!   message wholly, and so has its sealed octets, too.
+//!   message wholly, and so has its encrypted octets, too.
 //! - [`read_line`] returns the DER of the message that a line spells, or the line's first fault
 //!   ([`LineFault`]). Members may come in any order; what `put_text` writes comes back. The memory
 //!   in which it reads ([`Scratch`]) is the caller's, who keeps it from line to line.
-//! - [`unsealed_path`] returns where a message has an EncryptedData of encryption type 0, which
+//! - [`unencrypted_path`] returns where a message has an EncryptedData of encryption type 0, which
 //!   seals nothing. Look there before you show a text: a KRB-CRED may have session keys in it.
 //!
 //! No cipher is opened, and nothing that is octets for RFC 4120 is looked into. `specs/Objects` has
@@ -22,7 +22,7 @@ mod line_fault;
 mod members;
 mod reading;
 mod scalars;
-mod sealing;
+mod encryption;
 mod value_fault;
 mod writing;
 mod wrong;
@@ -30,6 +30,6 @@ mod wrong;
 pub use json::Scratch;
 pub use line_fault::{Fault, LineFault};
 pub use reading::read_line;
-pub use sealing::unsealed_path;
+pub use encryption::unencrypted_path;
 pub use writing::put_text;
 pub use wrong::Wrong;

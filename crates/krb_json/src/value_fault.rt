@@ -6,7 +6,7 @@ ghost use Rattle.krb_json.specs.declared.value_fault.ValueFault.TheVariants.{Mem
 ghost use Rattle.krb_json.specs.inner.Reading.{IsFaultAt, IsUnder};
 
 use crate::line_fault::Fault;
-use crate::sealing::{after_index, after_name};
+use crate::encryption::{after_index, after_name};
 use crate::writing::shown;
 use crate::wrong::Wrong;
 use std::alloc::{AllocError, AllocFailed, Global};

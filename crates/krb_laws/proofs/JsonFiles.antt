@@ -36,7 +36,7 @@ use Rattle.krb_list.specs.Ccaches.{cache_end, cache_record, config_record, crede
 use Rattle.krb_list.specs.Configs.{config_value, is_shown}
 use Rattle.krb_list.specs.Keytabs.{entry_fields, keytab_end, printed_record}
 use Rattle.krb_text.specs.Time.{file_time, moment_text}
-use Rattle.krb_text.specs.Values.{Absent, NoTicket, Quoted, RefusedTicket, Value as Shown, Word, if_there, sealed}
+use Rattle.krb_text.specs.Values.{Absent, NoTicket, Quoted, RefusedTicket, Value as Shown, Word, if_there, encrypted}
 use Rattle.krb_text.specs.declared.form.Form.TheVariants as forms
 use Rattle.krb_text.proofs.Printable.{word}
 use Rattle.krb_text.proofs.Times.{moment}
@@ -44,7 +44,7 @@ use Rattle.krb_text.proofs.Tuples.{◌&◌}
 use Rattle.krb_laws.specs.JsonFiles.{FilesAreJson, IsRecord}
 use Rattle.krb_laws.specs.JsonLaws.{IsSmall, PrintsJson, ValueFits}
 use Rattle.krb_laws.proofs.JsonEnds.{alone}
-use Rattle.krb_laws.proofs.JsonNumbers.{its_sealed}
+use Rattle.krb_laws.proofs.JsonNumbers.{its_encrypted}
 use Rattle.krb_laws.proofs.JsonSizes.{IsBrief, brief}
 
 -- ---- numbers
@@ -141,7 +141,7 @@ config c h =
 
 -- a Ticket that octets are
 record IsTold (t : Ticket) : Type 0 where
-  part : ValueFits (sealed t.enc_part)
+  part : ValueFits (encrypted t.enc_part)
   server : ValueFits (ticket_server t)
 
 told : (octets : List ℕ) → AreOctets octets → ticket_refusal profiles.Lenient octets ≡ None → IsTold (ticket_read octets)
@@ -151,14 +151,14 @@ told octets a none =
     subst (λ v. IsTold (ticket_of v)) (sym (ap (value_of_der ticket) whole.0.form ∙ value_of_der_is_value ticket whole.0.value refl (omega (arith, size)))) (of_value whole.0.value (brief ticket refl whole.0.value whole.0.fits size))
   where
     of_value : (v : Value ticket) → IsBrief ticket v → IsTold (ticket_of v)
-    of_value v h = record { part = its_sealed (ticket_of v).enc_part h.1.1.1.0; server = h.1.1.0.0 }
+    of_value v h = record { part = its_encrypted (ticket_of v).enc_part h.1.1.1.0; server = h.1.1.0.0 }
 
 -- by what the ticket field holds; a refusal is at one of its octets
 module _ (inside : RefusalsAreInside) where
   judged : (now : Option ℕ) (c : Credential) (found : Option Refusal) (octets : List ℕ) → CredentialFits c → AreOctets octets → 0 < length octets → length octets < 2 ^ 32 → ticket_refusal profiles.Lenient octets ≡ found → PrintsJson (state_record forms.Json now c (judged_state found octets))
   judged now c None octets h a some short e =
       let t = told octets a e in
-      ticketed now c (sealed (ticket_read octets).enc_part) (ticket_server (ticket_read octets)) h t.part t.server
+      ticketed now c (encrypted (ticket_read octets).enc_part) (ticket_server (ticket_read octets)) h t.part t.server
   judged now c (Some r) octets h a some short e = ticketed now c (RefusedTicket r) Absent h (omega (arith, inside.of_ticket profiles.Lenient octets r some e, short)) tt
 
   ticket_field : (now : Option ℕ) (c : Credential) (octets : List ℕ) → CredentialFits c → AreOctets octets → length octets < 2 ^ 32 → PrintsJson (state_record forms.Json now c (field_state octets))

@@ -14,13 +14,13 @@ use Rattle.krb_padata.specs.Grammar.{etype_info2_entry, etype_info_entry, krb_fa
 use Rattle.krb_padata.specs.PacRequest.{pac_request_in}
 use Rattle.krb_padata.specs.Types.{etype_info2_entry_of, etype_info_entry_of, krb_fast_armor_of, krb_fast_armored_rep_of, krb_fast_armored_req_of, pa_for_user_of, pa_pac_options_of}
 use Rattle.krb_padata.specs.declared.krb_fast_armor.KrbFastArmor.{KrbFastArmor}
-use Rattle.krb_text.specs.Inside.{ap_req_if, ap_req_in, clear_parts, clear_type, each_if, etype_info2_part, etype_info_part, fast_reply_part, fast_request_part, for_user_part, is_ap_req_armor, item_parts, kdc_req_parts, krb_error_parts, method_data_if, method_parts, one_if, pac_options_part, pac_request_part, padata_parts, salt_part, sealed_part, tgs_req_part, ticket_part, types_if}
+use Rattle.krb_text.specs.Inside.{ap_req_if, ap_req_in, clear_parts, clear_type, each_if, etype_info2_part, etype_info_part, fast_reply_part, fast_request_part, for_user_part, is_ap_req_armor, item_parts, kdc_req_parts, krb_error_parts, method_data_if, method_parts, one_if, pac_options_part, pac_request_part, padata_parts, salt_part, encrypted_part, tgs_req_part, ticket_part, types_if}
 use Rattle.krb_text.specs.Judged.{asks_for_preauth, judged, says_preauth_failed}
-use Rattle.krb_text.specs.Values.{Hex, Number, Part, Quoted, if_there, principal, sealed}
+use Rattle.krb_text.specs.Values.{Hex, Number, Part, Quoted, if_there, principal, encrypted}
 use Rattle.krb_text.specs.declared.clear_type.ClearType.{ClearType}
 use Rattle.krb_text.specs.declared.clear_type.ClearType.TheVariants as types
 use Rattle.krb_laws.specs.JsonLaws.{PartFits, ValueFits}
-use Rattle.krb_laws.proofs.JsonNumbers.{its_checksum, its_sealed, judged_is_brief, of_ap_req, types_of}
+use Rattle.krb_laws.proofs.JsonNumbers.{its_checksum, its_encrypted, judged_is_brief, of_ap_req, types_of}
 use Rattle.krb_laws.proofs.JsonSizes.{IsBrief, is_narrow}
 use Rattle.krb_laws.proofs.JsonStrings.{all-append}
 
@@ -51,8 +51,8 @@ module _ (term : Term) (told : Value term → Part) (plain : (v : Value term) �
 tgs_req : (v : Value ap_req) → IsBrief ap_req v → PartFits (tgs_req_part (ap_req_of v))
 tgs_req v h = record { kind = refl; names = refl; apart = refl; values = of_ap_req (ap_req_of v) h.1.1.0 h.1.1.1.0.1.1.0 h.1.1.1.0.1.1.1.0 h.1.1.1.1.0 }
 
-sealed_by : (v : Value encrypted_data) → IsBrief encrypted_data v → ValueFits (sealed (encrypted_data_of v))
-sealed_by v h = its_sealed (encrypted_data_of v) h
+encrypted_by : (v : Value encrypted_data) → IsBrief encrypted_data v → ValueFits (encrypted (encrypted_data_of v))
+encrypted_by v h = its_encrypted (encrypted_data_of v) h
 
 some_text : (o : Option (List ℕ)) → ValueFits (if_there Quoted o)
 some_text None = tt
@@ -78,7 +78,7 @@ armor_type (Some v) h = h.0
 -- what is told of the AP-REQ that an armor is
 record IsApReqTold (found : Option (Value ap_req)) : Type 0 where
   server : ValueFits (if_there (λ v. principal (ap_req_of v).ticket.realm (ap_req_of v).ticket.sname) found)
-  ticket : ValueFits (if_there (λ v. sealed (ap_req_of v).ticket.enc_part) found)
+  ticket : ValueFits (if_there (λ v. encrypted (ap_req_of v).ticket.enc_part) found)
 
 ap_req_told : (armor : Option KrbFastArmor) → IsApReqTold (ap_req_in armor)
 ap_req_told None = record { server = tt; ticket = tt }
@@ -88,7 +88,7 @@ ap_req_told (Some armor) = by (is_ap_req_armor armor.armor_type)
     seen None e = record { server = tt; ticket = tt }
     seen (Some v) e =
         let h : IsBrief ap_req v = judged_is_brief ap_req armor.armor_value v refl refl e in
-        record { server = h.1.1.1.0.1.1.0.0; ticket = its_sealed (ap_req_of v).ticket.enc_part h.1.1.1.0.1.1.1.0 }
+        record { server = h.1.1.1.0.1.1.0.0; ticket = its_encrypted (ap_req_of v).ticket.enc_part h.1.1.1.0.1.1.1.0 }
 
     by : (is : Bool) → IsApReqTold (ap_req_if is armor.armor_value)
     by false = record { server = tt; ticket = tt }
@@ -97,10 +97,10 @@ ap_req_told (Some armor) = by (is_ap_req_armor armor.armor_type)
 fast_request : (v : Value pa_fx_fast_request) → IsBrief pa_fx_fast_request v → PartFits (fast_request_part (krb_fast_armored_req_of v))
 fast_request v h =
     let told = ap_req_told (krb_fast_armored_req_of v).armor in
-    record { kind = refl; names = refl; apart = refl; values = (armor_type v.0 h.0, (told.server, (told.ticket, (its_sealed (krb_fast_armored_req_of v).enc_fast_req h.1.1.0, tt)))) }
+    record { kind = refl; names = refl; apart = refl; values = (armor_type v.0 h.0, (told.server, (told.ticket, (its_encrypted (krb_fast_armored_req_of v).enc_fast_req h.1.1.0, tt)))) }
 
 fast_reply : (v : Value pa_fx_fast_reply) → IsBrief pa_fx_fast_reply v → PartFits (fast_reply_part (krb_fast_armored_rep_of v))
-fast_reply v h = record { kind = refl; names = refl; apart = refl; values = (tt, (tt, (tt, (its_sealed (krb_fast_armored_rep_of v).enc_fast_rep h.0, tt)))) }
+fast_reply v h = record { kind = refl; names = refl; apart = refl; values = (tt, (tt, (tt, (its_encrypted (krb_fast_armored_rep_of v).enc_fast_rep h.0, tt)))) }
 
 pac_options : (v : Value pa_pac_options) → IsBrief pa_pac_options v → PartFits (pac_options_part (pa_pac_options_of v))
 pac_options v h = record { kind = refl; names = refl; apart = refl; values = (omega (arith, h.0), tt) }
@@ -109,11 +109,11 @@ pac : (found : Option Bool) → PartsFit (one_if pac_request_part found)
 pac None = tt
 pac (Some include) = (record { kind = refl; names = refl; apart = refl; values = (tt, tt) }, tt)
 
-timestamp : (v : Value encrypted_data) → IsBrief encrypted_data v → PartFits (sealed_part (codes "PA-ENC-TIMESTAMP") (encrypted_data_of v))
-timestamp v h = record { kind = refl; names = refl; apart = refl; values = (sealed_by v h, tt) }
+timestamp : (v : Value encrypted_data) → IsBrief encrypted_data v → PartFits (encrypted_part (codes "PA-ENC-TIMESTAMP") (encrypted_data_of v))
+timestamp v h = record { kind = refl; names = refl; apart = refl; values = (encrypted_by v h, tt) }
 
-challenge : (v : Value encrypted_data) → IsBrief encrypted_data v → PartFits (sealed_part (codes "PA-ENCRYPTED-CHALLENGE") (encrypted_data_of v))
-challenge v h = record { kind = refl; names = refl; apart = refl; values = (sealed_by v h, tt) }
+challenge : (v : Value encrypted_data) → IsBrief encrypted_data v → PartFits (encrypted_part (codes "PA-ENCRYPTED-CHALLENGE") (encrypted_data_of v))
+challenge v h = record { kind = refl; names = refl; apart = refl; values = (encrypted_by v h, tt) }
 
 salted : (octets : List ℕ) → PartsFit (salt_part octets ∷ [])
 salted octets = (record { kind = refl; names = refl; apart = refl; values = (tt, tt) }, tt)
@@ -144,7 +144,7 @@ padata_inside in_request (Some items) = items_inside in_request items
 pub tickets_inside : (tickets : List Ticket) → AllByRecursion (IsBrief ticket) (map ticket_value tickets) → PartsFit (map ticket_part tickets)
 tickets_inside [] h = tt
 tickets_inside (t ∷ tickets) h =
-    (record { kind = refl; names = refl; apart = refl; values = (h.0.1.1.0.0, (its_sealed t.enc_part h.0.1.1.1.0, tt)) }, tickets_inside tickets h.1)
+    (record { kind = refl; names = refl; apart = refl; values = (h.0.1.1.0.0, (its_encrypted t.enc_part h.0.1.1.1.0, tt)) }, tickets_inside tickets h.1)
 
 some_tickets : (tickets : Option (List Ticket)) → IfPresent (IsBrief (sequence_of ticket)) (option_map (map ticket_value) tickets) → PartsFit (each_if ticket_part tickets)
 some_tickets None h = tt

@@ -17,7 +17,7 @@ use Rattle.krb_text.proofs.MessageOneLine.{record_is_plain}
 use Rattle.krb_token.specs.declared.layer.Layer.{Layer}
 use Rattle.krb_laws.specs.JsonLaws.{IsLine, MessagesAreJson, PartFits, PrintsJson}
 use Rattle.krb_laws.proofs.JsonInside.{error_inside, kdc_req_inside, padata_inside, tickets_inside}
-use Rattle.krb_laws.proofs.JsonNumbers.{cred, error, its_notes, its_sealed, kdc_rep, kdc_req, of_ap_req, safe}
+use Rattle.krb_laws.proofs.JsonNumbers.{cred, error, its_notes, its_encrypted, kdc_rep, kdc_req, of_ap_req, safe}
 use Rattle.krb_laws.proofs.JsonRecords.{ValuesFit, record_is_json}
 use Rattle.krb_laws.proofs.JsonShown.{AreCounted, FitsFrom, IsOrigin, fields_fit, from_origin, no_origin}
 use Rattle.krb_laws.proofs.JsonSizes.{IsBrief, brief, is_narrow}
@@ -44,9 +44,9 @@ counted (message.AsRep m) good = let h = its_value (message.AsRep m) refl good i
 counted (message.TgsReq m) good = let h = its_value (message.TgsReq m) refl good in kdc_req m h.1.1.0 h.1.1.1.0
 counted (message.TgsRep m) good = let h = its_value (message.TgsRep m) refl good in kdc_rep m h.1.1.0 h.1.1.1.1.0 h.1.1.1.1.1.0 h.1.1.1.1.1.1.0
 counted (message.ApReq m) good = let h = its_value (message.ApReq m) refl good in of_ap_req m h.1.1.0 h.1.1.1.0.1.1.0 h.1.1.1.0.1.1.1.0 h.1.1.1.1.0
-counted (message.ApRep m) good = (its_sealed m.enc_part (its_value (message.ApRep m) refl good).1.1.0, tt)
+counted (message.ApRep m) good = (its_encrypted m.enc_part (its_value (message.ApRep m) refl good).1.1.0, tt)
 counted (message.KrbSafe m) good = safe m (its_value (message.KrbSafe m) refl good)
-counted (message.KrbPriv m) good = (its_sealed m.enc_part (its_value (message.KrbPriv m) refl good).1.1.0, tt)
+counted (message.KrbPriv m) good = (its_encrypted m.enc_part (its_value (message.KrbPriv m) refl good).1.1.0, tt)
 counted (message.KrbCred m) good = cred m (its_value (message.KrbCred m) refl good)
 counted (message.KrbError m) good = error m (its_value (message.KrbError m) refl good)
 
@@ -84,7 +84,7 @@ ticket_fits : (t : Ticket) → Fits ticket (ticket_value t) → length (der tick
 unfolding ticket_record
 ticket_fits t fit short =
     let h = brief ticket refl (ticket_value t) fit short in
-    record { kind_plain = refl; plain = refl; apart = refl; values = (h.1.1.0.0, (its_sealed t.enc_part h.1.1.1.0, (its_notes (notes_of_ticket t), tt))); parts = tt }
+    record { kind_plain = refl; plain = refl; apart = refl; values = (h.1.1.0.0, (its_encrypted t.enc_part h.1.1.1.0, (its_notes (notes_of_ticket t), tt))); parts = tt }
 
 ticket_from : (origin : List Field) (t : Ticket) → IsOrigin origin → Fits ticket (ticket_value t) → length (der ticket (ticket_value t)) < 2 ^ 31 → PrintsJson (with_origin origin (ticket_record t))
 unfolding ticket_record

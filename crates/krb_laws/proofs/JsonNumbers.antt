@@ -21,7 +21,7 @@ use Rattle.krb_msg.specs.declared.pa_data.PaData.{PaData}
 use Rattle.krb_msg.specs.declared.principal_name.PrincipalName.{PrincipalName}
 use Rattle.krb_text.specs.Judged.{asks_for_preauth, judged}
 use Rattle.krb_text.specs.MessageFields.{ap_req_fields, kdc_rep_fields, kdc_req_fields, krb_cred_fields, krb_error_fields, krb_safe_fields, methods, notes, padata}
-use Rattle.krb_text.specs.Values.{Value as Shown, Number, Quoted, Word, address, checksum, client, count, if_there, principal, sealed}
+use Rattle.krb_text.specs.Values.{Value as Shown, Number, Quoted, Word, address, checksum, client, count, if_there, principal, encrypted}
 use Rattle.krb_text.proofs.Judged.{IsJudged, is_judged}
 use Rattle.krb_text.proofs.Tuples.{◌&◌}
 use Rattle.krb_laws.specs.JsonLaws.{IsSmall}
@@ -61,8 +61,8 @@ as_long to (a ∷ values) = ap (λ n. suc n) (as_long to values)
 counted : {A B : Type 0} (to : A → B) (values : List A) → length (map to values) < 2 ^ 31 → IsCounted (count values)
 counted to values h = omega (arith, as_long to values, h)
 
-pub its_sealed : (e : EncryptedData) → IsBrief encrypted_data (encrypted_data_value e) → IsCounted (sealed e)
-its_sealed e h = (h.0, optional_small e.kvno h.1.0, omega (arith, h.1.1.0))
+pub its_encrypted : (e : EncryptedData) → IsBrief encrypted_data (encrypted_data_value e) → IsCounted (encrypted e)
+its_encrypted e h = (h.0, optional_small e.kvno h.1.0, omega (arith, h.1.1.0))
 
 its_types : (items : List PaData) → AllByRecursion (IsBrief pa_data) (map pa_data_value items) → IsCounted (padata items)
 its_types [] h = tt
@@ -129,16 +129,16 @@ kdc_req m items (options, (cname, (realm, (sname, (from, (till, (rtime, (nonce, 
     tt & its_name m.body.realm m.body.cname cname & its_name m.body.realm m.body.sname sname & omega (arith, options)
     & always Word (λ time. tt) m.body.from & tt & always Word (λ time. tt) m.body.rtime & nonce & etype.1 & its_padata m.padata items
     & optional count (map host_address_value) (IsBrief (sequence_of host_address)) (λ values h. counted host_address_value values h.0) m.body.addresses addresses
-    & optional sealed encrypted_data_value (IsBrief encrypted_data) its_sealed m.body.enc_authorization_data authdata
+    & optional encrypted encrypted_data_value (IsBrief encrypted_data) its_encrypted m.body.enc_authorization_data authdata
     & optional count (map ticket_value) (IsBrief (sequence_of ticket)) (λ values h. counted ticket_value values h.0) m.body.additional_tickets tickets
     & tt
 
 pub kdc_rep : (m : KdcRep) → IfPresent (IsBrief (sequence_of pa_data)) (option_map (map pa_data_value) m.padata) → IsBrief principal_name (principal_name_value m.cname) → IsBrief ticket (ticket_value m.ticket) → IsBrief encrypted_data (encrypted_data_value m.enc_part) → AreCounted (kdc_rep_fields m)
 kdc_rep m items cname its_ticket enc_part =
-    (cname.0, (its_ticket.1.1.0.0, (its_padata m.padata items, (its_sealed m.ticket.enc_part its_ticket.1.1.1.0, (its_sealed m.enc_part enc_part, tt)))))
+    (cname.0, (its_ticket.1.1.0.0, (its_padata m.padata items, (its_encrypted m.ticket.enc_part its_ticket.1.1.1.0, (its_encrypted m.enc_part enc_part, tt)))))
 
 pub of_ap_req : (m : ApReq) → IsBrief kerberos_flags m.ap_options → IsBrief principal_name (principal_name_value m.ticket.sname) → IsBrief encrypted_data (encrypted_data_value m.ticket.enc_part) → IsBrief encrypted_data (encrypted_data_value m.authenticator) → AreCounted (ap_req_fields m)
-of_ap_req m options sname enc_part authenticator = (sname.0, (omega (arith, options), (its_sealed m.ticket.enc_part enc_part, (its_sealed m.authenticator authenticator, tt))))
+of_ap_req m options sname enc_part authenticator = (sname.0, (omega (arith, options), (its_encrypted m.ticket.enc_part enc_part, (its_encrypted m.authenticator authenticator, tt))))
 
 pub safe : (m : KrbSafe) → IsBrief krb_safe (krb_safe_value m) → AreCounted (krb_safe_fields m)
 safe m (version, (type, ((user_data, (timestamp, (usec, (seq_number, (s_address, (r_address, no_more)))))), (cksum, rest)))) =
@@ -148,7 +148,7 @@ safe m (version, (type, ((user_data, (timestamp, (usec, (seq_number, (s_address,
     & tt
 
 pub cred : (m : KrbCred) → IsBrief krb_cred (krb_cred_value m) → AreCounted (krb_cred_fields m)
-cred m (version, (type, (tickets, (enc_part, rest)))) = (counted ticket_value m.tickets tickets.0, (its_sealed m.enc_part enc_part, tt))
+cred m (version, (type, (tickets, (enc_part, rest)))) = (counted ticket_value m.tickets tickets.0, (its_encrypted m.enc_part enc_part, tt))
 
 pub error : (m : KrbError) → IsBrief krb_error (krb_error_value m) → AreCounted (krb_error_fields m)
 error m (version, (type, (ctime, (cusec, (stime, (susec, (error_code, (crealm, (cname, (realm, (sname, (text, (e_data, rest))))))))))))) =

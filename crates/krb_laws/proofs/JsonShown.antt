@@ -4,7 +4,7 @@ use Rattle.std.proofs.lemmas.Bool.{and_parts, and_from}
 use Rattle.std.proofs.lemmas.Grind.{flat_map-append}
 use Rattle.std.specs.List.{AllByRecursion, flat_map, list_all}
 use Rattle.std.specs.Str.{bytes_eq}
-use Rattle.krb_text.specs.Values.{Value, Absent, NoTicket, Number, Named, Numbers, ErrorCode, Reason, NoReason, String, Quoted, FileName, Word, Hex, Flags, TicketFlags, Sealed, Principal, Address, Digest, YesNo, Offset, RefusedTicket, Flow, Layers, Field, Part, printed, with_inside, with_origin}
+use Rattle.krb_text.specs.Values.{Value, Absent, NoTicket, Number, Named, Numbers, ErrorCode, Reason, NoReason, String, Quoted, FileName, Word, Hex, Flags, TicketFlags, Encrypted, Principal, Address, Digest, YesNo, Offset, RefusedTicket, Flow, Layers, Field, Part, printed, with_inside, with_origin}
 use Rattle.krb_text.proofs.EachForm.{AreShown, IsShown}
 use Rattle.krb_laws.specs.JsonLaws.{FitsJson, IsSmall, PartFits, ValueFits, are_different, inside_name, is_plain, member_names}
 use Rattle.krb_laws.proofs.JsonRecords.{ValuesFit, names_are_plain}
@@ -18,7 +18,7 @@ IsCounted (Numbers registry ns) = AllByRecursion IsSmall ns
 IsCounted (ErrorCode code) = IsSmall code
 IsCounted (Reason n name) = n < 2 ^ 64
 IsCounted (Flags registry bits) = 8 * length bits.1 < 2 ^ 64
-IsCounted (Sealed etype kvno size) = IsSmall etype × IfSome kvno IsSmall × (size < 2 ^ 64)
+IsCounted (Encrypted etype kvno size) = IsSmall etype × IfSome kvno IsSmall × (size < 2 ^ 64)
 IsCounted (Principal name_type components realm) = IsSmall name_type
 IsCounted (Address addr_type octets) = IsSmall addr_type
 IsCounted (Digest cksumtype size) = IsSmall cksumtype × (size < 2 ^ 64)

@@ -16,15 +16,15 @@ use Rattle.krb_registry.specs.Rows.{name_of}
 use Rattle.krb_registry.specs.declared.registry.Registry.{Registry}
 use Rattle.krb_registry.specs.declared.registry.Registry.TheVariants as registries
 use Rattle.krb_text.specs.Flows.{transport_name, endpoint_object, flow_object}
-use Rattle.krb_text.specs.Forms.{address_object, digest_object, flags_object, four_octets, json_string, json_value, name_string, octets_string, offset_object, or_null, principal_object, refused_object, sealed_object, set_names, shown_octet, true_or_false}
+use Rattle.krb_text.specs.Forms.{address_object, digest_object, flags_object, four_octets, json_string, json_value, name_string, octets_string, offset_object, or_null, principal_object, refused_object, encrypted_object, set_names, shown_octet, true_or_false}
 use Rattle.krb_text.specs.Text.{IsPrintable, hex, principal_text, list_text}
-use Rattle.krb_text.specs.Values.{Value, Absent, NoTicket, Number, Named, Numbers, ErrorCode, Reason, NoReason, String, Quoted, FileName, Word, Hex, Flags, TicketFlags, Sealed, Principal, Address, Digest, YesNo, Offset, RefusedTicket, Flow, Layers}
+use Rattle.krb_text.specs.Values.{Value, Absent, NoTicket, Number, Named, Numbers, ErrorCode, Reason, NoReason, String, Quoted, FileName, Word, Hex, Flags, TicketFlags, Encrypted, Principal, Address, Digest, YesNo, Offset, RefusedTicket, Flow, Layers}
 use Rattle.krb_text.specs.declared.origin.Transport.{Transport}
 use Rattle.krb_text.specs.declared.origin.Transport.TheVariants as transports
 use Rattle.krb_token.specs.Layers.{layer_name}
 use Rattle.krb_token.specs.declared.layer.Layer.{Layer}
 use Rattle.krb_token.specs.declared.layer.Layer.TheVariants as layers
-use Rattle.krb_laws.specs.Json.{address_json, digest_json, endpoint_json, flags_json, if_known, json_of_value, list_of, name_json, number_of, octets_of, offset_json, principal_json, refused_json, sealed_json}
+use Rattle.krb_laws.specs.Json.{address_json, digest_json, endpoint_json, flags_json, if_known, json_of_value, list_of, name_json, number_of, octets_of, offset_json, principal_json, refused_json, encrypted_json}
 use Rattle.krb_laws.specs.JsonLaws.{IsEndpoint, IsSmall, ValueFits, are_different, is_plain}
 use Rattle.krb_laws.proofs.JsonNames.{distinct}
 use Rattle.krb_laws.proofs.JsonPieces.{AreMembers, IsPlain, IsText, a_false, a_list, a_null, a_number, a_plain, a_signed, a_true, an_object, as_text, deeper, eleven, five, nine, no_more_members, one_more_member, seven}
@@ -80,8 +80,8 @@ some_flags registry bits h =
     (next (codes "names") refl (a_list 0 json_string string IsAbove (λ name h. a_string name h) (set_names registry bits.1) (above_set_names registry bits.1)) no_more_members)) refl)
     (seven (codes "{\"bits\":") (decimal (8 * length bits.1 - bits.0)) (codes ",\"hex\":\"") (hex bits.1) (codes "\",\"names\":") (list_text json_string (set_names registry bits.1)) (codes "}"))
 
-some_sealed : (etype : ℤ) (kvno : Option ℤ) (size : ℕ) → IsSmall etype → IfSome kvno IsSmall → size < 2 ^ 64 → IsText (sealed_object etype kvno size) (sealed_json etype kvno size) 1
-some_sealed etype kvno size e k s =
+some_encrypted : (etype : ℤ) (kvno : Option ℤ) (size : ℕ) → IsSmall etype → IfSome kvno IsSmall → size < 2 ^ 64 → IsText (encrypted_object etype kvno size) (encrypted_json etype kvno size) 1
+some_encrypted etype kvno size e k s =
     as_text
     (first {levels = 0} (codes "etype") refl (a_signed etype e)
     (next (codes "etype_name") refl (a_name registries.EncryptionTypes etype)
@@ -209,7 +209,7 @@ value_text (Word text) h = printable text h
 value_text (Hex octets) h = a_plain (hex octets) (plain_hex octets)
 value_text (Flags registry bits) h = some_flags registry bits h
 value_text (TicketFlags flags) h = some_flags registries.TicketFlags (0, four_octets flags) (omega arith)
-value_text (Sealed etype kvno size) h = more (some_sealed etype kvno size h.0 h.1 h.2)
+value_text (Encrypted etype kvno size) h = more (some_encrypted etype kvno size h.0 h.1 h.2)
 value_text (Principal name_type components realm) h = some_principal name_type components realm h
 value_text (Address addr_type octets) h = more (some_address addr_type octets h)
 value_text (Digest cksumtype size) h = more (some_digest cksumtype size h.0 h.1)

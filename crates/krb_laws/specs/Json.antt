@@ -14,7 +14,7 @@ use Rattle.krb_registry.specs.declared.registry.Registry.TheVariants as registri
 use Rattle.krb_text.specs.Flows.{transport_name}
 use Rattle.krb_text.specs.Forms.{four_octets, set_names, shown_octet}
 use Rattle.krb_text.specs.Text.{hex, principal_text}
-use Rattle.krb_text.specs.Values.{Value, Absent, NoTicket, Number, Named, Numbers, ErrorCode, Reason, NoReason, String, Quoted, FileName, Word, Hex, Flags, TicketFlags, Sealed, Principal, Address, Digest, YesNo, Offset, RefusedTicket, Flow, Layers, Field, Part, Printed}
+use Rattle.krb_text.specs.Values.{Value, Absent, NoTicket, Number, Named, Numbers, ErrorCode, Reason, NoReason, String, Quoted, FileName, Word, Hex, Flags, TicketFlags, Encrypted, Principal, Address, Digest, YesNo, Offset, RefusedTicket, Flow, Layers, Field, Part, Printed}
 use Rattle.krb_token.specs.Layers.{layer_name}
 
 -- ---- values of JSON
@@ -55,8 +55,8 @@ flags_json registry bits =
     ∷ (codes "names", list_of string (set_names registry bits.1))
     ∷ [])
 
-abbrev pub sealed_json : ℤ → Option ℤ → ℕ → Json
-sealed_json etype kvno size =
+abbrev pub encrypted_json : ℤ → Option ℤ → ℕ → Json
+encrypted_json etype kvno size =
     object_of ((codes "etype", number_of etype)
     ∷ (codes "etype_name", name_json registries.EncryptionTypes etype)
     ∷ (codes "kvno", if_known number_of kvno)
@@ -121,7 +121,7 @@ json_of_value (Word text) = string text
 json_of_value (Hex octets) = string (hex octets)
 json_of_value (Flags registry bits) = flags_json registry bits
 json_of_value (TicketFlags flags) = flags_json registries.TicketFlags (0, four_octets flags)
-json_of_value (Sealed etype kvno size) = sealed_json etype kvno size
+json_of_value (Encrypted etype kvno size) = encrypted_json etype kvno size
 json_of_value (Principal name_type components realm) = principal_json name_type components realm
 json_of_value (Address addr_type octets) = address_json addr_type octets
 json_of_value (Digest cksumtype size) = digest_json cksumtype size

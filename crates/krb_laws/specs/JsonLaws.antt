@@ -29,7 +29,7 @@ use Rattle.krb_text.specs.Messages.{message_origin, message_record, ticket_recor
 use Rattle.krb_text.specs.Refusals.{extent_in, file_refused_record, message_refused_record, path_in, refusal_record}
 use Rattle.krb_text.specs.Streams.{counted_end_record, end_record, refused_frame}
 use Rattle.krb_text.specs.Text.{IsPrintable}
-use Rattle.krb_text.specs.Values.{Value, Number, Named, Numbers, ErrorCode, Reason, Word, Flags, Sealed, Principal, Address, Digest, Offset, RefusedTicket, Flow, Field, Part, Printed, printed, with_origin}
+use Rattle.krb_text.specs.Values.{Value, Number, Named, Numbers, ErrorCode, Reason, Word, Flags, Encrypted, Principal, Address, Digest, Offset, RefusedTicket, Flow, Field, Part, Printed, printed, with_origin}
 use Rattle.krb_text.specs.declared.capture.CaptureCounts.{CaptureCounts}
 use Rattle.krb_text.specs.declared.extent.Extent.{Extent}
 use Rattle.krb_text.specs.declared.form.Form.TheVariants as forms
@@ -73,7 +73,7 @@ ValueFits (ErrorCode code) = IsSmall code
 ValueFits (Reason n name) = (n < 2 ^ 64) × IsPrintable name
 ValueFits (Word text) = IsPrintable text
 ValueFits (Flags registry bits) = 8 * length bits.1 < 2 ^ 64
-ValueFits (Sealed etype kvno size) = IsSmall etype × IfSome kvno IsSmall × (size < 2 ^ 64)
+ValueFits (Encrypted etype kvno size) = IsSmall etype × IfSome kvno IsSmall × (size < 2 ^ 64)
 ValueFits (Principal name_type components realm) = IsSmall name_type
 ValueFits (Address addr_type octets) = IsSmall addr_type
 ValueFits (Digest cksumtype size) = IsSmall cksumtype × (size < 2 ^ 64)

@@ -25,7 +25,7 @@ use Rattle.krb_text.specs.Laws.{IsOneLine}
 use Rattle.krb_list.specs.Laws.{RecordIsOfOctets, PrincipalIsOfOctets, CredentialIsOfOctets}
 use Rattle.krb_text.specs.Text.{AllAreOctets}
 use Rattle.krb_text.specs.Time.{file_time, moment_text}
-use Rattle.krb_text.specs.Values.{Value, Absent, NoTicket, Quoted, Word, RefusedTicket, sealed}
+use Rattle.krb_text.specs.Values.{Value, Absent, NoTicket, Quoted, Word, RefusedTicket, encrypted}
 use Rattle.krb_list.specs.Keytabs.{printed_record, keytab_end}
 use Rattle.krb_list.specs.Configs.{config_value, is_shown}
 use Rattle.krb_list.specs.Ccaches.{offset_value, cache_record, state, ticket_server, ticketed_record, config_record, state_record, credential_record, cache_end}
@@ -123,7 +123,7 @@ config forms.Json c h = one_line forms.Json (config_record forms.Json c) refl re
 -- by what the ticket field holds
 judged : (form : Form) (now : Option ℕ) (c : Credential) (found : Option Refusal) (octets : List ℕ) → CredentialIsOfOctets c → AreOctets octets → IsOneLine (record_line form (state_record form now c (judged_state found octets)))
 judged form now c None octets h a =
-    ticketed form now c (sealed (ticket_read octets).enc_part) (ticket_server (ticket_read octets)) h tt (server octets a, realm octets a)
+    ticketed form now c (encrypted (ticket_read octets).enc_part) (ticket_server (ticket_read octets)) h tt (server octets a, realm octets a)
 judged form now c (Some r) octets h a = ticketed form now c (RefusedTicket r) Absent h tt tt
 
 ticket_field : (form : Form) (now : Option ℕ) (c : Credential) (octets : List ℕ) → CredentialIsOfOctets c → AreOctets octets → IsOneLine (record_line form (state_record form now c (field_state octets)))

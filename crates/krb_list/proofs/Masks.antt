@@ -25,8 +25,8 @@ use Rattle.krb_ccache.specs.Tickets.{state_of}
 use Rattle.krb_text.specs.declared.form.Form.{Form}
 use Rattle.krb_text.specs.Forms.{record_line}
 use Rattle.krb_text.specs.Masks.{masked_ticket}
-use Rattle.krb_text.specs.Values.{Printed, Value, sealed}
-use Rattle.krb_text.proofs.Masks.{sealed-same}
+use Rattle.krb_text.specs.Values.{Printed, Value, encrypted}
+use Rattle.krb_text.proofs.Masks.{encrypted-same}
 use Rattle.krb_list.specs.Keytabs.{printed_record, keytab_lines}
 use Rattle.krb_list.specs.Configs.{config_value, is_shown}
 use Rattle.krb_list.specs.Ccaches.{ticketed_record, config_record, ticket_server, state_record, credential_record, ccache_lines}
@@ -80,8 +80,8 @@ same_cache3 form now v =
 some_ticket : (octets : List ℕ) (t : Ticket) → AreOfTicket profiles.Lenient octets t → octets ≡ [] → ⊥
 some_ticket octets t are none = let no : der ticket (ticket_value t) ≡ [] = are.form ∙ none in cc
 
-sealed_of_masked : (t u : Ticket) → masked_ticket u ≡ masked_ticket t → sealed u.enc_part ≡ sealed t.enc_part
-sealed_of_masked t u same = sym (sealed-same u.enc_part) ∙ ap (λ (x : Ticket). sealed x.enc_part) same ∙ sealed-same t.enc_part
+encrypted_of_masked : (t u : Ticket) → masked_ticket u ≡ masked_ticket t → encrypted u.enc_part ≡ encrypted t.enc_part
+encrypted_of_masked t u same = sym (encrypted-same u.enc_part) ∙ ap (λ (x : Ticket). encrypted x.enc_part) same ∙ encrypted-same t.enc_part
 
 server_of_masked : (t u : Ticket) → masked_ticket u ≡ masked_ticket t → ticket_server u ≡ ticket_server t
 server_of_masked t u same = ap (λ (x : Ticket). ticket_server x) same
@@ -103,8 +103,8 @@ pub same_ticket : TicketCipherIsNotShown
 unfolding credential_record
 same_ticket form now c other t u e are are_other same =
     ap (state_record form now (record c { ticket = other })) (sym (state-ticket (record c { ticket = other }) u e (some_ticket other u are_other) are_other))
-    ∙ other_ticketed now c other (sealed u.enc_part) (ticket_server u)
-    ∙ ap₂ (ticketed_record now c) (sealed_of_masked t u same) (server_of_masked t u same)
+    ∙ other_ticketed now c other (encrypted u.enc_part) (ticket_server u)
+    ∙ ap₂ (ticketed_record now c) (encrypted_of_masked t u same) (server_of_masked t u same)
     ∙ ap (state_record form now c) (state-ticket c t e (some_ticket c.ticket t are) are)
 
 -- ---- the value of a configuration entry

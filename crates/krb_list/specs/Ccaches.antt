@@ -16,7 +16,7 @@ use Rattle.krb_text.specs.declared.form.Form.{Form}
 use Rattle.krb_text.specs.Forms.{record_line}
 use Rattle.krb_text.specs.Refusals.{told}
 use Rattle.krb_text.specs.Time.{file_time}
-use Rattle.krb_text.specs.Values.{Value, Absent, NoTicket, Number, Named, Word, TicketFlags, Principal, Offset, RefusedTicket, Field, Printed, the, printed, if_there, count, sealed}
+use Rattle.krb_text.specs.Values.{Value, Absent, NoTicket, Number, Named, Word, TicketFlags, Principal, Offset, RefusedTicket, Field, Printed, the, printed, if_there, count, encrypted}
 
 abbrev pub file_principal : FilePrincipal → Value
 file_principal p = Principal p.name_type p.components p.realm
@@ -88,7 +88,7 @@ ticket_server t = Principal t.sname.name_type t.sname.name t.realm
 abbrev pub state_record : Form → Option ℕ → Credential → TicketState → Printed
 state_record form now c states.Config = config_record form c
 state_record form now c states.Absent = ticketed_record now c NoTicket Absent
-state_record form now c (states.Ticket t) = ticketed_record now c (sealed t.enc_part) (ticket_server t)
+state_record form now c (states.Ticket t) = ticketed_record now c (encrypted t.enc_part) (ticket_server t)
 state_record form now c (states.Refused r) = ticketed_record now c (RefusedTicket r) Absent
 
 unfoldable pub credential_record : Form → Option ℕ → Credential → Printed

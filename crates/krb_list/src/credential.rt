@@ -16,7 +16,7 @@ use krb_der::{Memory, Refusal, Why, why_number, why_text};
 use krb_msg::TicketView;
 use krb_registry::Registry;
 use krb_text::{
-    FileTime, Form, Numbered, Plain, Principal, Sealed, Shown, TextBuffer, TicketFlags,
+    FileTime, Form, Numbered, Plain, Principal, Encrypted, Shown, TextBuffer, TicketFlags,
     ViewedStrings, put_begin, put_closing, put_field, put_opening, put_string,
 };
 use std::alloc::{AllocError, Global};
@@ -287,8 +287,8 @@ fn put_with_state(
             put_ticketed(text, form, now, credential, &WithoutTicket, &NONE)
         }
         TicketStateView::Ticket(ticket) => {
-            let sealed = Sealed::of(&ticket.enc_part);
-            put_ticketed(text, form, now, credential, &sealed, &server_of(ticket))
+            let encrypted = Encrypted::of(&ticket.enc_part);
+            put_ticketed(text, form, now, credential, &encrypted, &server_of(ticket))
         }
         TicketStateView::Refused(refusal) => {
             put_ticketed(text, form, now, credential, &RefusedOctets(*refusal), &NONE)

@@ -29,7 +29,7 @@ pub struct ApReq {
     pub ap_options: Flags,
     /// The ticket for the server.
     pub ticket: Ticket,
-    /// The sealed Authenticator.
+    /// The encrypted Authenticator.
     pub authenticator: EncryptedData,
 }
 
@@ -40,7 +40,7 @@ pub struct ApReqView<'a> {
     pub ap_options: FlagsView<'a>,
     /// The ticket for the server.
     pub ticket: TicketView<'a>,
-    /// The sealed Authenticator.
+    /// The encrypted Authenticator.
     pub authenticator: EncryptedDataView<'a>,
 }
 

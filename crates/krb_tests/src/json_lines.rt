@@ -6,7 +6,7 @@ use crate::examples::{
     contents, octets_of,
 };
 use krb_der::{Memory, Profile};
-use krb_json::{LineFault, Scratch, put_text, read_line, unsealed_path};
+use krb_json::{LineFault, Scratch, put_text, read_line, unencrypted_path};
 use std::alloc::Global;
 use std::test::Fail;
 
@@ -246,7 +246,7 @@ fn path_in(alloc: Global, octets: &[u8]) -> Result<String, Memory> {
     if octets.len() >= 0x8000_0000 {
         return Err(Memory);
     }
-    match unsealed_path(alloc, octets)? {
+    match unencrypted_path(alloc, octets)? {
         Some(path) => Ok(path),
         None => Ok(String::new(alloc)),
     }

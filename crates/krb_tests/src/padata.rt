@@ -155,7 +155,7 @@ fn digits(alloc: Global, octets: Option<&[u8]>) -> Result<String, Fail> {
 }
 
 /// Returns what is shown of an EncryptedData.
-fn sealed(alloc: Global, seen: EncryptedDataView<'_>) -> Result<String, Fail> {
+fn encrypted(alloc: Global, seen: EncryptedDataView<'_>) -> Result<String, Fail> {
     let etype = seen.etype;
     let cipher = digits(alloc, Some(seen.cipher))?;
     Ok(match seen.kvno {
@@ -191,8 +191,8 @@ fn ap_req(alloc: Global, octets: &[u8]) -> Result<String, Fail>
     let options = flagged(alloc, seen.ap_options)?;
     let realm = digits(alloc, Some(seen.ticket.realm))?;
     let server = named(alloc, seen.ticket.sname)?;
-    let ticket = sealed(alloc, seen.ticket.enc_part)?;
-    let authenticator = sealed(alloc, seen.authenticator)?;
+    let ticket = encrypted(alloc, seen.ticket.enc_part)?;
+    let authenticator = encrypted(alloc, seen.authenticator)?;
     Ok(format!(in alloc; "AP-REQ {options} {realm} {server} {ticket} {authenticator}\n")?)
 }
 
@@ -202,8 +202,8 @@ fn encrypted_data(alloc: Global, octets: &[u8]) -> Result<String, Fail>
     let Some(seen) = view_whole::<EncryptedData>(octets) else {
         return Ok(String::new(alloc));
     };
-    let sealed = sealed(alloc, seen)?;
-    Ok(format!(in alloc; "EncryptedData {sealed}\n")?)
+    let encrypted = encrypted(alloc, seen)?;
+    Ok(format!(in alloc; "EncryptedData {encrypted}\n")?)
 }
 
 fn etype_info(alloc: Global, octets: &[u8]) -> Result<String, Fail>
@@ -275,8 +275,8 @@ fn fast_request(alloc: Global, octets: &[u8]) -> Result<String, Fail>
         None => digits(alloc, None)?,
     };
     let checksum = checked(alloc, seen.req_checksum)?;
-    let sealed = sealed(alloc, seen.enc_fast_req)?;
-    Ok(format!(in alloc; "PA-FX-FAST-REQUEST {armor} {checksum} {sealed}\n")?)
+    let encrypted = encrypted(alloc, seen.enc_fast_req)?;
+    Ok(format!(in alloc; "PA-FX-FAST-REQUEST {armor} {checksum} {encrypted}\n")?)
 }
 
 fn fast_reply(alloc: Global, octets: &[u8]) -> Result<String, Fail>
@@ -285,8 +285,8 @@ fn fast_reply(alloc: Global, octets: &[u8]) -> Result<String, Fail>
     let Some(seen) = view_whole::<PaFxFastReply>(octets) else {
         return Ok(String::new(alloc));
     };
-    let sealed = sealed(alloc, seen.enc_fast_rep)?;
-    Ok(format!(in alloc; "PA-FX-FAST-REPLY {sealed}\n")?)
+    let encrypted = encrypted(alloc, seen.enc_fast_rep)?;
+    Ok(format!(in alloc; "PA-FX-FAST-REPLY {encrypted}\n")?)
 }
 
 fn pac_options(alloc: Global, octets: &[u8]) -> Result<String, Fail>
@@ -305,7 +305,7 @@ fn shown(alloc: Global, octets: &[u8]) -> Result<String, Fail> {
         return Err(Fail::from("too many octets"));
     }
     let request = ap_req(alloc, octets)?;
-    let sealed = encrypted_data(alloc, octets)?;
+    let encrypted = encrypted_data(alloc, octets)?;
     let info = etype_info(alloc, octets)?;
     let info2 = etype_info2(alloc, octets)?;
     let pac = pac_request(alloc, octets)?;
@@ -313,7 +313,7 @@ fn shown(alloc: Global, octets: &[u8]) -> Result<String, Fail> {
     let armored = fast_request(alloc, octets)?;
     let reply = fast_reply(alloc, octets)?;
     let options = pac_options(alloc, octets)?;
-    Ok(format!(in alloc; "{request}{sealed}{info}{info2}{pac}{user}{armored}{reply}{options}")?)
+    Ok(format!(in alloc; "{request}{encrypted}{info}{info2}{pac}{user}{armored}{reply}{options}")?)
 }
 
 /// Returns what is shown of the first octets of some, and of these with one more after them.

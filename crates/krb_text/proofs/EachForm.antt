@@ -18,10 +18,10 @@ use Rattle.krb_text.specs.declared.form.Form.{Form}
 use Rattle.krb_text.specs.declared.form.Form.TheVariants as form
 use Rattle.krb_text.specs.Errors.{code_name, code_suffix, code_text}
 use Rattle.krb_text.specs.FileNames.{is_plain_in_name, name_octet, name_text}
-use Rattle.krb_text.specs.Forms.{four_octets, plus_text, unnamed, unnamed_from, named_in, is_set, set_names, named_flags_text, number_text, flags_text, refused_ticket_text, value_text, json_character, json_string, shown_octet, octets_string, or_null, name_string, flags_object, sealed_object, principal_object, address_object, digest_object, offset_object, refused_object, true_or_false, json_value, names_member, members, labelled, field, opening, closing, fields_text, origin_text, opening_from, heading, part_text, inside_text, ending, record_text}
+use Rattle.krb_text.specs.Forms.{four_octets, plus_text, unnamed, unnamed_from, named_in, is_set, set_names, named_flags_text, number_text, flags_text, refused_ticket_text, value_text, json_character, json_string, shown_octet, octets_string, or_null, name_string, flags_object, encrypted_object, principal_object, address_object, digest_object, offset_object, refused_object, true_or_false, json_value, names_member, members, labelled, field, opening, closing, fields_text, origin_text, opening_from, heading, part_text, inside_text, ending, record_text}
 use Rattle.krb_text.specs.Text.{AllAreOctets, IsPrintable, principal_text, two_hex, yes_or_no}
 use Rattle.krb_text.specs.TicketFlags.{flag_name, set_flags, names_text, other_flags, eight_hex, others_text, ticket_flags_text}
-use Rattle.krb_text.specs.Values.{Value, Absent, NoTicket, Number, Named, Numbers, ErrorCode, Reason, NoReason, String, Quoted, FileName, Word, Hex, Flags, TicketFlags, Sealed, Principal, Address, Digest, YesNo, Offset, RefusedTicket, Flow, Layers, Field, Part, Printed}
+use Rattle.krb_text.specs.Values.{Value, Absent, NoTicket, Number, Named, Numbers, ErrorCode, Reason, NoReason, String, Quoted, FileName, Word, Hex, Flags, TicketFlags, Encrypted, Principal, Address, Digest, YesNo, Offset, RefusedTicket, Flow, Layers, Field, Part, Printed}
 use Rattle.krb_text.specs.inner.Flags.{names_set}
 use Rattle.krb_token.specs.Layers.{layer_name}
 use Rattle.krb_token.specs.declared.layer.Layer.{Layer}
@@ -185,8 +185,8 @@ refused_in_object r =
     (word (codes ",\"why_name\":") refl)) (string (reason_name r.why) (reasons.name r.why).all))
     (word (codes "}}") refl)
 
-sealed_in_object : (etype : ℤ) (kvno : Option ℤ) (size : ℕ) → Prints (sealed_object etype kvno size)
-sealed_in_object etype kvno size =
+encrypted_in_object : (etype : ℤ) (kvno : Option ℤ) (size : ℕ) → Prints (encrypted_object etype kvno size)
+encrypted_in_object etype kvno size =
     join (join (join (join (join (join (join (join (word (codes "{\"etype\":") refl) (signed etype))
     (word (codes ",\"etype_name\":") refl)) (name_in_string registries.EncryptionTypes etype))
     (word (codes ",\"kvno\":") refl)) (or_no_number kvno))
@@ -271,7 +271,7 @@ in_line names (Hex octets) h = in_hex octets h
 in_line names (Flags registry bits) h = flags names registry bits h
 in_line false (TicketFlags bits) h = ticket_flags bits
 in_line true (TicketFlags bits) h = named_flags registries.TicketFlags (four_octets bits)
-in_line names (Sealed etype kvno size) h =
+in_line names (Encrypted etype kvno size) h =
     join (join (join (join (numbered names registries.EncryptionTypes etype) (word (codes ":") refl)) (always signed_decimal signed kvno)) (word (codes ":") refl)) (number size)
 in_line names (Principal name_type components realm) h = principal components realm h.0 h.1
 in_line names (Address addr_type octets) h = join (join (numbered names registries.AddressTypes addr_type) (word (codes ":") refl)) (in_hex octets h)
@@ -299,7 +299,7 @@ in_object (Word text) h = string text h
 in_object (Hex octets) h = join (join (word (codes "\"") refl) (in_hex octets h)) (word (codes "\"") refl)
 in_object (Flags registry bits) h = flags_in_object registry bits h
 in_object (TicketFlags bits) h = flags_in_object registries.TicketFlags (0, four_octets bits) (four bits h)
-in_object (Sealed etype kvno size) h = sealed_in_object etype kvno size
+in_object (Encrypted etype kvno size) h = encrypted_in_object etype kvno size
 in_object (Principal name_type components realm) h = principal_in_object name_type components realm h.0 h.1
 in_object (Address addr_type octets) h = address_in_object addr_type octets h
 in_object (Digest cksumtype size) h = digest_in_object cksumtype size

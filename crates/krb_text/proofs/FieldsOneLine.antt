@@ -18,7 +18,7 @@ use Rattle.krb_msg.specs.declared.krb_error.KrbError.{KrbError}
 use Rattle.krb_text.specs.Judged.{methods_in}
 use Rattle.krb_text.specs.Messages.{padata, methods, kdc_req_fields, kdc_rep_fields, ap_req_fields, krb_safe_fields, krb_error_fields}
 use Rattle.krb_text.specs.Text.{AllAreOctets}
-use Rattle.krb_text.specs.Values.{Value, Number, Quoted, Word, if_there, count, sealed, principal, client, address}
+use Rattle.krb_text.specs.Values.{Value, Number, Quoted, Word, if_there, count, encrypted, principal, client, address}
 use Rattle.krb_text.proofs.Printable.{time}
 use Rattle.krb_text.proofs.EachForm.{IsShown, AreShown}
 use Rattle.krb_text.proofs.Tuples.{◌&◌}
@@ -69,7 +69,7 @@ kdc_req m (options, (cname, (realm, (sname, (from, (till, (rtime, rest))))))) =
     realm.0 & optional_name m.body.realm m.body.cname realm.0 cname & optional_name m.body.realm m.body.sname realm.0 sname
     & options.1 & optional_time m.body.from from & (time m.body.till till).all & optional_time m.body.rtime rtime & tt & tt
     & always padata (λ items. tt) m.padata & always count (λ items. tt) m.body.addresses
-    & always sealed (λ v. tt) m.body.enc_authorization_data & always count (λ items. tt) m.body.additional_tickets & tt
+    & always encrypted (λ v. tt) m.body.enc_authorization_data & always count (λ items. tt) m.body.additional_tickets & tt
 
 pub kdc_rep : (m : KdcRep) → AreOctets m.crealm → Fits principal_name (principal_name_value m.cname) → Fits ticket (ticket_value m.ticket) → AreShown (kdc_rep_fields m)
 kdc_rep m crealm cname its_ticket =

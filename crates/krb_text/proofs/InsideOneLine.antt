@@ -17,7 +17,7 @@ use Rattle.krb_padata.specs.Types.{etype_info2_entry_of, etype_info_entry_of, kr
 use Rattle.krb_padata.specs.declared.krb_fast_armor.KrbFastArmor.{KrbFastArmor}
 use Rattle.krb_text.specs.Inside.{ap_req_if, ap_req_in, clear_parts, clear_type, each_if, etype_info2_part, etype_info_part, fast_request_part, for_user_part, is_ap_req_armor, item_parts, kdc_req_parts, krb_error_parts, method_data_if, method_parts, one_if, pac_request_part, padata_parts, tgs_req_part, ticket_part, types_if}
 use Rattle.krb_text.specs.Judged.{asks_for_preauth, judged, says_preauth_failed}
-use Rattle.krb_text.specs.Values.{Hex, Number, Part, Quoted, if_there, principal, sealed}
+use Rattle.krb_text.specs.Values.{Hex, Number, Part, Quoted, if_there, principal, encrypted}
 use Rattle.krb_text.specs.declared.clear_type.ClearType.{ClearType}
 use Rattle.krb_text.specs.declared.clear_type.ClearType.TheVariants as types
 use Rattle.krb_text.proofs.EachForm.{ArePlainParts, IsPlainPart, IsShown}
@@ -87,7 +87,7 @@ fast_request v h = record {
   fields =
       always (λ armor. Number armor.armor_type) (λ armor. tt) (krb_fast_armored_req_of v).armor
       & server_of (krb_fast_armored_req_of v).armor
-      & always (λ v. sealed (ap_req_of v).ticket.enc_part) (λ v. tt) (ap_req_in (krb_fast_armored_req_of v).armor) & tt & tt;
+      & always (λ v. encrypted (ap_req_of v).ticket.enc_part) (λ v. tt) (ap_req_in (krb_fast_armored_req_of v).armor) & tt & tt;
 }
 
 pac : (found : Option Bool) → ArePlainParts (one_if pac_request_part found)

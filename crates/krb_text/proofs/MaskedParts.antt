@@ -17,10 +17,10 @@ use Rattle.krb_msg.proofs.Grammars.{whole_is_value}
 use Rattle.krb_padata.specs.Grammar.{etype_info, etype_info2, krb_fast_armor, pa_for_user, pa_fx_fast_reply, pa_fx_fast_request, pa_pac_options}
 use Rattle.krb_padata.specs.PacRequest.{pac_request_in}
 use Rattle.krb_padata.specs.Types.{krb_fast_armor_of, krb_fast_armored_rep_of, krb_fast_armored_req_of, pa_for_user_of}
-use Rattle.krb_text.specs.Inside.{ap_req_if, ap_req_in, clear_parts, clear_type, each_if, fast_reply_part, fast_request_part, for_user_part, is_ap_req_armor, item_parts, one_if, sealed_part, tgs_req_part}
+use Rattle.krb_text.specs.Inside.{ap_req_if, ap_req_in, clear_parts, clear_type, each_if, fast_reply_part, fast_request_part, for_user_part, is_ap_req_armor, item_parts, one_if, encrypted_part, tgs_req_part}
 use Rattle.krb_text.specs.Judged.{judged}
-use Rattle.krb_text.specs.Masks.{masked_ap_req_value, masked_armor, masked_armor_if, masked_as, masked_checksum_value, masked_clear, masked_fast_reply, masked_fast_request, masked_for_user, masked_item, masked_sealed_value, masked_ticket_value, octets_or_zeros}
-use Rattle.krb_text.specs.Values.{Number, Part, if_there, principal, sealed}
+use Rattle.krb_text.specs.Masks.{masked_ap_req_value, masked_armor, masked_armor_if, masked_as, masked_checksum_value, masked_clear, masked_fast_reply, masked_fast_request, masked_for_user, masked_item, masked_encrypted_value, masked_ticket_value, octets_or_zeros}
+use Rattle.krb_text.specs.Values.{Number, Part, if_there, principal, encrypted}
 use Rattle.krb_text.specs.declared.clear_type.ClearType.{ClearType}
 use Rattle.krb_text.specs.declared.clear_type.ClearType.TheVariants as types
 use Rattle.krb_text.proofs.Alike.{Alike, Replace, SomeAlike, as_many, fits_as, replace_same, replace_zeros, same, some_same}
@@ -65,17 +65,17 @@ module _ (term : Term) (mask : Value term → Value term) (u : is_unambiguous te
           }
 
 -- ---- the masks
-sealed_alike : (v : Value encrypted_data) → Alike encrypted_data (masked_sealed_value v) v
-sealed_alike v = (refl, (some_same _ (λ n. refl) v.1.0, (replace_zeros v.1.1.0, tt)))
+encrypted_alike : (v : Value encrypted_data) → Alike encrypted_data (masked_encrypted_value v) v
+encrypted_alike v = (refl, (some_same _ (λ n. refl) v.1.0, (replace_zeros v.1.1.0, tt)))
 
 checksum_alike : (v : Value checksum) → Alike checksum (masked_checksum_value v) v
 checksum_alike v = (refl, (replace_zeros v.1.0, tt))
 
 ticket_alike : (v : Value ticket) → Alike ticket (masked_ticket_value v) v
-ticket_alike v = (refl, (refl, (same principal_name v.1.1.0, (sealed_alike v.1.1.1.0, tt))))
+ticket_alike v = (refl, (refl, (same principal_name v.1.1.0, (encrypted_alike v.1.1.1.0, tt))))
 
 ap_req_alike : (v : Value ap_req) → Alike ap_req (masked_ap_req_value v) v
-ap_req_alike v = (refl, (refl, (refl, (ticket_alike v.1.1.1.0, (sealed_alike v.1.1.1.1.0, tt)))))
+ap_req_alike v = (refl, (refl, (refl, (ticket_alike v.1.1.1.0, (encrypted_alike v.1.1.1.1.0, tt)))))
 
 for_user_alike : (v : Value pa_for_user) → Alike pa_for_user (masked_for_user v) v
 for_user_alike v = (same principal_name v.0, (refl, (checksum_alike v.1.1.0, (refl, tt))))
@@ -92,13 +92,13 @@ armor_alike None = tt
 armor_alike (Some v) = (refl, (armor_if_alike (is_ap_req_armor v.0) v.1.0, tt))
 
 fast_request_alike : (v : Value pa_fx_fast_request) → Alike pa_fx_fast_request (masked_fast_request v) v
-fast_request_alike v = (armor_alike v.0, (checksum_alike v.1.0, (sealed_alike v.1.1.0, tt)))
+fast_request_alike v = (armor_alike v.0, (checksum_alike v.1.0, (encrypted_alike v.1.1.0, tt)))
 
 fast_reply_alike : (v : Value pa_fx_fast_reply) → Alike pa_fx_fast_reply (masked_fast_reply v) v
-fast_reply_alike v = (sealed_alike v.0, tt)
+fast_reply_alike v = (encrypted_alike v.0, tt)
 
-pub sealed_masked : (octets : List ℕ) → IsMasked encrypted_data masked_sealed_value octets
-sealed_masked = is_masked encrypted_data masked_sealed_value refl refl (λ e. absurd cc) sealed_alike
+pub encrypted_masked : (octets : List ℕ) → IsMasked encrypted_data masked_encrypted_value octets
+encrypted_masked = is_masked encrypted_data masked_encrypted_value refl refl (λ e. absurd cc) encrypted_alike
 
 for_user_masked : (octets : List ℕ) → IsMasked pa_for_user masked_for_user octets
 for_user_masked = is_masked pa_for_user masked_for_user refl refl (λ e. absurd cc) for_user_alike
@@ -110,8 +110,8 @@ fast_reply_masked : (octets : List ℕ) → IsMasked pa_fx_fast_reply masked_fas
 fast_reply_masked = is_masked pa_fx_fast_reply masked_fast_reply refl refl (λ e. absurd cc) fast_reply_alike
 
 -- ---- what is told of a masked value
-sealed_same : (kind : List ℕ) (v : Value encrypted_data) → sealed_part kind (encrypted_data_of (masked_sealed_value v)) ≡ sealed_part kind (encrypted_data_of v)
-sealed_same kind v = rw (length-zeros (length v.1.1.0)) refl
+encrypted_same : (kind : List ℕ) (v : Value encrypted_data) → encrypted_part kind (encrypted_data_of (masked_encrypted_value v)) ≡ encrypted_part kind (encrypted_data_of v)
+encrypted_same kind v = rw (length-zeros (length v.1.1.0)) refl
 
 tgs_req_same : (v : Value ap_req) → tgs_req_part (ap_req_of (masked_ap_req_value v)) ≡ tgs_req_part (ap_req_of v)
 tgs_req_same v = rw (length-zeros (length (ap_req_of v).ticket.enc_part.cipher), length-zeros (length (ap_req_of v).authenticator.cipher)) refl
@@ -139,7 +139,7 @@ server_same : (found : Option (Value ap_req)) → if_there (λ v. principal (ap_
 server_same None = refl
 server_same (Some v) = refl
 
-ticket_same : (found : Option (Value ap_req)) → if_there (λ v. sealed (ap_req_of v).ticket.enc_part) (option_map masked_ap_req_value found) ≡ if_there (λ v. sealed (ap_req_of v).ticket.enc_part) found
+ticket_same : (found : Option (Value ap_req)) → if_there (λ v. encrypted (ap_req_of v).ticket.enc_part) (option_map masked_ap_req_value found) ≡ if_there (λ v. encrypted (ap_req_of v).ticket.enc_part) found
 ticket_same None = refl
 ticket_same (Some v) = rw (length-zeros (length (ap_req_of v).ticket.enc_part.cipher)) refl
 
@@ -186,7 +186,7 @@ clear_same types.FastRequest octets = masked_same pa_fx_fast_request masked_fast
 clear_same types.FastReply octets = masked_same pa_fx_fast_reply masked_fast_reply _ fast_reply_same octets (fast_reply_masked octets)
 clear_same types.PacOptions octets = ap (one_if _) (kept_judged pa_pac_options (λ e. absurd cc) octets)
 clear_same types.Other octets = refl
-clear_same other octets = masked_same encrypted_data masked_sealed_value _ (sealed_same _) octets (sealed_masked octets)
+clear_same other octets = masked_same encrypted_data masked_encrypted_value _ (encrypted_same _) octets (encrypted_masked octets)
 
 pub clear_replaced : (type : ClearType) (octets : List ℕ) → Replace (masked_clear type octets) octets
 clear_replaced types.TgsReq octets = (ap_req_masked octets).replace
@@ -199,7 +199,7 @@ clear_replaced types.FastRequest octets = (fast_request_masked octets).replace
 clear_replaced types.FastReply octets = (fast_reply_masked octets).replace
 clear_replaced types.PacOptions octets = kept octets (judged pa_pac_options octets)
 clear_replaced types.Other octets = replace_zeros octets
-clear_replaced other octets = (sealed_masked octets).replace
+clear_replaced other octets = (encrypted_masked octets).replace
 
 pub items_same : (in_request : Bool) (items : List PaData) → flat_map (item_parts in_request) (map (masked_item in_request) items) ≡ flat_map (item_parts in_request) items
 items_same in_request [] = refl

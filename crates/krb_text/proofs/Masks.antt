@@ -1,4 +1,4 @@
--- What is sealed, opaque or a checksum has no part in what is printed of a message.
+-- What is encrypted, opaque or a checksum has no part in what is printed of a message.
 use Rattle.std.proofs.Common.{◌≡◌, ℕ, ℤ, Bool, true, false, ◌||◌, Option, Some, None, List, [], ◌∷◌, ◌++◌, length, map, codes, refl, ap, ap₂, ◌∙◌}
 use Rattle.std.proofs.lemmas.List.{length-map}
 use Rattle.std.specs.List.{list_any}
@@ -30,17 +30,17 @@ use Rattle.krb_text.specs.Forms.{record_line}
 use Rattle.krb_text.specs.Inside.{each_if, inside_of, kdc_req_parts, krb_error_parts, method_data_if, method_parts, padata_parts, ticket_part}
 use Rattle.krb_text.specs.Judged.{asks_for_preauth, says_preauth_failed}
 use Rattle.krb_text.specs.Messages.{padata, notes, methods, kdc_req_fields, kdc_rep_fields, ap_req_fields, ap_rep_fields, krb_safe_fields, krb_priv_fields, krb_cred_fields, krb_error_fields, message_record, message_line, message_line_from, ticket_line, ticket_record}
-use Rattle.krb_text.specs.Values.{Field, Part, Printed, the, printed, with_inside, with_origin, if_there, count, sealed}
-use Rattle.krb_text.specs.Masks.{masked_sealed, masked_item, masked_ticket, masked_req_body, masked_kdc_req, masked_kdc_rep, masked_ap_req, masked_ap_rep, masked_krb_safe, masked_krb_priv, masked_krb_cred, masked_krb_error, masked, opaque_unless}
+use Rattle.krb_text.specs.Values.{Field, Part, Printed, the, printed, with_inside, with_origin, if_there, count, encrypted}
+use Rattle.krb_text.specs.Masks.{masked_encrypted, masked_item, masked_ticket, masked_req_body, masked_kdc_req, masked_kdc_rep, masked_ap_req, masked_ap_rep, masked_krb_safe, masked_krb_priv, masked_krb_cred, masked_krb_error, masked, opaque_unless}
 use Rattle.krb_text.proofs.MaskedParts.{items_same}
 
 -- ---- the values of fields
-pub sealed-same : (e : EncryptedData) → sealed (masked_sealed e) ≡ sealed e
-sealed-same e = rw (length-zeros (length e.cipher)) refl
+pub encrypted-same : (e : EncryptedData) → encrypted (masked_encrypted e) ≡ encrypted e
+encrypted-same e = rw (length-zeros (length e.cipher)) refl
 
-some_sealed-same : (e : Option EncryptedData) → if_there sealed (option_map masked_sealed e) ≡ if_there sealed e
-some_sealed-same None = refl
-some_sealed-same (Some e) = sealed-same e
+some_encrypted-same : (e : Option EncryptedData) → if_there encrypted (option_map masked_encrypted e) ≡ if_there encrypted e
+some_encrypted-same None = refl
+some_encrypted-same (Some e) = encrypted-same e
 
 types-same : (in_request : Bool) (items : List PaData) → map (λ item. item.padata_type) (map (masked_item in_request) items) ≡ map (λ item. item.padata_type) items
 types-same in_request [] = refl
@@ -59,7 +59,7 @@ some_tickets-same (Some tickets) = tickets-same tickets
 
 -- ---- the fields of messages
 kdc_req-same : (m : KdcReq) → kdc_req_fields (masked_kdc_req m) ≡ kdc_req_fields m
-kdc_req-same m = rw (padata-same true m.padata, some_sealed-same m.body.enc_authorization_data, some_tickets-same m.body.additional_tickets) refl
+kdc_req-same m = rw (padata-same true m.padata, some_encrypted-same m.body.enc_authorization_data, some_tickets-same m.body.additional_tickets) refl
 
 kdc_rep-same : (m : KdcRep) → kdc_rep_fields (masked_kdc_rep m) ≡ kdc_rep_fields m
 kdc_rep-same m = rw (padata-same false m.padata, length-zeros (length m.ticket.enc_part.cipher), length-zeros (length m.enc_part.cipher)) refl

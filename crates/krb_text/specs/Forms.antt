@@ -16,7 +16,7 @@ use Rattle.krb_text.specs.Flows.{flow_text, flow_object}
 use Rattle.krb_text.specs.TicketFlags.{ticket_flags_text}
 use Rattle.krb_text.specs.Errors.{code_text}
 use Rattle.krb_token.specs.Layers.{layer_name}
-use Rattle.krb_text.specs.Values.{Value, Absent, NoTicket, Number, Named, Numbers, ErrorCode, Reason, NoReason, String, Quoted, FileName, Word, Hex, Flags, TicketFlags, Sealed, Principal, Address, Digest, YesNo, Offset, RefusedTicket, Flow, Layers, Field, Part, Printed}
+use Rattle.krb_text.specs.Values.{Value, Absent, NoTicket, Number, Named, Numbers, ErrorCode, Reason, NoReason, String, Quoted, FileName, Word, Hex, Flags, TicketFlags, Encrypted, Principal, Address, Digest, YesNo, Offset, RefusedTicket, Flow, Layers, Field, Part, Printed}
 
 -- ---- flags by name; bit 0 is the highest of the first octet
 -- whether a bit is set; those after the last octet are not
@@ -91,7 +91,7 @@ value_text names (Hex octets) = hex octets
 value_text names (Flags registry bits) = flags_text names registry bits
 value_text false (TicketFlags flags) = ticket_flags_text flags
 value_text true (TicketFlags flags) = named_flags_text registries.TicketFlags (four_octets flags)
-value_text names (Sealed etype kvno size) = number_text names registries.EncryptionTypes etype ++ codes ":" ++ or_dash signed_decimal kvno ++ codes ":" ++ decimal size
+value_text names (Encrypted etype kvno size) = number_text names registries.EncryptionTypes etype ++ codes ":" ++ or_dash signed_decimal kvno ++ codes ":" ++ decimal size
 value_text names (Principal name_type components realm) = principal_text components realm
 value_text names (Address addr_type octets) = number_text names registries.AddressTypes addr_type ++ codes ":" ++ hex octets
 value_text names (Digest cksumtype size) = number_text names registries.ChecksumTypes cksumtype ++ codes ":" ++ decimal size
@@ -129,8 +129,8 @@ flags_object registry bits =
     ++ codes ",\"hex\":\"" ++ hex bits.1
     ++ codes "\",\"names\":" ++ list_text json_string (set_names registry bits.1) ++ codes "}"
 
-abbrev pub sealed_object : ℤ → Option ℤ → ℕ → List ℕ
-sealed_object etype kvno size =
+abbrev pub encrypted_object : ℤ → Option ℤ → ℕ → List ℕ
+encrypted_object etype kvno size =
     codes "{\"etype\":" ++ signed_decimal etype
     ++ codes ",\"etype_name\":" ++ name_string registries.EncryptionTypes etype
     ++ codes ",\"kvno\":" ++ or_null signed_decimal kvno
@@ -187,7 +187,7 @@ json_value (Word text) = json_string text
 json_value (Hex octets) = codes "\"" ++ hex octets ++ codes "\""
 json_value (Flags registry bits) = flags_object registry bits
 json_value (TicketFlags flags) = flags_object registries.TicketFlags (0, four_octets flags)
-json_value (Sealed etype kvno size) = sealed_object etype kvno size
+json_value (Encrypted etype kvno size) = encrypted_object etype kvno size
 json_value (Principal name_type components realm) = principal_object name_type components realm
 json_value (Address addr_type octets) = address_object addr_type octets
 json_value (Digest cksumtype size) = digest_object cksumtype size

@@ -26,7 +26,7 @@ use Rattle.krb_padata.specs.declared.pa_pac_options.PaPacOptions.{PaPacOptions}
 use Rattle.krb_registry.specs.declared.registry.Registry.TheVariants as registries
 use Rattle.krb_text.specs.Judged.{asks_for_preauth, judged, says_preauth_failed}
 use Rattle.krb_text.specs.MessageFields.{ap_req_fields, padata}
-use Rattle.krb_text.specs.Values.{Absent, Flags, Hex, Named, Number, Quoted, YesNo, Part, the, part, if_there, checksum, principal, sealed}
+use Rattle.krb_text.specs.Values.{Absent, Flags, Hex, Named, Number, Quoted, YesNo, Part, the, part, if_there, checksum, principal, encrypted}
 use Rattle.krb_text.specs.declared.clear_type.ClearType.{ClearType}
 use Rattle.krb_text.specs.declared.clear_type.ClearType.TheVariants as types
 
@@ -45,8 +45,8 @@ abbrev pub tgs_req_part : ApReq → Part
 tgs_req_part m = part (codes "PA-TGS-REQ") (ap_req_fields m)
 
 -- PA-ENC-TIMESTAMP (RFC 4120, 5.2.7.2) and PA-ENCRYPTED-CHALLENGE (RFC 6113, 5.4.6)
-abbrev pub sealed_part : List ℕ → EncryptedData → Part
-sealed_part kind e = part kind (the (codes "enc") (sealed e) ∷ [])
+abbrev pub encrypted_part : List ℕ → EncryptedData → Part
+encrypted_part kind e = part kind (the (codes "enc") (encrypted e) ∷ [])
 
 -- PA-PW-SALT (RFC 4120, 5.2.7.3)
 abbrev pub salt_part : List ℕ → Part
@@ -92,13 +92,13 @@ abbrev pub ap_req_in : Option KrbFastArmor → Option (Value ap_req)
 ap_req_in None = None
 ap_req_in (Some armor) = ap_req_if (is_ap_req_armor armor.armor_type) armor.armor_value
 
--- PA-FX-FAST of a request (RFC 6113, 5.4.2): its armor, which is that of the PA-TGS-REQ if it is left out, and what is sealed
+-- PA-FX-FAST of a request (RFC 6113, 5.4.2): its armor, which is that of the PA-TGS-REQ if it is left out, and what is encrypted
 abbrev pub fast_request_part : KrbFastArmoredReq → Part
 fast_request_part m =
     part (codes "PA-FX-FAST") (the (codes "armor") (if_there (λ armor. Number armor.armor_type) m.armor)
     ∷ the (codes "server") (if_there (λ v. principal (ap_req_of v).ticket.realm (ap_req_of v).ticket.sname) (ap_req_in m.armor))
-    ∷ the (codes "ticket") (if_there (λ v. sealed (ap_req_of v).ticket.enc_part) (ap_req_in m.armor))
-    ∷ the (codes "enc") (sealed m.enc_fast_req)
+    ∷ the (codes "ticket") (if_there (λ v. encrypted (ap_req_of v).ticket.enc_part) (ap_req_in m.armor))
+    ∷ the (codes "enc") (encrypted m.enc_fast_req)
     ∷ [])
 
 -- PA-FX-FAST of a reply or an error (RFC 6113, 5.4.3), which has no armor
@@ -107,7 +107,7 @@ fast_reply_part m =
     part (codes "PA-FX-FAST") (the (codes "armor") Absent
     ∷ the (codes "server") Absent
     ∷ the (codes "ticket") Absent
-    ∷ the (codes "enc") (sealed m.enc_fast_rep)
+    ∷ the (codes "enc") (encrypted m.enc_fast_rep)
     ∷ [])
 
 -- PA-PAC-OPTIONS (MS-KILE, 2.2.10)
@@ -137,7 +137,7 @@ clear_type in_request (negsuc number) = types.Other
 -- the parts of a value; one that is not judged to be of its type, or of another type, has none
 abbrev pub clear_parts : ClearType → List ℕ → List Part
 clear_parts types.TgsReq octets = one_if (λ v. tgs_req_part (ap_req_of v)) (judged ap_req octets)
-clear_parts types.EncTimestamp octets = one_if (λ v. sealed_part (codes "PA-ENC-TIMESTAMP") (encrypted_data_of v)) (judged encrypted_data octets)
+clear_parts types.EncTimestamp octets = one_if (λ v. encrypted_part (codes "PA-ENC-TIMESTAMP") (encrypted_data_of v)) (judged encrypted_data octets)
 clear_parts types.PwSalt octets = salt_part octets ∷ []
 clear_parts types.EtypeInfo octets = each_if (λ v. etype_info_part (etype_info_entry_of v)) (judged etype_info octets)
 clear_parts types.EtypeInfo2 octets = each_if (λ v. etype_info2_part (etype_info2_entry_of v)) (judged etype_info2 octets)
@@ -145,7 +145,7 @@ clear_parts types.PacRequest octets = one_if pac_request_part (pac_request_in oc
 clear_parts types.ForUser octets = one_if (λ v. for_user_part (pa_for_user_of v)) (judged pa_for_user octets)
 clear_parts types.FastRequest octets = one_if (λ v. fast_request_part (krb_fast_armored_req_of v)) (judged pa_fx_fast_request octets)
 clear_parts types.FastReply octets = one_if (λ v. fast_reply_part (krb_fast_armored_rep_of v)) (judged pa_fx_fast_reply octets)
-clear_parts types.EncryptedChallenge octets = one_if (λ v. sealed_part (codes "PA-ENCRYPTED-CHALLENGE") (encrypted_data_of v)) (judged encrypted_data octets)
+clear_parts types.EncryptedChallenge octets = one_if (λ v. encrypted_part (codes "PA-ENCRYPTED-CHALLENGE") (encrypted_data_of v)) (judged encrypted_data octets)
 clear_parts types.PacOptions octets = one_if (λ v. pac_options_part (pa_pac_options_of v)) (judged pa_pac_options octets)
 clear_parts types.Other octets = []
 
@@ -159,7 +159,7 @@ padata_parts in_request (Some items) = flat_map (item_parts in_request) items
 -- ---- messages
 -- a Ticket (RFC 4120, 5.3)
 abbrev pub ticket_part : Ticket → Part
-ticket_part t = part (codes "Ticket") (the (codes "server") (principal t.realm t.sname) ∷ the (codes "ticket") (sealed t.enc_part) ∷ [])
+ticket_part t = part (codes "Ticket") (the (codes "server") (principal t.realm t.sname) ∷ the (codes "ticket") (encrypted t.enc_part) ∷ [])
 
 -- AS-REQ and TGS-REQ
 abbrev pub kdc_req_parts : KdcReq → List Part

@@ -137,7 +137,7 @@ CaptureRefusalIsOneLine = (form : Form) (counts : CaptureCounts) (place : ℕ) (
 abbrev pub PlainLinesHaveNothingInside : Type 0
 PlainLinesHaveNothingInside = (r : Printed) → record_line Lines r ≡ record_line Lines (record r { inside = None })
 
--- ---- no octet of what is sealed or opaque has a part in what is printed
+-- ---- no octet of what is encrypted or opaque has a part in what is printed
 -- the record of a message, of which its line in each form is made
 abbrev pub CiphersAreNotInRecords : Type 0
 CiphersAreNotInRecords = (m : Message) → message_record (masked m) ≡ message_record m

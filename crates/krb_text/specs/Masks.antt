@@ -1,4 +1,4 @@
--- Messages without what is sealed or opaque: each octet of ciphers, of checksums and of user data is 00, also inside of pre-authentication data, and so is each octet of other pre-authentication data and of the data of errors.
+-- Messages without what is encrypted or opaque: each octet of ciphers, of checksums and of user data is 00, also inside of pre-authentication data, and so is each octet of other pre-authentication data and of the data of errors.
 use Rattle.std.specs.Prelude.{ℕ, ℤ, ◌||◌, Bool, true, false, List, length, map, Option, Some, None}
 use Rattle.std.specs.Option.{option_map}
 use Rattle.krb_file.specs.Fields.{zeros}
@@ -28,33 +28,33 @@ use Rattle.krb_text.specs.declared.clear_type.ClearType.{ClearType}
 use Rattle.krb_text.specs.declared.clear_type.ClearType.TheVariants as types
 
 -- ---- parts
-abbrev pub masked_sealed : EncryptedData → EncryptedData
-masked_sealed e = record e { cipher = zeros (length e.cipher) }
+abbrev pub masked_encrypted : EncryptedData → EncryptedData
+masked_encrypted e = record e { cipher = zeros (length e.cipher) }
 
 abbrev pub masked_checksum : Checksum → Checksum
 masked_checksum c = record c { checksum = zeros (length c.checksum) }
 
 abbrev pub masked_ticket : Ticket → Ticket
-masked_ticket t = record t { enc_part = masked_sealed t.enc_part }
+masked_ticket t = record t { enc_part = masked_encrypted t.enc_part }
 
 abbrev pub masked_req_body : KdcReqBody → KdcReqBody
-masked_req_body b = record b { enc_authorization_data = option_map masked_sealed b.enc_authorization_data; additional_tickets = option_map (map masked_ticket) b.additional_tickets }
+masked_req_body b = record b { enc_authorization_data = option_map masked_encrypted b.enc_authorization_data; additional_tickets = option_map (map masked_ticket) b.additional_tickets }
 
 abbrev pub masked_safe_body : KrbSafeBody → KrbSafeBody
 masked_safe_body b = record b { user_data = zeros (length b.user_data) }
 
 -- ---- pre-authentication data, as values of their terms
-abbrev pub masked_sealed_value : Value encrypted_data → Value encrypted_data
-masked_sealed_value v = (v.0, (v.1.0, (zeros (length v.1.1.0), tt)))
+abbrev pub masked_encrypted_value : Value encrypted_data → Value encrypted_data
+masked_encrypted_value v = (v.0, (v.1.0, (zeros (length v.1.1.0), tt)))
 
 abbrev pub masked_checksum_value : Value checksum → Value checksum
 masked_checksum_value v = (v.0, (zeros (length v.1.0), tt))
 
 abbrev pub masked_ticket_value : Value ticket → Value ticket
-masked_ticket_value v = (v.0, (v.1.0, (v.1.1.0, (masked_sealed_value v.1.1.1.0, tt))))
+masked_ticket_value v = (v.0, (v.1.0, (v.1.1.0, (masked_encrypted_value v.1.1.1.0, tt))))
 
 abbrev pub masked_ap_req_value : Value ap_req → Value ap_req
-masked_ap_req_value v = (v.0, (v.1.0, (v.1.1.0, (masked_ticket_value v.1.1.1.0, (masked_sealed_value v.1.1.1.1.0, tt)))))
+masked_ap_req_value v = (v.0, (v.1.0, (v.1.1.0, (masked_ticket_value v.1.1.1.0, (masked_encrypted_value v.1.1.1.1.0, tt)))))
 
 abbrev pub masked_for_user : Value pa_for_user → Value pa_for_user
 masked_for_user v = (v.0, (v.1.0, (masked_checksum_value v.1.1.0, (v.1.1.1.0, tt))))
@@ -77,10 +77,10 @@ abbrev pub masked_armor : Value krb_fast_armor → Value krb_fast_armor
 masked_armor v = (v.0, (masked_armor_if (is_ap_req_armor v.0) v.1.0, tt))
 
 abbrev pub masked_fast_request : Value pa_fx_fast_request → Value pa_fx_fast_request
-masked_fast_request v = (option_map masked_armor v.0, (masked_checksum_value v.1.0, (masked_sealed_value v.1.1.0, tt)))
+masked_fast_request v = (option_map masked_armor v.0, (masked_checksum_value v.1.0, (masked_encrypted_value v.1.1.0, tt)))
 
 abbrev pub masked_fast_reply : Value pa_fx_fast_reply → Value pa_fx_fast_reply
-masked_fast_reply v = (masked_sealed_value v.0, tt)
+masked_fast_reply v = (masked_encrypted_value v.0, tt)
 
 abbrev pub octets_or_zeros : {A : Type 0} → List ℕ → Option A → List ℕ
 octets_or_zeros octets None = zeros (length octets)
@@ -89,7 +89,7 @@ octets_or_zeros octets (Some value) = octets
 -- by type; what is of another type is opaque
 abbrev pub masked_clear : ClearType → List ℕ → List ℕ
 masked_clear types.TgsReq octets = masked_as ap_req masked_ap_req_value octets
-masked_clear types.EncTimestamp octets = masked_as encrypted_data masked_sealed_value octets
+masked_clear types.EncTimestamp octets = masked_as encrypted_data masked_encrypted_value octets
 masked_clear types.PwSalt octets = octets
 masked_clear types.EtypeInfo octets = octets_or_zeros octets (judged etype_info octets)
 masked_clear types.EtypeInfo2 octets = octets_or_zeros octets (judged etype_info2 octets)
@@ -97,7 +97,7 @@ masked_clear types.PacRequest octets = octets_or_zeros octets (pac_request_in oc
 masked_clear types.ForUser octets = masked_as pa_for_user masked_for_user octets
 masked_clear types.FastRequest octets = masked_as pa_fx_fast_request masked_fast_request octets
 masked_clear types.FastReply octets = masked_as pa_fx_fast_reply masked_fast_reply octets
-masked_clear types.EncryptedChallenge octets = masked_as encrypted_data masked_sealed_value octets
+masked_clear types.EncryptedChallenge octets = masked_as encrypted_data masked_encrypted_value octets
 masked_clear types.PacOptions octets = octets_or_zeros octets (judged pa_pac_options octets)
 masked_clear types.Other octets = zeros (length octets)
 
@@ -114,22 +114,22 @@ abbrev pub masked_kdc_req : KdcReq → KdcReq
 masked_kdc_req m = record m { padata = option_map (map (masked_item true)) m.padata; body = masked_req_body m.body }
 
 abbrev pub masked_kdc_rep : KdcRep → KdcRep
-masked_kdc_rep m = record m { padata = option_map (map (masked_item false)) m.padata; ticket = masked_ticket m.ticket; enc_part = masked_sealed m.enc_part }
+masked_kdc_rep m = record m { padata = option_map (map (masked_item false)) m.padata; ticket = masked_ticket m.ticket; enc_part = masked_encrypted m.enc_part }
 
 abbrev pub masked_ap_req : ApReq → ApReq
-masked_ap_req m = record m { ticket = masked_ticket m.ticket; authenticator = masked_sealed m.authenticator }
+masked_ap_req m = record m { ticket = masked_ticket m.ticket; authenticator = masked_encrypted m.authenticator }
 
 abbrev pub masked_ap_rep : ApRep → ApRep
-masked_ap_rep m = record m { enc_part = masked_sealed m.enc_part }
+masked_ap_rep m = record m { enc_part = masked_encrypted m.enc_part }
 
 abbrev pub masked_krb_safe : KrbSafe → KrbSafe
 masked_krb_safe m = record m { body = masked_safe_body m.body; cksum = masked_checksum m.cksum }
 
 abbrev pub masked_krb_priv : KrbPriv → KrbPriv
-masked_krb_priv m = record m { enc_part = masked_sealed m.enc_part }
+masked_krb_priv m = record m { enc_part = masked_encrypted m.enc_part }
 
 abbrev pub masked_krb_cred : KrbCred → KrbCred
-masked_krb_cred m = record m { tickets = map masked_ticket m.tickets; enc_part = masked_sealed m.enc_part }
+masked_krb_cred m = record m { tickets = map masked_ticket m.tickets; enc_part = masked_encrypted m.enc_part }
 
 -- the data of an error are opaque unless it asks for pre-authentication or says that it failed
 abbrev pub opaque_unless : Bool → Option (List ℕ) → Option (List ℕ)

@@ -23,8 +23,8 @@ line_of octets = text_of Lines octets
 abbrev ticket : List ℕ
 ticket = hex (codes "612B3029 A003020105 A1031B0141 A20E300CA003020102A10530031B0168 A30D300BA003020112A2040402BEEF")
 
-abbrev sealed : List ℕ
-sealed = hex (codes "300BA003020112A2040402BEEF")
+abbrev encrypted : List ℕ
+encrypted = hex (codes "300BA003020112A2040402BEEF")
 
 ap_rep : line_of (hex (codes "6F1D301B A003020105 A10302010F A20F300D A003020112 A2060404DEADBEEF")) ≡ codes "AP-REP enc=18:-:4 notes=[]"
 unfolding digits principal_text closing labelled opening inside_text record_text value_text message_record
@@ -34,23 +34,23 @@ negative_kvno : line_of (hex (codes "6F223020 A003020105 A10302010F A2143012 A00
 unfolding digits principal_text closing labelled opening inside_text record_text value_text message_record
 negative_kvno = refl
 
-ap_req : line_of (hex (codes "6E533051 A003020105 A10302010E A20703050000000000 A32D") ++ ticket ++ hex (codes "A40D") ++ sealed) ≡ codes "AP-REQ server=h@A options=32:00000000 ticket=18:-:2 auth=18:-:2 notes=[]"
+ap_req : line_of (hex (codes "6E533051 A003020105 A10302010E A20703050000000000 A32D") ++ ticket ++ hex (codes "A40D") ++ encrypted) ≡ codes "AP-REQ server=h@A options=32:00000000 ticket=18:-:2 auth=18:-:2 notes=[]"
 unfolding digits principal_text closing labelled opening inside_text record_text value_text message_record
 ap_req = refl
 
-as_rep : line_of (hex (codes "6B5F305D A003020105 A10302010B A3031B0141 A40E300CA003020101A10530031B0175 A52D") ++ ticket ++ hex (codes "A60D") ++ sealed) ≡ codes "AS-REP client=u@A server=h@A padata=- ticket=18:-:2 enc=18:-:2 notes=[]"
+as_rep : line_of (hex (codes "6B5F305D A003020105 A10302010B A3031B0141 A40E300CA003020101A10530031B0175 A52D") ++ ticket ++ hex (codes "A60D") ++ encrypted) ≡ codes "AS-REP client=u@A server=h@A padata=- ticket=18:-:2 enc=18:-:2 notes=[]"
 unfolding digits principal_text closing labelled opening inside_text record_text value_text message_record
 as_rep = refl
 
-tgs_rep : line_of (hex (codes "6D5F305D A003020105 A10302010D A3031B0141 A40E300CA003020101A10530031B0175 A52D") ++ ticket ++ hex (codes "A60D") ++ sealed) ≡ codes "TGS-REP client=u@A server=h@A padata=- ticket=18:-:2 enc=18:-:2 notes=[]"
+tgs_rep : line_of (hex (codes "6D5F305D A003020105 A10302010D A3031B0141 A40E300CA003020101A10530031B0175 A52D") ++ ticket ++ hex (codes "A60D") ++ encrypted) ≡ codes "TGS-REP client=u@A server=h@A padata=- ticket=18:-:2 enc=18:-:2 notes=[]"
 unfolding digits principal_text closing labelled opening inside_text record_text value_text message_record
 tgs_rep = refl
 
-empty_padata : line_of (hex (codes "6B633061 A003020105 A10302010B A2023000 A3031B0141 A40E300CA003020101A10530031B0175 A52D") ++ ticket ++ hex (codes "A60D") ++ sealed) ≡ codes "AS-REP client=u@A server=h@A padata=[] ticket=18:-:2 enc=18:-:2 notes=[4]"
+empty_padata : line_of (hex (codes "6B633061 A003020105 A10302010B A2023000 A3031B0141 A40E300CA003020101A10530031B0175 A52D") ++ ticket ++ hex (codes "A60D") ++ encrypted) ≡ codes "AS-REP client=u@A server=h@A padata=[] ticket=18:-:2 enc=18:-:2 notes=[4]"
 unfolding digits principal_text closing labelled opening inside_text record_text value_text message_record
 empty_padata = refl
 
-high_octet : line_of (hex (codes "6B5F305D A003020105 A10302010B A3031B01E9 A40E300CA003020101A10530031B0175 A52D") ++ ticket ++ hex (codes "A60D") ++ sealed) ≡ codes "AS-REP client=u@\\xe9 server=h@A padata=- ticket=18:-:2 enc=18:-:2 notes=[1]"
+high_octet : line_of (hex (codes "6B5F305D A003020105 A10302010B A3031B01E9 A40E300CA003020101A10530031B0175 A52D") ++ ticket ++ hex (codes "A60D") ++ encrypted) ≡ codes "AS-REP client=u@\\xe9 server=h@A padata=- ticket=18:-:2 enc=18:-:2 notes=[1]"
 unfolding digits principal_text closing labelled opening inside_text record_text value_text message_record
 high_octet = refl
 
@@ -74,11 +74,11 @@ negative_seq_number : safe_with (hex (codes "FF")) ≡ codes "KRB-SAFE size=2 ti
 unfolding digits principal_text closing labelled opening inside_text record_text value_text message_record
 negative_seq_number = refl
 
-krb_priv : line_of (hex (codes "751B3019 A003020105 A103020115 A30D") ++ sealed) ≡ codes "KRB-PRIV enc=18:-:2 notes=[]"
+krb_priv : line_of (hex (codes "751B3019 A003020105 A103020115 A30D") ++ encrypted) ≡ codes "KRB-PRIV enc=18:-:2 notes=[]"
 unfolding digits principal_text closing labelled opening inside_text record_text value_text message_record
 krb_priv = refl
 
-krb_cred : line_of (hex (codes "764C304A A003020105 A103020116 A22F302D") ++ ticket ++ hex (codes "A30D") ++ sealed) ≡ codes "KRB-CRED tickets=1 enc=18:-:2 notes=[]"
+krb_cred : line_of (hex (codes "764C304A A003020105 A103020116 A22F302D") ++ ticket ++ hex (codes "A30D") ++ encrypted) ≡ codes "KRB-CRED tickets=1 enc=18:-:2 notes=[]"
 unfolding digits principal_text closing labelled opening inside_text record_text value_text message_record
 krb_cred = refl
 
@@ -119,7 +119,7 @@ unfolding digits closing labelled opening inside_text part_text judged record_te
 as_req_object = refl
 
 -- an AS-REP of a realm whose one octet is above 7F
-high_octet_object : text_of Json (hex (codes "6B5F305D A003020105 A10302010B A3031B01E9 A40E300CA003020101A10530031B0175 A52D") ++ ticket ++ hex (codes "A60D") ++ sealed) ≡ codes "{\"kind\":\"AS-REP\",\"client\":{\"text\":\"u@\\\\xe9\",\"type\":1,\"type_name\":\"NT-PRINCIPAL\",\"components\":[\"u\"],\"realm\":\"\\\\xe9\"},\"server\":{\"text\":\"h@A\",\"type\":2,\"type_name\":\"NT-SRV-INST\",\"components\":[\"h\"],\"realm\":\"A\"},\"padata\":null,\"ticket\":{\"etype\":18,\"etype_name\":\"aes256-cts-hmac-sha1-96\",\"kvno\":null,\"size\":2},\"enc\":{\"etype\":18,\"etype_name\":\"aes256-cts-hmac-sha1-96\",\"kvno\":null,\"size\":2},\"notes\":[1],\"notes_names\":[\"high-octet\"],\"inside\":[]}"
+high_octet_object : text_of Json (hex (codes "6B5F305D A003020105 A10302010B A3031B01E9 A40E300CA003020101A10530031B0175 A52D") ++ ticket ++ hex (codes "A60D") ++ encrypted) ≡ codes "{\"kind\":\"AS-REP\",\"client\":{\"text\":\"u@\\\\xe9\",\"type\":1,\"type_name\":\"NT-PRINCIPAL\",\"components\":[\"u\"],\"realm\":\"\\\\xe9\"},\"server\":{\"text\":\"h@A\",\"type\":2,\"type_name\":\"NT-SRV-INST\",\"components\":[\"h\"],\"realm\":\"A\"},\"padata\":null,\"ticket\":{\"etype\":18,\"etype_name\":\"aes256-cts-hmac-sha1-96\",\"kvno\":null,\"size\":2},\"enc\":{\"etype\":18,\"etype_name\":\"aes256-cts-hmac-sha1-96\",\"kvno\":null,\"size\":2},\"notes\":[1],\"notes_names\":[\"high-octet\"],\"inside\":[]}"
 unfolding digits principal_text closing labelled opening inside_text part_text judged record_text members json_value names_member message_record rows name_in name_of
 high_octet_object = refl
 
@@ -149,7 +149,7 @@ error_object = refl
 
 -- ---- what is inside
 -- a KRB-CRED of one Ticket
-named_cred : text_of NamedLines (hex (codes "764C304A A003020105 A103020116 A22F302D") ++ ticket ++ hex (codes "A30D") ++ sealed) ≡ codes "KRB-CRED tickets=1 enc=18:aes256-cts-hmac-sha1-96:-:2 notes=[] inside=1 Ticket server=h@A ticket=18:aes256-cts-hmac-sha1-96:-:2"
+named_cred : text_of NamedLines (hex (codes "764C304A A003020105 A103020116 A22F302D") ++ ticket ++ hex (codes "A30D") ++ encrypted) ≡ codes "KRB-CRED tickets=1 enc=18:aes256-cts-hmac-sha1-96:-:2 notes=[] inside=1 Ticket server=h@A ticket=18:aes256-cts-hmac-sha1-96:-:2"
 unfolding digits principal_text closing labelled opening inside_text part_text judged record_text value_text message_record rows name_in name_of
 named_cred = refl
 

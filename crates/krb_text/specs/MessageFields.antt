@@ -17,7 +17,7 @@ use Rattle.krb_msg.specs.declared.message.Message.TheVariants as message
 use Rattle.krb_msg.specs.Types.{pa_data_of}
 use Rattle.krb_registry.specs.declared.registry.Registry.TheVariants as registries
 use Rattle.krb_text.specs.Judged.{methods_in}
-use Rattle.krb_text.specs.Values.{Value as Shown, Number, Numbers, ErrorCode, String, Quoted, Word, Flags, Field, the, if_there, count, sealed, principal, client, address, checksum}
+use Rattle.krb_text.specs.Values.{Value as Shown, Number, Numbers, ErrorCode, String, Quoted, Word, Flags, Field, the, if_there, count, encrypted, principal, client, address, checksum}
 
 -- pre-authentication data is listed by its types
 abbrev pub padata : List PaData → Shown
@@ -46,7 +46,7 @@ kdc_req_fields m =
     ∷ the (codes "etypes") (Numbers registries.EncryptionTypes m.body.etype)
     ∷ the (codes "padata") (if_there padata m.padata)
     ∷ the (codes "addresses") (if_there count m.body.addresses)
-    ∷ the (codes "authdata") (if_there sealed m.body.enc_authorization_data)
+    ∷ the (codes "authdata") (if_there encrypted m.body.enc_authorization_data)
     ∷ the (codes "tickets") (if_there count m.body.additional_tickets)
     ∷ []
 
@@ -56,20 +56,20 @@ kdc_rep_fields m =
     the (codes "client") (principal m.crealm m.cname)
     ∷ the (codes "server") (principal m.ticket.realm m.ticket.sname)
     ∷ the (codes "padata") (if_there padata m.padata)
-    ∷ the (codes "ticket") (sealed m.ticket.enc_part)
-    ∷ the (codes "enc") (sealed m.enc_part)
+    ∷ the (codes "ticket") (encrypted m.ticket.enc_part)
+    ∷ the (codes "enc") (encrypted m.enc_part)
     ∷ []
 
 abbrev pub ap_req_fields : ApReq → List Field
 ap_req_fields m =
     the (codes "server") (principal m.ticket.realm m.ticket.sname)
     ∷ the (codes "options") (Flags registries.ApOptions m.ap_options)
-    ∷ the (codes "ticket") (sealed m.ticket.enc_part)
-    ∷ the (codes "auth") (sealed m.authenticator)
+    ∷ the (codes "ticket") (encrypted m.ticket.enc_part)
+    ∷ the (codes "auth") (encrypted m.authenticator)
     ∷ []
 
 abbrev pub ap_rep_fields : ApRep → List Field
-ap_rep_fields m = the (codes "enc") (sealed m.enc_part) ∷ []
+ap_rep_fields m = the (codes "enc") (encrypted m.enc_part) ∷ []
 
 abbrev pub krb_safe_fields : KrbSafe → List Field
 krb_safe_fields m =
@@ -83,10 +83,10 @@ krb_safe_fields m =
     ∷ []
 
 abbrev pub krb_priv_fields : KrbPriv → List Field
-krb_priv_fields m = the (codes "enc") (sealed m.enc_part) ∷ []
+krb_priv_fields m = the (codes "enc") (encrypted m.enc_part) ∷ []
 
 abbrev pub krb_cred_fields : KrbCred → List Field
-krb_cred_fields m = the (codes "tickets") (count m.tickets) ∷ the (codes "enc") (sealed m.enc_part) ∷ []
+krb_cred_fields m = the (codes "tickets") (count m.tickets) ∷ the (codes "enc") (encrypted m.enc_part) ∷ []
 
 abbrev pub krb_error_fields : KrbError → List Field
 krb_error_fields m =

@@ -7,7 +7,7 @@ use Rattle.krb_msg.specs.Views.{kind_name, kind_of}
 use Rattle.krb_text.specs.declared.form.Form.{Form}
 use Rattle.krb_text.specs.Forms.{record_text, record_line}
 use Rattle.krb_text.specs.Inside.{inside_of}
-use Rattle.krb_text.specs.Values.{Number, Layers, Field, Printed, the, printed, with_inside, with_origin, sealed, principal}
+use Rattle.krb_text.specs.Values.{Number, Layers, Field, Printed, the, printed, with_inside, with_origin, encrypted, principal}
 use Rattle.krb_token.specs.declared.layer.Layer.{Layer}
 pub use Rattle.krb_text.specs.MessageFields.{padata, notes, methods, kdc_req_fields, kdc_rep_fields, ap_req_fields, ap_rep_fields, krb_safe_fields, krb_priv_fields, krb_cred_fields, krb_error_fields, fields_of}
 
@@ -25,7 +25,7 @@ message_line form m = record_line form (message_record m)
 unfoldable pub ticket_record : Ticket → Printed
 ticket_record t =
     printed (codes "Ticket") (the (codes "server") (principal t.realm t.sname)
-    ∷ the (codes "ticket") (sealed t.enc_part)
+    ∷ the (codes "ticket") (encrypted t.enc_part)
     ∷ the (codes "notes") (notes (notes_of_ticket t))
     ∷ [])
 

@@ -10,7 +10,7 @@ use Rattle.krb_registry.specs.declared.registry.Registry.{Registry}
 use Rattle.krb_text.specs.declared.origin.Transport.{Transport}
 use Rattle.krb_token.specs.declared.layer.Layer.{Layer}
 
--- A number has a name if its registry has one. Of what is sealed, of a checksum and of a key, there is the number of octets and none of these.
+-- A number has a name if its registry has one. Of what is encrypted, of a checksum and of a key, there is the number of octets and none of these.
 pub data Value : Type 0 where
   Absent : Value
   NoTicket : Value
@@ -27,7 +27,7 @@ pub data Value : Type 0 where
   Hex : (octets : List ℕ) → Value
   Flags : (registry : Registry) → (bits : ℕ × List ℕ) → Value
   TicketFlags : (flags : ℕ) → Value
-  Sealed : (etype : ℤ) → (kvno : Option ℤ) → (size : ℕ) → Value
+  Encrypted : (etype : ℤ) → (kvno : Option ℤ) → (size : ℕ) → Value
   Principal : (name_type : ℤ) → (components : List (List ℕ)) → (realm : List ℕ) → Value
   Address : (addr_type : ℤ) → (octets : List ℕ) → Value
   Digest : (cksumtype : ℤ) → (size : ℕ) → Value
@@ -80,8 +80,8 @@ if_there value (Some a) = value a
 abbrev pub count : {A : Type 0} → List A → Value
 count values = Number (pos (length values))
 
-abbrev pub sealed : EncryptedData → Value
-sealed e = Sealed e.etype e.kvno (length e.cipher)
+abbrev pub encrypted : EncryptedData → Value
+encrypted e = Encrypted e.etype e.kvno (length e.cipher)
 
 abbrev pub principal : List ℕ → PrincipalName → Value
 principal realm name = Principal name.name_type name.name realm

@@ -8,9 +8,9 @@ ghost use Rattle.krb_msg.specs.Term.{IfPresent};
 ghost use Rattle.krb_padata.specs.Types.{KrbFastArmorLists, etype_info2_entry_of_view, etype_info_entry_of_view, krb_fast_armor_of, krb_fast_armor_view_value, krb_fast_armored_rep_of_view, krb_fast_armored_req_of_view, pa_for_user_of_view, pa_pac_options_of_view};
 ghost use Rattle.krb_registry.specs.declared.registry.Registry.TheVariants.{EncryptionTypes};
 ghost use Rattle.krb_text.specs.Forms.{field, part_text};
-ghost use Rattle.krb_text.specs.Inside.{ap_req_in, etype_info2_part, etype_info_part, fast_reply_part, fast_request_part, for_user_part, one_if, pac_options_part, pac_request_part, salt_part, sealed_part, tgs_req_part, ticket_part};
+ghost use Rattle.krb_text.specs.Inside.{ap_req_in, etype_info2_part, etype_info_part, fast_reply_part, fast_request_part, for_user_part, one_if, pac_options_part, pac_request_part, salt_part, encrypted_part, tgs_req_part, ticket_part};
 ghost use Rattle.krb_text.specs.Judged.{judged};
-ghost use Rattle.krb_text.specs.Values.{Named, Number, if_there, principal, sealed};
+ghost use Rattle.krb_text.specs.Values.{Named, Number, if_there, principal, encrypted};
 ghost use Rattle.krb_text.specs.inner.Parts.{Tells, separator};
 
 use crate::field::put_closing;
@@ -186,7 +186,7 @@ fn put_ticket_fields(
     requires { IfPresent ApReqLists req.now }
     ensures { let seen = option_map ap_req_view_value req.now in OnOk result (text.new ≡ text.old
         ++ field form (codes "server") (if_there (λ v. principal (ap_req_of v).ticket.realm (ap_req_of v).ticket.sname) seen)
-        ++ field form (codes "ticket") (if_there (λ v. sealed (ap_req_of v).ticket.enc_part) seen)) }
+        ++ field form (codes "ticket") (if_there (λ v. encrypted (ap_req_of v).ticket.enc_part) seen)) }
 {
     match req {
         None => {
@@ -212,42 +212,42 @@ fn put_armor_fields(
     ensures { let seen = option_map krb_fast_armor_of (option_map krb_fast_armor_view_value armor.now) in OnOk result (text.new ≡ text.old
         ++ field form (codes "armor") (if_there (λ a. Number a.armor_type) seen)
         ++ field form (codes "server") (if_there (λ v. principal (ap_req_of v).ticket.realm (ap_req_of v).ticket.sname) (ap_req_in seen))
-        ++ field form (codes "ticket") (if_there (λ v. sealed (ap_req_of v).ticket.enc_part) (ap_req_in seen))) }
+        ++ field form (codes "ticket") (if_there (λ v. encrypted (ap_req_of v).ticket.enc_part) (ap_req_in seen))) }
 {
     put_armor_type_field(text, form, armor)?;
     put_ticket_fields(text, form, &ap_req_of_armor(armor))
 }
 
-/// Appends the part of what is sealed.
+/// Appends the part of what is encrypted.
 #[tactic(auto, unfolding(crate::specs::Forms::part_text))]
-fn put_sealed_part(
+fn put_encrypted_part(
     text: &mut TextBuffer,
     at: PartPlace,
     kind: &str,
     seen: &EncryptedDataView<'_>,
 ) -> Result<(), AllocError>
-    ensures { OnOk result (text.new ≡ text.old ++ separator at.form at.told ++ part_text at.form (sealed_part kind.now (encrypted_data_of_view seen.now))) }
+    ensures { OnOk result (text.new ≡ text.old ++ separator at.form at.told ++ part_text at.form (encrypted_part kind.now (encrypted_data_of_view seen.now))) }
 {
     put_part_opening(text, at, kind)?;
     put_field!(text, at.form, "enc": seen)?;
     put_closing(text, at.form)
 }
 
-/// Appends the part of octets that are all of what is sealed, and returns whether any was told by
+/// Appends the part of octets that are all of what is encrypted, and returns whether any was told by
 /// now: PA-ENC-TIMESTAMP (RFC 4120, 5.2.7.2) and PA-ENCRYPTED-CHALLENGE (RFC 6113, 5.4.6).
-pub(crate) fn put_sealed(
+pub(crate) fn put_encrypted(
     text: &mut TextBuffer,
     at: PartPlace,
     kind: &str,
     octets: &[u8],
 ) -> Result<bool, AllocError>
     requires { length octets.now < 2 ^ 31 }
-    ensures { IfOk result (λ by_now. Tells at.form (one_if (λ v. sealed_part kind.now (encrypted_data_of v)) (judged encrypted_data octets.now)) at.told text.old by_now text.new) }
+    ensures { IfOk result (λ by_now. Tells at.form (one_if (λ v. encrypted_part kind.now (encrypted_data_of v)) (judged encrypted_data octets.now)) at.told text.old by_now text.new) }
 {
     match view_judged::<EncryptedData>(octets) {
         None => Ok(at.told),
         Some(seen) => {
-            put_sealed_part(text, at, kind, &seen)?;
+            put_encrypted_part(text, at, kind, &seen)?;
             Ok(true)
         }
     }

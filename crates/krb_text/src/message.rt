@@ -6,7 +6,7 @@ ghost use Rattle.krb_msg.specs.ViewValues.{MessageLists, message_of_view};
 ghost use Rattle.krb_registry.specs.declared.registry.Registry.TheVariants as registries;
 ghost use Rattle.krb_text.specs.Forms.{ending, field, fields_text};
 ghost use Rattle.krb_text.specs.Messages.{padata, kdc_req_fields, kdc_rep_fields, ap_req_fields, ap_rep_fields, krb_safe_fields, krb_priv_fields, krb_cred_fields, fields_of, message_record, message_text, message_line, message_line_from, message_origin};
-ghost use Rattle.krb_text.specs.Values.{Flags, Number, Numbers, String as Escaped, Word, count, if_there, principal, sealed};
+ghost use Rattle.krb_text.specs.Values.{Flags, Number, Numbers, String as Escaped, Word, count, if_there, principal, encrypted};
 
 use crate::error::put_krb_error;
 use crate::field::put_opening;
@@ -67,7 +67,7 @@ fn put_kdc_req_last_fields(
         ++ field form (codes "etypes") (Numbers registries.EncryptionTypes seen.body.etype)
         ++ field form (codes "padata") (if_there padata seen.padata)
         ++ field form (codes "addresses") (if_there count seen.body.addresses)
-        ++ field form (codes "authdata") (if_there sealed seen.body.enc_authorization_data)
+        ++ field form (codes "authdata") (if_there encrypted seen.body.enc_authorization_data)
         ++ field form (codes "tickets") (if_there count seen.body.additional_tickets)) }
 {
     let body: &KdcReqBodyView<'_> = &req.body;

@@ -4,9 +4,9 @@ ghost use Rattle.std.specs.Prelude.{◌≡◌, ◌++◌, OnOk, codes, decimal, l
 ghost use Rattle.std.specs.Fmt.{signed_decimal};
 ghost use Rattle.krb_msg.specs.Types.{checksum_of_view, encrypted_data_of_view, host_address_of_view};
 ghost use Rattle.krb_registry.specs.declared.registry.Registry.TheVariants.{EncryptionTypes};
-ghost use Rattle.krb_text.specs.Forms.{digest_object, address_object, name_string, or_null, sealed_object};
+ghost use Rattle.krb_text.specs.Forms.{digest_object, address_object, name_string, or_null, encrypted_object};
 ghost use Rattle.krb_text.specs.Text.{or_dash};
-ghost use Rattle.krb_text.specs.Values.{Named, Sealed as IsSealed, address, checksum, sealed};
+ghost use Rattle.krb_text.specs.Values.{Named, Encrypted as IsEncrypted, address, checksum, encrypted};
 
 use crate::escape::put_hex;
 use crate::item::{put_name_member, put_name_string, put_named};
@@ -57,9 +57,9 @@ impl Shown for Numbered {
     }
 }
 
-/// What is sealed: its encryption type, the version of its key, and how many octets it has.
+/// What is encrypted: its encryption type, the version of its key, and how many octets it has.
 #[derive(Clone, Copy)]
-pub struct Sealed {
+pub struct Encrypted {
     /// The number of the encryption type.
     pub etype: i64,
     /// The version of the key, if it is there.
@@ -68,13 +68,13 @@ pub struct Sealed {
     pub size: u64,
 }
 
-impl Sealed {
+impl Encrypted {
     /// Returns what is shown of encrypted data.
     #[inline(always)]
-    pub fn of(viewed: &EncryptedDataView<'_>) -> Sealed
-        ensures { IsSealed result.etype result.kvno result.size ≡ sealed (encrypted_data_of_view viewed.now) }
+    pub fn of(viewed: &EncryptedDataView<'_>) -> Encrypted
+        ensures { IsEncrypted result.etype result.kvno result.size ≡ encrypted (encrypted_data_of_view viewed.now) }
     {
-        Sealed {
+        Encrypted {
             etype: viewed.etype,
             kvno: viewed.kvno,
             size: viewed.cipher.len() as u64,
@@ -112,9 +112,9 @@ fn put_size_end(object: &mut TextBuffer, size: u64) -> Result<(), AllocError>
     object.push_str("}")
 }
 
-/// Appends what an object has of what is sealed, up to its size.
-fn put_sealed_start(object: &mut TextBuffer, sealed: &Sealed) -> Result<(), AllocError>
-    ensures { OnOk result (object.new ≡ object.old ++ codes "{\"etype\":" ++ signed_decimal sealed.now.etype ++ codes ",\"etype_name\":" ++ name_string EncryptionTypes sealed.now.etype ++ codes ",\"kvno\":" ++ or_null signed_decimal sealed.now.kvno) }
+/// Appends what an object has of what is encrypted, up to its size.
+fn put_encrypted_start(object: &mut TextBuffer, encrypted: &Encrypted) -> Result<(), AllocError>
+    ensures { OnOk result (object.new ≡ object.old ++ codes "{\"etype\":" ++ signed_decimal encrypted.now.etype ++ codes ",\"etype_name\":" ++ name_string EncryptionTypes encrypted.now.etype ++ codes ",\"kvno\":" ++ or_null signed_decimal encrypted.now.kvno) }
 {
     let registry = Registry::EncryptionTypes;
     put_number_and_name(
@@ -122,22 +122,22 @@ fn put_sealed_start(object: &mut TextBuffer, sealed: &Sealed) -> Result<(), Allo
         "{\"etype\":",
         ",\"etype_name\":",
         registry,
-        sealed.etype,
+        encrypted.etype,
     )?;
-    put_kvno_member(object, sealed.kvno)
+    put_kvno_member(object, encrypted.kvno)
 }
 
-/// Appends what an object has of what is sealed.
-fn put_sealed_object(object: &mut TextBuffer, sealed: &Sealed) -> Result<(), AllocError>
-    ensures { OnOk result (object.new ≡ object.old ++ sealed_object sealed.now.etype sealed.now.kvno sealed.now.size) }
+/// Appends what an object has of what is encrypted.
+fn put_encrypted_object(object: &mut TextBuffer, encrypted: &Encrypted) -> Result<(), AllocError>
+    ensures { OnOk result (object.new ≡ object.old ++ encrypted_object encrypted.now.etype encrypted.now.kvno encrypted.now.size) }
 {
-    put_sealed_start(object, sealed)?;
-    put_size_end(object, sealed.size)
+    put_encrypted_start(object, encrypted)?;
+    put_size_end(object, encrypted.size)
 }
 
 /// The encryption type, the version of the key or `-`, and the number of octets, with `:` between.
-impl Shown for Sealed {
-    ghost shown = { λ s. IsSealed s.etype s.kvno s.size };
+impl Shown for Encrypted {
+    ghost shown = { λ s. IsEncrypted s.etype s.kvno s.size };
 
     #[tactic(auto, unfolding(crate::specs::Forms::value_text))]
     fn put_text(&self, line: &mut TextBuffer, names: bool) -> Result<(), AllocError> {
@@ -151,21 +151,21 @@ impl Shown for Sealed {
     #[tactic(auto, unfolding(crate::specs::Forms::members, crate::specs::Forms::json_value, crate::specs::Forms::names_member))]
     fn put_members(&self, object: &mut TextBuffer, begin: &str) -> Result<(), AllocError> {
         put_begin(object, begin)?;
-        put_sealed_object(object, self)
+        put_encrypted_object(object, self)
     }
 }
 
 impl<'a> Shown for EncryptedDataView<'a> {
-    ghost shown = { λ seen. sealed (encrypted_data_of_view seen) };
+    ghost shown = { λ seen. encrypted (encrypted_data_of_view seen) };
 
     #[inline(always)]
     fn put_text(&self, line: &mut TextBuffer, names: bool) -> Result<(), AllocError> {
-        Sealed::of(self).put_text(line, names)
+        Encrypted::of(self).put_text(line, names)
     }
 
     #[inline(always)]
     fn put_members(&self, object: &mut TextBuffer, begin: &str) -> Result<(), AllocError> {
-        Sealed::of(self).put_members(object, begin)
+        Encrypted::of(self).put_members(object, begin)
     }
 }
 

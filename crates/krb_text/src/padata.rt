@@ -12,7 +12,7 @@ ghost use Rattle.krb_text.specs.Judged.{judged};
 ghost use Rattle.krb_text.specs.declared.clear_type.ClearType.TheVariants.{PacRequest};
 ghost use Rattle.krb_text.specs.inner.Parts.{Tells};
 
-use crate::clear::{put_pac_request, put_salt, put_sealed};
+use crate::clear::{put_pac_request, put_salt, put_encrypted};
 use crate::clear_type::ClearType;
 use crate::form::Form;
 use crate::list::count_items;
@@ -79,7 +79,7 @@ fn put_value(
     let challenge = "PA-ENCRYPTED-CHALLENGE";
     match kind {
         ClearType::TgsReq => put_whole::<ApReq>(text, at, octets),
-        ClearType::EncTimestamp => put_sealed(text, at, "PA-ENC-TIMESTAMP", octets),
+        ClearType::EncTimestamp => put_encrypted(text, at, "PA-ENC-TIMESTAMP", octets),
         ClearType::PwSalt => {
             put_salt(text, at, octets)?;
             Ok(true)
@@ -90,7 +90,7 @@ fn put_value(
         ClearType::ForUser => put_whole::<PaForUser>(text, at, octets),
         ClearType::FastRequest => put_whole::<PaFxFastRequest>(text, at, octets),
         ClearType::FastReply => put_whole::<PaFxFastReply>(text, at, octets),
-        ClearType::EncryptedChallenge => put_sealed(text, at, challenge, octets),
+        ClearType::EncryptedChallenge => put_encrypted(text, at, challenge, octets),
         ClearType::PacOptions => put_whole::<PaPacOptions>(text, at, octets),
         ClearType::Other => Ok(told),
     }

@@ -14,7 +14,7 @@ use krb_msg::{TicketView, notes_of_ticket};
 use std::alloc::AllocError;
 
 /// Appends a Ticket (RFC 4120, 5.3) that comes from an origin by a view of it, as a line or an
-/// object with its line feed: its server, what is sealed in it, and its notes.
+/// object with its line feed: its server, what is encrypted in it, and its notes.
 #[tactic(auto, unfolding(crate::specs::Forms::record_text, crate::specs::Messages::ticket_record))]
 pub fn put_ticket(
     text: &mut TextBuffer,

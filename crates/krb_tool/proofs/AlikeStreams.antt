@@ -1,4 +1,4 @@
--- Streams that differ in what is not sealed alone are decoded alike.
+-- Streams that differ in what is not encrypted alone are decoded alike.
 use Rattle.std.proofs.Common.{◌≡◌, ℕ, ◌+◌, List, [], ◌∷◌, ◌++◌, length, map, drop, Option, Some, None, refl, sym, ◌∙◌, ap, arith, append_assoc, le-ltb}
 use Rattle.std.specs.List.{AllByRecursion, flat_map}
 use Rattle.std.proofs.Math.Seq.{drop-append-add}
@@ -13,43 +13,43 @@ use Rattle.krb_msg.proofs.Streams.{frames-frame}
 use Rattle.krb_frame.specs.Decoded.{frames_size}
 use Rattle.krb_frame.specs.Frame.{framed}
 use Rattle.krb_judge.proofs.Slices.{message_not_refused}
-use Rattle.krb_json.specs.Laws.{IsSpelled, UnsealedChangesNothing}
+use Rattle.krb_json.specs.Laws.{IsSpelled, UnencryptedChangesNothing}
 use Rattle.krb_json.specs.Lines.{line_of}
-use Rattle.krb_json.specs.Unsealed.{unsealed_in}
+use Rattle.krb_json.specs.Unencrypted.{unencrypted_in}
 use Rattle.krb_tool.specs.Conversions.{Converted, after_text}
-use Rattle.krb_tool.specs.Decoding.{Ending, All, Unsealed, ending_at, line_and, lines_after, decoded, decoded_whole}
-use Rattle.krb_tool.specs.Laws.{AreAlike, UnsealedIsNotDecoded}
+use Rattle.krb_tool.specs.Decoding.{Ending, All, Unencrypted, ending_at, line_and, lines_after, decoded, decoded_whole}
+use Rattle.krb_tool.specs.Laws.{AreAlike, UnencryptedIsNotDecoded}
 use Rattle.krb_tool.specs.Paths.{found_path, frame_path, last_octets}
 use Rattle.krb_tool.proofs.EncodedMessages.{is_message}
 use Rattle.krb_tool.proofs.WholeRuns.{whole-short}
 
 -- ---- a line
--- that of a message before others, or none if it is not sealed
-shown : (number : ℕ) → Message → (unsealed : Option (List ℕ)) → Converted Ending → Converted Ending
+-- that of a message before others, or none if it is not encrypted
+shown : (number : ℕ) → Message → (unencrypted : Option (List ℕ)) → Converted Ending → Converted Ending
 shown number m None others = after_text (line_of m) others
-shown number m (Some path) others = record { text = []; end = Unsealed number path }
+shown number m (Some path) others = record { text = []; end = Unencrypted number path }
 
-line-shown : (number : ℕ) (octets : List ℕ) (unsealed : Option (List ℕ)) (others : Converted Ending) → line_and number octets unsealed others ≡ shown number (message_of_der octets) unsealed others
+line-shown : (number : ℕ) (octets : List ℕ) (unencrypted : Option (List ℕ)) (others : Converted Ending) → line_and number octets unencrypted others ≡ shown number (message_of_der octets) unencrypted others
 unfolding shown
 line-shown number octets None others = refl
 line-shown number octets (Some path) others = refl
 
-message-shown : (profile : Profile) (limit number : ℕ) (m : Message) (others : Converted Ending) → IsSpelled profile limit m → line_and number (message_der m) (unsealed_in (message_of_der (message_der m))) others ≡ shown number m (unsealed_in m) others
+message-shown : (profile : Profile) (limit number : ℕ) (m : Message) (others : Converted Ending) → IsSpelled profile limit m → line_and number (message_der m) (unencrypted_in (message_of_der (message_der m))) others ≡ shown number m (unencrypted_in m) others
 message-shown profile limit number m others s =
-    line-shown number (message_der m) (unsealed_in (message_of_der (message_der m))) others
-    ∙ ap (λ n. shown number n (unsealed_in n) others) (message_of_der_is_message profile m s.in_profile)
+    line-shown number (message_der m) (unencrypted_in (message_of_der (message_der m))) others
+    ∙ ap (λ n. shown number n (unencrypted_in n) others) (message_of_der_is_message profile m s.in_profile)
 
-shown-alike : (number : ℕ) (m other : Message) (unsealed : Option (List ℕ)) (after others : Converted Ending) → (unsealed ≡ None → line_of m ≡ line_of other) → after ≡ others → shown number m unsealed after ≡ shown number other unsealed others
+shown-alike : (number : ℕ) (m other : Message) (unencrypted : Option (List ℕ)) (after others : Converted Ending) → (unencrypted ≡ None → line_of m ≡ line_of other) → after ≡ others → shown number m unencrypted after ≡ shown number other unencrypted others
 unfolding shown
 shown-alike number m other None after others same e = (λ i. after_text (same refl i) (e i))
 shown-alike number m other (Some path) after others same e = refl
 
-module _ (law : UnsealedChangesNothing) (profile : Profile) (limit : ℕ) where
-  line-alike : (number : ℕ) (pair : Message × Message) (after others : Converted Ending) → AreAlike profile limit pair → after ≡ others → line_and number (message_der pair.0) (unsealed_in (message_of_der (message_der pair.0))) after ≡ line_and number (message_der pair.1) (unsealed_in (message_of_der (message_der pair.1))) others
+module _ (law : UnencryptedChangesNothing) (profile : Profile) (limit : ℕ) where
+  line-alike : (number : ℕ) (pair : Message × Message) (after others : Converted Ending) → AreAlike profile limit pair → after ≡ others → line_and number (message_der pair.0) (unencrypted_in (message_of_der (message_der pair.0))) after ≡ line_and number (message_der pair.1) (unencrypted_in (message_of_der (message_der pair.1))) others
   line-alike number pair after others a e =
       message-shown profile limit number pair.0 after a.first
-      ∙ shown-alike number pair.0 pair.1 (unsealed_in pair.0) after others (λ none. ap (λ text. text ++ 10 ∷ []) (law.texts pair.0 pair.1 a.alike none)) e
-      ∙ ap (λ unsealed. shown number pair.1 unsealed others) (law.paths pair.0 pair.1 a.alike)
+      ∙ shown-alike number pair.0 pair.1 (unencrypted_in pair.0) after others (λ none. ap (λ text. text ++ 10 ∷ []) (law.texts pair.0 pair.1 a.alike none)) e
+      ∙ ap (λ unencrypted. shown number pair.1 unencrypted others) (law.paths pair.0 pair.1 a.alike)
       ∙ sym (message-shown profile limit number pair.1 others a.second)
 
   lines-alike : (before : ℕ) (pairs : List (Message × Message)) (rest : List (List ℕ)) (end : Ending) → AllByRecursion (AreAlike profile limit) pairs → lines_after before (map (λ p. message_der p.0) pairs ++ rest) end ≡ lines_after before (map (λ p. message_der p.1) pairs ++ rest) end
@@ -102,7 +102,7 @@ seconds profile limit [] each = tt
 seconds profile limit (pair ∷ pairs) each = (each.0.second, seconds profile limit pairs each.1)
 
 -- ---- the law
-module _ (law : UnsealedChangesNothing) (profile : Profile) (limit : ℕ) where
+module _ (law : UnencryptedChangesNothing) (profile : Profile) (limit : ℕ) where
   streams-alike : (pairs : List (Message × Message)) (rest : List ℕ) → AllByRecursion (AreAlike profile limit) pairs → decoded profile limit (flat_map (λ p. framed (message_der p.0)) pairs ++ rest) ≡ decoded profile limit (flat_map (λ p. framed (message_der p.1)) pairs ++ rest)
   streams-alike pairs rest each =
       let after : Frames = frames (messages profile) limit rest in
@@ -114,7 +114,7 @@ module _ (law : UnsealedChangesNothing) (profile : Profile) (limit : ℕ) where
       ∙ ap (λ n. lines_after 0 second (ending_at n after.end path)) (lengths-alike law profile limit pairs after.contents)
       ∙ sym (decoded-before profile limit (λ p. p.1) pairs rest (seconds profile limit pairs each))
 
-  message-whole : (m : Message) → IsSpelled profile limit m → decoded_whole profile limit (message_der m) ≡ line_and 1 (message_der m) (unsealed_in (message_of_der (message_der m))) (record { text = []; end = All })
+  message-whole : (m : Message) → IsSpelled profile limit m → decoded_whole profile limit (message_der m) ≡ line_and 1 (message_der m) (unencrypted_in (message_of_der (message_der m))) (record { text = []; end = All })
   message-whole m s =
       whole-short profile limit (message_der m) None (le-ltb limit (length (message_der m)) s.short) (sym (message_not_refused profile m (record { in_profile = s.in_profile; form = refl })))
 
@@ -124,5 +124,5 @@ module _ (law : UnsealedChangesNothing) (profile : Profile) (limit : ℕ) where
       ∙ line-alike law profile limit 1 pair (record { text = []; end = All }) (record { text = []; end = All }) a refl
       ∙ sym (message-whole pair.1 a.second)
 
-pub unsealed_is_not_decoded : UnsealedChangesNothing → UnsealedIsNotDecoded
-unsealed_is_not_decoded law = record { streams = λ profile limit. streams-alike law profile limit; messages = λ profile limit. messages-alike law profile limit }
+pub unencrypted_is_not_decoded : UnencryptedChangesNothing → UnencryptedIsNotDecoded
+unencrypted_is_not_decoded law = record { streams = λ profile limit. streams-alike law profile limit; messages = λ profile limit. messages-alike law profile limit }

@@ -20,7 +20,7 @@ use Rattle.krb_frame.specs.declared.decoder.Status.TheVariants as status
 use Rattle.krb_frame.specs.declared.pass.Passed.{Passed}
 use Rattle.krb_frame.proofs.Ends.{none_found, refused_end, found_of, refusal_ends}
 use Rattle.krb_tool.specs.Listing.{StopsInPiece}
-use Rattle.krb_tool.specs.Decoding.{Unsealed, ending_of, ending_at, decoded, AllAreSealed, GoesOn}
+use Rattle.krb_tool.specs.Decoding.{Unencrypted, ending_of, ending_at, decoded, AllAreEncrypted, GoesOn}
 use Rattle.krb_tool.specs.Listing.{IsNotRefused}
 use Rattle.krb_tool.specs.Paths.{frame_path, end_path}
 use Rattle.krb_tool.specs.declared.decode_run.DecodeEnd.{DecodeEnd}
@@ -28,10 +28,10 @@ use Rattle.krb_tool.specs.declared.decode_run.DecodeEnd.TheVariants as ends
 use Rattle.krb_tool.specs.declared.json_lines.JsonLines.{JsonLines}
 use Rattle.krb_tool.specs.declared.json_lines.JsonLister.{JsonLister}
 use Rattle.krb_tool.specs.inner.Conversions.{IsBeginning}
-use Rattle.krb_tool.specs.inner.JsonLines.{octets_line, AddsLine, KeepsPath, PutsLine, PutsReady, HasListed, request_of, MeetsUnsealed, IsRefusedAfter, decoding_rules, decoding, StopsInside, PutsPassed}
+use Rattle.krb_tool.specs.inner.JsonLines.{octets_line, AddsLine, KeepsPath, PutsLine, PutsReady, HasListed, request_of, MeetsUnencrypted, IsRefusedAfter, decoding_rules, decoding, StopsInside, PutsPassed}
 use Rattle.krb_tool.specs.inner.Pieces.{NeedsMore, IsFed, Goes, TakesPiece, WaitsAfter, IsLastOf, listing_of}
 use Rattle.krb_tool.specs.inner.Streams.{Taken, with_piece, Begins, EndsListing, Feeds}
-use Rattle.krb_tool.proofs.DecodedFrames.{all_sealed-one_more, one_sealed, stream_ending, decoded-begins, decoded-all, decoded-unsealed}
+use Rattle.krb_tool.proofs.DecodedFrames.{all_encrypted-one_more, one_encrypted, stream_ending, decoded-begins, decoded-all, decoded-unencrypted}
 use Rattle.krb_tool.proofs.LastFrames.{more_not_refused, path-at}
 use Rattle.krb_tool.proofs.DecoderResults.{is_status, more_ready, memory_more, memory_refused, some_used, cleared_is, cleared_waits}
 use Rattle.krb_tool.proofs.Pieces.{together, IsFed-used, IsFed-frame, Feeds-stopped}
@@ -59,11 +59,11 @@ module _ (lister : JsonLister) (taken : Taken) (w : WaitsAfter decoding lister t
   contents_read : (frames_of lister taken.octets).contents ≡ w.listed.contents
   contents_read = ap (λ f. f.contents) found_read ∙ ap (λ c. w.listed.contents ++ c) none_ready ∙ append-nil w.listed.contents
 
-  -- so far nothing is refused, and no message is unsealed
+  -- so far nothing is refused, and no message is unencrypted
   goes_on : GoesOn lister.decoder.profile lister.decoder.limit taken.octets
   goes_on = record {
     accepted = subst IsNotRefused (sym (ap (λ f. f.end) found_read)) not_refused;
-    sealed = subst AllAreSealed (sym contents_read) w.listed.sealed;
+    encrypted = subst AllAreEncrypted (sym contents_read) w.listed.encrypted;
   }
 
   -- the lines so far are the decoding, or begin it
@@ -71,9 +71,9 @@ module _ (lister : JsonLister) (taken : Taken) (w : WaitsAfter decoding lister t
   Begins-waits =
       let text : List ℕ = taken.written ++ lister.lines.text.items in
       record {
-        lines = λ more. decoded-begins lister.decoder.profile lister.decoder.limit (taken.octets ++ more) w.listed.contents w.listed.sealed (frames_of lister ((lister.decoder).octets ++ more)).contents text (ap (λ f. f.contents) (w.listed.decoded.goes_on more)) w.listed.lines;
+        lines = λ more. decoded-begins lister.decoder.profile lister.decoder.limit (taken.octets ++ more) w.listed.contents w.listed.encrypted (frames_of lister ((lister.decoder).octets ++ more)).contents text (ap (λ f. f.contents) (w.listed.decoded.goes_on more)) w.listed.lines;
         rest = [];
-        listing = append-nil text ∙ w.listed.lines ∙ sym (decoded-all lister.decoder.profile lister.decoder.limit taken.octets w.listed.contents w.listed.sealed contents_read).0;
+        listing = append-nil text ∙ w.listed.lines ∙ sym (decoded-all lister.decoder.profile lister.decoder.limit taken.octets w.listed.contents w.listed.encrypted contents_read).0;
       }
 
 -- ---- an octet of a piece is refused
@@ -97,13 +97,13 @@ stops-refused old new piece taken short w f =
         end = r.1;
         stops = record { prefix = taken.octets; piece = piece; parts = refl; goes_on = subst (λ q. GoesOn q.profile q.limit taken.octets) (sym f.same) (goes_on old taken w); short = short };
       }),
-      decoded-begins new.decoder.profile new.decoder.limit (taken.octets ++ piece) h.contents h.sealed (current_of new).contents (taken.written ++ new.lines.text.items) (ap (λ x. x.contents) (same ∙ read)) h.lines,
+      decoded-begins new.decoder.profile new.decoder.limit (taken.octets ++ piece) h.contents h.encrypted (current_of new).contents (taken.written ++ new.lines.text.items) (ap (λ x. x.contents) (same ∙ read)) h.lines,
     )
 
--- ---- a message of a piece is not sealed
-module _ (initial between new : JsonLister) (piece rest : List ℕ) (short : length piece ≤ 65536) (i : IsFed decoding initial piece rest between) (m : MeetsUnsealed between rest new) where
-  stops-unsealed : (taken : Taken) → WaitsAfter decoding initial taken → decoding.Stops new (with_piece taken piece) × IsBeginning (taken.written ++ new.lines.text.items) (decoded new.decoder.profile new.decoder.limit (taken.octets ++ piece)).text
-  stops-unsealed taken w =
+-- ---- a message of a piece is not encrypted
+module _ (initial between new : JsonLister) (piece rest : List ℕ) (short : length piece ≤ 65536) (i : IsFed decoding initial piece rest between) (m : MeetsUnencrypted between rest new) where
+  stops-unencrypted : (taken : Taken) → WaitsAfter decoding initial taken → decoding.Stops new (with_piece taken piece) × IsBeginning (taken.written ++ new.lines.text.items) (decoded new.decoder.profile new.decoder.limit (taken.octets ++ piece)).text
+  stops-unencrypted taken w =
       let used : ℕ = length piece - length rest + m.used in
       let h : HasListed between (taken.octets ++ take (length piece - length rest) piece) taken.written = i.listed taken.octets taken.written w.listed in
       let same_stream : (taken.octets ++ take (length piece - length rest) piece) ++ take m.used rest ≡ taken.octets ++ take used piece = together piece rest taken.octets m.used i.place in
@@ -118,21 +118,21 @@ module _ (initial between new : JsonLister) (piece rest : List ℕ) (short : len
           contents = m.contents;
           others = others;
           all = all;
-          sealed = h.sealed;
+          encrypted = h.encrypted;
           path = m.keeps.path;
-          unsealed = m.keeps.unsealed;
+          unencrypted = m.keeps.unencrypted;
           kept = m.keeps.kept;
           lines = lines;
           counted = m.keeps.messages ∙ h.counted;
           few = omega (arith, i.few, m.keeps.messages, w.few, short);
           stops = record { prefix = taken.octets; piece = piece; parts = refl; goes_on = subst (λ q. GoesOn q.profile q.limit taken.octets) (sym same) (goes_on initial taken w); short = short };
         }),
-        decoded-begins new.decoder.profile new.decoder.limit (taken.octets ++ piece) h.contents h.sealed (m.contents ∷ others) (taken.written ++ new.lines.text.items) all lines,
+        decoded-begins new.decoder.profile new.decoder.limit (taken.octets ++ piece) h.contents h.encrypted (m.contents ∷ others) (taken.written ++ new.lines.text.items) all lines,
       )
 
   -- a piece was fed
-  pub Feeds-unsealed : Feeds decoding.rules (listing_of decoding initial) piece (listing_of decoding new) false
-  Feeds-unsealed = Feeds-stopped decoding (m.same ∙ i.same) stops-unsealed
+  pub Feeds-unencrypted : Feeds decoding.rules (listing_of decoding initial) piece (listing_of decoding new) false
+  Feeds-unencrypted = Feeds-stopped decoding (m.same ∙ i.same) stops-unencrypted
 
 -- ---- the end
 -- No piece follows. What was read has the frames of a stream that is listed, of which the lister has none.
@@ -173,13 +173,13 @@ done-refused lister taken left r =
       stops = r.stops;
     }
 
--- of a stream whose messages are sealed
+-- of a stream whose messages are encrypted
 ends-done : (lister new : JsonLister) (ended : DecodeEnd) (taken : Taken) (left : Option (List ℕ)) → new.lines.text.items ≡ lister.lines.text.items → ending_of ended ≡ ending_at lister.lines.messages (current_of lister).end (frame_path lister.decoder.profile lister.decoder.octets) → IsDone lister taken left → EndsListing (decoding_rules (decoding.request lister)) taken.octets (taken.written ++ new.lines.text.items) left ended
 unfolding stream_ending
 ends-done lister new ended taken left text is d =
     let read : frames_of lister taken.octets ≡ after_frames d.listed.contents (current_of lister) = d.same_frames ∙ frames-listed lister d.stream taken.written d.listed in
     let contents : (frames_of lister taken.octets).contents ≡ d.listed.contents = ap (λ f. f.contents) read ∙ ap (λ c. d.listed.contents ++ c) d.none ∙ append-nil d.listed.contents in
-    let all = decoded-all lister.decoder.profile lister.decoder.limit taken.octets d.listed.contents d.listed.sealed contents in
+    let all = decoded-all lister.decoder.profile lister.decoder.limit taken.octets d.listed.contents d.listed.encrypted contents in
     let counted : lister.lines.messages ≡ length (frames_of lister taken.octets).contents = d.listed.counted ∙ ap length (sym contents) in
     let path : Option (List ℕ) = frame_path lister.decoder.profile lister.decoder.octets in
     record {
@@ -198,27 +198,27 @@ ends-done lister new ended taken left text is d =
 not_some : {A : Type 0} {value : A} → None ≡ Some value → ⊥
 not_some e = cc
 
--- nothing is unsealed
-pub ends-sealed : (lister new : JsonLister) (ended : DecodeEnd) → lister.lines.unsealed ≡ None → new.lines.text.items ≡ lister.lines.text.items → ending_of ended ≡ ending_at lister.lines.messages (current_of lister).end (frame_path lister.decoder.profile lister.decoder.octets) → (taken : Taken) (left : Option (List ℕ)) → IsLastOf decoding lister taken left → EndsListing (decoding_rules (decoding.request lister)) taken.octets (taken.written ++ new.lines.text.items) left ended
-ends-sealed lister new ended none text is taken left (inl (w, a)) = ends-done lister new ended taken left text is (done-waits lister taken left w a)
-ends-sealed lister new ended none text is taken left (inr (inl r)) = ends-done lister new ended taken left text is (done-refused lister taken left r)
-ends-sealed lister new ended none text is taken left (inr (inr u)) = absurd (not_some (ap (option_map string_bytes) (sym none) ∙ u.kept))
+-- nothing is unencrypted
+pub ends-encrypted : (lister new : JsonLister) (ended : DecodeEnd) → lister.lines.unencrypted ≡ None → new.lines.text.items ≡ lister.lines.text.items → ending_of ended ≡ ending_at lister.lines.messages (current_of lister).end (frame_path lister.decoder.profile lister.decoder.octets) → (taken : Taken) (left : Option (List ℕ)) → IsLastOf decoding lister taken left → EndsListing (decoding_rules (decoding.request lister)) taken.octets (taken.written ++ new.lines.text.items) left ended
+ends-encrypted lister new ended none text is taken left (inl (w, a)) = ends-done lister new ended taken left text is (done-waits lister taken left w a)
+ends-encrypted lister new ended none text is taken left (inr (inl r)) = ends-done lister new ended taken left text is (done-refused lister taken left r)
+ends-encrypted lister new ended none text is taken left (inr (inr u)) = absurd (not_some (ap (option_map string_bytes) (sym none) ∙ u.kept))
 
-unsealed_end : (message : ℕ) (path found : List ℕ) → Some path ≡ Some found → Unsealed message path ≡ Unsealed message found
-unsealed_end message path found e = cc
+unencrypted_end : (message : ℕ) (path found : List ℕ) → Some path ≡ Some found → Unencrypted message path ≡ Unencrypted message found
+unencrypted_end message path found e = cc
 
--- a message is unsealed
-pub ends-unsealed : (lister new : JsonLister) (path : String Global) → lister.lines.unsealed ≡ Some path → new.lines.text.items ≡ lister.lines.text.items → (taken : Taken) (left : Option (List ℕ)) → IsLastOf decoding lister taken left → EndsListing (decoding_rules (decoding.request lister)) taken.octets (taken.written ++ new.lines.text.items) left (ends.Unsealed (lister.lines.messages + 1) path)
-ends-unsealed lister new path some text taken left (inl (w, a)) = absurd (not_some (sym w.listed.none ∙ some))
-ends-unsealed lister new path some text taken left (inr (inl r)) = absurd (not_some (sym r.listed.none ∙ some))
-ends-unsealed lister new path some text taken left (inr (inr u)) =
-    let is = decoded-unsealed lister.decoder.profile lister.decoder.limit taken.octets u.before u.sealed u.contents u.others u.path u.all u.unsealed in
+-- a message is unencrypted
+pub ends-unencrypted : (lister new : JsonLister) (path : String Global) → lister.lines.unencrypted ≡ Some path → new.lines.text.items ≡ lister.lines.text.items → (taken : Taken) (left : Option (List ℕ)) → IsLastOf decoding lister taken left → EndsListing (decoding_rules (decoding.request lister)) taken.octets (taken.written ++ new.lines.text.items) left (ends.Unencrypted (lister.lines.messages + 1) path)
+ends-unencrypted lister new path some text taken left (inl (w, a)) = absurd (not_some (sym w.listed.none ∙ some))
+ends-unencrypted lister new path some text taken left (inr (inl r)) = absurd (not_some (sym r.listed.none ∙ some))
+ends-unencrypted lister new path some text taken left (inr (inr u)) =
+    let is = decoded-unencrypted lister.decoder.profile lister.decoder.limit taken.octets u.before u.encrypted u.contents u.others u.path u.all u.unencrypted in
     let message : ℕ = lister.lines.messages + 1 in
     record {
       listing = ap (λ t. taken.written ++ t) text ∙ u.lines ∙ sym is.0;
       ends = record {
-        ended_so = unsealed_end message (string_bytes path) u.path (ap (option_map string_bytes) (sym some) ∙ u.kept) ∙ ap (λ n. Unsealed (n + 1) u.path) u.counted ∙ sym is.1;
-        all_read = λ g. absurd (not_some (sym (one_sealed u.before u.others u.contents (subst AllAreSealed u.all g.sealed)) ∙ u.unsealed));
+        ended_so = unencrypted_end message (string_bytes path) u.path (ap (option_map string_bytes) (sym some) ∙ u.kept) ∙ ap (λ n. Unencrypted (n + 1) u.path) u.counted ∙ sym is.1;
+        all_read = λ g. absurd (not_some (sym (one_encrypted u.before u.others u.contents (subst AllAreEncrypted u.all g.encrypted)) ∙ u.unencrypted));
         stops = u.stops;
       };
     }
@@ -231,12 +231,12 @@ line_added old new octets contents written line lines =
     ∙ ap (λ t. t ++ octets_line octets) lines
     ∙ sym (flat_map-append octets_line contents (octets ∷ []) ∙ ap (λ t. flat_map octets_line contents ++ t) (append-nil (octets_line octets)))
 
--- a frame was cleared, whose message is sealed
+-- a frame was cleared, whose message is encrypted
 HasListed-added : (old new : JsonLister) (octets before stream written : List ℕ) (h : HasListed old before written) → AddsLine octets old.lines new.lines → HasDecoded (messages new.decoder.profile) new.decoder stream (h.contents ++ octets ∷ []) → HasListed new stream written
 HasListed-added old new octets before stream written h l decoded = record {
   contents = h.contents ++ octets ∷ [];
   decoded = decoded;
-  sealed = all_sealed-one_more h.contents octets h.sealed l.sealed;
+  encrypted = all_encrypted-one_more h.contents octets h.encrypted l.encrypted;
   lines = line_added old new octets h.contents written l.line h.lines;
   counted = omega (arith, l.counted, h.counted, length-append h.contents (octets ∷ []));
   none = l.same ∙ h.none;
@@ -251,10 +251,10 @@ module _ (old new : JsonLister) (piece : List ℕ) (fed : Fed) (f : Uses (messag
   HasListed-used stream written h = record {
     contents = h.contents;
     decoded = subst (λ p. HasDecoded (messages p) new.decoder (stream ++ take fed.used piece) h.contents) (sym f.same_profile) (f.decoded stream h.contents h.decoded);
-    sealed = h.sealed;
+    encrypted = h.encrypted;
     lines = ap (λ x. written ++ x.text.items) l ∙ h.lines;
     counted = ap (λ x. x.messages) l ∙ h.counted;
-    none = ap (λ x. x.unsealed) l ∙ h.none;
+    none = ap (λ x. x.unencrypted) l ∙ h.none;
   }
 
   same : request_of new.decoder ≡ request_of old.decoder
@@ -275,7 +275,7 @@ module _ (old new : JsonLister) (piece : List ℕ) (fed : Fed) (f : Uses (messag
   TakesPiece-refused refusal e = taken false (refusal, status_is (status.Refused refusal) e (memory_refused refusal))
 
   -- a frame is ready, and its message is put
-  module _ (next : JsonLister) (is_sealed : Bool) (p : PutsReady new next is_sealed) where
+  module _ (next : JsonLister) (is_encrypted : Bool) (p : PutsReady new next is_encrypted) where
     cleared : next.decoder ≡ record (new.decoder) { octets = []; capacity = next.decoder.capacity }
     cleared = cleared_is new.decoder.profile new.decoder next.decoder p.contents p.cleared p.is_ready
 
@@ -295,7 +295,7 @@ module _ (old new : JsonLister) (piece : List ℕ) (fed : Fed) (f : Uses (messag
       let used = HasListed-used stream written h in
       HasListed-added new next p.contents (stream ++ take fed.used piece) (stream ++ take fed.used piece) written used p.put (decoded_next next true p (stream ++ take fed.used piece) used.contents used.decoded))
 
-  pub Meets-ready : (next : JsonLister) → PutsReady new next false → MeetsUnsealed old piece next
+  pub Meets-ready : (next : JsonLister) → PutsReady new next false → MeetsUnencrypted old piece next
   Meets-ready next p = record {
     used = fed.used;
     within = f.within;
@@ -326,7 +326,7 @@ module _ (old new : JsonLister) (octets : List ℕ) (passed : Passed) (p : Passe
       l.counted
       (λ stream written h. HasListed-added old new (contents_of passed) stream (stream ++ framed (contents_of passed)) written h l (decoded_passed stream h.contents h.decoded))
 
-  pub Meets-passed : KeepsPath (contents_of passed) old.lines new.lines → MeetsUnsealed old octets new
+  pub Meets-passed : KeepsPath (contents_of passed) old.lines new.lines → MeetsUnencrypted old octets new
   Meets-passed k =
       let prefix : take (length (framed (contents_of passed))) octets ≡ framed (contents_of passed) = ap (take (length (framed (contents_of passed)))) p.parts ∙ take_at (framed (contents_of passed)) passed.rest.now (length (framed (contents_of passed))) refl in
       record {
@@ -345,8 +345,8 @@ stopped_inside {old = old} {new = new} {piece = piece} rest p e = subst (PutsPas
 pub went_on : {old new : JsonLister} {piece rest : List ℕ} (found : Option (List ℕ)) → PutsPassed old piece new found → found ≡ Some rest → IsFed decoding old piece rest new
 went_on {old = old} {new = new} {piece = piece} found p e = subst (PutsPassed old piece new) e p
 
-pub is_added : {octets : List ℕ} {old new : JsonLines} (is_sealed : Bool) → PutsLine octets old new is_sealed → is_sealed ≡ true → AddsLine octets old new
-is_added {octets = octets} {old = old} {new = new} is_sealed p e = subst (PutsLine octets old new) e p
+pub is_added : {octets : List ℕ} {old new : JsonLines} (is_encrypted : Bool) → PutsLine octets old new is_encrypted → is_encrypted ≡ true → AddsLine octets old new
+is_added {octets = octets} {old = old} {new = new} is_encrypted p e = subst (PutsLine octets old new) e p
 
-pub is_kept : {octets : List ℕ} {old new : JsonLines} (is_sealed : Bool) → PutsLine octets old new is_sealed → is_sealed ≡ false → KeepsPath octets old new
-is_kept {octets = octets} {old = old} {new = new} is_sealed p e = subst (PutsLine octets old new) e p
+pub is_kept : {octets : List ℕ} {old new : JsonLines} (is_encrypted : Bool) → PutsLine octets old new is_encrypted → is_encrypted ≡ false → KeepsPath octets old new
+is_kept {octets = octets} {old = old} {new = new} is_encrypted p e = subst (PutsLine octets old new) e p

@@ -19,7 +19,7 @@ use Rattle.krb_judge.specs.Parses.{refusal_of}
 use Rattle.krb_judge.proofs.Slices.{message_in}
 use Rattle.krb_json.specs.Laws.{TextsAreJson}
 use Rattle.krb_json.specs.Lines.{line_of}
-use Rattle.krb_json.specs.Unsealed.{unsealed_in}
+use Rattle.krb_json.specs.Unencrypted.{unencrypted_in}
 use Rattle.krb_tool.specs.Conversions.{Converted}
 use Rattle.krb_tool.specs.Decoding.{Ending, All, ending_at, line_and, lines_after, message_decoded, decoded, decoded_whole}
 use Rattle.krb_tool.specs.Laws.{AreLines, DecodedIsLines}
@@ -42,7 +42,7 @@ all_in_profile profile limit (octets ∷ contents) are each =
 
 -- ---- its line before others
 module _ (json : TextsAreJson) (profile : Profile) where
-  line-first : (number : ℕ) (octets : List ℕ) (unsealed : Option (List ℕ)) (others : Converted Ending) → IsInProfile profile (message_of_der octets) → AreLines others.text → AreLines (line_and number octets unsealed others).text
+  line-first : (number : ℕ) (octets : List ℕ) (unencrypted : Option (List ℕ)) (others : Converted Ending) → IsInProfile profile (message_of_der octets) → AreLines others.text → AreLines (line_and number octets unencrypted others).text
   line-first number octets None others p rest = record {
     those = message_of_der octets ∷ rest.those;
     each = (json profile (message_of_der octets) p, rest.each);
@@ -53,7 +53,7 @@ module _ (json : TextsAreJson) (profile : Profile) where
   lines-first : (before : ℕ) (contents : List (List ℕ)) (end : Ending) → AllByRecursion (λ octets. IsInProfile profile (message_of_der octets)) contents → AreLines (lines_after before contents end).text
   lines-first before [] end each = no_lines
   lines-first before (octets ∷ contents) end each =
-      line-first (before + 1) octets (unsealed_in (message_of_der octets)) (lines_after (before + 1) contents end) each.0 (lines-first (before + 1) contents end each.1)
+      line-first (before + 1) octets (unencrypted_in (message_of_der octets)) (lines_after (before + 1) contents end) each.0 (lines-first (before + 1) contents end each.1)
 
   stream-lines : (limit : ℕ) (stream : List ℕ) → AreOctets stream → IsParse (messages profile) limit stream (frames (messages profile) limit stream) → AreLines (decoded profile limit stream).text
   unfolding decoded
@@ -63,7 +63,7 @@ module _ (json : TextsAreJson) (profile : Profile) where
       lines-first 0 found.contents (ending_at (length found.contents) found.end (found_path profile found stream)) (all_in_profile profile limit found.contents octets.0 parse.are_messages)
 
   message-lines : (octets : List ℕ) (found : Option Refusal) → AreOctets octets → refusal_of profile octets ≡ found → AreLines (message_decoded profile octets found).text
-  message-lines octets None are none = line-first 1 octets (unsealed_in (message_of_der octets)) (record { text = []; end = All }) (in_profile profile octets (message_in profile octets are none)) no_lines
+  message-lines octets None are none = line-first 1 octets (unencrypted_in (message_of_der octets)) (record { text = []; end = All }) (in_profile profile octets (message_in profile octets are none)) no_lines
   message-lines octets (Some refusal) are some = no_lines
 
   whole-lines : (limit : ℕ) (octets : List ℕ) → AreOctets octets → (nat_lt limit (length octets) ≡ true) ⊎ (nat_lt limit (length octets) ≡ false) → AreLines (decoded_whole profile limit octets).text

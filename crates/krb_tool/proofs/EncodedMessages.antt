@@ -18,10 +18,10 @@ use Rattle.krb_msg.proofs.Streams.{IsMessage, frames-frame}
 use Rattle.krb_frame.specs.Frame.{framed}
 use Rattle.krb_json.specs.Laws.{IsSpelled, LinesSpellMessages}
 use Rattle.krb_json.specs.Lines.{LineFault, line_of, line_spells}
-use Rattle.krb_json.specs.Unsealed.{unsealed_in}
+use Rattle.krb_json.specs.Unencrypted.{unencrypted_in}
 use Rattle.krb_tool.specs.Conversions.{Converted}
 use Rattle.krb_tool.specs.Decoding as decoding
-use Rattle.krb_tool.specs.Decoding.{AllAreSealed, decoded, ending_at}
+use Rattle.krb_tool.specs.Decoding.{AllAreEncrypted, decoded, ending_at}
 use Rattle.krb_tool.specs.Encoding.{Ending, All, SecondMessage, is_blank_line, lines_of, message_and, encoded_lines, encoded}
 use Rattle.krb_tool.specs.Laws.{AreFrames, EncodedIsMessages, IsOneMessage}
 use Rattle.krb_tool.specs.Paths.{found_path}
@@ -48,10 +48,10 @@ frames_of profile limit (m ∷ ms) each =
     ∙ ap (with_first (message_der m)) (frames_of profile limit ms each.1)
 
 -- ---- what is decoded of frames
-all_sealed : (profile : Profile) (limit : ℕ) (ms : List Message) → AllByRecursion (IsSpelled profile limit) ms → AllByRecursion (λ m. unsealed_in m ≡ None) ms → AllAreSealed (map message_der ms)
-all_sealed profile limit [] each sealed = tt
-all_sealed profile limit (m ∷ ms) each sealed =
-    (ap unsealed_in (message_of_der_is_message profile m each.0.in_profile) ∙ sealed.0, all_sealed profile limit ms each.1 sealed.1)
+all_encrypted : (profile : Profile) (limit : ℕ) (ms : List Message) → AllByRecursion (IsSpelled profile limit) ms → AllByRecursion (λ m. unencrypted_in m ≡ None) ms → AllAreEncrypted (map message_der ms)
+all_encrypted profile limit [] each encrypted = tt
+all_encrypted profile limit (m ∷ ms) each encrypted =
+    (ap unencrypted_in (message_of_der_is_message profile m each.0.in_profile) ∙ encrypted.0, all_encrypted profile limit ms each.1 encrypted.1)
 
 all_lines : (profile : Profile) (limit : ℕ) (ms : List Message) → AllByRecursion (IsSpelled profile limit) ms → flat_map octets_line (map message_der ms) ≡ flat_map line_of ms
 all_lines profile limit [] each = refl
@@ -62,9 +62,9 @@ unfolding stream_ending
 ending-boundary profile limit octets found is boundary =
     ap (λ f. ending_at (length f.contents) f.end (found_path profile f octets)) is ∙ ap (λ end. ending_at (length found.contents) end (found_path profile found octets)) boundary
 
-decoded_of : (profile : Profile) (limit : ℕ) (octets : List ℕ) (ms : List Message) → frames (messages profile) limit octets ≡ record { contents = map message_der ms; end = Boundary } → AllByRecursion (IsSpelled profile limit) ms → AllByRecursion (λ m. unsealed_in m ≡ None) ms → decoded profile limit octets ≡ record { text = flat_map line_of ms; end = decoding.All }
-decoded_of profile limit octets ms found each sealed =
-    let all = decoded-all profile limit octets (map message_der ms) (all_sealed profile limit ms each sealed) (ap (λ f. f.contents) found) in
+decoded_of : (profile : Profile) (limit : ℕ) (octets : List ℕ) (ms : List Message) → frames (messages profile) limit octets ≡ record { contents = map message_der ms; end = Boundary } → AllByRecursion (IsSpelled profile limit) ms → AllByRecursion (λ m. unencrypted_in m ≡ None) ms → decoded profile limit octets ≡ record { text = flat_map line_of ms; end = decoding.All }
+decoded_of profile limit octets ms found each encrypted =
+    let all = decoded-all profile limit octets (map message_der ms) (all_encrypted profile limit ms each encrypted) (ap (λ f. f.contents) found) in
     let text = all.0 ∙ all_lines profile limit ms each in
     let end = all.1 ∙ ending-boundary profile limit octets (record { contents = map message_der ms; end = Boundary }) found refl in
     (λ i. record { text = text i; end = end i })

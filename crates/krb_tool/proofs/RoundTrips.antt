@@ -28,10 +28,10 @@ use Rattle.krb_judge.specs.Parses.{refusal_of}
 use Rattle.krb_judge.proofs.Slices.{message_in}
 use Rattle.krb_json.specs.Laws.{TextsAreJson, TextsComeBack}
 use Rattle.krb_json.specs.Lines.{message_text, line_spells}
-use Rattle.krb_json.specs.Unsealed.{unsealed_in}
+use Rattle.krb_json.specs.Unencrypted.{unencrypted_in}
 use Rattle.krb_tool.specs.Conversions.{Converted, after_text}
 use Rattle.krb_tool.specs.Decoding as decoding
-use Rattle.krb_tool.specs.Decoding.{ending_at, line_and, lines_after, decoded, message_decoded, decoded_whole, AllAreSealed}
+use Rattle.krb_tool.specs.Decoding.{ending_at, line_and, lines_after, decoded, message_decoded, decoded_whole, AllAreEncrypted}
 use Rattle.krb_tool.specs.Encoding as encoding
 use Rattle.krb_tool.specs.Encoding.{parts, without_empty_last, lines_of, is_blank_line, written_as, encoded_lines, encoded}
 use Rattle.krb_tool.specs.Laws.{StreamsComeBack, MessageComesBack, DecodedComesBack}
@@ -43,17 +43,17 @@ use Rattle.krb_tool.proofs.SourceLineParts.{lines-empty}
 use Rattle.krb_tool.proofs.WholeRuns.{whole-long, whole-short}
 
 -- ---- all of a stream is decoded
-abbrev AreAllSealed : (contents : List (List ℕ)) (end : decoding.Ending) → Type 0
-AreAllSealed contents end = AllAreSealed contents × (end ≡ decoding.All)
+abbrev AreAllEncrypted : (contents : List (List ℕ)) (end : decoding.Ending) → Type 0
+AreAllEncrypted contents end = AllAreEncrypted contents × (end ≡ decoding.All)
 
-sealed_first : (number : ℕ) (octets : List ℕ) (contents : List (List ℕ)) (end : decoding.Ending) (others : Converted decoding.Ending) (unsealed : Option (List ℕ)) → (others.end ≡ decoding.All → AreAllSealed contents end) → unsealed_in (message_of_der octets) ≡ unsealed → (line_and number octets unsealed others).end ≡ decoding.All → AreAllSealed (octets ∷ contents) end
-sealed_first number octets contents end others None more u e = let m = more e in ((u, m.0), m.1)
-sealed_first number octets contents end others (Some path) more u e = absurd cc
+encrypted_first : (number : ℕ) (octets : List ℕ) (contents : List (List ℕ)) (end : decoding.Ending) (others : Converted decoding.Ending) (unencrypted : Option (List ℕ)) → (others.end ≡ decoding.All → AreAllEncrypted contents end) → unencrypted_in (message_of_der octets) ≡ unencrypted → (line_and number octets unencrypted others).end ≡ decoding.All → AreAllEncrypted (octets ∷ contents) end
+encrypted_first number octets contents end others None more u e = let m = more e in ((u, m.0), m.1)
+encrypted_first number octets contents end others (Some path) more u e = absurd cc
 
-sealed_all : (before : ℕ) (contents : List (List ℕ)) (end : decoding.Ending) → (lines_after before contents end).end ≡ decoding.All → AreAllSealed contents end
-sealed_all before [] end e = (tt, e)
-sealed_all before (octets ∷ contents) end e =
-    sealed_first (before + 1) octets contents end (lines_after (before + 1) contents end) (unsealed_in (message_of_der octets)) (sealed_all (before + 1) contents end) refl e
+encrypted_all : (before : ℕ) (contents : List (List ℕ)) (end : decoding.Ending) → (lines_after before contents end).end ≡ decoding.All → AreAllEncrypted contents end
+encrypted_all before [] end e = (tt, e)
+encrypted_all before (octets ∷ contents) end e =
+    encrypted_first (before + 1) octets contents end (lines_after (before + 1) contents end) (unencrypted_in (message_of_der octets)) (encrypted_all (before + 1) contents end) refl e
 
 at_boundary : (count : ℕ) (end : End) (path : Option (List ℕ)) → ending_at count end path ≡ decoding.All → end ≡ Boundary
 at_boundary count Boundary path e = refl
@@ -170,9 +170,9 @@ module _ (profile : Profile) (limit : ℕ) where
 
 -- ---- a stream
 -- whose contents are these
-stream_back : TextsAreJson → TextsComeBack → (profile : Profile) (limit : ℕ) (stream : List ℕ) → AreOctets stream → IsParse (messages profile) limit stream (frames (messages profile) limit stream) → AllAreSealed (frames (messages profile) limit stream).contents → (frames (messages profile) limit stream).end ≡ Boundary → encoded true profile limit (decoded profile limit stream).text ≡ record { text = stream; end = encoding.All }
-stream_back json back profile limit stream are parse sealed boundary =
-    ap (encoded true profile limit) (decoded-all profile limit stream contents sealed refl).0
+stream_back : TextsAreJson → TextsComeBack → (profile : Profile) (limit : ℕ) (stream : List ℕ) → AreOctets stream → IsParse (messages profile) limit stream (frames (messages profile) limit stream) → AllAreEncrypted (frames (messages profile) limit stream).contents → (frames (messages profile) limit stream).end ≡ Boundary → encoded true profile limit (decoded profile limit stream).text ≡ record { text = stream; end = encoding.All }
+stream_back json back profile limit stream are parse encrypted boundary =
+    ap (encoded true profile limit) (decoded-all profile limit stream contents encrypted refl).0
     ∙ text_back profile limit contents (all_come_back json back profile limit contents (subst AreOctets all are) parse.are_messages)
     ∙ ap (λ t. record { text = t; end = encoding.All }) (sym all)
   where
@@ -186,20 +186,20 @@ streams_back : TextsAreJson → TextsComeBack → StreamsComeBack
 unfolding decoded
 streams_back json back profile limit stream are e =
     let found : Frames = frames (messages profile) limit stream in
-    let all = sealed_all 0 found.contents (ending_at (length found.contents) found.end (found_path profile found stream)) e in
+    let all = encrypted_all 0 found.contents (ending_at (length found.contents) found.end (found_path profile found stream)) e in
     stream_back json back profile limit stream are (frames-parse (messages profile) limit stream are) all.0 (at_boundary (length found.contents) found.end (found_path profile found stream) all.1)
 
 -- ---- octets that are one message
 -- those that are not refused, and no more than the limit
-alone_of : (profile : Profile) (limit : ℕ) (octets : List ℕ) (found : Option Refusal) (unsealed : Option (List ℕ)) → (found ≡ None → ComesBack profile limit octets) → refusal_of profile octets ≡ found → unsealed_in (message_of_der octets) ≡ unsealed → (message_decoded profile octets (refusal_of profile octets)).end ≡ decoding.All → encoded false profile limit (message_decoded profile octets (refusal_of profile octets)).text ≡ record { text = octets; end = encoding.All }
+alone_of : (profile : Profile) (limit : ℕ) (octets : List ℕ) (found : Option Refusal) (unencrypted : Option (List ℕ)) → (found ≡ None → ComesBack profile limit octets) → refusal_of profile octets ≡ found → unencrypted_in (message_of_der octets) ≡ unencrypted → (message_decoded profile octets (refusal_of profile octets)).end ≡ decoding.All → encoded false profile limit (message_decoded profile octets (refusal_of profile octets)).text ≡ record { text = octets; end = encoding.All }
 alone_of profile limit octets None None back f u e =
     ap (λ r. encoded false profile limit (message_decoded profile octets r).text) f
     ∙ ap (λ s. encoded false profile limit (line_and 1 octets s (record { text = []; end = decoding.All })).text) u
     ∙ alone_back profile limit octets (back refl)
 alone_of profile limit octets None (Some path) back f u e =
-    let end : decoding.Unsealed 1 path ≡ decoding.All = sym (ap (λ s. (line_and 1 octets s (record { text = []; end = decoding.All })).end) u) ∙ sym (ap (λ r. (message_decoded profile octets r).end) f) ∙ e in
+    let end : decoding.Unencrypted 1 path ≡ decoding.All = sym (ap (λ s. (line_and 1 octets s (record { text = []; end = decoding.All })).end) u) ∙ sym (ap (λ r. (message_decoded profile octets r).end) f) ∙ e in
     absurd cc
-alone_of profile limit octets (Some refusal) unsealed back f u e =
+alone_of profile limit octets (Some refusal) unencrypted back f u e =
     let end : decoding.Refusing 0 refusal (refused_path profile octets refusal) ≡ decoding.All = sym (ap (λ r. (message_decoded profile octets r).end) f) ∙ e in
     absurd cc
 
@@ -214,7 +214,7 @@ whole_back json back profile limit octets are e = by (cases_Bool (nat_lt limit (
         let is = whole-short profile limit octets (refusal_of profile octets) few refl in
         let within : length octets ≤ limit = grind (arith, nat_tests, few) in
         ap (λ c. encoded false profile limit c.text) is
-        ∙ alone_of profile limit octets (refusal_of profile octets) (unsealed_in (message_of_der octets)) (λ none. comes_back json back profile limit octets (message_in profile octets are none) within) refl refl (sym (ap (λ c. c.end) is) ∙ e)
+        ∙ alone_of profile limit octets (refusal_of profile octets) (unencrypted_in (message_of_der octets)) (λ none. comes_back json back profile limit octets (message_in profile octets are none) within) refl refl (sym (ap (λ c. c.end) is) ∙ e)
 
 pub decoded_comes_back : TextsAreJson → TextsComeBack → DecodedComesBack
 decoded_comes_back json back = record { streams = streams_back json back; messages = whole_back json back }

@@ -11,7 +11,7 @@ use Rattle.krb_msg.specs.declared.message.Message.{Message}
 use Rattle.krb_json.specs.Laws.{IsSpelled, IsText}
 use Rattle.krb_json.specs.Lines.{line_of}
 use Rattle.krb_json.specs.Masked.{masked_in}
-use Rattle.krb_json.specs.Unsealed.{unsealed_in}
+use Rattle.krb_json.specs.Unencrypted.{unencrypted_in}
 use Rattle.krb_file.specs.Fields.{Fault}
 use Rattle.krb_keytab.specs.Laws.{IsUpToKey}
 use Rattle.krb_ccache.specs.declared.value.Cache3.{Cache3}
@@ -74,13 +74,13 @@ CapturesAreListed = (settings : Settings) (file : List ℕ) → text_of (capture
 abbrev pub RefusalsAreAtOffsets : Type 0
 RefusalsAreAtOffsets = (profile : Profile) (limit : ℕ) (stream : List ℕ) (place : ℕ) (reason : Why) → end_of profile limit stream ≡ Refused place reason → IsRefusedWith (messages profile) limit stream ((end_extent profile limit stream).at + place)
 
--- Octets are frames of messages of a profile, none of which has more octets than a limit: these are found in them, and nothing is refused. If all are sealed their lines are what is decoded.
+-- Octets are frames of messages of a profile, none of which has more octets than a limit: these are found in them, and nothing is refused. If all are encrypted their lines are what is decoded.
 pub record AreFrames (profile : Profile) (limit : ℕ) (octets : List ℕ) : Type 0 where
   pub framed_messages : List Message
   pub spelled : AllByRecursion (IsSpelled profile limit) framed_messages
   pub form : octets ≡ flat_map (λ m. framed (message_der m)) framed_messages
   pub found : frames (messages profile) limit octets ≡ record { contents = map message_der framed_messages; end = Boundary }
-  pub lines : AllByRecursion (λ m. unsealed_in m ≡ None) framed_messages → decoding.decoded profile limit octets ≡ record { text = flat_map line_of framed_messages; end = decoding.All }
+  pub lines : AllByRecursion (λ m. unencrypted_in m ≡ None) framed_messages → decoding.decoded profile limit octets ≡ record { text = flat_map line_of framed_messages; end = decoding.All }
 
 -- Octets are one such message, without its length.
 pub record IsOneMessage (profile : Profile) (limit : ℕ) (octets : List ℕ) : Type 0 where
@@ -108,7 +108,7 @@ StreamsAreDecodedAlike = (profile : Profile) (limit : ℕ) (pairs : List (Messag
 abbrev pub MessagesAreDecodedAlike : Type 0
 MessagesAreDecodedAlike = (profile : Profile) (limit : ℕ) (pair : Message × Message) → AreAlike profile limit pair → decoding.decoded_whole profile limit (message_der pair.0) ≡ decoding.decoded_whole profile limit (message_der pair.1)
 
-pub record UnsealedIsNotDecoded : Type 0 where
+pub record UnencryptedIsNotDecoded : Type 0 where
   pub streams : StreamsAreDecodedAlike
   pub messages : MessagesAreDecodedAlike
 

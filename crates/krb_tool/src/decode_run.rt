@@ -27,7 +27,7 @@ pub enum DecodeEnd {
         path: Option<String>,
     },
     /// A message has something that is not encrypted where it should be, and has no line.
-    Unsealed {
+    Unencrypted {
         /// The number of the message, from 1.
         message: u64,
         /// The path of the first EncryptedData of encryption type 0, such as `KRB-CRED.enc-part`.

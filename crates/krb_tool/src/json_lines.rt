@@ -6,7 +6,7 @@ ghost use Rattle.krb_der.specs.declared.verdict.Verdict.TheVariants.{Whole};
 ghost use Rattle.krb_msg.specs.Grammar.{messages};
 ghost use Rattle.krb_msg.specs.Judgement.{judgement};
 ghost use Rattle.krb_msg.specs.Views.{message_of_der};
-ghost use Rattle.krb_json.specs.Unsealed.{unsealed_in};
+ghost use Rattle.krb_json.specs.Unencrypted.{unencrypted_in};
 ghost use Rattle.krb_frame.specs.Decoding.{found, status_of, borrowed};
 ghost use Rattle.krb_frame.specs.Passes.{passed};
 ghost use Rattle.krb_frame.specs.declared.decoder.Status.TheVariants as status;
@@ -22,7 +22,7 @@ use crate::run::RunFault;
 use crate::stream_run::ListStream;
 use krb_der::Profile;
 use krb_frame::{Decoder, Limit, Status};
-use krb_json::{put_text, unsealed_path};
+use krb_json::{put_text, unencrypted_path};
 use krb_text::Form;
 use std::alloc::Global;
 use std::mem;
@@ -31,13 +31,13 @@ use std::mem;
 const LENGTH_OCTETS: usize = 4;
 
 /// The lines of messages that are not written yet, the number of messages that have a line, and the
-/// path in the message after them, if that is not sealed.
+/// path in the message after them, if that is not encrypted.
 #[derive(Drop)]
 pub(crate) struct JsonLines {
     alloc: Global,
     pub(crate) text: Vec<u8>,
     messages: u64,
-    pub(crate) unsealed: Option<String>,
+    pub(crate) unencrypted: Option<String>,
 }
 
 impl JsonLines {
@@ -45,18 +45,18 @@ impl JsonLines {
     pub(crate) fn new(alloc: Global) -> JsonLines
         ensures text { result.text.items ≡ [] }
         ensures messages { result.messages ≡ 0 }
-        ensures none { result.unsealed ≡ None }
+        ensures none { result.unencrypted ≡ None }
     {
         JsonLines {
             alloc,
             text: Vec::new(alloc),
             messages: 0,
-            unsealed: None,
+            unencrypted: None,
         }
     }
 
     /// Adds the line of the message that octets are judged to be, or keeps the path if it is not
-    /// sealed, as [`put_message`](JsonLines::put_message) does.
+    /// encrypted, as [`put_message`](JsonLines::put_message) does.
     fn put(&mut self, octets: &[u8]) -> Result<bool, RunFault>
         requires short { length octets.now < 2 ^ 31 }
         requires whole { judgement Profile.Lenient (length octets.now) octets.now ≡ Whole }
@@ -67,7 +67,7 @@ impl JsonLines {
         self.put_message(octets)
     }
 
-    /// Adds the line of the message whose DER octets are, and returns true. If it is not sealed it
+    /// Adds the line of the message whose DER octets are, and returns true. If it is not encrypted it
     /// has no line: keeps the path and returns false.
     pub(crate) fn put_message(&mut self, octets: &[u8]) -> Result<bool, RunFault>
         requires short { length octets.now < 2 ^ 31 }
@@ -76,9 +76,9 @@ impl JsonLines {
         ensures put { IfOk result (PutsLine octets.now self.old self.new) }
         ensures fault { IfErr result (λ e. e ≡ fault.Memory) }
     {
-        match unsealed_path(self.alloc, octets)? {
+        match unencrypted_path(self.alloc, octets)? {
             Some(path) => {
-                self.unsealed = Some(path);
+                self.unencrypted = Some(path);
                 Ok(false)
             }
             None => {
@@ -88,11 +88,11 @@ impl JsonLines {
         }
     }
 
-    /// Adds the line of a sealed message.
+    /// Adds the line of an encrypted message.
     fn add_line(&mut self, octets: &[u8]) -> Result<(), RunFault>
         requires short { length octets.now < 2 ^ 31 }
         requires message { IsOfMessage octets.now }
-        requires sealed { unsealed_in (message_of_der octets.now) ≡ None }
+        requires encrypted { unencrypted_in (message_of_der octets.now) ≡ None }
         requires few { self.old.messages + 1 < 2 ^ 64 }
         ensures added { OnOk result (AddsLine octets.now self.old self.new) }
         ensures fault { IfErr result (λ e. e ≡ fault.Memory) }
@@ -112,7 +112,7 @@ pub(crate) struct DecodeRequest {
     pub limit: Limit,
 }
 
-/// A lister of a stream, up to its end, its first refusal, or its first message that is not sealed:
+/// A lister of a stream, up to its end, its first refusal, or its first message that is not encrypted:
 /// what allocates for it, its decoder, and the lines.
 #[derive(Drop)]
 pub(crate) struct JsonLister {
@@ -124,7 +124,7 @@ pub(crate) struct JsonLister {
 impl JsonLister {
     /// Adds the lines of the frames that are whole at the beginning of a piece, and returns the
     /// octets after them, with which no frame more is passed, or nothing if one of them is not
-    /// sealed.
+    /// encrypted.
     fn put_passed<'p>(&mut self, piece: &'p [u8]) -> Result<Option<&'p [u8]>, RunFault>
         requires waits { status_of (messages self.old.decoder.profile) self.old.decoder ≡ status.More }
         requires short { length piece.now ≤ 65536 }
@@ -144,8 +144,8 @@ impl JsonLister {
         Ok(Some(rest))
     }
 
-    /// Adds the line of the frame that is ready, or keeps the path if its message is not sealed, and
-    /// clears the frame. Returns whether it is sealed.
+    /// Adds the line of the frame that is ready, or keeps the path if its message is not encrypted, and
+    /// clears the frame. Returns whether it is encrypted.
     fn put_ready(&mut self) -> Result<bool, RunFault>
         requires few { self.old.lines.messages + 1 < 2 ^ 64 }
         requires ready { IsSome (borrowed (messages self.old.decoder.profile) self.old.decoder) }
@@ -155,12 +155,12 @@ impl JsonLister {
         let Some(framed) = self.decoder.ready() else {
             return Ok(true);
         };
-        let is_sealed = self.lines.put(framed.octets())?;
+        let is_encrypted = self.lines.put(framed.octets())?;
         self.decoder.next();
-        Ok(is_sealed)
+        Ok(is_encrypted)
     }
 
-    /// Returns how a run ends all of whose messages are sealed.
+    /// Returns how a run ends all of whose messages are encrypted.
     fn stream_end(&self) -> Result<DecodeEnd, RunFault>
         ensures ended { IfOk result (λ ended. ending_of ended ≡ ending_at self.now.lines.messages (found (messages self.now.decoder.profile) self.now.decoder).end (frame_path self.now.decoder.profile self.now.decoder.octets)) }
         ensures fault { IfErr result (λ e. e ≡ fault.Memory) }
@@ -227,8 +227,8 @@ impl ListStream for JsonLister {
     }
 
     fn finish(&mut self) -> Result<DecodeEnd, RunFault> {
-        match self.lines.unsealed.take() {
-            Some(path) => Ok(DecodeEnd::Unsealed {
+        match self.lines.unencrypted.take() {
+            Some(path) => Ok(DecodeEnd::Unencrypted {
                 message: self.lines.messages + 1,
                 path,
             }),

@@ -1,10 +1,10 @@
 //! Laws of listings and of conversions. Each is the contract of a function that does nothing.
-ghost use Rattle.krb_tool.specs.Laws.{CapturesAreListed, DecodedComesBack, DecodedIsLines, EncodedIsMessages, KeysAreNotListed, RefusalsAreAtOffsets, SessionKeysAreNotListed, UnsealedIsNotDecoded, UpgradeIsListedAlike};
+ghost use Rattle.krb_tool.specs.Laws.{CapturesAreListed, DecodedComesBack, DecodedIsLines, EncodedIsMessages, KeysAreNotListed, RefusalsAreAtOffsets, SessionKeysAreNotListed, UnencryptedIsNotDecoded, UpgradeIsListedAlike};
 
 use krb_ccache::law::{session_keys_change_nothing_else, upgrade_holds_the_same};
 use krb_frame::law::refusals_are_at_offsets as refused_at_offsets;
 use krb_json::law::{
-    lines_spell_messages, texts_are_json, texts_come_back, unsealed_changes_nothing,
+    lines_spell_messages, texts_are_json, texts_come_back, unencrypted_changes_nothing,
 };
 use krb_keytab::law::keys_change_nothing_else;
 use krb_list::{keys_are_not_shown, session_keys_are_not_shown};
@@ -56,7 +56,7 @@ pub fn refusals_are_at_offsets()
 
 /// What [`run_encode`](crate::run_encode) writes of any text is a stream of messages of the profile,
 /// none of more octets than the limit: nothing in it is refused, and it is decoded to the line of
-/// each message, if all are sealed. What [`run_encode_unframed`](crate::run_encode_unframed) writes
+/// each message, if all are encrypted. What [`run_encode_unframed`](crate::run_encode_unframed) writes
 /// is nothing or one such message, and the message if it ends without a fault.
 pub fn encoded_is_messages()
     ensures { EncodedIsMessages }
@@ -64,13 +64,13 @@ pub fn encoded_is_messages()
     lines_spell_messages();
 }
 
-/// What is not sealed is not decoded: streams that differ in nothing but the ciphers of
+/// What is not encrypted is not decoded: streams that differ in nothing but the ciphers of
 /// EncryptedDatas of encryption type 0 become the same lines by [`run_decode`](crate::run_decode),
 /// with the same end, and so do messages by [`run_decode_unframed`](crate::run_decode_unframed).
-pub fn unsealed_is_not_decoded()
-    ensures { UnsealedIsNotDecoded }
+pub fn unencrypted_is_not_decoded()
+    ensures { UnencryptedIsNotDecoded }
 {
-    unsealed_changes_nothing();
+    unencrypted_changes_nothing();
 }
 
 /// What [`run_decode`](crate::run_decode) and [`run_decode_unframed`](crate::run_decode_unframed)

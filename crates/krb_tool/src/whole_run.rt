@@ -2,7 +2,7 @@
 //! the file of a KRB-CRED.
 
 ghost use Rattle.std.specs.Prelude.{◌≡◌, ◌<◌, ◌≤◌, ◌^◌, length, [], IfErr, IfOk, OnErr};
-ghost use Rattle.krb_json.specs.Unsealed.{unsealed_in};
+ghost use Rattle.krb_json.specs.Unencrypted.{unencrypted_in};
 ghost use Rattle.krb_msg.specs.Views.{message_of_der};
 ghost use Rattle.krb_tool.specs.Decoding.{All, line_and, decoded_whole, DecodesWhole, FailsToDecodeWhole};
 ghost use Rattle.krb_tool.specs.Files.{ReadsSome};
@@ -31,7 +31,7 @@ struct MessageLine {
 
 /// Decodes the one message of a profile that all of a source is, without the octets of a length:
 /// writes its line of JSON, as [`run_decode`](crate::run_decode) does, unless it is refused or not
-/// sealed. A source of more than `limit` octets is refused as TooLong at place 0, and one of none as
+/// encrypted. A source of more than `limit` octets is refused as TooLong at place 0, and one of none as
 /// Empty. At most one octet more than `limit` is read, by at most 2^40 reads of at most 64 KiB, and
 /// nothing is written before that. If a read fails or memory runs out, nothing is written.
 pub fn run_decode_unframed<R: Read, W: Write>(
@@ -130,18 +130,18 @@ fn refused(alloc: Global, refusal: Refusal, path: Option<String>) -> MessageLine
     MessageLine { text, end }
 }
 
-/// Returns the line of the message whose DER octets are, or no line if it is not sealed.
+/// Returns the line of the message whose DER octets are, or no line if it is not encrypted.
 fn put_message(alloc: Global, octets: &[u8]) -> Result<MessageLine, RunFault>
     requires short { length octets.now < 2 ^ 31 }
     requires message { IsOfMessage octets.now }
-    ensures put { IfOk result (λ line. converted_of line ≡ line_and 1 octets.now (unsealed_in (message_of_der octets.now)) (record { text = []; end = All })) }
+    ensures put { IfOk result (λ line. converted_of line ≡ line_and 1 octets.now (unencrypted_in (message_of_der octets.now)) (record { text = []; end = All })) }
     ensures fault { IfErr result (λ e. e ≡ RunFault.Memory) }
 {
     let mut lines = JsonLines::new(alloc);
     lines.put_message(octets)?;
     let text = lines.text;
-    let end = match lines.unsealed {
-        Some(path) => DecodeEnd::Unsealed { message: 1, path },
+    let end = match lines.unencrypted {
+        Some(path) => DecodeEnd::Unencrypted { message: 1, path },
         None => DecodeEnd::Clean,
     };
     Ok(MessageLine { text, end })

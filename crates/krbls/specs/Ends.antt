@@ -25,7 +25,7 @@ abbrev pub decode_end_line : Framing → DecodeEnd → List ℕ
 decode_end_line chosen decoded.Clean = []
 decode_end_line framing.Framed (decoded.Refused messages refusal path) = untold_refused_line NamedLines messages refusal.place refusal.why (option_map string_bytes path)
 decode_end_line framing.Unframed (decoded.Refused messages refusal path) = untold_message_refused_line NamedLines refusal (option_map string_bytes path)
-decode_end_line chosen (decoded.Unsealed message path) = message_number chosen message ++ string_bytes path ++ codes ": not encrypted, and so not printed\n"
+decode_end_line chosen (decoded.Unencrypted message path) = message_number chosen message ++ string_bytes path ++ codes ": not encrypted, and so not printed\n"
 
 abbrev pub encode_end_line : EncodeEnd → List ℕ
 encode_end_line encoded.Clean = []

@@ -37,7 +37,7 @@ pub(crate) fn put_decode_end(
                 put_untold_message_refusal(line, Form::NamedLines, *refusal, path.as_deref())
             }
         },
-        DecodeEnd::Unsealed { message, path } => {
+        DecodeEnd::Unencrypted { message, path } => {
             if framing == Framing::Framed {
                 write!(line, "message {message}: ")?;
             }

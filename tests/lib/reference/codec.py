@@ -5,7 +5,7 @@ from .documents import NotJson, document
 from .frames import LIMIT, found_in_by
 from .grammar import MESSAGES
 from .judging import Refused, judge, whole
-from .objects import Wrong, message_of, text_of, unsealed
+from .objects import Wrong, message_of, text_of, unencrypted
 from .records import named_line, refused, without_extent
 from .values import count
 
@@ -18,7 +18,7 @@ class Ends(Exception):
 
 def line_of(name, item, value, before=""):
     """The line of a message, unless some of it is not encrypted."""
-    for path in unsealed(item, value, name):
+    for path in unencrypted(item, value, name):
         raise Ends(f"{before}{path}: not encrypted, and so not printed")
     return text_of(name, item, value).encode("ascii") + b"\n"
 

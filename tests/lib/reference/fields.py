@@ -16,7 +16,7 @@ from .values import (
     optional,
     principal,
     quoted,
-    sealed,
+    encrypted,
     string,
 )
 
@@ -39,9 +39,9 @@ def ticket_server(ticket):
     return name_in(ticket["realm"])(ticket["sname"])
 
 
-def sealed_ticket(ticket):
+def encrypted_ticket(ticket):
     """The fields of a Ticket."""
-    return {"server": ticket_server(ticket), "ticket": sealed(ticket["enc-part"])}
+    return {"server": ticket_server(ticket), "ticket": encrypted(ticket["enc-part"])}
 
 
 def types(items):
@@ -64,7 +64,7 @@ def request(value):
         "etypes": numbers(body["etype"], ENCRYPTION_TYPES),
         "padata": optional(types, value.get("padata")),
         "addresses": optional(count, body.get("addresses")),
-        "authdata": optional(sealed, body.get("enc-authorization-data")),
+        "authdata": optional(encrypted, body.get("enc-authorization-data")),
         "tickets": optional(count, body.get("additional-tickets")),
     }
 
@@ -74,8 +74,8 @@ def reply(value):
         "client": name_in(value["crealm"])(value["cname"]),
         "server": ticket_server(value["ticket"]),
         "padata": optional(types, value.get("padata")),
-        "ticket": sealed(value["ticket"]["enc-part"]),
-        "enc": sealed(value["enc-part"]),
+        "ticket": encrypted(value["ticket"]["enc-part"]),
+        "enc": encrypted(value["enc-part"]),
     }
 
 
@@ -83,13 +83,13 @@ def ap_request(value):
     return {
         "server": ticket_server(value["ticket"]),
         "options": options(value["ap-options"], AP_OPTIONS),
-        "ticket": sealed(value["ticket"]["enc-part"]),
-        "auth": sealed(value["authenticator"]),
+        "ticket": encrypted(value["ticket"]["enc-part"]),
+        "auth": encrypted(value["authenticator"]),
     }
 
 
 def ap_reply(value):
-    return {"enc": sealed(value["enc-part"])}
+    return {"enc": encrypted(value["enc-part"])}
 
 
 def safe(value):
@@ -106,11 +106,11 @@ def safe(value):
 
 
 def private(value):
-    return {"enc": sealed(value["enc-part"])}
+    return {"enc": encrypted(value["enc-part"])}
 
 
 def credentials(value):
-    return {"tickets": count(value["tickets"]), "enc": sealed(value["enc-part"])}
+    return {"tickets": count(value["tickets"]), "enc": encrypted(value["enc-part"])}
 
 
 def method_data(value):

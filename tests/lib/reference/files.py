@@ -16,7 +16,7 @@ from .values import (
     principal,
     quoted,
     refused_ticket,
-    sealed,
+    encrypted,
     ticket_flags,
     told,
     word,
@@ -206,7 +206,7 @@ def ticket_and_server(octets):
         ticket = whole(octets, {"Ticket": TICKET})[1]
     except Refused as refusal:
         return refused_ticket(refusal), ABSENT
-    return sealed(ticket["enc-part"]), ticket_server(ticket)
+    return encrypted(ticket["enc-part"]), ticket_server(ticket)
 
 
 def state(end, now):

@@ -4,7 +4,7 @@ The types are those of RFC 4120, 5.2.7; RFC 6113, 5.4; MS-SFU, 2.2.1; MS-KILE, 2
 what is not all of its type has no record.
 """
 
-from .fields import ap_request, method_data, name_in, options, sealed_ticket, types
+from .fields import ap_request, method_data, name_in, options, encrypted_ticket, types
 from .grammar import (
     BOOLEAN,
     CHECKSUM,
@@ -22,7 +22,7 @@ from .grammar import (
 from .judging import Refused, whole
 from .records import Record, told_records
 from .registries import ENCRYPTION_TYPES, PAC_OPTIONS
-from .values import ABSENT, checksum, hexadecimal, named, number, optional, quoted, sealed, yes_or_no
+from .values import ABSENT, checksum, hexadecimal, named, number, optional, quoted, encrypted, yes_or_no
 
 PA_TGS_REQ = MESSAGES["AP-REQ"]
 ETYPE_INFO = ListOf(sequence((0, "etype", INT32), (1, "salt?", OCTETS)))
@@ -59,11 +59,11 @@ def tgs_request(value):
 
 
 def timestamp(value):
-    yield Record("PA-ENC-TIMESTAMP", {"enc": sealed(value)})
+    yield Record("PA-ENC-TIMESTAMP", {"enc": encrypted(value)})
 
 
 def challenge(value):
-    yield Record("PA-ENCRYPTED-CHALLENGE", {"enc": sealed(value)})
+    yield Record("PA-ENCRYPTED-CHALLENGE", {"enc": encrypted(value)})
 
 
 def etype_and_salt(entry):
@@ -102,16 +102,16 @@ def armor(value):
     if value["armor-type"] == ARMOR_AP_REQUEST:
         request = value_of(PA_TGS_REQ, value["armor-value"])
         if request is not None:
-            shown.update(sealed_ticket(request["ticket"]))
+            shown.update(encrypted_ticket(request["ticket"]))
     return shown
 
 
 def fast_request(value):
-    yield Record("PA-FX-FAST", {**armor(value.get("armor")), "enc": sealed(value["enc-fast-req"])})
+    yield Record("PA-FX-FAST", {**armor(value.get("armor")), "enc": encrypted(value["enc-fast-req"])})
 
 
 def fast_reply(value):
-    yield Record("PA-FX-FAST", {**armor(None), "enc": sealed(value["enc-fast-rep"])})
+    yield Record("PA-FX-FAST", {**armor(None), "enc": encrypted(value["enc-fast-rep"])})
 
 
 def pac_options(value):
@@ -153,7 +153,7 @@ def pa_data_of(items, rows):
 
 def tickets(values):
     for ticket in values:
-        yield Record("Ticket", sealed_ticket(ticket))
+        yield Record("Ticket", encrypted_ticket(ticket))
 
 
 def request(value):

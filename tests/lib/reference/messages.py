@@ -1,6 +1,6 @@
 """The records of messages and of Tickets, with their notes and what is in the clear inside, and those of inputs."""
 
-from .fields import FIELDS, bits_of, sealed_ticket
+from .fields import FIELDS, bits_of, encrypted_ticket
 from .grammar import MESSAGES, STRICT_MESSAGES, STRICT_TICKET, TICKET, Bits, ListOf, Sequence, String, Tagged
 from .inputs import line_spelled, spelled
 from .inside import inside
@@ -60,7 +60,7 @@ def record_or_refusal(octets, n, messages=MESSAGES):
 
 
 def ticket_record(value):
-    return Record("Ticket", {**sealed_ticket(value), "notes": numbers(sorted(notes(TICKET, value)), NOTES)})
+    return Record("Ticket", {**encrypted_ticket(value), "notes": numbers(sorted(notes(TICKET, value)), NOTES)})
 
 
 def inside_record(inside, messages):

@@ -53,20 +53,20 @@ def names_of(item):
     return [field.name for field in item.fields]
 
 
-def unsealed(item, value, path):
+def unencrypted(item, value, path):
     """The paths of the EncryptedData of encryption type 0, in the order of the grammar."""
     match item:
         case Tagged():
-            yield from unsealed(item.item, value, path)
+            yield from unencrypted(item.item, value, path)
         case ListOf():
             for index, part in enumerate(value):
-                yield from unsealed(item.item, part, f"{path}[{index}]")
+                yield from unencrypted(item.item, part, f"{path}[{index}]")
         case Sequence():
             if names_of(item) == names_of(ENCRYPTED_DATA) and value["etype"] == 0:
                 yield path
             for field in item.fields:
                 if field.name in value:
-                    yield from unsealed(field.item, value[field.name], f"{path}.{field.name}")
+                    yield from unencrypted(field.item, value[field.name], f"{path}.{field.name}")
 
 
 def spelled(item, value, path):

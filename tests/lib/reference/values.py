@@ -216,7 +216,7 @@ def type_members(value, registry, name="type"):
     return {name: value, f"{name}_name": registry.get(value)}
 
 
-def sealed(value):
+def encrypted(value):
     """E: what is printed of an EncryptedData."""
     etype, kvno, size = value["etype"], value.get("kvno"), len(value["cipher"])
     after = f":{'-' if kvno is None else kvno}:{size}"

@@ -150,7 +150,7 @@ pub(super) const CALLS: [(&str, Call); 63] = [
         ),
     ),
     ("put_text", Call::Convert(Conversion::PutText)),
-    ("unsealed_path", Call::Convert(Conversion::UnsealedPath)),
+    ("unencrypted_path", Call::Convert(Conversion::UnencryptedPath)),
     ("read_line", Call::Convert(Conversion::ReadLine)),
     ("read_line", Call::Convert(Conversion::ReadFault)),
     ("run_decode", Call::Convert(Conversion::Decode)),

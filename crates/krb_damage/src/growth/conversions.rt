@@ -3,7 +3,7 @@
 use super::octets::{KRB_ERROR, message_of};
 use krb_der::{Memory, Profile};
 use krb_frame::Limit;
-use krb_json::{LineFault, Scratch, put_text, read_line, unsealed_path};
+use krb_json::{LineFault, Scratch, put_text, read_line, unencrypted_path};
 use krb_tool::{
     DecodeEnd, EncodeEnd, RunFault, run_decode, run_decode_unframed, run_encode,
     run_encode_unframed,
@@ -16,7 +16,7 @@ use std::io::{ErrorKind, Write};
 #[derive(Clone, Copy)]
 pub(super) enum Conversion {
     PutText,
-    UnsealedPath,
+    UnencryptedPath,
     ReadLine,
     ReadFault,
     Decode,
@@ -131,7 +131,7 @@ fn puts(alloc: Global, octets: &[u8]) -> Result<bool, Memory> {
 
 /// Returns whether the AP-REP that is not encrypted is found.
 fn finds(alloc: Global) -> Result<bool, Memory> {
-    match unsealed_path(alloc, CLEAR)? {
+    match unencrypted_path(alloc, CLEAR)? {
         Some(path) => Ok(path.as_str() == "AP-REP.enc-part"),
         None => Ok(false),
     }
@@ -142,7 +142,7 @@ impl Conversion {
     pub(super) fn make(self, alloc: Global) -> Result<bool, Memory> {
         match self {
             Conversion::PutText => puts(alloc, message_of(KRB_ERROR)),
-            Conversion::UnsealedPath => finds(alloc),
+            Conversion::UnencryptedPath => finds(alloc),
             Conversion::ReadLine => reads(alloc, LINE),
             Conversion::ReadFault => reads(alloc, WRONG),
             Conversion::Decode => decodes(alloc, true),

@@ -1,4 +1,4 @@
--- What is found of what is not sealed, in octets that are contents of a value, fields, or items: a path, after that of the value.
+-- What is found of what is not encrypted, in octets that are contents of a value, fields, or items: a path, after that of the value.
 use Rattle.std.specs.Prelude.{ℕ, ◌≡◌, ◌==◌, if◌then◌else◌, Bool, false, length, slice_index, List, ◌++◌, Option}
 use Rattle.std.specs.Option.{option_map}
 use Rattle.std.specs.List.{AllByRecursion, flat_map}
@@ -9,21 +9,21 @@ use Rattle.krb_msg.specs.Views.{kind_of, message_der, IsInProfile}
 use Rattle.krb_msg.specs.declared.message.Kind.{Kind}
 use Rattle.krb_msg.specs.declared.message.Message.{Message}
 use Rattle.krb_judge.specs.declared.locating.names.Names.{Names}
-use Rattle.krb_json.specs.Unsealed.{unsealed, unsealed_fields, unsealed_items, unsealed_in, is_zero, begin_with_zero}
+use Rattle.krb_json.specs.Unencrypted.{unencrypted, unencrypted_fields, unencrypted_items, unencrypted_in, is_zero, begin_with_zero}
 
 -- a path, and what follows it
 abbrev pub after_path : List ℕ → Option (List ℕ) → Option (List ℕ)
 after_path path more = option_map (λ text. path ++ text) more
 
 abbrev pub Finds : (term : Term) → Names → (contents : List ℕ) → (more : Option (List ℕ)) → Type 0
-Finds term names contents more = (value : Value term) → AreContents term contents value → (path : List ℕ) → unsealed term names path value ≡ after_path path more
+Finds term names contents more = (value : Value term) → AreContents term contents value → (path : List ℕ) → unencrypted term names path value ≡ after_path path more
 
 abbrev pub FindsInFields : (fields : Fields) → Names → (index : ℕ) → (octets : List ℕ) → (more : Option (List ℕ)) → Type 0
-FindsInFields fields names index octets more = (values : Values fields) → AreFields fields octets values → (path : List ℕ) → unsealed_fields fields names path index values ≡ after_path path more
+FindsInFields fields names index octets more = (values : Values fields) → AreFields fields octets values → (path : List ℕ) → unencrypted_fields fields names path index values ≡ after_path path more
 
 abbrev pub FindsInItems : (term : Term) → Names → (octets : List ℕ) → (more : Option (List ℕ)) → Type 0
 FindsInItems term names octets more =
-    (values : List (Value term)) → AllByRecursion (Fits term) values → octets ≡ flat_map (der term) values → (path : List ℕ) → unsealed_items (unsealed term names) path 0 values ≡ after_path path more
+    (values : List (Value term)) → AllByRecursion (Fits term) values → octets ≡ flat_map (der term) values → (path : List ℕ) → unencrypted_items (unencrypted term names) path 0 values ≡ after_path path more
 
 -- whether octets are those of the number 0
 abbrev pub is_single_zero : List ℕ → Bool
@@ -37,4 +37,4 @@ abbrev pub BeginWithZero : (fields : Fields) → (octets : List ℕ) → Bool �
 BeginWithZero fields octets zero = (values : Values fields) → AreFields fields octets values → begin_with_zero fields values ≡ zero
 
 abbrev pub FindsInMessage : Kind → (octets : List ℕ) → (path : Option (List ℕ)) → Type 0
-FindsInMessage kind octets path = (m : Message) → IsInProfile Lenient m → kind_of m ≡ kind → message_der m ≡ octets → unsealed_in m ≡ path
+FindsInMessage kind octets path = (m : Message) → IsInProfile Lenient m → kind_of m ≡ kind → message_der m ≡ octets → unencrypted_in m ≡ path

@@ -8,7 +8,7 @@ returns-clause-added c =
     let text = message_text (message_of_der c.args.octets.now) in
     let put = c.in_ok-self.ensures (message_of_der c.args.octets.now) c.requires.message.in_profile c.requires.message.form in
     record {
-      sealed = c.requires.sealed;
+      encrypted = c.requires.encrypted;
       line = c.in_ok-push.ensures.items ∙ ap (λ t. t ++ 10 ∷ []) (put ∙ ap (λ l. l.items ++ text) c.replace-lines.ensures.value) ∙ append_assoc c.args.self.now.text.items text (10 ∷ []);
       counted = refl;
       same = refl;

@@ -7,11 +7,11 @@ use Rattle.krb_tool.proofs.json_lines.JsonLines.put_message.Goals as goal
 pub returns-in-Some-clause-put : goal.returns-in-Some-clause-put
 returns-in-Some-clause-put c = record {
   path = string_bytes c.in-Some.path;
-  unsealed = c.in_ok-path.ensures (message_of_der c.args.octets.now) c.requires.message.in_profile c.requires.message.form ∙ ap (option_map string_bytes) c.in-Some.is;
+  unencrypted = c.in_ok-path.ensures (message_of_der c.args.octets.now) c.requires.message.in_profile c.requires.message.form ∙ ap (option_map string_bytes) c.in-Some.is;
   kept = refl;
   text = refl;
   messages = refl;
 }
 
-pub add_line-requires-clause-sealed : goal.add_line-requires-clause-sealed
-add_line-requires-clause-sealed c = c.in_ok-path.ensures (message_of_der c.args.octets.now) c.requires.message.in_profile c.requires.message.form ∙ ap (option_map string_bytes) c.in-None.is
+pub add_line-requires-clause-encrypted : goal.add_line-requires-clause-encrypted
+add_line-requires-clause-encrypted c = c.in_ok-path.ensures (message_of_der c.args.octets.now) c.requires.message.in_profile c.requires.message.form ∙ ap (option_map string_bytes) c.in-None.is

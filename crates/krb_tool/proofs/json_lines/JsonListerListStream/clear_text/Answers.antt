@@ -10,7 +10,7 @@ returns c =
     (λ stream written h. record {
       contents = h.contents;
       decoded = h.decoded;
-      sealed = h.sealed;
+      encrypted = h.encrypted;
       lines = ap (λ l. (written ++ text) ++ l) c.clear.ensures.items ∙ append-nil (written ++ text) ∙ h.lines;
       counted = h.counted;
       none = h.none;

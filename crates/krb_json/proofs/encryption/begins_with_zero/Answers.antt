@@ -2,7 +2,7 @@ use Rattle.std.proofs.Common.{◌++◌, false, ap, subst, ◌∙◌}
 use Rattle.krb_der.specs.Octets.{item}
 use Rattle.krb_msg.specs.Viewed.{HasNoItem}
 use Rattle.krb_json.proofs.Searches.{zero-first, zero-none_first, optional-first}
-use Rattle.krb_json.proofs.sealing.begins_with_zero.Goals as goal
+use Rattle.krb_json.proofs.encryption.begins_with_zero.Goals as goal
 
 pub returns-in-Optional : goal.returns-in-Optional
 returns-in-Optional c = optional-first c.args.slots.now c.args.octets.now _ c.in-len1-up.len_at_least c.in-Optional.is

@@ -1,4 +1,4 @@
-//! What a message has that is not sealed, from its octets.
+//! What a message has that is not encrypted, from its octets.
 
 ghost use Rattle.std.specs.Prelude.{◌≡◌, ◌^◌, ◌<◌, ◌+◌, ◌++◌, true, length, codes, decimal, IfOk, string_bytes};
 ghost use Rattle.std.specs.Option.{option_map};
@@ -8,7 +8,7 @@ ghost use Rattle.krb_msg.specs.Shape.{is_unambiguous, are_unambiguous};
 ghost use Rattle.krb_msg.specs.Table.{IsNode, IsSlot, fields_from};
 ghost use Rattle.krb_msg.specs.Views.{message_der, IsInProfile};
 ghost use Rattle.krb_msg.specs.declared.message.Message.{Message};
-ghost use Rattle.krb_json.specs.Unsealed.{is_encrypted_data, unsealed_in};
+ghost use Rattle.krb_json.specs.Unencrypted.{is_encrypted_data, unencrypted_in};
 ghost use Rattle.krb_json.specs.inner.Searching.{BeginWithZero, Finds, FindsInFields, FindsInItems, FindsInMessage, IsZero, is_single_zero};
 
 use crate::writing::node_of;
@@ -20,10 +20,10 @@ use krb_msg::{Kind, first_item};
 use std::alloc::{AllocError, Global};
 
 /// Returns the path of the first EncryptedData of encryption type 0 in the message whose DER octets
-/// these are, if there is one: what it has for a cipher is not sealed.
-pub fn unsealed_path(alloc: Global, octets: &[u8]) -> Result<Option<String>, Memory>
+/// these are, if there is one: what it has for a cipher is not encrypted.
+pub fn unencrypted_path(alloc: Global, octets: &[u8]) -> Result<Option<String>, Memory>
     requires { length octets.now < 2 ^ 31 }
-    ensures { IfOk result (λ path. (m : Message) → IsInProfile Profile.Lenient m → message_der m ≡ octets.now → unsealed_in m ≡ option_map string_bytes path) }
+    ensures { IfOk result (λ path. (m : Message) → IsInProfile Profile.Lenient m → message_der m ≡ octets.now → unencrypted_in m ≡ option_map string_bytes path) }
 {
     let [tag, ..] = octets else {
         return Ok(None);

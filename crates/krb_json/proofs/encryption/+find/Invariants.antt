@@ -3,7 +3,7 @@ use Rattle.krb_msg.specs.Nodes.{nodes, term_at}
 use Rattle.krb_msg.specs.Table.{fields_from}
 use Rattle.krb_json.specs.inner.Sizes.{size, size_of_fields}
 use Rattle.krb_json.proofs.Searches.{AreSearched}
-use Rattle.krb_json.proofs.sealing.+find.Given as goal
+use Rattle.krb_json.proofs.encryption.+find.Given as goal
 
 abbrev pub decreases-find : goal.decreases-find
 decreases-find l = 2 * size (term_at l.node)

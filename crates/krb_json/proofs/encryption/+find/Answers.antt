@@ -6,7 +6,7 @@ use Rattle.krb_msg.specs.Viewed.{HasNoItem}
 use Rattle.krb_json.specs.inner.Searching.{Finds}
 use Rattle.krb_json.proofs.Searches.{if-ok, finds-here, finds-inside, finds-list, finds-tagged, finds-no_item, no-first, found-first, none-first, one-searched, one-found, none-left}
 use Rattle.krb_msg.proofs.ItemViews.{passed_smaller}
-use Rattle.krb_json.proofs.sealing.+find.Goals as goal
+use Rattle.krb_json.proofs.encryption.+find.Goals as goal
 
 pub find-returns-then-is_encrypted_data-begins_with_zero : goal.find-returns-then-is_encrypted_data-begins_with_zero
 find-returns-then-is_encrypted_data-begins_with_zero t c value a path =

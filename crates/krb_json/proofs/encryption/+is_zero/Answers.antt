@@ -4,7 +4,7 @@ use Rattle.krb_msg.specs.Nodes.{term_at}
 use Rattle.krb_msg.specs.Viewed.{HasNoItem}
 use Rattle.krb_judge.specs.declared.locating.names.Names.TheVariants.{Basic}
 use Rattle.krb_json.proofs.Searches.{zero-integer, zero-tagged, zero-no_item}
-use Rattle.krb_json.proofs.sealing.+is_zero.Goals as goal
+use Rattle.krb_json.proofs.encryption.+is_zero.Goals as goal
 
 pub returns-in-Integer : goal.returns-in-Integer
 returns-in-Integer t c = zero-integer c.args.contents.now c.is_single_zero.result c.in-Integer.low c.in-Integer.high c.in-Integer.widest (term_at c.args.node) c.in-Integer.ensures c.is_single_zero.ensures

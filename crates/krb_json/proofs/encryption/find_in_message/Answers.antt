@@ -3,7 +3,7 @@ use Rattle.std.specs.Prelude.{string_bytes}
 use Rattle.krb_msg.specs.Nodes.{term_at}
 use Rattle.krb_json.specs.inner.Searching.{Finds}
 use Rattle.krb_json.proofs.Searches.{finds-message, finds-no_message}
-use Rattle.krb_json.proofs.sealing.find_in_message.Goals as goal
+use Rattle.krb_json.proofs.encryption.find_in_message.Goals as goal
 
 pub returns-in_default : goal.returns-in_default
 returns-in_default c = finds-no_message c.args.kind c.message_node-node.result c.tag_of.result c.args.octets.now None c.message_node-node.ensures.term c.tag_of.ensures c.in_default.ensures
