@@ -7,7 +7,7 @@
 //!   ([`LineFault`]). Members may come in any order; what `put_text` writes comes back. The memory
 //!   in which it reads ([`Scratch`]) is the caller's, who keeps it from line to line.
 //! - [`unencrypted_path`] returns where a message has an EncryptedData of encryption type 0, which
-//!   seals nothing. Look there before you show a text: a KRB-CRED may have session keys in it.
+//!   encrypts nothing. Look there before you show a text: a KRB-CRED may have session keys in it.
 //!
 //! No cipher is opened, and nothing that is octets for RFC 4120 is looked into. `specs/Objects` has
 //! the JSON of a value, `specs/Spelled` the value that a JSON value spells, or what is wrong with

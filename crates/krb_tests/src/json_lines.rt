@@ -226,7 +226,7 @@ fn faults_of_lines_are_told(rt: HostRuntime) -> Result<(), Fail> {
 }
 
 /// Messages, and the path of what is not encrypted in each.
-const UNSEALED: [(&str, &str); 3] = [
+const UNENCRYPTED: [(&str, &str); 3] = [
     (
         "6F1D301BA003020105A10302010FA20F300DA003020100A2060404DEADBEEF",
         "AP-REP.enc-part",
@@ -255,7 +255,7 @@ fn path_in(alloc: Global, octets: &[u8]) -> Result<String, Memory> {
 #[test]
 fn what_is_not_encrypted_is_found(rt: HostRuntime) -> Result<(), Fail> {
     let alloc = rt.alloc();
-    for (digits, path) in UNSEALED {
+    for (digits, path) in UNENCRYPTED {
         let octets = octets_of(alloc, digits)?;
         assert_eq!(rt; path_in(alloc, octets.as_slice())?.as_str(), path);
     }

@@ -37,7 +37,7 @@ pub enum DecodeEnd {
 
 /// Decodes a stream of framed messages (RFC 4120, 7.2.2) of a profile: writes a line of JSON for
 /// each message. The first octet that is refused ends the run, and so does the first message that
-/// has an EncryptedData of encryption type 0, which seals nothing: that message is not written, and
+/// has an EncryptedData of encryption type 0, which encrypts nothing: that message is not written, and
 /// nothing after it is looked at. Frames of more than `limit` octets are refused. The reader is
 /// asked at most 2^40 times, for 64 KiB each, and the lines of what came are written before it is
 /// asked again. It is not asked again after an error, its end, or what ended the run. If a read
