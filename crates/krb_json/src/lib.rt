@@ -14,6 +14,7 @@
 //! it ([`Wrong`]), and [`law`] that these belong together.
 #![tactic(auto)]
 
+mod encryption;
 mod heads;
 mod hexadecimal;
 mod kinds;
@@ -22,14 +23,13 @@ mod line_fault;
 mod members;
 mod reading;
 mod scalars;
-mod encryption;
 mod value_fault;
 mod writing;
 mod wrong;
 
+pub use encryption::unencrypted_path;
 pub use json::Scratch;
 pub use line_fault::{Fault, LineFault};
 pub use reading::read_line;
-pub use encryption::unencrypted_path;
 pub use writing::put_text;
 pub use wrong::Wrong;

@@ -21,12 +21,12 @@ ghost use Rattle.krb_json.specs.Reading.{AreSpelled, IsFaultOf};
 ghost use Rattle.krb_json.specs.Spelled.{items_spelled, spelled};
 ghost use Rattle.krb_json.specs.inner.Reading.{Reads, ReadsField, ReadsFields, ReadsLine};
 
+use crate::encryption::joined;
 use crate::heads::{begin_item, end_item};
 use crate::kinds::all_kinds;
 use crate::line_fault::{Fault, LineFault};
 use crate::members::{Allowed, check_members};
 use crate::scalars::{read_bits, read_integer, read_octets, read_text, read_time};
-use crate::encryption::joined;
 use crate::value_fault::{ValueFault, fault_here, fault_of_field, in_field, in_item};
 use crate::writing::node_of;
 use crate::wrong::Wrong;

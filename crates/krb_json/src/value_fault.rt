@@ -5,8 +5,8 @@ ghost use Rattle.krb_json.specs.Spelling.{shown};
 ghost use Rattle.krb_json.specs.declared.value_fault.ValueFault.TheVariants.{Memory};
 ghost use Rattle.krb_json.specs.inner.Reading.{IsFaultAt, IsUnder};
 
-use crate::line_fault::Fault;
 use crate::encryption::{after_index, after_name};
+use crate::line_fault::Fault;
 use crate::writing::shown;
 use crate::wrong::Wrong;
 use std::alloc::{AllocError, AllocFailed, Global};

@@ -16,7 +16,7 @@ use krb_der::{Memory, Refusal, Why, why_number, why_text};
 use krb_msg::TicketView;
 use krb_registry::Registry;
 use krb_text::{
-    FileTime, Form, Numbered, Plain, Principal, Encrypted, Shown, TextBuffer, TicketFlags,
+    Encrypted, FileTime, Form, Numbered, Plain, Principal, Shown, TextBuffer, TicketFlags,
     ViewedStrings, put_begin, put_closing, put_field, put_opening, put_string,
 };
 use std::alloc::{AllocError, Global};

@@ -3,8 +3,8 @@
 use krb_der::Profile;
 use krb_text::FileName;
 use krb_words::{
-    AfterRefusal, Form, Framing, Inputs, Command, NamedPath, Naming, CommandLine, Source, When, WordsFault,
-    read_words,
+    AfterRefusal, Command, CommandLine, Form, Framing, Inputs, NamedPath, Naming, Source, When,
+    WordsFault, read_words,
 };
 use std::alloc::Global;
 use std::test::Fail;
@@ -72,7 +72,10 @@ fn timed<'a>(name: &'a str, by_clock: &'a str, when: Option<When>) -> (&'a str, 
 fn named(command: &Command) -> (&str, Option<u32>) {
     match command {
         Command::List(when) => timed("list", "list now", *when),
-        Command::Stream(limit, profile, after) => (stream_name(*profile, *after), Some(limit.get())),
+        Command::Stream(limit, profile, after) => (
+            stream_name(*profile, *after),
+            Some(limit.get()),
+        ),
         Command::Message(profile, inputs) => (message_name(*profile, *inputs), None),
         Command::Keytab => ("keytab", None),
         Command::Ccache(when) => timed("ccache", "ccache now", *when),

@@ -70,7 +70,7 @@ pub use law::{
 };
 pub use message::{message_line, put_message, put_message_from, put_message_view};
 pub use message_origin::MessageOrigin;
-pub use number::{Numbered, Encrypted};
+pub use number::{Encrypted, Numbered};
 pub use origin::{Origin, Transport};
 pub use principal::{Principal, Strings, ViewedStrings, principal_text, put_principal};
 pub use refusal::{put_file_refusal, put_message_refusal, put_untold_message_refusal};

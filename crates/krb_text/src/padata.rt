@@ -12,7 +12,7 @@ ghost use Rattle.krb_text.specs.Judged.{judged};
 ghost use Rattle.krb_text.specs.declared.clear_type.ClearType.TheVariants.{PacRequest};
 ghost use Rattle.krb_text.specs.inner.Parts.{Tells};
 
-use crate::clear::{put_pac_request, put_salt, put_encrypted};
+use crate::clear::{put_encrypted, put_pac_request, put_salt};
 use crate::clear_type::ClearType;
 use crate::form::Form;
 use crate::list::count_items;

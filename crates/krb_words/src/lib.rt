@@ -28,5 +28,5 @@ pub use krb_text::Form;
 pub use sources::{NamedPath, Source};
 pub use when::When;
 pub use words::{
-    AfterRefusal, Framing, Inputs, Command, Naming, CommandLine, USUAL_PORT, WordsFault, read_words,
+    AfterRefusal, Command, CommandLine, Framing, Inputs, Naming, USUAL_PORT, WordsFault, read_words,
 };

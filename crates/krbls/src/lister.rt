@@ -18,7 +18,7 @@ use krb_tool::{
     run_capture, run_ccache_in, run_decode, run_decode_unframed, run_encode, run_encode_unframed,
     run_keytab_in, run_lines_in, run_message_in, run_stream_in,
 };
-use krb_words::{AfterRefusal, Framing, Inputs, Command, Source, USUAL_PORT, When};
+use krb_words::{AfterRefusal, Command, Framing, Inputs, Source, USUAL_PORT, When};
 use std::alloc::{AllocError, Global};
 use std::io::{Read, Write};
 
@@ -42,7 +42,9 @@ fn listing_for(kind: SourceKind, when: Option<When>) -> Command
         SourceKind::Ccache => Command::Ccache(when),
         SourceKind::Capture => Command::Capture(Limit::DEFAULT, USUAL_PORT),
         SourceKind::Message => Command::Message(Profile::Lenient, Inputs::Whole),
-        SourceKind::Stream => { Command::Stream(Limit::DEFAULT, Profile::Lenient, AfterRefusal::Ends) }
+        SourceKind::Stream => {
+            Command::Stream(Limit::DEFAULT, Profile::Lenient, AfterRefusal::Ends)
+        }
     }
 }
 
@@ -88,7 +90,9 @@ impl<H: Host> Lister<'_, H> {
             }
             Command::Keytab => run_keytab_in(alloc, form, reader, writer),
             Command::Ccache(_) => run_ccache_in(alloc, form, reader, writer, self.time),
-            Command::Capture(limit, port) => run_capture(alloc, form, reader, writer, *limit, *port),
+            Command::Capture(limit, port) => run_capture(
+                alloc, form, reader, writer, *limit, *port,
+            ),
             Command::Decode(limit, profile, framing) => {
                 self.run_decode(source, *framing, *profile, reader, writer, *limit)
             }

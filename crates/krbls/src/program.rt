@@ -9,7 +9,7 @@ use crate::host::Host;
 use crate::lister::Lister;
 use crate::sources::expand;
 use krb_tool::{Naming as Labels, RunFault, run_sources, run_sources_unnamed};
-use krb_words::{Command, Naming, CommandLine, Source, When, WordsFault, read_words};
+use krb_words::{Command, CommandLine, Naming, Source, When, WordsFault, read_words};
 use std::alloc::Global;
 use std::io::Write;
 use std::process::ExitCode;
@@ -38,7 +38,12 @@ pub(crate) fn run_words<H: Host, W: Write>(
 }
 
 /// Does what a command line says.
-fn run_command<H: Host, W: Write>(alloc: Global, host: &H, command_line: &CommandLine, writer: W) -> (W, ExitCode)
+fn run_command<H: Host, W: Write>(
+    alloc: Global,
+    host: &H,
+    command_line: &CommandLine,
+    writer: W,
+) -> (W, ExitCode)
     ensures { RunsCommand (H.around host.now) command_line.now (W.contents writer) (W.contents result.0) (exit_status result.1) }
 {
     match text_of(&command_line.command) {
@@ -141,7 +146,12 @@ fn list_each<H: Host, W: Write>(
 }
 
 /// Does the command with each source, and returns the writer and the greatest of their statuses.
-fn do_each<H: Host, W: Write>(alloc: Global, host: &H, command_line: &CommandLine, writer: W) -> (W, ExitCode)
+fn do_each<H: Host, W: Write>(
+    alloc: Global,
+    host: &H,
+    command_line: &CommandLine,
+    writer: W,
+) -> (W, ExitCode)
     ensures { DoesAny (H.around host.now) command_line.now (W.contents writer) (W.contents result.0) (exit_status result.1) }
 {
     match expand(alloc, host, command_line.sources.as_slice()) {

@@ -150,7 +150,10 @@ pub(super) const CALLS: [(&str, Call); 63] = [
         ),
     ),
     ("put_text", Call::Convert(Conversion::PutText)),
-    ("unencrypted_path", Call::Convert(Conversion::UnencryptedPath)),
+    (
+        "unencrypted_path",
+        Call::Convert(Conversion::UnencryptedPath),
+    ),
     ("read_line", Call::Convert(Conversion::ReadLine)),
     ("read_line", Call::Convert(Conversion::ReadFault)),
     ("run_decode", Call::Convert(Conversion::Decode)),
