@@ -23,14 +23,14 @@ use std::alloc::Global;
 /// fixed, and so not kept.
 #[derive(PartialEq, Eq, Debug, Drop)]
 pub struct ApRep {
-    /// The encrypted EncAPRepPart.
+    /// The sealed EncAPRepPart.
     pub enc_part: EncryptedData,
 }
 
 /// A view of an AP-REP: its strings and lists are borrowed from the octets.
 #[derive(Clone, Copy)]
 pub struct ApRepView<'a> {
-    /// The encrypted EncAPRepPart.
+    /// The sealed EncAPRepPart.
     pub enc_part: EncryptedDataView<'a>,
 }
 

@@ -29,7 +29,7 @@ pub struct ApReq {
     pub ap_options: Flags,
     /// The ticket for the server.
     pub ticket: Ticket,
-    /// The encrypted Authenticator.
+    /// The sealed Authenticator.
     pub authenticator: EncryptedData,
 }
 
@@ -40,7 +40,7 @@ pub struct ApReqView<'a> {
     pub ap_options: FlagsView<'a>,
     /// The ticket for the server.
     pub ticket: TicketView<'a>,
-    /// The encrypted Authenticator.
+    /// The sealed Authenticator.
     pub authenticator: EncryptedDataView<'a>,
 }
 

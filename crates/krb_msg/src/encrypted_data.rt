@@ -18,14 +18,14 @@ use crate::notes::Notes;
 use krb_der::{Der, Int32, Memory, Octets, Wide32};
 use std::alloc::Global;
 
-/// What is encrypted (RFC 4120, 5.2.9). Its cipher is never opened.
+/// What is sealed (RFC 4120, 5.2.9). Its cipher is never opened.
 #[derive(PartialEq, Eq, Debug, Drop)]
 pub struct EncryptedData {
     /// The encryption type (RFC 3961), of which none is refused.
     pub etype: Int32,
     /// The version of the key, if it is said.
     pub kvno: Option<Wide32>,
-    /// The encrypted octets.
+    /// The sealed octets.
     pub cipher: Octets,
 }
 
@@ -36,7 +36,7 @@ pub struct EncryptedDataView<'a> {
     pub etype: i64,
     /// The version of the key, if it is said.
     pub kvno: Option<i64>,
-    /// The encrypted octets.
+    /// The sealed octets.
     pub cipher: &'a [u8],
 }
 

@@ -38,7 +38,7 @@ pub struct KdcRep {
     pub cname: PrincipalName,
     /// The ticket that is issued.
     pub ticket: Ticket,
-    /// The encrypted EncASRepPart or EncTGSRepPart.
+    /// The sealed EncASRepPart or EncTGSRepPart.
     pub enc_part: EncryptedData,
 }
 
@@ -53,7 +53,7 @@ pub struct KdcRepView<'a> {
     pub cname: PrincipalNameView<'a>,
     /// The ticket that is issued.
     pub ticket: TicketView<'a>,
-    /// The encrypted EncASRepPart or EncTGSRepPart.
+    /// The sealed EncASRepPart or EncTGSRepPart.
     pub enc_part: EncryptedDataView<'a>,
 }
 

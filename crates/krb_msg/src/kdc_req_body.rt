@@ -47,7 +47,7 @@ pub struct KdcReqBody {
     pub etype: Many<Int32>,
     /// The addresses from which the ticket is to serve.
     pub addresses: Option<Many<HostAddress>>,
-    /// The encrypted AuthorizationData.
+    /// The sealed AuthorizationData.
     pub enc_authorization_data: Option<EncryptedData>,
     /// Further tickets, which some options ask for.
     pub additional_tickets: Option<Many<Ticket>>,
@@ -76,7 +76,7 @@ pub struct KdcReqBodyView<'a> {
     pub etype: ItemsView<'a>,
     /// The addresses from which the ticket is to serve.
     pub addresses: Option<ItemsView<'a>>,
-    /// The encrypted AuthorizationData.
+    /// The sealed AuthorizationData.
     pub enc_authorization_data: Option<EncryptedDataView<'a>>,
     /// Further tickets, which some options ask for.
     pub additional_tickets: Option<ItemsView<'a>>,
@@ -237,7 +237,7 @@ pub struct RestView<'a> {
     etype: ItemsView<'a>,
     /// The addresses from which the ticket is to serve.
     addresses: Option<ItemsView<'a>>,
-    /// The encrypted AuthorizationData.
+    /// The sealed AuthorizationData.
     enc_authorization_data: Option<EncryptedDataView<'a>>,
     /// Further tickets, which some options ask for.
     additional_tickets: Option<ItemsView<'a>>,

@@ -21,13 +21,13 @@ use crate::view::items::ItemsView;
 use krb_der::{Der, Many, Memory};
 use std::alloc::Global;
 
-/// Tickets, handed on with what is encrypted of them (RFC 4120, 5.8.1). Its version and its message
+/// Tickets, handed on with what is sealed of them (RFC 4120, 5.8.1). Its version and its message
 /// type are fixed, and so not kept.
 #[derive(PartialEq, Eq, Debug, Drop)]
 pub struct KrbCred {
     /// The tickets.
     pub tickets: Many<Ticket>,
-    /// The encrypted EncKrbCredPart.
+    /// The sealed EncKrbCredPart.
     pub enc_part: EncryptedData,
 }
 
@@ -36,7 +36,7 @@ pub struct KrbCred {
 pub struct KrbCredView<'a> {
     /// The tickets.
     pub tickets: ItemsView<'a>,
-    /// The encrypted EncKrbCredPart.
+    /// The sealed EncKrbCredPart.
     pub enc_part: EncryptedDataView<'a>,
 }
 

@@ -19,18 +19,18 @@ use crate::notes::Notes;
 use krb_der::{Der, Memory};
 use std::alloc::Global;
 
-/// A message that is encrypted (RFC 4120, 5.7.1). Its version and its message type are fixed, and so
+/// A message that is sealed (RFC 4120, 5.7.1). Its version and its message type are fixed, and so
 /// not kept.
 #[derive(PartialEq, Eq, Debug, Drop)]
 pub struct KrbPriv {
-    /// The encrypted EncKrbPrivPart.
+    /// The sealed EncKrbPrivPart.
     pub enc_part: EncryptedData,
 }
 
 /// A view of a KRB-PRIV: its strings and lists are borrowed from the octets.
 #[derive(Clone, Copy)]
 pub struct KrbPrivView<'a> {
-    /// The encrypted EncKrbPrivPart.
+    /// The sealed EncKrbPrivPart.
     pub enc_part: EncryptedDataView<'a>,
 }
 

@@ -43,7 +43,7 @@ pub enum MessageView<'a> {
     ApRep(ApRepView<'a>),
     /// What one sends the other, protected against changes (5.6.1).
     KrbSafe(KrbSafeView<'a>),
-    /// What one sends the other, encrypted (5.7.1).
+    /// What one sends the other, sealed (5.7.1).
     KrbPriv(KrbPrivView<'a>),
     /// Tickets that one hands on to the other (5.8.1).
     KrbCred(KrbCredView<'a>),

@@ -27,7 +27,7 @@ pub struct Ticket {
     pub realm: KString,
     /// The server.
     pub sname: PrincipalName,
-    /// The encrypted EncTicketPart.
+    /// The sealed EncTicketPart.
     pub enc_part: EncryptedData,
 }
 
@@ -38,7 +38,7 @@ pub struct TicketView<'a> {
     pub realm: &'a [u8],
     /// The server.
     pub sname: PrincipalNameView<'a>,
-    /// The encrypted EncTicketPart.
+    /// The sealed EncTicketPart.
     pub enc_part: EncryptedDataView<'a>,
 }
 

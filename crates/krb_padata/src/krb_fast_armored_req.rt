@@ -19,7 +19,7 @@ pub struct KrbFastArmoredReq {
     pub armor: Option<KrbFastArmor>,
     /// A checksum over the request.
     pub req_checksum: Checksum,
-    /// The encrypted KrbFastReq.
+    /// The sealed KrbFastReq.
     pub enc_fast_req: EncryptedData,
 }
 
@@ -30,7 +30,7 @@ pub struct KrbFastArmoredReqView<'a> {
     pub armor: Option<KrbFastArmorView<'a>>,
     /// A checksum over the request.
     pub req_checksum: ChecksumView<'a>,
-    /// The encrypted KrbFastReq.
+    /// The sealed KrbFastReq.
     pub enc_fast_req: EncryptedDataView<'a>,
 }
 
