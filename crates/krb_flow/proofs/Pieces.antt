@@ -157,9 +157,8 @@ pub deliver_near : (progress : Progress) (segment : Segment) → is_skipped prog
 deliver_near progress segment = by (is_far progress segment) (passes_all progress segment)
   where
     by : (far all : Bool) → (far || all) ≡ false → deliver_by progress segment far all ≡ near_by progress segment
-    by true all e = absurd (true≢false e)
-    by false true e = absurd (true≢false e)
     by false false e = refl
+    by other another e = absurd (true≢false e)
 
 -- ---- how a direction begins
 
@@ -184,9 +183,8 @@ pub still_ended : (had : Had) (segment : Segment) → (begins (Ended had) segmen
 still_ended had segment = by (segment.syn && not (had.first == first_number segment)) (may_join (Ended had) segment && nat_lt 0 segment.payload.size)
   where
     by : (a b : Bool) → (begun_by had segment a b).1 ≡ None → begun_by had segment a b ≡ (None, None, Ended had)
-    by true b e = cc
-    by false true e = cc
     by false false e = refl
+    by other another e = cc
 
 -- a state in which the octets before a place were delivered
 abbrev Sound : List ℕ → ℕ → State → Type 0

@@ -1,20 +1,12 @@
 -- Octets that wait, by their places: those that are kept before all others, and the place after those that are ready.
-use Rattle.std.proofs.Common.{◌≡◌, ℕ, zero, suc, ◌+◌, ◌<◌, ◌≤◌, ◌==◌, Bool, true, false, is_some, Some, List, [], ◌∷◌, ◌++◌, length, refl, sym, ap, subst, ◌∙◌, arith, add-zero}
-use Rattle.std.specs.Prelude.{slice_get, All}
+use Rattle.std.proofs.Common.{◌≡◌, ℕ, zero, suc, ◌+◌, ◌<◌, ◌≤◌, Bool, true, false, is_some, List, [], ◌∷◌, ◌++◌, length, refl, sym, ap, subst, ◌∙◌, arith, add-zero}
+use Rattle.std.specs.Prelude.{All}
 use Rattle.std.specs.Ordering.{nat_cmp}
 use Rattle.std.specs.Map.{lookup, keys_of}
 use Rattle.std.specs.BTreeMap.{insert_entry, is_at}
 use Rattle.std.proofs.lemmas.Bool.{lt-ltb, le-ltb, eq-eqb, ne_eqb}
 use Rattle.krb_der.specs.Octets.{when}
 use Rattle.krb_flow.specs.Waiting.{Waiting, keep_one, keep, ready, early}
-
--- nothing is ready if the first octet that waits is at another place
-pub stops : (expected : ℕ) (waiting : Waiting) (first : ℕ × ℕ) → slice_get waiting 0 ≡ Some first → (first.0 ≡ expected → ⊥) → (ready expected waiting ≡ []) × (early expected waiting ≡ waiting)
-stops expected [] first is apart = (refl, refl)
-stops expected (entry ∷ entries) first is apart =
-    let same : entry ≡ first = cc in
-    let other : (entry.0 == expected) ≡ false = ne_eqb entry.0 expected (λ here. apart (ap (λ (e : ℕ × ℕ). e.0) (sym same) ∙ here)) in
-    (rw other refl, rw other refl)
 
 -- all octets that wait are at a place or after it
 unfoldable pub IsFrom : ℕ → Waiting → Type 0

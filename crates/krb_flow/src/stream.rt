@@ -54,7 +54,7 @@ impl Model for Stream {
     ghost view = { λ stream. record { first = stream.first; expected = stream.expected; waiting = stream.waiting; seen = stream.seen; far = stream.far; fin = stream.fin } };
 }
 
-ghost use Rattle.std.specs.Prelude.{◌≡◌, ℕ, ◌+◌, ◌++◌, ◌<◌, ◌≤◌, ◌^◌, ◌||◌, ◌==◌, nat_lt, nat_le, length, IfOk, OnOk};
+ghost use Rattle.std.specs.Prelude.{◌≡◌, ◌+◌, ◌++◌, ◌<◌, ◌^◌, ◌||◌, ◌==◌, length, IfOk, OnOk};
 ghost use Rattle.krb_der.specs.Octets.{when};
 ghost use Rattle.krb_flow.specs.Progress.{begun};
 ghost use Rattle.krb_flow.specs.Directions.{distance_to, earlier, end_place, ending, glimpsed, had, if_later, is_over, later, next_place, passes_all, advanced, delivered, deliver};
