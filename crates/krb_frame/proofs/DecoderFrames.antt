@@ -3,7 +3,7 @@ use Rattle.std.proofs.Common.{◌≡◌, ℕ, zero, suc, ◌+◌, ◌^◌, ◌<�
 use Rattle.std.specs.Int.{w32, from_be_bytes}
 use Rattle.std.proofs.lemmas.List.{take_all, take_at, drop_all, nil_from_length}
 use Rattle.krb_der.specs.Octets.{number}
-use Rattle.krb_der.specs.declared.why.Why.TheVariants as why
+use Rattle.krb_der.specs.declared.why.Why.{Why}
 use Rattle.krb_der.specs.declared.verdict.Refusal.{Refusal}
 use Rattle.krb_der.specs.declared.verdict.Verdict.TheVariants as verdict
 use Rattle.krb_der.specs.declared.profile.Profile.{Profile}
@@ -16,11 +16,13 @@ use Rattle.krb_scan.specs.Scanned.{open_count}
 use Rattle.krb_scan.specs.Machine.{HasScanned}
 use Rattle.krb_scan.specs.declared.machine.Machine.{Machine}
 use Rattle.krb_frame.specs.Decoding.{Decoding, found, status_at, status_of, first_of, borrowed, open_lengths_of, finish_at, finish_of, AreOfOne, IsOfOneFrame, octets_of, decoding_of, length_present}
+use Rattle.krb_frame.specs.Frame.{length_fault}
 use Rattle.krb_frame.specs.inner.Phases.{end_after, IsRefusedIn, IsFedContents, phase_of, IsAccepted, HasPartOfLength, HasPart, HasFrame, HasRefused, IsPhaseOf, IsScanned, phase_status}
 use Rattle.krb_frame.specs.declared.decoder.Phase.{Phase}
 use Rattle.krb_frame.specs.declared.decoder.Phase.TheVariants as phase
 use Rattle.krb_frame.specs.declared.decoder.Status.{Status}
 use Rattle.krb_frame.specs.declared.decoder.Status.TheVariants as status
+use Rattle.krb_frame.proofs.Lengths.{by_fault}
 
 -- four octets, the highest first, as the code reads them
 pub from_be_bytes-number : (octets : List ℕ) → length octets ≡ 4 → from_be_bytes w32 octets ≡ number octets
@@ -96,32 +98,18 @@ none_open profile (suc n) = refl
 
 -- ---- by any messages
 module _ (messages : List Term) where
-  pub high : (limit : ℕ) (announced : List ℕ) (size : ℕ) → Announces announced size → 2 ^ 31 ≤ size → HasRefused messages limit announced [] (record { place = 3; why = why.HighBit })
-  high limit announced size a h = record {
-    four = a.four;
-    found = frames-high messages limit (announced ++ []) size (length_is_there announced [] size a) (number_of announced [] size a) h;
-    last = refl;
-    few = omega arith;
-    short = omega arith;
-  }
-
-  pub long : (limit : ℕ) (announced : List ℕ) (size : ℕ) → Announces announced size → size < 2 ^ 31 → limit < size → HasRefused messages limit announced [] (record { place = 3; why = why.TooLong })
-  long limit announced size a k h = record {
-    four = a.four;
-    found = frames-long messages limit (announced ++ []) size (length_is_there announced [] size a) (number_of announced [] size a) k h;
-    last = refl;
-    few = omega arith;
-    short = omega arith;
-  }
-
-  pub empty : (limit : ℕ) (announced : List ℕ) → Announces announced 0 → HasRefused messages limit announced [] (record { place = 3; why = why.Empty })
-  empty limit announced a = record {
-    four = a.four;
-    found = frames-empty messages limit (announced ++ []) (length_is_there announced [] 0 a) (number_of announced [] 0 a);
-    last = refl;
-    few = omega arith;
-    short = omega arith;
-  }
+  pub refused_length : (limit : ℕ) (announced : List ℕ) (size : ℕ) (reason : Why) → Announces announced size → length_fault limit size ≡ Some reason → HasRefused messages limit announced [] (record { place = 3; why = reason })
+  refused_length limit announced size reason a e =
+      let octets : List ℕ = announced ++ [] in
+      let there : 4 ≤ length octets = length_is_there announced [] size a in
+      let is : number (take 4 octets) ≡ size = number_of announced [] size a in
+      record {
+        four = a.four;
+        found = by_fault limit size (λ r. frames messages limit octets ≡ ends (Refused 3 r)) (frames-high messages limit octets size there is) (frames-long messages limit octets size there is) (λ z. frames-empty messages limit octets there (is ∙ z)) reason e;
+        last = refl;
+        few = omega arith;
+        short = omega arith;
+      }
 
 module _ (messages : List Term) (profile : Profile) where
   -- ---- the frames of the octets of a decoder
