@@ -1,5 +1,5 @@
 -- What is found in the frames of messages that change passwords, by what is kept of them.
-use Rattle.std.proofs.Common.{◌≡◌, ℕ, zero, suc, ◌+◌, ◌^◌, ◌<◌, ◌≤◌, inl, inr, true, false, List, [], ◌∷◌, ◌++◌, length, take, drop, Some, None, refl, sym, ◌∙◌, ap, ap₂, subst, arith, le_refl, append_assoc, append-nil, length-append, length-drop, drop_at}
+use Rattle.std.proofs.Common.{◌≡◌, ℕ, zero, suc, ◌+◌, ◌^◌, ◌<◌, ◌≤◌, inl, inr, true, false, List, [], ◌∷◌, ◌++◌, length, take, drop, Option, Some, None, refl, sym, ◌∙◌, ap, ap₂, subst, arith, le_refl, append_assoc, append-nil, length-append, length-drop, drop_at}
 use Rattle.std.specs.Prelude.{nat_lt, if◌then◌else◌}
 use Rattle.std.proofs.lemmas.Bool.{lt-leb, lt-ltb, le-ltb, ne_eqb}
 use Rattle.std.proofs.lemmas.List.{drop_all, take-append-le, drop-append-le, take_at}
@@ -61,25 +61,14 @@ module _ (limit : ℕ) where
     abbrev pub others : Framed
     others = f (after_frame offset n) (drop (4 + n) octets)
 
-    pub frame-high : length_fault limit n ≡ Some why.HighBit → password_frame limit offset n octets f ≡ record { found = length_found (frame_of offset n) why.HighBit ∷ []; partial = []; offset = offset; over = true }
-    frame-high e = ap (λ fault. password_frame_by fault offset n octets others) e
+    pub frame-by : (fault : Option Why) → length_fault limit n ≡ fault → password_frame limit offset n octets f ≡ password_frame_by fault offset n octets others
+    frame-by fault e = ap (λ fault. password_frame_by fault offset n octets others) e
 
-    by_reason : (reason : Why) → (reason ≡ why.HighBit → ⊥) → password_frame_by (Some reason) offset n octets others ≡ before_frames (length_found (frame_of offset n) reason ∷ []) others
-    by_reason why.HighBit never = absurd (never refl)
-    by_reason reason never = refl
+    pub frame-open : IsAllowed limit n → length octets < 4 + n → password_frame limit offset n octets f ≡ no_frames offset octets
+    frame-open a h = frame-by None (allowed-no_fault n a) ∙ rw (lt-ltb (length octets) (4 + n) h) refl
 
-    pub frame-refused : (reason : Why) → (reason ≡ why.HighBit → ⊥) → length_fault limit n ≡ Some reason → password_frame limit offset n octets f ≡ before_frames (length_found (frame_of offset n) reason ∷ []) others
-    frame-refused reason never e = ap (λ fault. password_frame_by fault offset n octets others) e ∙ by_reason reason never
-
-    module _ (a : IsAllowed limit n) where
-      by_contents : password_frame limit offset n octets f ≡ password_frame_by None offset n octets others
-      by_contents = ap (λ fault. password_frame_by fault offset n octets others) (allowed-no_fault n a)
-
-      pub frame-open : length octets < 4 + n → password_frame limit offset n octets f ≡ no_frames offset octets
-      frame-open h = by_contents ∙ rw (lt-ltb (length octets) (4 + n) h) refl
-
-      pub frame-whole : 4 + n ≤ length octets → password_frame limit offset n octets f ≡ before_frames (password_found (frame_of offset n) 4 (take n (drop 4 octets))) others
-      frame-whole h = by_contents ∙ rw (le-ltb (length octets) (4 + n) h) refl
+    pub frame-whole : IsAllowed limit n → 4 + n ≤ length octets → password_frame limit offset n octets f ≡ before_frames (password_found (frame_of offset n) 4 (take n (drop 4 octets))) others
+    frame-whole a h = frame-by None (allowed-no_fault n a) ∙ rw (le-ltb (length octets) (4 + n) h) refl
 
   -- ---- octets that are kept, and others
   pub passwords-part : (offset : ℕ) (octets : List ℕ) → IsPart limit octets → passwords_framed limit offset octets ≡ no_frames offset octets
@@ -99,16 +88,17 @@ module _ (limit : ℕ) where
         ∙ ap (λ l. password_frame limit offset (number l) (octets ++ more) (passwords_framed limit)) (take-append-le 4 octets more four)
 
     pub next-high : length_fault limit size ≡ Some why.HighBit → passwords_framed limit offset (octets ++ more) ≡ record { found = length_found extent why.HighBit ∷ []; partial = []; offset = offset; over = true }
-    next-high h = first ∙ frame-high offset size (octets ++ more) (passwords_framed limit) h
+    next-high e = first ∙ frame-by offset size (octets ++ more) (passwords_framed limit) (Some why.HighBit) e
 
     -- the contents are skipped
     after_length : length octets ≡ 4 → drop (4 + size) (octets ++ more) ≡ drop size more
     after_length e = ap (λ k. drop (k + size) (octets ++ more)) (sym e) ∙ drop-append-add octets more size
 
     pub next-refused : (reason : Why) → (reason ≡ why.HighBit → ⊥) → length_fault limit size ≡ Some reason → length octets ≡ 4 → passwords_framed limit offset (octets ++ more) ≡ before_frames (length_found extent reason ∷ []) (passwords_framed limit (after_frame offset size) (drop size more))
+    next-refused why.HighBit never e four_octets = absurd (never refl)
     next-refused reason never e four_octets =
         first
-        ∙ frame-refused offset size (octets ++ more) (passwords_framed limit) reason never e
+        ∙ frame-by offset size (octets ++ more) (passwords_framed limit) (Some reason) e
         ∙ ap (λ l. before_frames (length_found extent reason ∷ []) (passwords_framed limit (after_frame offset size) l)) (after_length four_octets)
 
     pub next-whole : IsAllowed limit size → length octets ≡ 4 + size → passwords_framed limit offset (octets ++ more) ≡ before_frames (password_found extent 4 (drop 4 octets)) (passwords_framed limit (after_frame offset size) more)

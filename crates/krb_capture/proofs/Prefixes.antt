@@ -36,7 +36,7 @@ use Rattle.krb_capture.specs.declared.flow.Service.{Service}
 use Rattle.krb_capture.specs.declared.flow.Service.TheVariants as services
 use Rattle.krb_capture.proofs.Extends.{Extends, extends-of}
 use Rattle.krb_capture.proofs.Framed.{entries_found-append, found_with-of, framed-before, framed-waiting, found-more, found-waiting}
-use Rattle.krb_capture.proofs.Passed.{frame-high, frame-refused, frame-open, frame-whole, passwords-short, passwords-step}
+use Rattle.krb_capture.proofs.Passed.{frame-by, frame-open, frame-whole, passwords-short, passwords-step}
 
 -- ---- frames of messages
 
@@ -311,12 +311,10 @@ module _ (limit offset : ℕ) (stream : List ℕ) (four : 4 ≤ length stream) (
   longer_by : (fault : Option Why) → length_fault limit m ≡ fault → Longer limit offset stream (stream ++ more)
   longer_by (Some why.HighBit) e = (
     [],
-    ap (λ (g : Framed). g.found) (there ∙ frame-high limit offset m (stream ++ more) (passwords_framed limit) e ∙ sym (frame-high limit offset m stream (passwords_framed limit) e) ∙ sym here)
+    ap (λ (g : Framed). g.found) (there ∙ frame-by limit offset m (stream ++ more) (passwords_framed limit) (Some why.HighBit) e ∙ sym (frame-by limit offset m stream (passwords_framed limit) (Some why.HighBit) e) ∙ sym here)
         ∙ sym (append-nil (passwords_framed limit offset stream).found),
   )
-  longer_by (Some reason) e =
-      let other : reason ≡ why.HighBit → ⊥ = λ h. absurd cc in
-      passed_on (length_found (frame_of offset m) reason ∷ []) (here ∙ frame-refused limit offset m stream (passwords_framed limit) reason other e) (there ∙ frame-refused limit offset m (stream ++ more) (passwords_framed limit) reason other e)
+  longer_by (Some reason) e = passed_on (length_found (frame_of offset m) reason ∷ []) (here ∙ frame-by limit offset m stream (passwords_framed limit) (Some reason) e) (there ∙ frame-by limit offset m (stream ++ more) (passwords_framed limit) (Some reason) e)
   longer_by None e =
       let fine = no_fault limit m e in
       longer_allowed (record { some = fine.0; within = fine.1.1; short = fine.1.0 }) (cases_lt (length stream) (4 + m))

@@ -1,5 +1,6 @@
 -- The fields of a decoder: the frames of the octets in them.
 use Rattle.std.proofs.Common.{◌≡◌, ℕ, zero, suc, ◌+◌, ◌^◌, ◌<◌, ◌≤◌, inl, inr, List, [], ◌∷◌, ◌++◌, length, take, drop, Some, None, refl, sym, ◌∙◌, ap, ap₂, subst, arith, append-nil, length-append, length-take, drop_at}
+use Rattle.std.specs.Prelude.{MatchOption, Option}
 use Rattle.std.specs.Int.{w32, from_be_bytes}
 use Rattle.std.proofs.lemmas.List.{take_all, take_at, drop_all, nil_from_length}
 use Rattle.krb_der.specs.Octets.{number}
@@ -103,13 +104,9 @@ module _ (messages : List Term) where
       let octets : List ℕ = announced ++ [] in
       let there : 4 ≤ length octets = length_is_there announced [] size a in
       let is : number (take 4 octets) ≡ size = number_of announced [] size a in
-      record {
-        four = a.four;
-        found = by_fault limit size (λ r. frames messages limit octets ≡ ends (Refused 3 r)) (frames-high messages limit octets size there is) (frames-long messages limit octets size there is) (λ z. frames-empty messages limit octets there (is ∙ z)) reason e;
-        last = refl;
-        few = omega arith;
-        short = omega arith;
-      }
+      let refused : Option Why → Type 0 = λ fault. MatchOption fault (Unit {0}) (λ r. frames messages limit octets ≡ ends (Refused 3 r)) in
+      let found = subst refused e (by_fault limit size refused (frames-high messages limit octets size there is) (frames-long messages limit octets size there is) (λ z. frames-empty messages limit octets there (is ∙ z)) (λ fine. tt)) in
+      record { four = a.four; found = found; last = refl; few = omega arith; short = omega arith }
 
 module _ (messages : List Term) (profile : Profile) where
   -- ---- the frames of the octets of a decoder
