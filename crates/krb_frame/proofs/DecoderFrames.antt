@@ -1,6 +1,5 @@
 -- The fields of a decoder: the frames of the octets in them.
 use Rattle.std.proofs.Common.{◌≡◌, ℕ, zero, suc, ◌+◌, ◌^◌, ◌<◌, ◌≤◌, inl, inr, List, [], ◌∷◌, ◌++◌, length, take, drop, Some, None, refl, sym, ◌∙◌, ap, ap₂, subst, arith, append-nil, length-append, length-take, drop_at}
-use Rattle.std.specs.Prelude.{MatchOption, Option}
 use Rattle.std.specs.Int.{w32, from_be_bytes}
 use Rattle.std.proofs.lemmas.List.{take_all, take_at, drop_all, nil_from_length}
 use Rattle.krb_der.specs.Octets.{number}
@@ -11,7 +10,7 @@ use Rattle.krb_der.specs.declared.profile.Profile.{Profile}
 use Rattle.krb_msg.specs.Term.{Term}
 use Rattle.krb_msg.specs.Judgement.{Open, Bad, Done, message_outcome, judgement_by}
 use Rattle.krb_msg.specs.Stream.{Frames, Boundary, Within, Refused, ends, with_first, frames}
-use Rattle.krb_msg.proofs.FramePrefixes.{MayFollow, frames-high, frames-long, frames-empty, frames-open, frames-bad, frames-done_more, frames-short, frames-nil}
+use Rattle.krb_msg.proofs.FramePrefixes.{MayFollow, frames-open, frames-bad, frames-done_more, frames-short, frames-nil}
 use Rattle.krb_msg.proofs.Grammars.{whole_outcome, refused_outcome, open_outcome}
 use Rattle.krb_scan.specs.Scanned.{open_count}
 use Rattle.krb_scan.specs.Machine.{HasScanned}
@@ -23,7 +22,7 @@ use Rattle.krb_frame.specs.declared.decoder.Phase.{Phase}
 use Rattle.krb_frame.specs.declared.decoder.Phase.TheVariants as phase
 use Rattle.krb_frame.specs.declared.decoder.Status.{Status}
 use Rattle.krb_frame.specs.declared.decoder.Status.TheVariants as status
-use Rattle.krb_frame.proofs.Lengths.{by_fault}
+use Rattle.krb_frame.proofs.Lengths.{frames-fault}
 
 -- four octets, the highest first, as the code reads them
 pub from_be_bytes-number : (octets : List ℕ) → length octets ≡ 4 → from_be_bytes w32 octets ≡ number octets
@@ -100,13 +99,13 @@ none_open profile (suc n) = refl
 -- ---- by any messages
 module _ (messages : List Term) where
   pub refused_length : (limit : ℕ) (announced : List ℕ) (size : ℕ) (reason : Why) → Announces announced size → length_fault limit size ≡ Some reason → HasRefused messages limit announced [] (record { place = 3; why = reason })
-  refused_length limit announced size reason a e =
-      let octets : List ℕ = announced ++ [] in
-      let there : 4 ≤ length octets = length_is_there announced [] size a in
-      let is : number (take 4 octets) ≡ size = number_of announced [] size a in
-      let refused : Option Why → Type 0 = λ fault. MatchOption fault (Unit {0}) (λ r. frames messages limit octets ≡ ends (Refused 3 r)) in
-      let found = subst refused e (by_fault limit size refused (frames-high messages limit octets size there is) (frames-long messages limit octets size there is) (λ z. frames-empty messages limit octets there (is ∙ z)) (λ fine. tt)) in
-      record { four = a.four; found = found; last = refl; few = omega arith; short = omega arith }
+  refused_length limit announced size reason a e = record {
+    four = a.four;
+    found = frames-fault limit size messages (announced ++ []) (length_is_there announced [] size a) (number_of announced [] size a) reason e;
+    last = refl;
+    few = omega arith;
+    short = omega arith;
+  }
 
 module _ (messages : List Term) (profile : Profile) where
   -- ---- the frames of the octets of a decoder

@@ -1,9 +1,13 @@
 -- Why the length of a frame is refused.
-use Rattle.std.proofs.Common.{◌≡◌, ℕ, ◌^◌, ◌<◌, ◌≤◌, Bool, true, false, Some, None, refl, arith}
-use Rattle.std.specs.Prelude.{nat_le, nat_lt, ◌==◌, if◌then◌else◌, Option}
+use Rattle.std.proofs.Common.{◌≡◌, ℕ, ◌^◌, ◌<◌, ◌≤◌, Bool, true, false, List, length, take, Some, None, refl, ◌∙◌, subst, arith}
+use Rattle.std.specs.Prelude.{nat_le, nat_lt, ◌==◌, if◌then◌else◌, MatchOption, Option}
 use Rattle.std.proofs.lemmas.Bool.{leb-true, leb-false, ltb-true, ltb-false, eqb-true, eqb-false}
+use Rattle.krb_der.specs.Octets.{number}
 use Rattle.krb_der.specs.declared.why.Why.{Why}
 use Rattle.krb_der.specs.declared.why.Why.TheVariants as why
+use Rattle.krb_msg.specs.Term.{Term}
+use Rattle.krb_msg.specs.Stream.{Refused, ends, frames}
+use Rattle.krb_msg.proofs.FramePrefixes.{frames-high, frames-long, frames-empty}
 use Rattle.krb_frame.specs.Frame.{length_fault}
 
 module _ (limit size : ℕ) where
@@ -19,3 +23,9 @@ module _ (limit size : ℕ) where
 
   pub no_fault : length_fault limit size ≡ None → (0 < size) × ((size < 2 ^ 31) × (size ≤ limit))
   no_fault e = by_fault (λ fault. fault ≡ None → (0 < size) × ((size < 2 ^ 31) × (size ≤ limit))) (λ h e. absurd cc) (λ s l e. absurd cc) (λ z e. absurd cc) (λ fine e. fine) e
+
+  -- the frames of octets with such a length
+  pub frames-fault : (messages : List Term) (octets : List ℕ) → 4 ≤ length octets → number (take 4 octets) ≡ size → (reason : Why) → length_fault limit size ≡ Some reason → frames messages limit octets ≡ ends (Refused 3 reason)
+  frames-fault messages octets four is reason e =
+      let refused : Option Why → Type 0 = λ fault. MatchOption fault (Unit {0}) (λ r. frames messages limit octets ≡ ends (Refused 3 r)) in
+      subst refused e (by_fault refused (frames-high messages limit octets size four is) (frames-long messages limit octets size four is) (λ z. frames-empty messages limit octets four (is ∙ z)) (λ fine. tt))
