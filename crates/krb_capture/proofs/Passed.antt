@@ -1,17 +1,19 @@
 -- What is found in the frames of messages that change passwords, by what is kept of them.
-use Rattle.std.proofs.Common.{◌≡◌, ℕ, zero, suc, ◌+◌, ◌^◌, ◌<◌, ◌≤◌, inl, inr, true, false, List, [], ◌∷◌, ◌++◌, length, take, drop, refl, sym, ◌∙◌, ap, ap₂, subst, arith, le_refl, append_assoc, append-nil, length-append, length-drop, drop_at}
+use Rattle.std.proofs.Common.{◌≡◌, ℕ, zero, suc, ◌+◌, ◌^◌, ◌<◌, ◌≤◌, inl, inr, true, false, List, [], ◌∷◌, ◌++◌, length, take, drop, Option, Some, None, refl, sym, ◌∙◌, ap, ap₂, subst, arith, le_refl, append_assoc, append-nil, length-append, length-drop, drop_at}
 use Rattle.std.specs.Prelude.{nat_lt, if◌then◌else◌}
-use Rattle.std.proofs.lemmas.Bool.{lt-leb, le-leb, lt-ltb, le-ltb, eq-eqb, ne_eqb}
+use Rattle.std.proofs.lemmas.Bool.{lt-leb, lt-ltb, le-ltb, ne_eqb}
 use Rattle.std.proofs.lemmas.List.{drop_all, take-append-le, drop-append-le, take_at}
 use Rattle.std.proofs.Math.Seq.{drop-append-add}
 use Rattle.krb_der.specs.Octets.{number}
+use Rattle.krb_der.specs.declared.why.Why.{Why}
 use Rattle.krb_der.specs.declared.why.Why.TheVariants as why
+use Rattle.krb_frame.specs.Frame.{length_fault}
 use Rattle.krb_text.specs.declared.extent.Extent.{Extent}
 use Rattle.krb_text.specs.declared.origin.Origin.{Origin}
 use Rattle.krb_capture.specs.Found.{Found, Written, with_all}
 use Rattle.krb_capture.specs.Passed.{Holds, ListsNext}
 use Rattle.krb_capture.specs.Passwords.{password_found}
-use Rattle.krb_capture.specs.Streams.{Framed, after_frame, before_frames, frame_of, length_found, no_frames, password_frame, password_frames, passwords_framed}
+use Rattle.krb_capture.specs.Streams.{Framed, after_frame, before_frames, frame_of, length_found, no_frames, password_frame, password_frame_by, password_frames, passwords_framed}
 use Rattle.krb_capture.specs.Taken.{IsAllowed, IsOver, IsPart, Keeps, KeepsUnless, passwords}
 use Rattle.krb_capture.specs.declared.flow.Service.TheVariants as services
 use Rattle.krb_capture.specs.declared.password_frames.PasswordFrames.{PasswordFrames}
@@ -50,25 +52,23 @@ module _ (limit : ℕ) where
       ∙ frame-same offset n (octet ∷ rest) (password_frames (length rest) limit) (λ k l. password_frames (length l) limit k l) (bound (length rest) (length next) (after_frame offset n) next (omega (arith, length-drop (4 + n) (octet ∷ rest))) (le_refl (length next)))
 
   -- ---- a frame, by its length
+  pub allowed-no_fault : (n : ℕ) → IsAllowed limit n → length_fault limit n ≡ None
+  allowed-no_fault n a =
+      let some : n ≡ 0 → ⊥ = λ z. absurd (omega (arith, a.some, z)) in
+      rw (lt-leb (2 ^ 31) n a.short, le-ltb limit n a.within, ne_eqb n 0 some) refl
+
   module _ (offset n : ℕ) (octets : List ℕ) (f : ℕ → List ℕ → Framed) where
-    pub frame-high : 2 ^ 31 ≤ n → password_frame limit offset n octets f ≡ record { found = length_found (frame_of offset n) why.HighBit ∷ []; partial = []; offset = offset; over = true }
-    frame-high h = rw (le-leb (2 ^ 31) n h) refl
+    abbrev pub others : Framed
+    others = f (after_frame offset n) (drop (4 + n) octets)
 
-    pub frame-long : n < 2 ^ 31 → limit < n → password_frame limit offset n octets f ≡ before_frames (length_found (frame_of offset n) why.TooLong ∷ []) (f (after_frame offset n) (drop (4 + n) octets))
-    frame-long s h = rw (lt-leb (2 ^ 31) n s, lt-ltb limit n h) refl
+    pub frame-by : (fault : Option Why) → length_fault limit n ≡ fault → password_frame limit offset n octets f ≡ password_frame_by fault offset n octets others
+    frame-by fault e = ap (λ fault. password_frame_by fault offset n octets others) e
 
-    pub frame-empty : n ≡ 0 → password_frame limit offset n octets f ≡ before_frames (length_found (frame_of offset n) why.Empty ∷ []) (f (after_frame offset n) (drop (4 + n) octets))
-    frame-empty z = rw (lt-leb (2 ^ 31) n (omega (arith, z)), le-ltb limit n (omega (arith, z)), eq-eqb n 0 z) refl
+    pub frame-open : IsAllowed limit n → length octets < 4 + n → password_frame limit offset n octets f ≡ no_frames offset octets
+    frame-open a h = frame-by None (allowed-no_fault n a) ∙ rw (lt-ltb (length octets) (4 + n) h) refl
 
-    module _ (a : IsAllowed limit n) where
-      some : n ≡ 0 → ⊥
-      some z = absurd (omega (arith, a.some, z))
-
-      pub frame-open : length octets < 4 + n → password_frame limit offset n octets f ≡ no_frames offset octets
-      frame-open h = rw (lt-leb (2 ^ 31) n a.short, le-ltb limit n a.within, ne_eqb n 0 some, lt-ltb (length octets) (4 + n) h) refl
-
-      pub frame-whole : 4 + n ≤ length octets → password_frame limit offset n octets f ≡ before_frames (password_found (frame_of offset n) 4 (take n (drop 4 octets))) (f (after_frame offset n) (drop (4 + n) octets))
-      frame-whole h = rw (lt-leb (2 ^ 31) n a.short, le-ltb limit n a.within, ne_eqb n 0 some, le-ltb (length octets) (4 + n) h) refl
+    pub frame-whole : IsAllowed limit n → 4 + n ≤ length octets → password_frame limit offset n octets f ≡ before_frames (password_found (frame_of offset n) 4 (take n (drop 4 octets))) others
+    frame-whole a h = frame-by None (allowed-no_fault n a) ∙ rw (le-ltb (length octets) (4 + n) h) refl
 
   -- ---- octets that are kept, and others
   pub passwords-part : (offset : ℕ) (octets : List ℕ) → IsPart limit octets → passwords_framed limit offset octets ≡ no_frames offset octets
@@ -87,18 +87,19 @@ module _ (limit : ℕ) where
         passwords-step offset (octets ++ more) (omega (arith, four, length-append octets more))
         ∙ ap (λ l. password_frame limit offset (number l) (octets ++ more) (passwords_framed limit)) (take-append-le 4 octets more four)
 
-    pub next-high : 2 ^ 31 ≤ size → passwords_framed limit offset (octets ++ more) ≡ record { found = length_found extent why.HighBit ∷ []; partial = []; offset = offset; over = true }
-    next-high h = first ∙ frame-high offset size (octets ++ more) (passwords_framed limit) h
+    pub next-high : length_fault limit size ≡ Some why.HighBit → passwords_framed limit offset (octets ++ more) ≡ record { found = length_found extent why.HighBit ∷ []; partial = []; offset = offset; over = true }
+    next-high e = first ∙ frame-by offset size (octets ++ more) (passwords_framed limit) (Some why.HighBit) e
 
     -- the contents are skipped
     after_length : length octets ≡ 4 → drop (4 + size) (octets ++ more) ≡ drop size more
     after_length e = ap (λ k. drop (k + size) (octets ++ more)) (sym e) ∙ drop-append-add octets more size
 
-    pub next-long : length octets ≡ 4 → size < 2 ^ 31 → limit < size → passwords_framed limit offset (octets ++ more) ≡ before_frames (length_found extent why.TooLong ∷ []) (passwords_framed limit (after_frame offset size) (drop size more))
-    next-long e s h = first ∙ frame-long offset size (octets ++ more) (passwords_framed limit) s h ∙ ap (λ l. before_frames (length_found extent why.TooLong ∷ []) (passwords_framed limit (after_frame offset size) l)) (after_length e)
-
-    pub next-empty : length octets ≡ 4 → size ≡ 0 → passwords_framed limit offset (octets ++ more) ≡ before_frames (length_found extent why.Empty ∷ []) (passwords_framed limit (after_frame offset size) (drop size more))
-    next-empty e z = first ∙ frame-empty offset size (octets ++ more) (passwords_framed limit) z ∙ ap (λ l. before_frames (length_found extent why.Empty ∷ []) (passwords_framed limit (after_frame offset size) l)) (after_length e)
+    pub next-refused : (reason : Why) → (reason ≡ why.HighBit → ⊥) → length_fault limit size ≡ Some reason → length octets ≡ 4 → passwords_framed limit offset (octets ++ more) ≡ before_frames (length_found extent reason ∷ []) (passwords_framed limit (after_frame offset size) (drop size more))
+    next-refused why.HighBit never e four_octets = absurd (never refl)
+    next-refused reason never e four_octets =
+        first
+        ∙ frame-by offset size (octets ++ more) (passwords_framed limit) (Some reason) e
+        ∙ ap (λ l. before_frames (length_found extent reason ∷ []) (passwords_framed limit (after_frame offset size) l)) (after_length four_octets)
 
     pub next-whole : IsAllowed limit size → length octets ≡ 4 + size → passwords_framed limit offset (octets ++ more) ≡ before_frames (password_found extent 4 (drop 4 octets)) (passwords_framed limit (after_frame offset size) more)
     next-whole a e =

@@ -1,6 +1,6 @@
 -- What is found in a stream, whatever follows it.
 use Rattle.std.proofs.Common.{◌≡◌, ℕ, zero, suc, ◌+◌, ◌-◌, ◌^◌, ◌<◌, ◌≤◌, ◌⊎◌, inl, inr, Bool, true, false, List, [], ◌∷◌, ◌++◌, length, take, drop, refl, sym, ◌∙◌, ap, ap₂, subst, arith, le_refl, append_assoc, append-nil, length-append, length-take, length-drop}
-use Rattle.std.specs.Prelude.{cond, not, ◌&&◌, ◌||◌, nat_le, nat_lt, if◌then◌else◌}
+use Rattle.std.specs.Prelude.{cond, not, ◌&&◌, ◌||◌, nat_le, nat_lt, if◌then◌else◌, Option, Some, None}
 use Rattle.std.specs.List.{AllByRecursion}
 use Rattle.std.proofs.lemmas.Bool.{cases_lt, lt-leb, le-leb, lt-ltb}
 use Rattle.std.proofs.lemmas.List.{drop_all, drop-append-le, take-append-drop, take-append-le, take-take}
@@ -19,10 +19,12 @@ use Rattle.krb_msg.proofs.Laws.{done_within}
 use Rattle.krb_msg.proofs.Messages.{Choice, choice}
 use Rattle.krb_msg.proofs.TermsDecided.{contents-count, item-count}
 use Rattle.krb_frame.specs.Decoding.{AreOfOne, found, status_at}
+use Rattle.krb_frame.specs.Frame.{length_fault}
 use Rattle.krb_frame.specs.GoingOn.{Entry, Contents, Fault, Skipping, entries, last_entry, next_entries}
 use Rattle.krb_frame.specs.declared.decoder.Status.TheVariants as status
 use Rattle.krb_frame.proofs.Ends.{refused_more}
 use Rattle.krb_frame.proofs.GoingOn.{entries-nil, entries-frame, entries-refused}
+use Rattle.krb_frame.proofs.Lengths.{no_fault}
 use Rattle.krb_frame.proofs.Skips.{entries-waiting}
 use Rattle.krb_flow.specs.declared.stream.End.TheVariants as flow_ends
 use Rattle.krb_capture.specs.Found.{Found, Faulty}
@@ -34,7 +36,7 @@ use Rattle.krb_capture.specs.declared.flow.Service.{Service}
 use Rattle.krb_capture.specs.declared.flow.Service.TheVariants as services
 use Rattle.krb_capture.proofs.Extends.{Extends, extends-of}
 use Rattle.krb_capture.proofs.Framed.{entries_found-append, found_with-of, framed-before, framed-waiting, found-more, found-waiting}
-use Rattle.krb_capture.proofs.Passed.{frame-high, frame-long, frame-empty, frame-open, frame-whole, passwords-short, passwords-step}
+use Rattle.krb_capture.proofs.Passed.{frame-by, frame-open, frame-whole, passwords-short, passwords-step}
 
 -- ---- frames of messages
 
@@ -306,15 +308,16 @@ module _ (limit offset : ℕ) (stream : List ℕ) (four : 4 ≤ length stream) (
       (here ∙ frame-whole limit offset m stream (passwords_framed limit) a whole)
       (there ∙ frame-whole limit offset m (stream ++ more) (passwords_framed limit) a (omega (arith, whole, length-append stream more)) ∙ ap (λ l. before_frames (password_found (frame_of offset m) 4 l) (passwords_framed limit (after_frame offset m) (drop (4 + m) (stream ++ more)))) same)
 
-  longer_of : (m < 2 ^ 31) ⊎ (2 ^ 31 ≤ m) → (limit < m) ⊎ (m ≤ limit) → (0 < m) ⊎ (m ≤ 0) → Longer limit offset stream (stream ++ more)
-  longer_of (inr big) c d = (
+  longer_by : (fault : Option Why) → length_fault limit m ≡ fault → Longer limit offset stream (stream ++ more)
+  longer_by (Some why.HighBit) e = (
     [],
-    ap (λ (g : Framed). g.found) (there ∙ frame-high limit offset m (stream ++ more) (passwords_framed limit) big ∙ sym (frame-high limit offset m stream (passwords_framed limit) big) ∙ sym here)
+    ap (λ (g : Framed). g.found) (there ∙ frame-by limit offset m (stream ++ more) (passwords_framed limit) (Some why.HighBit) e ∙ sym (frame-by limit offset m stream (passwords_framed limit) (Some why.HighBit) e) ∙ sym here)
         ∙ sym (append-nil (passwords_framed limit offset stream).found),
   )
-  longer_of (inl s) (inl long) d = passed_on (length_found (frame_of offset m) why.TooLong ∷ []) (here ∙ frame-long limit offset m stream (passwords_framed limit) s long) (there ∙ frame-long limit offset m (stream ++ more) (passwords_framed limit) s long)
-  longer_of (inl s) (inr w) (inr z) = passed_on (length_found (frame_of offset m) why.Empty ∷ []) (here ∙ frame-empty limit offset m stream (passwords_framed limit) (omega arith)) (there ∙ frame-empty limit offset m (stream ++ more) (passwords_framed limit) (omega arith))
-  longer_of (inl s) (inr w) (inl p) = longer_allowed (record { some = p; within = w; short = s }) (cases_lt (length stream) (4 + m))
+  longer_by (Some reason) e = passed_on (length_found (frame_of offset m) reason ∷ []) (here ∙ frame-by limit offset m stream (passwords_framed limit) (Some reason) e) (there ∙ frame-by limit offset m (stream ++ more) (passwords_framed limit) (Some reason) e)
+  longer_by None e =
+      let fine = no_fault limit m e in
+      longer_allowed (record { some = fine.0; within = fine.1.1; short = fine.1.0 }) (cases_lt (length stream) (4 + m))
 
 longer_within : (limit bound offset : ℕ) (stream more : List ℕ) → length stream ≤ bound → Longer limit offset stream (stream ++ more)
 longer_within limit bound offset [] more few = longer_none limit offset [] more (ap (λ (g : Framed). g.found) (passwords-short limit offset [] (omega arith)))
@@ -323,8 +326,8 @@ longer_within limit (suc bound) offset (octet ∷ octets) more few =
     elim (cases_lt (length (octet ∷ octets)) 4) [
       | inl short ↦ longer_none limit offset (octet ∷ octets) ((octet ∷ octets) ++ more) (ap (λ (g : Framed). g.found) (passwords-short limit offset (octet ∷ octets) short))
       | inr four ↦
-          longer_of limit offset (octet ∷ octets) four more (λ next rest less. longer_within limit bound next rest more (omega (arith, less, few)))
-          (cases_lt (number (take 4 (octet ∷ octets))) (2 ^ 31)) (cases_lt limit (number (take 4 (octet ∷ octets)))) (cases_lt 0 (number (take 4 (octet ∷ octets))))
+          longer_by limit offset (octet ∷ octets) four more (λ next rest less. longer_within limit bound next rest more (omega (arith, less, few)))
+          (length_fault limit (number (take 4 (octet ∷ octets)))) refl
     ]
 
 passwords_extend : (limit : ℕ) (stream more : List ℕ) → Extends services.Passwords limit stream more

@@ -1,9 +1,11 @@
 -- What becomes of a frame whose length is there.
-use Rattle.std.proofs.Common.{◌≡◌, ℕ, ◌+◌, ◌^◌, ◌<◌, ◌≤◌, ◌⊎◌, inl, inr, Bool, true, false, List, [], ◌∷◌, length, take, drop, Some, None, refl, sym, ◌∙◌, ap, subst, arith}
+use Rattle.std.proofs.Common.{◌≡◌, ℕ, ◌+◌, ◌<◌, ◌≤◌, ◌⊎◌, inl, inr, Bool, true, false, List, [], ◌∷◌, length, take, drop, Some, None, refl, sym, ◌∙◌, ap, ap₂, subst, arith}
 use Rattle.std.specs.Prelude.{Option, nat_lt, if◌then◌else◌}
 use Rattle.std.proofs.lemmas.Bool.{ltb-true, ltb-false}
 use Rattle.krb_der.specs.Octets.{number}
+use Rattle.krb_der.specs.declared.why.Why.{Why}
 use Rattle.krb_der.specs.declared.why.Why.TheVariants as why
+use Rattle.krb_frame.specs.Frame.{length_fault}
 use Rattle.krb_text.specs.declared.origin.Origin.{Origin}
 use Rattle.krb_capture.specs.Found.{Written, with_all, with_found}
 use Rattle.krb_capture.specs.Passed.{Holds, ListsContents, ListsContentsIf, ListsNext, PassesOver, frame_length}
@@ -11,7 +13,7 @@ use Rattle.krb_capture.specs.Passwords.{password_found}
 use Rattle.krb_capture.specs.Streams.{after_frame, before_frames, extent_at, frame_of, length_found, passwords_framed}
 use Rattle.krb_capture.specs.Taken.{IsAllowed}
 use Rattle.krb_capture.specs.declared.password_frames.PasswordFrames.{PasswordFrames}
-use Rattle.krb_capture.proofs.Passed.{next-empty, next-high, next-kept, next-long, next-passed, next-stopped, next-whole}
+use Rattle.krb_capture.proofs.Passed.{allowed-no_fault, next-high, next-kept, next-passed, next-refused, next-stopped, next-whole}
 
 -- ---- the length
 length_by : (b : Bool) (size n : ℕ) → (if b then None else Some size) ≡ Some n → (b ≡ false) × (size ≡ n)
@@ -46,34 +48,29 @@ module _ (old new : PasswordFrames) (n : ℕ) (origin : Origin) (before after : 
       by (inl few) = omega (arith, few, four)
       by (inr p) = absurd (never (subst (IsAllowed old.limit) (length_is octets n e) p.0))
 
+  fault_is : (reason : Why) → length_fault old.limit n ≡ Some reason → length_fault old.limit (number (take 4 octets)) ≡ Some reason
+  fault_is reason fault = ap (length_fault old.limit) (length_is octets n e) ∙ fault
+
   -- where it is
   pub extent_is : extent_at old.offset octets ≡ frame_of old.offset (number (take 4 octets))
   extent_is = let size : number (take 4 octets) ≡ n = length_is octets n e in λ i. record { at = old.offset; length = (e ∙ ap Some (sym size)) i }
 
-  pub whole-high : 2 ^ 31 ≤ n → new.limit ≡ old.limit → new.is_over ≡ true → after ≡ with_found origin (length_found (extent_at old.offset octets) why.HighBit) before → ListsNext old new stream h origin before after
-  whole-high big l o w =
-      next-stopped old stream h origin before new (length_found (frame_of old.offset (number (take 4 octets))) why.HighBit) after l o (λ more. next-high old.limit old.offset octets four more (omega (arith, big, length_is octets n e)))
-      (w ∙ ap (λ x. with_found origin (length_found x why.HighBit) before) extent_is)
+  pub whole-high : (reason : Why) → reason ≡ why.HighBit → length_fault old.limit n ≡ Some reason → new.limit ≡ old.limit → new.is_over ≡ true → after ≡ with_found origin (length_found (extent_at old.offset octets) reason) before → ListsNext old new stream h origin before after
+  whole-high reason is fault l o w =
+      next-stopped old stream h origin before new (length_found (frame_of old.offset (number (take 4 octets))) why.HighBit) after l o (λ more. next-high old.limit old.offset octets four more (fault_is why.HighBit (fault ∙ ap Some is)))
+      (w ∙ ap₂ (λ x r. with_found origin (length_found x r) before) extent_is is)
 
   -- and where the next one is
   next_is : (count : ℕ) → PassesOver old n count new → new.offset ≡ after_frame old.offset (number (take 4 octets))
   next_is count p = p.offset ∙ ap (after_frame old.offset) (sym (length_is octets n e))
 
-  pub whole-long : n < 2 ^ 31 → old.limit < n → PassesOver old n n new → after ≡ with_found origin (length_found (extent_at old.offset octets) why.TooLong) before → ListsNext old new stream h origin before after
-  whole-long short long p w =
+  pub whole-refused : (reason : Why) → (reason ≡ why.HighBit → ⊥) → length_fault old.limit n ≡ Some reason → PassesOver old n n new → after ≡ with_found origin (length_found (extent_at old.offset octets) reason) before → ListsNext old new stream h origin before after
+  whole-refused reason never fault p w =
       let size : number (take 4 octets) ≡ n = length_is octets n e in
-      let none : length octets ≡ 4 = alone (λ a. absurd (omega (arith, a.within, long))) in
-      next-passed old stream h origin before new (length_found (frame_of old.offset (number (take 4 octets))) why.TooLong ∷ []) (number (take 4 octets)) after p.limit (p.is_over ∙ h.goes) (p.skipped ∙ sym size) p.octets
-      (λ more. next-long old.limit old.offset octets four more none (omega (arith, size, short)) (omega (arith, size, long)) ∙ ap (λ k. before_frames (length_found (frame_of old.offset (number (take 4 octets))) why.TooLong ∷ []) (passwords_framed old.limit k (drop (number (take 4 octets)) more))) (sym (next_is n p)))
-      (w ∙ ap (λ x. with_found origin (length_found x why.TooLong) before) extent_is)
-
-  pub whole-empty : n ≡ 0 → PassesOver old n n new → after ≡ with_found origin (length_found (extent_at old.offset octets) why.Empty) before → ListsNext old new stream h origin before after
-  whole-empty z p w =
-      let size : number (take 4 octets) ≡ n = length_is octets n e in
-      let none : length octets ≡ 4 = alone (λ a. absurd (omega (arith, a.some, z))) in
-      next-passed old stream h origin before new (length_found (frame_of old.offset (number (take 4 octets))) why.Empty ∷ []) (number (take 4 octets)) after p.limit (p.is_over ∙ h.goes) (p.skipped ∙ sym size) p.octets
-      (λ more. next-empty old.limit old.offset octets four more none (omega (arith, size, z)) ∙ ap (λ k. before_frames (length_found (frame_of old.offset (number (take 4 octets))) why.Empty ∷ []) (passwords_framed old.limit k (drop (number (take 4 octets)) more))) (sym (next_is n p)))
-      (w ∙ ap (λ x. with_found origin (length_found x why.Empty) before) extent_is)
+      let none : length octets ≡ 4 = alone (λ a. let same : Some reason ≡ None = sym fault ∙ allowed-no_fault old.limit n a in absurd cc) in
+      next-passed old stream h origin before new (length_found (frame_of old.offset (number (take 4 octets))) reason ∷ []) (number (take 4 octets)) after p.limit (p.is_over ∙ h.goes) (p.skipped ∙ sym size) p.octets
+      (λ more. next-refused old.limit old.offset octets four more reason never (fault_is reason fault) none ∙ ap (λ k. before_frames (length_found (frame_of old.offset (number (take 4 octets))) reason ∷ []) (passwords_framed old.limit k (drop (number (take 4 octets)) more))) (sym (next_is n p)))
+      (w ∙ ap (λ x. with_found origin (length_found x reason) before) extent_is)
 
   pub whole-contents : IsAllowed old.limit n → ListsContents old n new origin before after → ListsNext old new stream h origin before after
   whole-contents a c = by (nat_lt (length octets) (4 + n)) refl c

@@ -1,5 +1,5 @@
 -- What is found in the octets that one end of a connection sends: frames (RFC 4120, 7.2.2), after each of which the next one begins, also after one that is refused.
-use Rattle.std.specs.Prelude.{ℕ, zero, suc, ◌+◌, ◌^◌, nat_lt, nat_le, ◌==◌, not, ◌&&◌, Bool, true, false, if◌then◌else◌, List, [], ◌∷◌, ◌++◌, length, take, drop, Option, Some, None, codes}
+use Rattle.std.specs.Prelude.{ℕ, zero, suc, ◌+◌, ◌^◌, nat_lt, nat_le, not, ◌&&◌, Bool, true, false, if◌then◌else◌, List, [], ◌∷◌, ◌++◌, length, take, drop, Option, Some, None, codes}
 use Rattle.std.specs.List.{filter, list_any}
 use Rattle.krb_der.specs.Octets.{number}
 use Rattle.krb_der.specs.declared.profile.Profile.TheVariants.{Lenient}
@@ -9,6 +9,7 @@ use Rattle.krb_der.specs.declared.why.Why.TheVariants as why
 use Rattle.krb_msg.specs.Grammar.{messages}
 use Rattle.krb_msg.specs.Views.{message_of_der}
 use Rattle.krb_frame.specs.Decoding.{announced}
+use Rattle.krb_frame.specs.Frame.{length_fault}
 use Rattle.krb_frame.specs.GoingOn.{Entry, Contents, Fault, entries, entry_size}
 use Rattle.krb_flow.specs.declared.stream.End.{End}
 use Rattle.krb_flow.specs.declared.stream.End.TheVariants as ends
@@ -102,13 +103,14 @@ after_frame offset n = and_more offset (4 + n)
 abbrev pub length_found : Extent → Why → Found
 length_found extent reason = Faulty (record { place = 3; why = reason }) None extent
 
+-- what is found in it, by why its length is refused, and in those after it; after HighBit it is not known where the next one begins
+abbrev pub password_frame_by : Option Why → ℕ → ℕ → List ℕ → Framed → Framed
+password_frame_by (Some why.HighBit) offset n octets others = record { found = length_found (frame_of offset n) why.HighBit ∷ []; partial = []; offset = offset; over = true }
+password_frame_by (Some reason) offset n octets others = before_frames (length_found (frame_of offset n) reason ∷ []) others
+password_frame_by None offset n octets others = if nat_lt (length octets) (4 + n) then no_frames offset octets else before_frames (password_found (frame_of offset n) 4 (take n (drop 4 octets))) others
+
 abbrev pub password_frame : ℕ → ℕ → ℕ → List ℕ → (ℕ → List ℕ → Framed) → Framed
-password_frame limit offset n octets frames =
-    if nat_le (2 ^ 31) n then record { found = length_found (frame_of offset n) why.HighBit ∷ []; partial = []; offset = offset; over = true }
-    else if nat_lt limit n then before_frames (length_found (frame_of offset n) why.TooLong ∷ []) (frames (after_frame offset n) (drop (4 + n) octets))
-    else if n == 0 then before_frames (length_found (frame_of offset n) why.Empty ∷ []) (frames (after_frame offset n) (drop (4 + n) octets))
-    else if nat_lt (length octets) (4 + n) then no_frames offset octets
-    else before_frames (password_found (frame_of offset n) 4 (take n (drop 4 octets))) (frames (after_frame offset n) (drop (4 + n) octets))
+password_frame limit offset n octets frames = password_frame_by (length_fault limit n) offset n octets (frames (after_frame offset n) (drop (4 + n) octets))
 
 -- the first number bounds how many frames there are
 abbrev pub password_frames : ℕ → ℕ → ℕ → List ℕ → Framed

@@ -12,7 +12,7 @@ use crate::listing::{Listing, and_more};
 use crate::message_frames::extent_of;
 use crate::password::list_password;
 use krb_der::{Memory, Refusal, Why};
-use krb_frame::Limit;
+use krb_frame::{Limit, length_fault};
 use krb_text::{Extent, Origin};
 use std::alloc::Global;
 
@@ -61,7 +61,7 @@ impl PasswordFrames {
         ensures listed { IfOk result (λ count. (limit : ℕ) (stream : List ℕ) → TookPasswords self.old limit stream → listing.new ≡ with_all origin.now (found_with services.Passwords limit stream (take count octets.now)) listing.old) }
     {
         let mut count = 0;
-        while (count < octets.len()) & !listing.is_full() {
+        while count < octets.len() && !listing.is_full() {
             self.take_octet(octets[count], origin, listing)?;
             count += 1;
         }
@@ -92,23 +92,19 @@ impl PasswordFrames {
     fn list_whole(&mut self, origin: &Origin, listing: &mut Listing) -> Result<(), Memory>
         ensures { OnOk result (ListsWhole self.old self.new origin.now listing.old listing.new) }
     {
-        let Some(length) = self.length() else {
+        let Some(size) = self.length() else {
             return Ok(());
         };
+        let Some(why) = length_fault(self.limit, size) else {
+            return self.list_contents(size, origin, listing);
+        };
         let extent = self.extent();
-        if length >= 1 << 31 {
+        if let Why::HighBit = why {
             self.is_over = true;
-            return list_refused(Why::HighBit, extent, origin, listing);
+        } else {
+            self.pass_over(size, size);
         }
-        if length > self.limit.get() {
-            self.pass_over(length, length);
-            return list_refused(Why::TooLong, extent, origin, listing);
-        }
-        if length == 0 {
-            self.pass_over(length, length);
-            return list_refused(Why::Empty, extent, origin, listing);
-        }
-        self.list_contents(length, origin, listing)
+        list_refused(why, extent, origin, listing)
     }
 
     /// Lists the frame, whose contents are `size` octets, if it is whole, and begins the next one.

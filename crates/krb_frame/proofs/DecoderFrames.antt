@@ -3,24 +3,26 @@ use Rattle.std.proofs.Common.{◌≡◌, ℕ, zero, suc, ◌+◌, ◌^◌, ◌<�
 use Rattle.std.specs.Int.{w32, from_be_bytes}
 use Rattle.std.proofs.lemmas.List.{take_all, take_at, drop_all, nil_from_length}
 use Rattle.krb_der.specs.Octets.{number}
-use Rattle.krb_der.specs.declared.why.Why.TheVariants as why
+use Rattle.krb_der.specs.declared.why.Why.{Why}
 use Rattle.krb_der.specs.declared.verdict.Refusal.{Refusal}
 use Rattle.krb_der.specs.declared.verdict.Verdict.TheVariants as verdict
 use Rattle.krb_der.specs.declared.profile.Profile.{Profile}
 use Rattle.krb_msg.specs.Term.{Term}
 use Rattle.krb_msg.specs.Judgement.{Open, Bad, Done, message_outcome, judgement_by}
 use Rattle.krb_msg.specs.Stream.{Frames, Boundary, Within, Refused, ends, with_first, frames}
-use Rattle.krb_msg.proofs.FramePrefixes.{MayFollow, frames-high, frames-long, frames-empty, frames-open, frames-bad, frames-done_more, frames-short, frames-nil}
+use Rattle.krb_msg.proofs.FramePrefixes.{MayFollow, frames-open, frames-bad, frames-done_more, frames-short, frames-nil}
 use Rattle.krb_msg.proofs.Grammars.{whole_outcome, refused_outcome, open_outcome}
 use Rattle.krb_scan.specs.Scanned.{open_count}
 use Rattle.krb_scan.specs.Machine.{HasScanned}
 use Rattle.krb_scan.specs.declared.machine.Machine.{Machine}
 use Rattle.krb_frame.specs.Decoding.{Decoding, found, status_at, status_of, first_of, borrowed, open_lengths_of, finish_at, finish_of, AreOfOne, IsOfOneFrame, octets_of, decoding_of, length_present}
+use Rattle.krb_frame.specs.Frame.{length_fault}
 use Rattle.krb_frame.specs.inner.Phases.{end_after, IsRefusedIn, IsFedContents, phase_of, IsAccepted, HasPartOfLength, HasPart, HasFrame, HasRefused, IsPhaseOf, IsScanned, phase_status}
 use Rattle.krb_frame.specs.declared.decoder.Phase.{Phase}
 use Rattle.krb_frame.specs.declared.decoder.Phase.TheVariants as phase
 use Rattle.krb_frame.specs.declared.decoder.Status.{Status}
 use Rattle.krb_frame.specs.declared.decoder.Status.TheVariants as status
+use Rattle.krb_frame.proofs.Lengths.{frames-fault}
 
 -- four octets, the highest first, as the code reads them
 pub from_be_bytes-number : (octets : List ℕ) → length octets ≡ 4 → from_be_bytes w32 octets ≡ number octets
@@ -96,28 +98,10 @@ none_open profile (suc n) = refl
 
 -- ---- by any messages
 module _ (messages : List Term) where
-  pub high : (limit : ℕ) (announced : List ℕ) (size : ℕ) → Announces announced size → 2 ^ 31 ≤ size → HasRefused messages limit announced [] (record { place = 3; why = why.HighBit })
-  high limit announced size a h = record {
+  pub refused_length : (limit : ℕ) (announced : List ℕ) (size : ℕ) (reason : Why) → Announces announced size → length_fault limit size ≡ Some reason → HasRefused messages limit announced [] (record { place = 3; why = reason })
+  refused_length limit announced size reason a e = record {
     four = a.four;
-    found = frames-high messages limit (announced ++ []) size (length_is_there announced [] size a) (number_of announced [] size a) h;
-    last = refl;
-    few = omega arith;
-    short = omega arith;
-  }
-
-  pub long : (limit : ℕ) (announced : List ℕ) (size : ℕ) → Announces announced size → size < 2 ^ 31 → limit < size → HasRefused messages limit announced [] (record { place = 3; why = why.TooLong })
-  long limit announced size a k h = record {
-    four = a.four;
-    found = frames-long messages limit (announced ++ []) size (length_is_there announced [] size a) (number_of announced [] size a) k h;
-    last = refl;
-    few = omega arith;
-    short = omega arith;
-  }
-
-  pub empty : (limit : ℕ) (announced : List ℕ) → Announces announced 0 → HasRefused messages limit announced [] (record { place = 3; why = why.Empty })
-  empty limit announced a = record {
-    four = a.four;
-    found = frames-empty messages limit (announced ++ []) (length_is_there announced [] 0 a) (number_of announced [] 0 a);
+    found = frames-fault limit size messages (announced ++ []) (length_is_there announced [] size a) (number_of announced [] size a) reason e;
     last = refl;
     few = omega arith;
     short = omega arith;

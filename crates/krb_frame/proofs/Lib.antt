@@ -1,4 +1,5 @@
 pub mod FrameContents
+pub mod Lengths
 pub mod DecoderFrames
 pub mod Feeding
 pub mod Ends

@@ -1,5 +1,5 @@
 -- The offset in a stream of the octet that is refused.
-use Rattle.std.proofs.Common.{◌≡◌, ℕ, zero, suc, ◌+◌, ◌^◌, ◌<◌, ◌≤◌, ◌⊎◌, inl, inr, List, [], ◌++◌, length, take, drop, refl, sym, ◌∙◌, ap, subst, arith, le_refl, length-take, length-drop, take-append-drop}
+use Rattle.std.proofs.Common.{◌≡◌, ℕ, zero, suc, ◌+◌, ◌<◌, ◌≤◌, inl, inr, List, [], ◌++◌, length, take, drop, Option, Some, None, refl, sym, ◌∙◌, ap, subst, arith, le_refl, length-take, length-drop, take-append-drop}
 use Rattle.std.proofs.lemmas.Bool.{cases_lt}
 use Rattle.std.proofs.lemmas.List.{drop_all, drop-take, take-take, take_all}
 use Rattle.std.proofs.lemmas.List.Sums.{sum_by-cons}
@@ -7,16 +7,17 @@ use Rattle.std.proofs.Math.Seq.{take-add}
 use Rattle.krb_der.specs.Octets.{number}
 use Rattle.krb_der.specs.declared.profile.Profile.TheVariants.{Lenient}
 use Rattle.krb_der.specs.declared.why.Why.{Why}
-use Rattle.krb_der.specs.declared.why.Why.TheVariants as why
 use Rattle.krb_msg.specs.Term.{Term}
 use Rattle.krb_msg.specs.Judgement.{Outcome, Open, Bad, Done, message_outcome, verdict_of}
 use Rattle.krb_msg.specs.Stream.{End, Boundary, Within, Refused, ends, with_first, frames}
-use Rattle.krb_msg.proofs.FramePrefixes.{MayFollow, frames-high, frames-long, frames-empty, frames-open, frames-bad, frames-done, frames-done_more, frames-nil}
+use Rattle.krb_msg.proofs.FramePrefixes.{MayFollow, frames-open, frames-bad, frames-done, frames-done_more, frames-nil}
 use Rattle.krb_msg.proofs.Grammars.{open_outcome, refused_outcome, refusal_is_final}
 use Rattle.krb_frame.specs.Decoded.{frames_size}
+use Rattle.krb_frame.specs.Frame.{length_fault}
 use Rattle.krb_frame.specs.Laws.{IsRefusedWith, RefusalsAreAtOffsets}
 use Rattle.krb_frame.specs.inner.Phases.{end_after}
 use Rattle.krb_frame.proofs.DecoderFrames.{found-short}
+use Rattle.krb_frame.proofs.Lengths.{frames-fault, no_fault}
 
 not_boundary : (place : ℕ) (reason : Why) → Boundary ≡ Refused place reason → ⊥
 not_boundary place reason e = cc
@@ -137,18 +138,13 @@ module _ (messages : List Term) (limit : ℕ) where
     judged-at m (Done count) o = done-at m count o
     judged-at m (Bad offset other) o = bad-at m offset other o
 
-    length-at : (n < 2 ^ 31) ⊎ (2 ^ 31 ≤ n) → (limit < n) ⊎ (n ≤ limit) → (0 < n) ⊎ (n ≤ 0) → Wanted
-    length-at (inr h) c d =
-        first-at octets 3 place why.HighBit reason (omega (arith, four)) (short-at octets four)
-        (frames-high messages limit (take 4 octets) n (prefix-four 0 octets four) (prefix-size 0 octets) h) (frames-high messages limit octets n four refl h) e
-    length-at (inl s) (inl h) d =
-        first-at octets 3 place why.TooLong reason (omega (arith, four)) (short-at octets four)
-        (frames-long messages limit (take 4 octets) n (prefix-four 0 octets four) (prefix-size 0 octets) s h) (frames-long messages limit octets n four refl s h) e
-    length-at (inl s) (inr w) (inr z) =
-        let empty : n ≡ 0 = omega arith in
-        first-at octets 3 place why.Empty reason (omega (arith, four)) (short-at octets four)
-        (frames-empty messages limit (take 4 octets) (prefix-four 0 octets four) (prefix-size 0 octets ∙ empty)) (frames-empty messages limit octets four empty) e
-    length-at (inl s) (inr w) (inl p) = judged-at (record { some = p; short = s; within = w }) (message_outcome messages n contents) refl
+    length-at : (fault : Option Why) → length_fault limit n ≡ fault → Wanted
+    length-at (Some other) f =
+        first-at octets 3 place other reason (omega (arith, four)) (short-at octets four)
+        (frames-fault limit n messages (take 4 octets) (prefix-four 0 octets four) (prefix-size 0 octets) other f) (frames-fault limit n messages octets four refl other f) e
+    length-at None f =
+        let fine = no_fault limit n f in
+        judged-at (record { some = fine.0; short = fine.1.0; within = fine.1.1 }) (message_outcome messages n contents) refl
 
   short-never : (octets : List ℕ) → length octets < 4 → (place : ℕ) (reason : Why) → ends_at octets ≡ Refused place reason → ⊥
   short-never octets h place reason e = not_after (length octets) place reason (sym (ap (λ f. f.end) (found-short messages Lenient limit octets h)) ∙ e)
@@ -160,7 +156,7 @@ module _ (messages : List Term) (limit : ℕ) where
         | inl h ↦ absurd (short-never octets h place reason e)
         | inr four ↦
             length-at octets four place reason e (λ rest less t. refused-at bound rest (omega (arith, less, few)) place reason t)
-            (cases_lt (number (take 4 octets)) (2 ^ 31)) (cases_lt limit (number (take 4 octets))) (cases_lt 0 (number (take 4 octets)))
+            (length_fault limit (number (take 4 octets))) refl
       ]
 
 pub refusals_are_at_offsets : RefusalsAreAtOffsets

@@ -1,6 +1,8 @@
--- The contents of a frame, and a frame as octets.
-use Rattle.std.specs.Prelude.{ℕ, ◌≡◌, ◌<◌, ◌^◌, ◌/◌, ◌%◌, List, [], ◌∷◌, ◌++◌, length}
+-- The contents of a frame, its length, and a frame as octets.
+use Rattle.std.specs.Prelude.{ℕ, ◌≡◌, ◌<◌, ◌^◌, ◌/◌, ◌%◌, ◌==◌, nat_le, nat_lt, if◌then◌else◌, List, [], ◌∷◌, ◌++◌, length, Option, Some, None}
 use Rattle.krb_der.specs.declared.verdict.Verdict.TheVariants.{Whole}
+use Rattle.krb_der.specs.declared.why.Why.{Why}
+use Rattle.krb_der.specs.declared.why.Why.TheVariants as why
 use Rattle.krb_msg.specs.Term.{Term}
 use Rattle.krb_msg.specs.Judgement.{judgement_by}
 
@@ -8,6 +10,14 @@ use Rattle.krb_msg.specs.Judgement.{judgement_by}
 pub record IsWholeFrame (messages : List Term) (octets : List ℕ) : Type 0 where
   pub short : length octets < 2 ^ 31
   pub whole : judgement_by messages (length octets) octets ≡ Whole
+
+-- why a length is refused, if it is (RFC 4120, 7.2.2)
+abbrev pub length_fault : ℕ → ℕ → Option Why
+length_fault limit size =
+    if nat_le (2 ^ 31) size then Some why.HighBit
+    else if nat_lt limit size then Some why.TooLong
+    else if size == 0 then Some why.Empty
+    else None
 
 -- the four octets of a frame's length, the highest first
 abbrev pub frame_length : ℕ → List ℕ

@@ -2,7 +2,7 @@
 
 use crate::contents::{CONTENTS_KEPT, clear_contents, deliver_contents, take_contents};
 use crate::framed::Framed;
-use crate::length::accepted_size;
+use crate::length::{HIGH_BIT, accepted_size};
 use crate::limit::Limit;
 use crate::pass::{Passed, first_contents};
 use crate::receiver::Receiver;
@@ -287,7 +287,7 @@ impl Decoder {
             return None;
         };
         let size = u32::from_be_bytes(self.length);
-        if size >= 1 << 31 {
+        if size >= HIGH_BIT {
             return None;
         }
         let used = self.contents.len();

@@ -10,7 +10,7 @@
 //!   [`SkippingDecoder`] has the calls above, too.
 //! - [`SkippingDecoder::deliver`] delivers the frames of a piece to a [`Receiver`], one after
 //!   another, with or without going on after a refusal: the loop over the calls above.
-//! - [`frame`] returns a message as a frame.
+//! - [`frame`] returns a message as a frame; [`length_fault`] says why a length is refused.
 //!
 //! Nothing here reads or writes: the caller has the pieces. A decoder keeps at most the octets of
 //! one frame, and no frame may be longer than its [`Limit`]. Why octets of a message are refused is
@@ -37,6 +37,7 @@ pub use decoder::{Decoder, Fed, Partial, Status};
 pub use delivery::Delivered;
 pub use framed::Framed;
 pub use framing::frame;
+pub use length::length_fault;
 pub use limit::Limit;
 pub use pass::Passed;
 pub use receiver::Receiver;

@@ -1,5 +1,6 @@
 //! The greatest length of a frame.
 
+use crate::length::HIGH_BIT;
 use std::marker::Model;
 
 /// The greatest number of octets that a frame may announce: 1 to 2147483647.
@@ -31,7 +32,7 @@ impl Limit {
         ensures range { IsSome result ↔ ((0 < octets) × (octets < 2 ^ 31)) }
         ensures value { IfSome result (λ limit. limit ≡ octets) }
     {
-        if 0 < octets && octets < 1 << 31 {
+        if 0 < octets && octets < HIGH_BIT {
             Some(Limit { octets })
         } else {
             None

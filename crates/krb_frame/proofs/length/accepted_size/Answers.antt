@@ -1,21 +1,14 @@
-use Rattle.std.proofs.Common.{sym, ◌∙◌, subst, arith}
-use Rattle.krb_frame.proofs.DecoderFrames.{Announces, from_be_bytes-number, high, long, empty}
+use Rattle.std.proofs.Common.{sym, ◌∙◌}
+use Rattle.krb_frame.proofs.DecoderFrames.{Announces, from_be_bytes-number, refused_length}
+use Rattle.krb_frame.proofs.Lengths.{no_fault}
 use Rattle.krb_frame.proofs.length.accepted_size.Goals as goal
 
-pub returns-then-size : goal.returns-then-size
-returns-then-size c = λ messages.
+pub returns-in-Some : goal.returns-in-Some
+returns-in-Some c = λ messages.
     let a : Announces c.args.announced c.from_be_bytes-size.result = record { four = c.requires; is = sym (c.from_be_bytes-size.ensures ∙ from_be_bytes-number c.args.announced c.requires) } in
-    high messages c.args.limit c.args.announced c.from_be_bytes-size.result a c.if-size.true
+    refused_length messages c.args.limit c.args.announced c.from_be_bytes-size.result c.in-Some.why a (sym c.length_fault.ensures ∙ c.in-Some.is)
 
-pub returns-then-size-get : goal.returns-then-size-get
-returns-then-size-get c = λ messages.
-    let a : Announces c.args.announced c.from_be_bytes-size.result = record { four = c.requires; is = sym (c.from_be_bytes-size.ensures ∙ from_be_bytes-number c.args.announced c.requires) } in
-    long messages c.args.limit c.args.announced c.from_be_bytes-size.result a (omega arith) (omega arith)
-
-pub returns-then-size-eq0 : goal.returns-then-size-eq0
-returns-then-size-eq0 c = λ messages.
-    let a : Announces c.args.announced c.from_be_bytes-size.result = record { four = c.requires; is = sym (c.from_be_bytes-size.ensures ∙ from_be_bytes-number c.args.announced c.requires) } in
-    empty messages c.args.limit c.args.announced (subst (Announces c.args.announced) c.if-size-eq0.true a)
-
-pub returns-else-size-eq0 : goal.returns-else-size-eq0
-returns-else-size-eq0 c = record { four = c.requires; is = sym (c.from_be_bytes-size.ensures ∙ from_be_bytes-number c.args.announced c.requires); some = omega arith; short = omega arith; within = omega arith }
+pub returns-in-None : goal.returns-in-None
+returns-in-None c =
+    let fine = no_fault c.args.limit c.from_be_bytes-size.result (sym c.length_fault.ensures ∙ c.in-None.is) in
+    record { four = c.requires; is = sym (c.from_be_bytes-size.ensures ∙ from_be_bytes-number c.args.announced c.requires); some = fine.0; short = fine.1.0; within = fine.1.1 }
