@@ -187,5 +187,4 @@ def all_kinds(module):
 
 def kind_texts(module):
     """krb_json/proofs/KindTexts"""
-    names = "\n".join(f"all-names names.{name} = refl" for name in ["Basic"] + [it.rust for it in reached(module)])
-    return fill("KindTexts.antt", messages_of(module), names=names)
+    return fill("KindTexts.antt", messages_of(module))

@@ -11,14 +11,14 @@ use krb_msg::{EncryptedData, EncryptedDataView, End, Required, Sequence, Tagged,
 /// An armored reply (RFC 6113, 5.4.3). Its KrbFastResponse is never opened.
 #[derive(Drop)]
 pub struct KrbFastArmoredRep {
-    /// The sealed KrbFastResponse.
+    /// The encrypted KrbFastResponse.
     pub enc_fast_rep: EncryptedData,
 }
 
 /// A view of a KrbFastArmoredRep: its strings and lists are borrowed from the octets.
 #[derive(Clone, Copy)]
 pub struct KrbFastArmoredRepView<'a> {
-    /// The sealed KrbFastResponse.
+    /// The encrypted KrbFastResponse.
     pub enc_fast_rep: EncryptedDataView<'a>,
 }
 

@@ -19,7 +19,7 @@ pub struct KrbFastArmoredReq {
     pub armor: Option<KrbFastArmor>,
     /// A checksum over the request.
     pub req_checksum: Checksum,
-    /// The sealed KrbFastReq.
+    /// The encrypted KrbFastReq.
     pub enc_fast_req: EncryptedData,
 }
 
@@ -30,7 +30,7 @@ pub struct KrbFastArmoredReqView<'a> {
     pub armor: Option<KrbFastArmorView<'a>>,
     /// A checksum over the request.
     pub req_checksum: ChecksumView<'a>,
-    /// The sealed KrbFastReq.
+    /// The encrypted KrbFastReq.
     pub enc_fast_req: EncryptedDataView<'a>,
 }
 
