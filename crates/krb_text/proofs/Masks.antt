@@ -103,7 +103,10 @@ empty-same HighOctet value mask [] = refl
 empty-same FewFlags value mask [] = refl
 empty-same Negative value mask [] = refl
 empty-same EmptyList value mask [] = refl
-empty-same other value mask (x ∷ xs) = refl
+empty-same HighOctet value mask (x ∷ xs) = refl
+empty-same FewFlags value mask (x ∷ xs) = refl
+empty-same Negative value mask (x ∷ xs) = refl
+empty-same EmptyList value mask (x ∷ xs) = refl
 
 -- what a note says of a list and of its items, if it is the same of each item masked
 items-same : {A : Type 0} (note : Note) (term : Term) (value : A → Value term) (mask : A → A) → ((x : A) → has note term (value (mask x)) ≡ has note term (value x)) → (xs : List A)
@@ -132,7 +135,8 @@ kdc_req_body-has note b = go b.enc_authorization_data b.additional_tickets
     go : (e : Option EncryptedData) (tickets : Option (List Ticket)) → has note kdc_req_body (kdc_req_body_value (masked_req_body (body_with b e tickets))) ≡ has note kdc_req_body (kdc_req_body_value (body_with b e tickets))
     go None (Some tickets) = rw (items-same note ticket ticket_value masked_ticket (ticket-same note) tickets) refl
     go (Some e) (Some tickets) = rw (items-same note ticket ticket_value masked_ticket (ticket-same note) tickets) refl
-    go other None = refl
+    go None None = refl
+    go (Some e) None = refl
 
 item-same : (note : Note) (in_request : Bool) (item : PaData) → has note pa_data (pa_data_value (masked_item in_request item)) ≡ has note pa_data (pa_data_value item)
 item-same note in_request item = refl
