@@ -19,8 +19,7 @@ use Rattle.krb_capture.specs.Sending.{Sent, after_segment, beginning_found, end_
 use Rattle.krb_capture.specs.Streams.{end_found, found_with}
 use Rattle.krb_capture.specs.declared.flow.Flow.{Flow}
 use Rattle.krb_capture.specs.declared.flow.Service.{Service}
-use Rattle.krb_capture.proofs.Extends.{found_with-append}
-use Rattle.krb_capture.proofs.Prefixes.{all_found, extends, found_with-all, found_with-none}
+use Rattle.krb_capture.proofs.Prefixes.{all_found, found_with-all, found_with-both, found_with-none}
 
 -- the segments that begin the direction of a stream
 captured_on : (place : ℕ) (before pieces : List Piece) (piece : Piece) → IsCaptured place before ⊎ IsCaptured place (piece ∷ pieces) → IsCaptured place (piece ∷ before) ⊎ IsCaptured place pieces
@@ -72,7 +71,7 @@ module _ (limit : ℕ) (flow : Flow) (service : Service) where
           ap₂ (λ (x y : List Found). x ++ y) (append-nil (found_with service limit taken octets)) r
           ∙ sym (append_assoc (found_with service limit taken octets) (found_with service limit (taken ++ octets) after) end)
           ∙ ap (λ (l : List Found). l ++ end)
-          (sym (found_with-append service limit taken octets after (extends service limit taken octets) (extends service limit (taken ++ octets) after)) ∙ ap (found_with service limit taken) (sym e))
+          (sym (found_with-both service limit taken octets after) ∙ ap (found_with service limit taken) (sym e))
 
       -- none are
       stops : (rest : List Found) → left ≡ octets → rest ≡ [] → (found_with service limit taken octets ++ end_found service limit (taken ++ octets) Complete) ++ rest ≡ found_with service limit taken left ++ end

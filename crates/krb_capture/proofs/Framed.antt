@@ -1,5 +1,5 @@
 -- What is found in the frames of messages, by what is known of their decoder.
-use Rattle.std.proofs.Common.{◌≡◌, ℕ, ◌+◌, ◌-◌, ◌^◌, ◌≤◌, inl, inr, true, false, List, [], ◌∷◌, ◌++◌, length, take, drop, Some, None, refl, sym, ◌∙◌, ap, ap₂, subst, arith, append-nil, drop_at}
+use Rattle.std.proofs.Common.{◌≡◌, ℕ, ◌+◌, ◌-◌, ◌^◌, ◌≤◌, inl, inr, true, false, List, [], ◌∷◌, ◌++◌, length, take, drop, Some, None, refl, sym, ◌∙◌, ap, ap₂, subst, arith, append_assoc, append-nil, drop_at}
 use Rattle.std.specs.Prelude.{cond, not, ◌&&◌, ◌||◌, nat_le, nat_lt, if◌then◌else◌}
 use Rattle.std.specs.List.{AllByRecursion, list_any}
 use Rattle.std.proofs.lemmas.Bool.{cases_lt, lt-leb, le-leb, lt-ltb, le-ltb}
@@ -16,7 +16,7 @@ use Rattle.krb_frame.proofs.Ends.{refused_end}
 use Rattle.krb_frame.proofs.Skips.{IsLast, entries-waiting, entries-last}
 use Rattle.krb_capture.specs.Found.{Found}
 use Rattle.krb_capture.specs.Streams.{Framed, after_entries, after_entry, before_frames, cut_octets, entries_found, entry_found, found_with, framed, framed_entries, is_cut, is_unknown, messages_framed, no_frames, not_cut}
-use Rattle.krb_capture.specs.Taken.{IsDone, Waits}
+use Rattle.krb_capture.specs.Taken.{IsDone, IsOver, Waits}
 use Rattle.krb_capture.specs.declared.flow.Service.{Service}
 use Rattle.krb_capture.specs.declared.flow.Service.TheVariants as services
 
@@ -24,6 +24,16 @@ use Rattle.krb_capture.specs.declared.flow.Service.TheVariants as services
 pub found_with-of : (service : Service) (limit : ℕ) (stream more : List ℕ) (xs ys : List Found) → (framed service limit stream).found ≡ xs → (framed service limit (stream ++ more)).found ≡ xs ++ ys → found_with service limit stream more ≡ ys
 unfolding found_with
 found_with-of service limit stream more xs ys e f = ap₂ (λ a b. drop (length a) b) e f ∙ drop_at xs ys (length xs) refl
+
+-- ---- nothing more is found
+pub over-more : (service : Service) (limit : ℕ) (stream octets : List ℕ) → IsOver service limit stream → IsOver service limit (stream ++ octets)
+over-more service limit stream octets o = λ more. (
+  ap (λ s. (framed service limit s).found) (append_assoc stream octets more) ∙ (o (octets ++ more)).0 ∙ sym (o octets).0,
+  ap (λ s. (framed service limit s).over) (append_assoc stream octets more) ∙ (o (octets ++ more)).1,
+)
+
+pub over-none : (service : Service) (limit : ℕ) (stream octets : List ℕ) → IsOver service limit stream → found_with service limit stream octets ≡ []
+over-none service limit stream octets o = found_with-of service limit stream octets (framed service limit stream).found [] refl ((o octets).0 ∙ sym (append-nil (framed service limit stream).found))
 
 -- ---- frames, and others after them
 pub entries_found-append : (offset : ℕ) (xs ys : List Entry) → entries_found offset (xs ++ ys) ≡ entries_found offset xs ++ entries_found (after_entries offset xs) ys

@@ -1,7 +1,6 @@
 mod Directed
 mod Ends
 mod Extends
-mod Feeding
 mod Following
 mod Follows
 mod Found
@@ -21,7 +20,6 @@ mod Tables
 mod Taken
 mod Whole
 mod Written
-mod Unfinished
 mod Maps
 mod Flows
 mod Steps

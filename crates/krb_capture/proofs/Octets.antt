@@ -1,60 +1,49 @@
 -- The octets of messages that change passwords, taken one after another.
-use Rattle.std.proofs.Common.{◌≡◌, ℕ, zero, suc, ◌+◌, ◌-◌, ◌<◌, ◌≤◌, ◌⊎◌, inl, inr, true, false, List, [], ◌∷◌, ◌++◌, length, take, drop, refl, sym, ◌∙◌, ap, ap₂, subst, arith, append_assoc, append-nil, length-append}
+use Rattle.std.proofs.Common.{◌≡◌, ℕ, zero, suc, ◌+◌, ◌-◌, ◌<◌, ◌≤◌, ◌⊎◌, inl, inr, true, false, List, [], ◌∷◌, ◌++◌, length, take, drop, sym, ◌∙◌, ap, ap₂, subst, arith, append_assoc, append-nil, length-append}
 use Rattle.std.specs.Prelude.{get_or}
 use Rattle.std.proofs.lemmas.List.{take-append-le, take_all, take_more}
 use Rattle.krb_der.specs.Octets.{number}
 use Rattle.krb_text.specs.declared.origin.Origin.{Origin}
 use Rattle.krb_capture.specs.Found.{Written, with_all}
 use Rattle.krb_capture.specs.Passed.{Holds, ListsWhole, TakesPasswords}
-use Rattle.krb_capture.specs.Streams.{before_frames, found_with, framed, passwords_framed}
-use Rattle.krb_capture.specs.Taken.{IsAllowed, IsPart, Keeps, KeepsUnless, PasswordsAreOver, TookPasswords, passwords}
+use Rattle.krb_capture.specs.Streams.{before_frames, found_with, passwords_framed}
+use Rattle.krb_capture.specs.Taken.{IsAllowed, IsOver, IsPart, Keeps, KeepsUnless, TookPasswords, passwords}
 use Rattle.krb_capture.specs.declared.flow.Service.TheVariants as services
 use Rattle.krb_capture.specs.declared.password_frames.PasswordFrames.{PasswordFrames}
-use Rattle.krb_capture.proofs.Extends.{found_with-append, passwords-extend}
 use Rattle.krb_capture.proofs.Found.{with_all-append}
-use Rattle.krb_capture.proofs.Framed.{found_with-of}
+use Rattle.krb_capture.proofs.Framed.{found_with-of, over-more, over-none}
 use Rattle.krb_capture.proofs.Passed.{keeps-found}
+use Rattle.krb_capture.proofs.Prefixes.{found_with-both, found_with-none}
 
 -- ---- none, and some and then others
 pub takes-nothing : (old : PasswordFrames) (origin : Origin) (w : Written) → TakesPasswords old old [] origin w w
 takes-nothing old origin w = record {
   took = λ limit stream t. subst (TookPasswords old limit) (sym (append-nil stream)) t;
-  listed = λ limit stream t.
-      ap (λ l. with_all origin l w)
-      (sym (found_with-of services.Passwords limit stream [] (framed services.Passwords limit stream).found [] refl (ap (λ s. (framed services.Passwords limit s).found) (append-nil stream) ∙ sym (append-nil (framed services.Passwords limit stream).found))));
+  listed = λ limit stream t. ap (λ l. with_all origin l w) (sym (found_with-none services.Passwords limit stream));
 }
 
 pub takes-both : (a b c : PasswordFrames) (xs ys : List ℕ) (origin : Origin) (u v w : Written) → TakesPasswords a b xs origin u v → TakesPasswords b c ys origin v w → TakesPasswords a c (xs ++ ys) origin u w
 takes-both a b c xs ys origin u v w l m = record {
   took = λ limit stream t. subst (TookPasswords c limit) (append_assoc stream xs ys) (m.took limit (stream ++ xs) (l.took limit stream t));
   listed = λ limit stream t.
-      let after : TookPasswords b limit (stream ++ xs) = l.took limit stream t in
-      m.listed limit (stream ++ xs) after
+      m.listed limit (stream ++ xs) (l.took limit stream t)
       ∙ ap (with_all origin (found_with services.Passwords limit (stream ++ xs) ys)) (l.listed limit stream t)
       ∙ sym (with_all-append origin (found_with services.Passwords limit stream xs) (found_with services.Passwords limit (stream ++ xs) ys) u)
-      ∙ ap (λ x. with_all origin x u) (sym (found_with-append services.Passwords limit stream xs ys (passwords-extend a limit stream t xs) (passwords-extend b limit (stream ++ xs) after ys)));
+      ∙ ap (λ x. with_all origin x u) (sym (found_with-both services.Passwords limit stream xs ys));
 }
 
 -- ---- an octet
 -- all that follows is passed over
-over_after : (limit : ℕ) (stream octets : List ℕ) → PasswordsAreOver limit stream → PasswordsAreOver limit (stream ++ octets)
-over_after limit stream octets o = λ more. (
-  ap (λ s. (passwords limit s).found) (append_assoc stream octets more) ∙ (o (octets ++ more)).0 ∙ sym (o octets).0,
-  ap (λ s. (passwords limit s).over) (append_assoc stream octets more) ∙ (o (octets ++ more)).1,
-)
-
 pub takes-over : (old : PasswordFrames) (octets : List ℕ) (origin : Origin) (w : Written) → old.is_over ≡ true → TakesPasswords old old octets origin w w
 takes-over old octets origin w e = record {
   took = λ limit stream t. record {
     limit_is = t.limit_is;
-    state = subst (λ b. KeepsUnless b old (stream ++ octets)) (sym e) (over_after old.limit stream octets (over stream t.state));
+    state = subst (λ b. KeepsUnless b old (stream ++ octets)) (sym e) (over-more services.Passwords old.limit stream octets (over stream t.state));
   };
-  listed = λ limit stream t.
-      let o : PasswordsAreOver limit stream = subst (λ n. PasswordsAreOver n stream) t.limit_is (over stream t.state) in
-      ap (λ x. with_all origin x w) (sym (found_with-of services.Passwords limit stream octets (framed services.Passwords limit stream).found [] refl ((o octets).0 ∙ sym (append-nil (framed services.Passwords limit stream).found))));
+  listed = λ limit stream t. ap (λ x. with_all origin x w) (sym (over-none services.Passwords limit stream octets (subst (λ n. IsOver services.Passwords n stream) t.limit_is (over stream t.state))));
 }
   where
-    over : (stream : List ℕ) → KeepsUnless old.is_over old stream → PasswordsAreOver old.limit stream
+    over : (stream : List ℕ) → KeepsUnless old.is_over old stream → IsOver services.Passwords old.limit stream
     over stream s = subst (λ b. KeepsUnless b old stream) e s
 
 -- the octet is skipped

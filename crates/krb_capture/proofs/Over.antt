@@ -1,5 +1,5 @@
 -- What the frames of messages answer at the end.
-use Rattle.std.proofs.Common.{◌≡◌, ℕ, Bool, true, false, List, [], ◌∷◌, Some, None, refl, sym, ◌∙◌, ap, subst, append-nil}
+use Rattle.std.proofs.Common.{◌≡◌, ℕ, false, List, [], ◌∷◌, Some, refl, sym, ◌∙◌, ap, subst}
 use Rattle.std.specs.Result.{result_err}
 use Rattle.krb_der.specs.declared.profile.Profile.TheVariants.{Lenient}
 use Rattle.krb_der.specs.declared.why.Why.TheVariants as why
@@ -10,60 +10,30 @@ use Rattle.krb_frame.specs.Decoding.{Decoding, AreOfOne, finish_at, finish_of, f
 use Rattle.krb_frame.specs.GoingOn.{GoesOn, Skipping}
 use Rattle.krb_frame.specs.declared.decoder.Status.TheVariants as status
 use Rattle.krb_frame.proofs.DecoderFrames.{more-nothing}
-use Rattle.krb_capture.specs.Streams.{Framed, after_entries, cut_refusal, framed}
-use Rattle.krb_capture.specs.Taken.{IsOver, TookMessages, Waits, WaitsUnless, WaitsWith, fed_with, kept_of}
-use Rattle.krb_capture.specs.declared.flow.Service.TheVariants as services
+use Rattle.krb_capture.specs.Streams.{cut_refusal}
+use Rattle.krb_capture.specs.Taken.{TookMessages, Waits, WaitsUnless, WaitsWith}
 use Rattle.krb_capture.specs.declared.message_frames.MessageFrames.{MessageFrames}
-use Rattle.std.specs.declared.alloc.Global.{Global}
-use Rattle.krb_capture.proofs.Framed.{framed-waiting}
-use Rattle.krb_capture.proofs.Unfinished.{waits-all}
 
 -- of a direction of which nothing came
-pub took-new : (alloc : Global) (decoder : Decoding) (s : Skipping) (limit looks : ℕ) (room : ℕ) → decoder ≡ record { profile = Lenient; limit = limit; octets = []; looks = looks; capacity = room } → s ≡ record { current = decoder; skipped = 0 } → (decoder.octets ≡ [] → GoesOn (messages decoder.profile) s [] []) → TookMessages (record { alloc = alloc; limit = limit; placed = record { decoder = s; offset = 0 }; part = None; is_over = false }) limit []
-took-new alloc decoder s limit looks room e f g =
+pub took-new : (decoder : Decoding) (s : Skipping) (limit looks : ℕ) (room : ℕ) → decoder ≡ record { profile = Lenient; limit = limit; octets = []; looks = looks; capacity = room } → s ≡ record { current = decoder; skipped = 0 } → (decoder.octets ≡ [] → GoesOn (messages decoder.profile) s [] []) → TookMessages (record { decoder = s; offset = 0; is_over = false }) limit []
+took-new decoder s limit looks room e f g =
     let same : s.current ≡ decoder = ap (λ (t : Skipping). t.current) f in
     record {
       profile = ap (λ (d : Decoding). d.profile) (same ∙ e);
       limit_is = ap (λ (d : Decoding). d.limit) (same ∙ e);
-      own_limit = refl;
       state = record {
-        fed = [];
-        parts = refl;
         waits = record {
           before = [];
           done = tt;
           goes_on = subst (λ p. GoesOn (messages p) s [] []) (ap (λ (d : Decoding). d.profile) e) (g (ap (λ (d : Decoding). d.octets) e));
           waits = ap (λ d. status_of (messages Lenient) d) (same ∙ e) ∙ more-nothing (messages Lenient) Lenient limit looks room;
         };
-        part = tt;
         offset = refl;
       };
     }
 
--- whether nothing follows
-pub over-is : (taker : MessageFrames) (limit : ℕ) (stream : List ℕ) → TookMessages taker limit stream → taker.is_over ≡ (framed services.Kerberos limit stream).over
-over-is taker limit stream t = by taker.is_over refl
-  where
-    by : (b : Bool) → taker.is_over ≡ b → taker.is_over ≡ (framed services.Kerberos limit stream).over
-    by true e =
-        let o : IsOver limit stream = subst (λ b. WaitsUnless b taker limit stream) e t.state in
-        e ∙ sym (o []).1 ∙ ap (λ s. (framed services.Kerberos limit s).over) (append-nil stream)
-    by false e =
-        let w : WaitsWith taker limit stream = subst (λ b. WaitsUnless b taker limit stream) e t.state in
-        e ∙ ap (λ (f : Framed). f.over) (sym (framed-waiting limit (fed_with taker.part taker.placed.decoder) stream (waits-all taker limit stream w t.limit_is).waits t.limit_is))
-
--- the octets of the frame that is not whole
-pub partial-is : (taker : MessageFrames) (limit : ℕ) (stream : List ℕ) → TookMessages taker limit stream → taker.is_over ≡ false → kept_of taker.part taker.placed.decoder.current.octets ≡ (framed services.Kerberos limit stream).partial
-partial-is taker limit stream t e =
-    let w : WaitsWith taker limit stream = subst (λ b. WaitsUnless b taker limit stream) e t.state in
-    ap (λ (f : Framed). f.partial) (sym (framed-waiting limit (fed_with taker.part taker.placed.decoder) stream (waits-all taker limit stream w t.limit_is).waits t.limit_is))
-
--- and where it begins
-pub offset-is : (taker : MessageFrames) (limit : ℕ) (stream : List ℕ) → TookMessages taker limit stream → taker.is_over ≡ false → taker.placed.offset ≡ (framed services.Kerberos limit stream).offset
-offset-is taker limit stream t e =
-    let w : WaitsWith taker limit stream = subst (λ b. WaitsUnless b taker limit stream) e t.state in
-    let all = waits-all taker limit stream w t.limit_is in
-    w.offset ∙ ap (after_entries 0) (sym all.same) ∙ ap (λ (f : Framed). f.offset) (sym (framed-waiting limit (fed_with taker.part taker.placed.decoder) stream all.waits t.limit_is))
+pub waits-of : (taker : MessageFrames) (limit : ℕ) (stream : List ℕ) → TookMessages taker limit stream → taker.is_over ≡ false → WaitsWith taker stream
+waits-of taker limit stream t e = subst (λ b. WaitsUnless b taker limit stream) e t.state
 
 -- why it is refused
 cut_at : (octets : List ℕ) (f : Frames) → (octets ≡ [] → f ≡ ends Boundary) → AreOfOne octets f.contents f.end → status_at f.contents f.end ≡ status.More → result_err (finish_at f.end) ≡ cut_refusal octets
@@ -83,8 +53,7 @@ pub cut-is : (s : Skipping) (stream : List ℕ) → Waits s stream → result_er
 unfolding found
 cut-is s stream w = cut_at s.current.octets (frames (messages Lenient) s.current.limit s.current.octets) (λ z. ap (frames (messages Lenient) s.current.limit) z ∙ frames-nil (messages Lenient) s.current.limit) w.goes_on.one w.waits
 
-pub finish-is : (taker : MessageFrames) (limit : ℕ) (stream : List ℕ) → TookMessages taker limit stream → taker.is_over ≡ false → result_err (finish_of (messages taker.placed.decoder.current.profile) taker.placed.decoder.current) ≡ cut_refusal taker.placed.decoder.current.octets
+pub finish-is : (taker : MessageFrames) (limit : ℕ) (stream : List ℕ) → TookMessages taker limit stream → taker.is_over ≡ false → result_err (finish_of (messages taker.decoder.current.profile) taker.decoder.current) ≡ cut_refusal taker.decoder.current.octets
 finish-is taker limit stream t e =
-    let w : WaitsWith taker limit stream = subst (λ b. WaitsUnless b taker limit stream) e t.state in
-    ap (λ p. result_err (finish_of (messages p) taker.placed.decoder.current)) t.profile
-    ∙ cut-is taker.placed.decoder w.fed w.waits
+    ap (λ p. result_err (finish_of (messages p) taker.decoder.current)) t.profile
+    ∙ cut-is taker.decoder stream (waits-of taker limit stream t e).waits

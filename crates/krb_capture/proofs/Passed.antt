@@ -12,7 +12,8 @@ use Rattle.krb_capture.specs.Found.{Found, Written, with_all}
 use Rattle.krb_capture.specs.Passed.{Holds, ListsNext}
 use Rattle.krb_capture.specs.Passwords.{password_found}
 use Rattle.krb_capture.specs.Streams.{Framed, after_frame, before_frames, frame_of, length_found, no_frames, password_frame, password_frames, passwords_framed}
-use Rattle.krb_capture.specs.Taken.{IsAllowed, IsPart, Keeps, KeepsUnless, PasswordsAreOver, passwords}
+use Rattle.krb_capture.specs.Taken.{IsAllowed, IsOver, IsPart, Keeps, KeepsUnless, passwords}
+use Rattle.krb_capture.specs.declared.flow.Service.TheVariants as services
 use Rattle.krb_capture.specs.declared.password_frames.PasswordFrames.{PasswordFrames}
 
 module _ (limit : ℕ) where
@@ -168,7 +169,7 @@ module _ (old : PasswordFrames) (stream : List ℕ) (h : Holds old stream) (orig
   pub next-stopped : (new : PasswordFrames) (x : Found) (after : Written) → new.limit ≡ old.limit → new.is_over ≡ true → ((more : List ℕ) → passwords_framed old.limit old.offset (s ++ more) ≡ record { found = x ∷ []; partial = []; offset = old.offset; over = true }) → after ≡ with_all origin (x ∷ []) before → ListsNext old new stream h origin before after
   next-stopped new x after l o each w = record {
     limit = l;
-    state = subst (λ b. KeepsUnless b new stream) (sym o) (subst (λ n. PasswordsAreOver n stream) (sym l) (λ more. (ap (λ (f : Framed). f.found) (all more ∙ sym at), ap (λ (f : Framed). f.over) (all more))));
+    state = subst (λ b. KeepsUnless b new stream) (sym o) (subst (λ n. IsOver services.Passwords n stream) (sym l) (λ more. (ap (λ (f : Framed). f.found) (all more ∙ sym at), ap (λ (f : Framed). f.over) (all more))));
     listed = w ∙ ap (λ x. with_all origin x before) (sym (ap (λ (f : Framed). drop (length h.before) f.found) at ∙ drop_at h.before (x ∷ []) (length h.before) refl));
   }
     where

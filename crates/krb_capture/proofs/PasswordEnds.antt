@@ -1,34 +1,12 @@
 -- What the frames of messages that change passwords answer at the end.
-use Rattle.std.proofs.Common.{◌≡◌, ℕ, ◌^◌, ◌<◌, inl, inr, Bool, true, false, List, [], ◌∷◌, length, Some, None, refl, sym, ◌∙◌, ap, subst, arith, append-nil}
+use Rattle.std.proofs.Common.{◌≡◌, ℕ, ◌^◌, ◌<◌, inl, inr, false, List, [], ◌∷◌, length, Some, None, refl, ap, subst, arith}
 use Rattle.krb_der.specs.declared.why.Why.TheVariants as why
-use Rattle.krb_capture.specs.Streams.{Framed, cut_refusal, framed}
-use Rattle.krb_capture.specs.Taken.{IsPart, Keeps, KeepsUnless, PasswordsAreOver, TookPasswords, passwords}
-use Rattle.krb_capture.specs.declared.flow.Service.TheVariants as services
+use Rattle.krb_capture.specs.Streams.{cut_refusal}
+use Rattle.krb_capture.specs.Taken.{IsPart, Keeps, KeepsUnless, TookPasswords}
 use Rattle.krb_capture.specs.declared.password_frames.PasswordFrames.{PasswordFrames}
-use Rattle.krb_capture.proofs.Passed.{keeps-framed}
 
-keeps-of : (taker : PasswordFrames) (limit : ℕ) (stream : List ℕ) → TookPasswords taker limit stream → taker.is_over ≡ false → Keeps taker stream
+pub keeps-of : (taker : PasswordFrames) (limit : ℕ) (stream : List ℕ) → TookPasswords taker limit stream → taker.is_over ≡ false → Keeps taker stream
 keeps-of taker limit stream t e = subst (λ b. KeepsUnless b taker stream) e t.state
-
-pub password-partial : (taker : PasswordFrames) (limit : ℕ) (stream : List ℕ) → TookPasswords taker limit stream → taker.is_over ≡ false → taker.octets.items ≡ (framed services.Passwords limit stream).partial
-password-partial taker limit stream t e =
-    ap (λ (f : Framed). f.partial) (sym (keeps-framed taker stream (keeps-of taker limit stream t e)))
-    ∙ ap (λ n. (passwords n stream).partial) t.limit_is
-
--- and where it begins
-pub password-offset : (taker : PasswordFrames) (limit : ℕ) (stream : List ℕ) → TookPasswords taker limit stream → taker.is_over ≡ false → taker.offset ≡ (framed services.Passwords limit stream).offset
-password-offset taker limit stream t e =
-    ap (λ (f : Framed). f.offset) (sym (keeps-framed taker stream (keeps-of taker limit stream t e)))
-    ∙ ap (λ n. (passwords n stream).offset) t.limit_is
-
-pub password-over : (taker : PasswordFrames) (limit : ℕ) (stream : List ℕ) → TookPasswords taker limit stream → taker.is_over ≡ (framed services.Passwords limit stream).over
-password-over taker limit stream t = by taker.is_over refl
-  where
-    by : (b : Bool) → taker.is_over ≡ b → taker.is_over ≡ (framed services.Passwords limit stream).over
-    by true e =
-        let o : PasswordsAreOver taker.limit stream = subst (λ b. KeepsUnless b taker stream) e t.state in
-        e ∙ sym (o []).1 ∙ ap (λ s. (passwords taker.limit s).over) (append-nil stream) ∙ ap (λ n. (passwords n stream).over) t.limit_is
-    by false e = e ∙ ap (λ (f : Framed). f.over) (sym (keeps-framed taker stream (keeps-of taker limit stream t e))) ∙ ap (λ n. (passwords n stream).over) t.limit_is
 
 -- why a frame is refused that is not whole
 pub cut-none : (items : List ℕ) → length items ≡ 0 → None ≡ cut_refusal items

@@ -339,6 +339,17 @@ pub extends : (service : Service) (limit : ℕ) (stream more : List ℕ) → Ext
 extends services.Kerberos limit stream more = messages_extend limit stream more (known limit stream)
 extends services.Passwords limit stream more = passwords_extend limit stream more
 
+-- and then what is found with others
+pub found_with-both : (service : Service) (limit : ℕ) (stream xs ys : List ℕ) → found_with service limit stream (xs ++ ys) ≡ found_with service limit stream xs ++ found_with service limit (stream ++ xs) ys
+found_with-both service limit stream xs ys =
+    let a : List Found = found_with service limit stream xs in
+    let b : List Found = found_with service limit (stream ++ xs) ys in
+    found_with-of service limit stream (xs ++ ys) (framed service limit stream).found (a ++ b) refl
+    (ap (λ s. (framed service limit s).found) (sym (append_assoc stream xs ys))
+    ∙ extends service limit (stream ++ xs) ys
+    ∙ ap (λ l. l ++ b) (extends service limit stream xs)
+    ∙ append_assoc (framed service limit stream).found a b)
+
 -- all of a stream that is all there
 pub all_found : (service : Service) (limit : ℕ) (stream : List ℕ) → (framed service limit stream).found ++ end_found service limit stream flow_ends.Complete ≡ stream_found service limit stream
 all_found services.Kerberos limit stream = messages_all limit stream (known limit stream)

@@ -9,7 +9,7 @@ use Rattle.krb_capture.specs.Streams.{found_with}
 use Rattle.krb_capture.specs.Taken.{Took, service_of}
 use Rattle.krb_capture.specs.Unlisted.{Unlisted}
 use Rattle.krb_capture.specs.declared.frames.Frames.{Frames}
-use Rattle.krb_capture.proofs.Extends.{found-none, took-append}
+use Rattle.krb_capture.proofs.Prefixes.{found_with-both, found_with-none}
 use Rattle.krb_capture.proofs.Found.{with_all-append}
 
 abbrev pub unlisted : Option End → List ℕ → Unlisted
@@ -31,7 +31,7 @@ module _ (origin : Origin) (old mid : Frames) (limit : ℕ) (stream xs ys : List
 
   split : unlisted_found (service_of old) limit stream all ≡ first ++ later
   split =
-      ap (λ f. f ++ end_if (service_of old) limit (stream ++ (xs ++ ys)) end) (took-append old mid limit stream xs ys t u s)
+      ap (λ f. f ++ end_if (service_of old) limit (stream ++ (xs ++ ys)) end) (found_with-both (service_of old) limit stream xs ys)
       ∙ append_assoc first (found_with (service_of old) limit (stream ++ xs) ys) (end_if (service_of old) limit (stream ++ (xs ++ ys)) end)
       ∙ ap (λ z. first ++ (found_with (service_of old) limit (stream ++ xs) ys ++ end_if (service_of old) limit z end)) (sym (append_assoc stream xs ys))
       ∙ ap (λ v. first ++ unlisted_found v limit (stream ++ xs) others) (sym s)
@@ -55,7 +55,7 @@ module _ (origin : Origin) (old mid : Frames) (limit : ℕ) (stream xs ys : List
     left = [];
     parts =
         split
-        ∙ ap (λ z. first ++ (z ++ end_if (service_of mid) limit ((stream ++ xs) ++ ys) end)) (found-none (service_of mid) limit (stream ++ xs) ys none)
+        ∙ ap (λ z. first ++ (z ++ end_if (service_of mid) limit ((stream ++ xs) ++ ys) end)) (ap (found_with (service_of mid) limit (stream ++ xs)) none ∙ found_with-none (service_of mid) limit (stream ++ xs))
         ∙ ap (λ z. first ++ end_if (service_of mid) limit z end) (ap (λ z. (stream ++ xs) ++ z) none ∙ append-nil (stream ++ xs))
         ∙ sym (append-nil (first ++ end_if (service_of mid) limit (stream ++ xs) end));
     written = e ∙ ap (λ l. with_all origin (end_if (service_of mid) limit (stream ++ xs) end) l) h ∙ sym (with_all-append origin first (end_if (service_of mid) limit (stream ++ xs) end) l0);

@@ -14,6 +14,5 @@ pub mod Directions
 pub mod Captures
 pub mod Laws
 pub mod WholeCaptures
-pub mod Unfinished
 pub mod Unlisted
 pub mod Rests

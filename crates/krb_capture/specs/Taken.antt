@@ -1,14 +1,13 @@
 -- What the frames of a direction have to do with the octets that they took.
-use Rattle.std.specs.Prelude.{ℕ, ◌≡◌, ◌⊎◌, ◌+◌, ◌^◌, ◌<◌, ◌≤◌, Bool, true, false, Option, Some, None, List, [], ◌++◌, length, take, drop}
+use Rattle.std.specs.Prelude.{ℕ, ◌≡◌, ◌⊎◌, ◌+◌, ◌^◌, ◌<◌, ◌≤◌, Bool, true, false, List, [], ◌++◌, length, take, drop}
 use Rattle.std.specs.List.{AllByRecursion}
 use Rattle.krb_der.specs.Octets.{number}
 use Rattle.krb_der.specs.declared.profile.Profile.TheVariants.{Lenient}
 use Rattle.krb_msg.specs.Grammar.{messages}
 use Rattle.krb_frame.specs.Decoding.{status_of}
-use Rattle.krb_frame.specs.GoingOn.{Entry, IsClear, Skipping, GoesOn}
+use Rattle.krb_frame.specs.GoingOn.{Entry, Skipping, GoesOn}
 use Rattle.krb_frame.specs.declared.decoder.Status.TheVariants as status
 use Rattle.krb_capture.specs.Found.{Found}
-use Rattle.krb_capture.specs.Unfinished.{IsUnfinished, Unfinished}
 use Rattle.krb_capture.specs.Streams.{Framed, after_entries, before_frames, framed, is_cut, is_unknown, passwords_framed}
 use Rattle.krb_capture.specs.declared.flow.Service.{Service}
 use Rattle.krb_capture.specs.declared.flow.Service.TheVariants as services
@@ -29,42 +28,23 @@ pub record Waits (decoder : Skipping) (stream : List ℕ) : Type 0 where
   pub waits : status_of (messages Lenient) decoder.current ≡ status.More
 
 -- whatever follows, nothing more is found
-abbrev pub IsOver : ℕ → List ℕ → Type 0
-IsOver limit stream =
-    (more : List ℕ) → ((framed services.Kerberos limit (stream ++ more)).found ≡ (framed services.Kerberos limit stream).found) × ((framed services.Kerberos limit (stream ++ more)).over ≡ true)
+abbrev pub IsOver : Service → ℕ → List ℕ → Type 0
+IsOver service limit stream =
+    (more : List ℕ) → ((framed service limit (stream ++ more)).found ≡ (framed service limit stream).found) × ((framed service limit (stream ++ more)).over ≡ true)
 
--- the octets of the frame that is not whole: those of a part, or else others
-abbrev pub kept_of : Option Unfinished → List ℕ → List ℕ
-kept_of None octets = octets
-kept_of (Some part) octets = part.octets
-
--- a part is of the next frame
-abbrev pub IsNextPart : ℕ → Skipping → Option Unfinished → Type 0
-IsNextPart limit decoder None = Unit {0}
-IsNextPart limit decoder (Some part) = IsClear decoder × IsUnfinished limit part.octets
-
--- the decoder, as if it had been fed the part
-abbrev pub fed_with : Option Unfinished → Skipping → Skipping
-fed_with part decoder = record { current = record decoder.current { octets = kept_of part decoder.current.octets }; skipped = decoder.skipped }
-
--- The decoder waits for the octets after the first ones of a stream, and those after them are the part that it was not fed.
-pub record WaitsWith (taker : MessageFrames) (limit : ℕ) (stream : List ℕ) : Type 0 where
-  pub fed : List ℕ
-  pub parts : stream ≡ fed ++ kept_of taker.part []
-  pub waits : Waits taker.placed.decoder fed
-  pub part : IsNextPart limit taker.placed.decoder taker.part
-  -- the frame that is not whole begins after those before it
-  pub offset : taker.placed.offset ≡ after_entries 0 waits.before
+-- and the frame that is not whole begins after these
+pub record WaitsWith (taker : MessageFrames) (stream : List ℕ) : Type 0 where
+  pub waits : Waits taker.decoder stream
+  pub offset : taker.offset ≡ after_entries 0 waits.before
 
 abbrev pub WaitsUnless : Bool → MessageFrames → ℕ → List ℕ → Type 0
-WaitsUnless false taker limit stream = WaitsWith taker limit stream
-WaitsUnless true taker limit stream = IsOver limit stream
+WaitsUnless false taker limit stream = WaitsWith taker stream
+WaitsUnless true taker limit stream = IsOver services.Kerberos limit stream
 
 -- they took a stream, with frames of at most n octets
 pub record TookMessages (taker : MessageFrames) (limit : ℕ) (stream : List ℕ) : Type 0 where
-  pub profile : taker.placed.decoder.current.profile ≡ Lenient
-  pub limit_is : taker.placed.decoder.current.limit ≡ limit
-  pub own_limit : taker.limit ≡ limit
+  pub profile : taker.decoder.current.profile ≡ Lenient
+  pub limit_is : taker.decoder.current.limit ≡ limit
   pub state : WaitsUnless taker.is_over taker limit stream
 
 -- ---- messages that change passwords
@@ -90,14 +70,9 @@ pub record Keeps (taker : PasswordFrames) (stream : List ℕ) : Type 0 where
   -- if octets are to be skipped, none of the frame after them came
   pub alone : (taker.skipped ≡ 0) ⊎ (taker.octets.items ≡ [])
 
--- whatever follows, nothing more is found
-abbrev pub PasswordsAreOver : ℕ → List ℕ → Type 0
-PasswordsAreOver limit stream =
-    (more : List ℕ) → ((passwords limit (stream ++ more)).found ≡ (passwords limit stream).found) × ((passwords limit (stream ++ more)).over ≡ true)
-
 abbrev pub KeepsUnless : Bool → PasswordFrames → List ℕ → Type 0
 KeepsUnless false taker stream = Keeps taker stream
-KeepsUnless true taker stream = PasswordsAreOver taker.limit stream
+KeepsUnless true taker stream = IsOver services.Passwords taker.limit stream
 
 pub record TookPasswords (taker : PasswordFrames) (limit : ℕ) (stream : List ℕ) : Type 0 where
   pub limit_is : taker.limit ≡ limit
@@ -119,10 +94,10 @@ over_in (frames.Passwords taker) = taker.is_over
 
 -- the octets of the frame that is not whole
 abbrev pub kept_in : Frames → List ℕ
-kept_in (frames.Messages taker) = kept_of taker.part taker.placed.decoder.current.octets
+kept_in (frames.Messages taker) = taker.decoder.current.octets
 kept_in (frames.Passwords taker) = taker.octets.items
 
 -- and the offset at which it begins
 abbrev pub offset_in : Frames → ℕ
-offset_in (frames.Messages taker) = taker.placed.offset
+offset_in (frames.Messages taker) = taker.offset
 offset_in (frames.Passwords taker) = taker.offset

@@ -2,11 +2,11 @@
 
 ghost use Rattle.std.specs.Prelude.{◌≡◌, ◌<◌, ◌≤◌, ℕ, false, List, [], ◌++◌, length, take, IfOk, OnOk};
 ghost use Rattle.krb_capture.specs.Found.{IsFull, Missing, with_all, with_found};
-ghost use Rattle.krb_capture.specs.Streams.{cut_refusal, end_found, found_with, framed, open_path, refusal_found};
+ghost use Rattle.krb_capture.specs.Streams.{cut_refusal, end_found, found_with, open_path, refusal_found};
 ghost use Rattle.krb_capture.specs.Taken.{Took, kept_in, offset_in, over_in, service_of};
 
 use crate::flow::Service;
-use crate::listing::{Listing, text_of};
+use crate::listing::Listing;
 use crate::message_frames::MessageFrames;
 use crate::password_frames::PasswordFrames;
 use krb_der::Memory;
@@ -77,8 +77,7 @@ impl Frames {
 
     /// Returns whether all that follows is passed over.
     fn is_over(&self) -> bool
-        ensures flag { result ≡ over_in self.now }
-        ensures over { (limit : ℕ) (stream : List ℕ) → Took self.now limit stream → result ≡ (framed (service_of self.now) limit stream).over }
+        ensures { result ≡ over_in self.now }
     {
         match self {
             Frames::Messages(frames) => frames.is_over(),
@@ -93,7 +92,7 @@ impl Frames {
         match self {
             Frames::Messages(frames) => {
                 let path = frames.path(listing.allocator(), listing.form())?;
-                listing.put_lost(origin, lost, text_of(&path))
+                listing.put_lost(origin, lost, path.as_deref())
             }
             Frames::Passwords(frames) => listing.put_lost(origin, lost, frames.path()),
         }
@@ -109,7 +108,7 @@ impl Frames {
                     return Ok(());
                 };
                 let path = frames.path(listing.allocator(), listing.form())?;
-                listing.put_refusal(origin, refusal, text_of(&path), frames.extent())
+                listing.put_refusal(origin, refusal, path.as_deref(), frames.extent())
             }
             Frames::Passwords(frames) => {
                 let Some(refusal) = frames.finish() else {

@@ -28,7 +28,6 @@ mod listing;
 mod message;
 mod message_frames;
 mod numbers;
-mod part;
 mod password;
 mod password_frames;
 mod sending;

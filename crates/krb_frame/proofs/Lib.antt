@@ -5,6 +5,8 @@ pub mod Ends
 pub mod Refusals
 pub mod GoingOn
 pub mod Skips
+pub mod Deliveries
+mod Completing
 pub mod Passing
 pub mod Calls
 pub mod Partials

@@ -1,28 +1,27 @@
 -- The stream that a decoder that skips has decoded when it is fed, and when a frame is cleared or skipped.
-use Rattle.std.proofs.Common.{◌≡◌, ℕ, zero, suc, ◌+◌, ◌-◌, ◌^◌, ◌<◌, ◌≤◌, ◌⊎◌, inl, inr, min, List, [], ◌∷◌, ◌++◌, length, map, take, drop, true, Bool, Some, None, refl, sym, ◌∙◌, ap, ap₂, subst, arith, append_assoc, append-nil, length-take, length-drop, drop_at}
+use Rattle.std.proofs.Common.{◌≡◌, ℕ, zero, suc, ◌+◌, ◌-◌, ◌^◌, ◌<◌, ◌≤◌, ◌⊎◌, inl, inr, min, List, [], ◌∷◌, ◌++◌, length, map, take, drop, true, Bool, Some, None, refl, sym, ◌∙◌, ap, ap₂, subst, arith, append_assoc, append-nil, length-take, drop_at}
 use Rattle.std.specs.Prelude.{Option, IfSome, is_some, if◌then◌else◌}
 use Rattle.std.specs.Option.{option_map}
 use Rattle.std.proofs.lemmas.Bool.{cases_lt, lt-leb, le-leb}
 use Rattle.std.proofs.lemmas.List.{drop_all, take_all}
 use Rattle.std.proofs.Math.Seq.{take-add, drop-append-add}
 use Rattle.krb_der.specs.Octets.{number}
-use Rattle.krb_der.specs.declared.profile.Profile.TheVariants.{Lenient}
 use Rattle.krb_der.specs.declared.why.Why.{Why}
 use Rattle.krb_der.specs.declared.why.Why.TheVariants as why
 use Rattle.krb_der.specs.declared.verdict.Refusal.{Refusal}
 use Rattle.krb_msg.specs.Term.{Term}
 use Rattle.krb_msg.specs.Stream.{Frames, End, Boundary, Within, Refused, ends, with_first, frames}
-use Rattle.krb_frame.specs.Decoding.{Decoding, found, status_at, status_of, borrowed, first_of, AreOfOne, IsOfOneFrame}
+use Rattle.krb_frame.specs.Decoding.{Decoding, found, status_at, status_of, borrowed, AreOfOne, IsOfOneFrame}
 use Rattle.krb_frame.specs.Decoded.{HasDecoded, frames_size}
 use Rattle.krb_frame.specs.Feeds.{Feeds, Clears}
 use Rattle.krb_frame.specs.GoingOn.{Entry, Contents, Fault, last_entry, entries, rest_of, rest_at, rest_to_come, GivesUp, Skipping, GoesOn, without, FeedsAfter, PassesEntry, ClearsEntry, Skips}
 use Rattle.krb_frame.specs.Frame.{framed}
 use Rattle.krb_frame.specs.Passes.{Passes, contents_of, passed_after, passed}
-use Rattle.krb_frame.specs.inner.Phases.{end_after}
 use Rattle.krb_frame.specs.declared.decoder.Fed.{Fed}
 use Rattle.krb_frame.specs.declared.pass.Passed.{Passed}
 use Rattle.krb_frame.specs.declared.decoder.Status.TheVariants as status
-use Rattle.krb_frame.proofs.DecoderFrames.{one-nothing, found-short}
+use Rattle.krb_frame.proofs.Announced.{ready-size, refused-four}
+use Rattle.krb_frame.proofs.DecoderFrames.{one-nothing}
 use Rattle.krb_msg.proofs.FramePrefixes.{frames-high}
 use Rattle.krb_frame.proofs.Ends.{none_found, refused_end}
 use Rattle.krb_frame.proofs.GoingOn.{begins, entries-cleared, entries-frame, entries-unknown, entries-skipped}
@@ -144,22 +143,6 @@ module _ (messages : List Term) where
       (feeds-after old new piece fed (s ∙ ap (λ k. old.skipped - k) e) (subst (λ k. Feeds messages old.current (drop k piece) new.current fed) e f))
 
   -- ---- a frame that is cleared
-  no_first_of : (k : ℕ) (contents : List ℕ) → first_of (ends (end_after k)).contents ≡ Some contents → ⊥
-  no_first_of k contents e = cc
-
-  ready-length : (limit : ℕ) (octets contents : List ℕ) (f : Frames) → frames messages limit octets ≡ f → first_of f.contents ≡ Some contents → AreOfOne octets f.contents f.end → length octets ≡ 4 + length contents
-  ready-length limit octets contents f e m one = elim (cases_lt (length octets) 4) [
-    | inl h ↦ absurd (no_first_of (length octets) contents (ap (λ x. first_of x.contents) (sym (found-short messages Lenient limit octets h) ∙ e) ∙ m))
-    | inr h ↦ by f.contents f.end h m one
-  ]
-    where
-      by : (all : List (List ℕ)) (end : End) → 4 ≤ length octets → first_of all ≡ Some contents → AreOfOne octets all end → length octets ≡ 4 + length contents
-      by [] end h m one = absurd cc
-      by (first ∷ []) Boundary h m one = let c : first ≡ contents = cc in omega (arith, h, ap length one, ap length c, length-drop 4 octets)
-      by (first ∷ []) (Within present) h m one = absurd one
-      by (first ∷ []) (Refused place reason) h m one = absurd one
-      by (first ∷ second ∷ others) end h m one = absurd one
-
   cleared-octets : (old : Decoding) (capacity : ℕ) (o : Option (List ℕ)) (contents : List ℕ) → o ≡ Some contents → (if is_some o then record old { octets = []; capacity = capacity } else old) ≡ record old { octets = []; capacity = capacity }
   cleared-octets old capacity o contents e = rw e refl
 
@@ -176,7 +159,7 @@ module _ (messages : List Term) where
         let after : HasDecoded messages new.current d.octets (contents ∷ []) = c.decoded d.octets contents [] (decoded-self d g.one) m in
         let first : (more : List ℕ) → frames messages d.limit (d.octets ++ more) ≡ with_first contents (frames messages d.limit more) =
         λ more. subst (λ n. frames messages n (d.octets ++ more) ≡ with_first contents (frames messages n more)) limit (after.goes_on more ∙ ap (λ l. with_first contents (frames messages new.current.limit (l ++ more))) none) in
-        let long : length d.octets ≡ 4 + length contents = ready-length d.limit d.octets contents (frames messages d.limit d.octets) refl m g.one in
+        let long : length d.octets ≡ 4 + length contents = ready-size messages d contents m g.one in
         record {
           goes_on = λ more.
               ap (λ n. entries messages n (stream ++ more)) limit
@@ -224,16 +207,6 @@ module _ (messages : List Term) where
   passes-entry s piece (Some one) skips frame p = passes-one s piece one skips (holds_none s.current.octets _ (contents_of one) frame) p
 
   -- ---- a frame that is skipped
-  no_refused : (k place : ℕ) (reason : Why) → ends (end_after k) ≡ ends (Refused place reason) → ⊥
-  no_refused zero place reason e = absurd (no (ap (λ f. f.end) e))
-    where
-      no : Boundary ≡ Refused place reason → ⊥
-      no e = cc
-  no_refused (suc k) place reason e = absurd (no (ap (λ f. f.end) e))
-    where
-      no : Within (suc k) ≡ Refused place reason → ⊥
-      no e = cc
-
   no_rest : (rest : ℕ) → Some rest ≡ None → ⊥
   no_rest rest e = cc
 
@@ -241,14 +214,14 @@ module _ (messages : List Term) where
   same_rest rest other e = cc
 
   -- the octets of a refused decoder, if the length of the frame is known
-  record HoldsRefused (d : Decoding) (rest place : ℕ) (reason : Why) : Type 0 where
+  pub record HoldsRefused (d : Decoding) (rest place : ℕ) (reason : Why) : Type 0 where
     pub found : frames messages d.limit d.octets ≡ ends (Refused place reason)
     pub last : length d.octets ≡ place + 1
     pub four : 4 ≤ length d.octets
     pub short : number (take 4 d.octets) < 2 ^ 31
     pub rest_is : rest ≡ 4 + number (take 4 d.octets) - length d.octets
 
-  holds-refused : (d : Decoding) (rest place : ℕ) (reason : Why) → IsOfOneFrame messages d → Some rest ≡ rest_to_come messages d → status_of messages d ≡ status.Refused (record { place = place; why = reason }) → HoldsRefused d rest place reason
+  pub holds-refused : (d : Decoding) (rest place : ℕ) (reason : Why) → IsOfOneFrame messages d → Some rest ≡ rest_to_come messages d → status_of messages d ≡ status.Refused (record { place = place; why = reason }) → HoldsRefused d rest place reason
   unfolding found
   holds-refused d rest place reason one e st =
       elim (cases_lt n (2 ^ 31)) [
@@ -268,10 +241,7 @@ module _ (messages : List Term) where
       last = subst (λ x. AreOfOne d.octets x.contents x.end) f one
 
       four : 4 ≤ length d.octets
-      four = elim (cases_lt (length d.octets) 4) [
-        | inl h ↦ absurd (no_refused (length d.octets) place reason (sym (found-short messages Lenient d.limit d.octets h) ∙ f))
-        | inr h ↦ h
-      ]
+      four = refused-four messages d (record { place = place; why = reason }) st
 
       known : Some rest ≡ rest_of n (length d.octets)
       known = e ∙ ap (λ s. rest_at s d.octets) st
@@ -366,10 +336,7 @@ entries-last messages s stream before refusal g st none = record {
         λ i. record { contents = r.0 i; end = r.1 i }
 
     four : 4 ≤ length d.octets
-    four = elim (cases_lt (length d.octets) 4) [
-      | inl h ↦ absurd (no_refused messages (length d.octets) refusal.place refusal.why (sym (found-short messages Lenient d.limit d.octets h) ∙ f))
-      | inr h ↦ h
-    ]
+    four = refused-four messages d refusal st
 
     big : 2 ^ 31 ≤ n
     big = unknown_length n (length d.octets) (sym (ap (λ t. rest_at t d.octets) st) ∙ none)

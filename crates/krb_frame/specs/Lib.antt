@@ -4,6 +4,7 @@ pub mod Feeds
 pub mod Frame
 pub mod GoingOn
 pub mod Passes
+pub mod Deliveries
 pub mod Calls
 pub mod Laws
 pub mod inner

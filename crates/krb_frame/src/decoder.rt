@@ -1,10 +1,11 @@
 //! Frames out of a stream that comes in pieces.
 
-use crate::contents::{clear_contents, take_contents};
+use crate::contents::{CONTENTS_KEPT, clear_contents, deliver_contents, take_contents};
 use crate::framed::Framed;
 use crate::length::accepted_size;
 use crate::limit::Limit;
 use crate::pass::{Passed, first_contents};
+use crate::receiver::Receiver;
 use krb_der::{Memory, Profile, Refusal, Why};
 use krb_msg::view_message_in;
 use krb_scan::Machine;
@@ -94,7 +95,8 @@ ghost use Rattle.krb_scan.specs.Machine.{ledger_of, profile_of};
 ghost use Rattle.krb_frame.specs.Decoding.{IsAmple, announced, borrowed, finish_at, finish_of, kept_contents, IsPartial, open_lengths_of, decoding_of};
 ghost use Rattle.krb_frame.specs.Decoded.{HasDecoded};
 ghost use Rattle.krb_frame.specs.Feeds.{Feeds, Clears};
-ghost use Rattle.krb_frame.specs.GoingOn.{GivesUp};
+ghost use Rattle.krb_frame.specs.GoingOn.{GivesUp, rest_to_come};
+ghost use Rattle.krb_frame.specs.inner.Deliveries.{Completes};
 ghost use Rattle.krb_frame.specs.Passes.{Passes, contents_of, passed};
 ghost use Rattle.krb_frame.specs.inner.Phases.{end_after, phase_of, IsLengthJudged, IsPut, IsScanned, FeedsLength};
 ghost use Rattle.krb_frame.specs.declared.decoder.Phase.TheVariants as phase;
@@ -276,12 +278,10 @@ impl Decoder {
         true
     }
 
-    /// Gives up the frame that is refused, so that the next one may be fed after the octets of this
-    /// one that are still to come, and returns how many these are. If nothing is refused nothing
-    /// changes; nor does it after `HighBit`, since the length of that frame is not known. The
-    /// memory is kept or freed as by [`next`](Decoder::next).
-    pub fn skip(&mut self) -> Option<u32>
-        ensures { GivesUp (messages self.old.profile) self.old self.new result }
+    /// Returns how many octets of the frame that is refused are still to come, if its length is
+    /// known, which it is not after `HighBit`.
+    pub(crate) fn rest_to_come(&self) -> Option<u32>
+        ensures { result ≡ rest_to_come (messages self.now.profile) self.now }
     {
         let Phase::Refused(_) = self.phase else {
             return None;
@@ -291,8 +291,52 @@ impl Decoder {
             return None;
         }
         let used = self.contents.len();
-        self.forget();
         Some(size - used as u32)
+    }
+
+    /// Gives up the frame that is refused, so that the next one may be fed after the octets of this
+    /// one that are still to come, and returns how many these are. If nothing is refused nothing
+    /// changes; nor does it after `HighBit`, since the length of that frame is not known. The
+    /// memory is kept or freed as by [`next`](Decoder::next).
+    pub fn skip(&mut self) -> Option<u32>
+        ensures { GivesUp (messages self.old.profile) self.old self.new result }
+    {
+        match self.rest_to_come() {
+            None => None,
+            Some(rest) => {
+                self.forget();
+                Some(rest)
+            }
+        }
+    }
+
+    /// Delivers the message of a frame of which octets of the contents were fed, if all others
+    /// begin the piece, clears it, and returns how many these are. The machine looks at none of
+    /// them. Of any other piece, and if the contents are no message, nothing is used.
+    pub(crate) fn complete<R: Receiver>(
+        &mut self,
+        piece: &[u8],
+        receiver: &mut R,
+    ) -> Result<Option<usize>, Memory>
+        ensures { IfOk result (Completes R.Receives (messages self.old.profile) self.old piece.now self.new receiver.old receiver.new) }
+    {
+        let Phase::Contents(size) = self.phase else {
+            return Ok(None);
+        };
+        if size as usize > CONTENTS_KEPT {
+            // The memory of a frame like this is freed, once all of it was fed.
+            return Ok(None);
+        }
+        let missing = size as usize - self.contents.len();
+        let Some((octets, _)) = piece.split_at_checked(missing) else {
+            return Ok(None);
+        };
+        let profile = self.machine.profile();
+        if !deliver_contents(&mut self.contents, profile, octets, receiver)? {
+            return Ok(None);
+        }
+        self.forget();
+        Ok(Some(missing))
     }
 
     /// Forgets the octets of the current frame.

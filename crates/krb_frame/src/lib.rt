@@ -8,6 +8,8 @@
 //!   in a piece without copying it.
 //! - [`SkippingDecoder::skip`] goes on with the next frame after one that is refused;
 //!   [`SkippingDecoder`] has the calls above, too.
+//! - [`SkippingDecoder::deliver`] delivers the frames of a piece to a [`Receiver`], one after
+//!   another, with or without going on after a refusal: the loop over the calls above.
 //! - [`frame`] returns a message as a frame.
 //!
 //! Nothing here reads or writes: the caller has the pieces. A decoder keeps at most the octets of
@@ -21,17 +23,21 @@
 
 mod contents;
 mod decoder;
+mod delivery;
 mod framed;
 mod framing;
 pub mod law;
 mod length;
 mod limit;
 mod pass;
+mod receiver;
 mod skipping;
 
 pub use decoder::{Decoder, Fed, Partial, Status};
+pub use delivery::Delivered;
 pub use framed::Framed;
 pub use framing::frame;
 pub use limit::Limit;
 pub use pass::Passed;
+pub use receiver::Receiver;
 pub use skipping::SkippingDecoder;

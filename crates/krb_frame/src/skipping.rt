@@ -3,7 +3,8 @@
 use crate::decoder::{Decoder, Fed};
 use crate::framed::Framed;
 use crate::pass::Passed;
-use krb_der::Refusal;
+use crate::receiver::Receiver;
+use krb_der::{Memory, Refusal};
 use std::marker::Model;
 
 /// Decodes a stream of framed messages as a [`Decoder`] does, and can skip a frame that is refused:
@@ -23,13 +24,14 @@ impl Model for SkippingDecoder {
     ghost view = { λ s. record { current = s.decoder; skipped = s.skipped } };
 }
 
-ghost use Rattle.std.specs.Prelude.{◌≡◌, ◌↔◌, ℕ, List, map, IfSome, IsTrue};
+ghost use Rattle.std.specs.Prelude.{◌≡◌, ◌↔◌, ℕ, List, map, IfOk, IfSome, IsTrue};
 ghost use Rattle.std.specs.Option.{option_map};
 ghost use Rattle.krb_msg.specs.Grammar.{messages};
 ghost use Rattle.krb_frame.specs.Decoded.{HasDecoded};
 ghost use Rattle.krb_frame.specs.Decoding.{borrowed, finish_of};
 ghost use Rattle.krb_frame.specs.GoingOn.{Contents, GoesOn, FeedsAfter, IsClear, PassesEntry, ClearsEntry, Skips, passed_by};
 ghost use Rattle.krb_frame.specs.Passes.{contents_of};
+ghost use Rattle.krb_frame.specs.inner.Deliveries.{CompletesEntry};
 
 impl SkippingDecoder {
     /// Goes on with the stream that a decoder has decoded.
@@ -77,6 +79,21 @@ impl SkippingDecoder {
             return None;
         }
         self.decoder.pass(piece)
+    }
+
+    /// Delivers the frame that ends with the first octets of a piece, as [`Decoder::complete`] does.
+    /// Nothing is used while octets of a skipped frame are to come.
+    pub(crate) fn complete<R: Receiver>(
+        &mut self,
+        piece: &[u8],
+        receiver: &mut R,
+    ) -> Result<Option<usize>, Memory>
+        ensures { IfOk result (CompletesEntry R.Receives self.old piece.now self.new receiver.old receiver.new) }
+    {
+        if self.skipped != 0 {
+            return Ok(None);
+        }
+        self.decoder.complete(piece, receiver)
     }
 
     /// Returns the frame that is ready, borrowed.

@@ -1,8 +1,7 @@
-use Rattle.std.proofs.Common.{sym, ◌∙◌, ap, drop}
-use Rattle.krb_frame.specs.Decoding.{Decoding}
+use Rattle.std.proofs.Common.{sym, ap}
 use Rattle.krb_text.specs.Refusals.{path_in}
 use Rattle.krb_capture.proofs.Found.{no_path}
 use Rattle.krb_capture.proofs.message_frames.path_in_frame.Goals as goal
 
 pub returns-in-None : goal.returns-in-None
-returns-in-None c = ap (path_in c.args.form) (sym (no_path c.args.decoder.now.current.octets (ap (λ (d : Decoding). drop 4 d.octets) (sym c.decoder.ensures) ∙ c.in-None.ensures)))
+returns-in-None c = ap (path_in c.args.form) (sym (no_path c.args.decoder.now.octets c.in-None.ensures))

@@ -1,7 +1,17 @@
-use Rattle.std.proofs.Common.{◌++◌, [], length, sym, ◌∙◌, ap}
-use Rattle.krb_capture.specs.Taken.{kept_of}
-use Rattle.krb_capture.proofs.Taken.{takes-none, takes-piece}
+use Rattle.std.proofs.Common.{rules, ◌≡◌, true, length, refl, ◌∙◌, ap, subst, le_refl}
+use Rattle.std.proofs.lemmas.List.{take_all}
+use Rattle.krb_frame.specs.Decoding.{Decoding}
+use Rattle.krb_frame.specs.Deliveries.{DeliversPiece}
+use Rattle.krb_frame.specs.GoingOn.{Fault}
+use Rattle.krb_capture.specs.Found.{with_found}
+use Rattle.krb_capture.specs.Listed.{ListsEntry}
+use Rattle.krb_capture.specs.Streams.{entry_found}
+use Rattle.krb_capture.specs.declared.message_frames.MessageFrames.{MessageFrames}
+use Rattle.krb_capture.proofs.Taken.{takes-none, takes-stopped, takes-up-to}
 use Rattle.krb_capture.proofs.message_frames.MessageFrames.take.Goals as goal
+
+then_is : {A : Type 0} (x y z : A) → y ≡ z → x ≡ y → x ≡ z
+then_is x y z e f = f ∙ e
 
 pub returns-then-self-clause-took : goal.returns-then-self-clause-took
 returns-then-self-clause-took c = (takes-none c.args.self.now _ c.args.origin.now c.args.listing.now c.if-self.true).took
@@ -9,34 +19,36 @@ returns-then-self-clause-took c = (takes-none c.args.self.now _ c.args.origin.no
 pub returns-then-self-clause-listed : goal.returns-then-self-clause-listed
 returns-then-self-clause-listed c = (takes-none c.args.self.now _ c.args.origin.now c.args.listing.now c.if-self.true).listed
 
-pub returns-in_ok-rest-in-None-clause-took : goal.returns-in_ok-rest-in-None-clause-took
-returns-in_ok-rest-in-None-clause-took c =
-    (takes-piece c.args.self.now c.list.new.self c.args.octets.now c.args.octets.now c.in_ok-rest-in-None.rest.now 0 c.args.origin.now c.args.listing.now c.list.new.listing c.if-self.false
-    (ap (λ p. kept_of p [] ++ c.args.octets.now) (sym (sym c.take.ensures.value ∙ c.in-None.is)))
-    (ap (λ p. length (kept_of p [])) (sym c.take.ensures.value ∙ c.in-None.is))
-    c.in_ok-rest-in-None.ensures.few
-    (record { used = c.in_ok-rest-in-None.ensures.listed.used; parts = c.in_ok-rest-in-None.ensures.listed.parts; limit = c.in_ok-rest-in-None.ensures.listed.limit; lists = c.in_ok-rest-in-None.ensures.listed.lists })).took
+pub returns-in-UpTo-clause-took : goal.returns-in-UpTo-clause-took
+returns-in-UpTo-clause-took c =
+    let new : MessageFrames = record { decoder = c.take.new.decoder; offset = c.take.new.self.offset; is_over = c.args.self.now.is_over } in
+    (takes-up-to _ c.args.self.now new c.args.octets.now c.in-UpTo.rest.now _ c.take.new.self c.if-self.false c.if-self.false refl refl
+    (subst (DeliversPiece ListsEntry _ true c.args.self.now.decoder c.args.octets.now c.take.new.decoder _ c.take.new.self) c.in-UpTo.is c.in_ok-delivered.ensures.delivered)).took
 
-pub returns-in_ok-rest-in-None-clause-listed : goal.returns-in_ok-rest-in-None-clause-listed
-returns-in_ok-rest-in-None-clause-listed c =
-    (takes-piece c.args.self.now c.list.new.self c.args.octets.now c.args.octets.now c.in_ok-rest-in-None.rest.now 0 c.args.origin.now c.args.listing.now c.list.new.listing c.if-self.false
-    (ap (λ p. kept_of p [] ++ c.args.octets.now) (sym (sym c.take.ensures.value ∙ c.in-None.is)))
-    (ap (λ p. length (kept_of p [])) (sym c.take.ensures.value ∙ c.in-None.is))
-    c.in_ok-rest-in-None.ensures.few
-    (record { used = c.in_ok-rest-in-None.ensures.listed.used; parts = c.in_ok-rest-in-None.ensures.listed.parts; limit = c.in_ok-rest-in-None.ensures.listed.limit; lists = c.in_ok-rest-in-None.ensures.listed.lists })).listed
+pub returns-in-UpTo-clause-listed : goal.returns-in-UpTo-clause-listed
+returns-in-UpTo-clause-listed c = λ limit stream t.
+    let new : MessageFrames = record { decoder = c.take.new.decoder; offset = c.take.new.self.offset; is_over = c.args.self.now.is_over } in
+    let listed =
+    (takes-up-to _ c.args.self.now new c.args.octets.now c.in-UpTo.rest.now _ c.take.new.self c.if-self.false c.if-self.false refl refl
+    (subst (DeliversPiece ListsEntry _ true c.args.self.now.decoder c.args.octets.now c.take.new.decoder _ c.take.new.self) c.in-UpTo.is c.in_ok-delivered.ensures.delivered)).listed limit stream t in
+    then_is _ c.take.new.self.listing.now _ listed (search rules)
 
-pub returns-in_ok-rest-in-Some-clause-took : goal.returns-in_ok-rest-in-Some-clause-took
-returns-in_ok-rest-in-Some-clause-took c =
-    (takes-piece c.args.self.now c.list-in-Some.new.self c.as_slice.result.now c.args.octets.now c.in_ok-rest-in-Some.rest.now c.len-kept.result c.args.origin.now c.args.listing.now c.list-in-Some.new.listing c.if-self.false
-    (c.as_slice.ensures.value ∙ c.in_ok-piece-in-Some.ensures ∙ ap (λ p. kept_of p [] ++ c.args.octets.now) (sym (sym c.take.ensures.value ∙ c.in-Some.is)))
-    (ap (λ p. length (kept_of p [])) (sym c.take.ensures.value ∙ c.in-Some.is) ∙ sym c.len-kept.ensures.value)
-    c.in_ok-rest-in-Some.ensures.few
-    (record { used = c.in_ok-rest-in-Some.ensures.listed.used; parts = c.in_ok-rest-in-Some.ensures.listed.parts; limit = c.in_ok-rest-in-Some.ensures.listed.limit; lists = c.in_ok-rest-in-Some.ensures.listed.lists })).took
+pub returns-in_ok-put_refusal-in-Stopped-clause-took : goal.returns-in_ok-put_refusal-in-Stopped-clause-took
+returns-in_ok-put_refusal-in-Stopped-clause-took c =
+    let new : MessageFrames = record { decoder = c.take.new.decoder; offset = c.take.new.self.offset; is_over = true } in
+    let refusal = c.in-Stopped.refusal in
+    rw (take_all (length c.args.octets.now) c.args.octets.now (le_refl (length c.args.octets.now)))
+    (takes-stopped c.args.self.now new c.args.octets.now refusal _ c.take.new.self c.put_refusal.new.self.listing.now c.if-self.false refl refl
+    (subst (DeliversPiece ListsEntry _ true c.args.self.now.decoder c.args.octets.now c.take.new.decoder _ c.take.new.self) c.in-Stopped.is c.in_ok-delivered.ensures.delivered)
+    (c.in_ok-put_refusal-in-Stopped.ensures.listed ∙ ap (λ (d : Decoding). with_found c.take.new.self.origin.now (entry_found c.take.new.self.offset (Fault refusal.place refusal.why d.octets)) c.take.new.self.listing.now) c.decoder.ensures)).took
 
-pub returns-in_ok-rest-in-Some-clause-listed : goal.returns-in_ok-rest-in-Some-clause-listed
-returns-in_ok-rest-in-Some-clause-listed c =
-    (takes-piece c.args.self.now c.list-in-Some.new.self c.as_slice.result.now c.args.octets.now c.in_ok-rest-in-Some.rest.now c.len-kept.result c.args.origin.now c.args.listing.now c.list-in-Some.new.listing c.if-self.false
-    (c.as_slice.ensures.value ∙ c.in_ok-piece-in-Some.ensures ∙ ap (λ p. kept_of p [] ++ c.args.octets.now) (sym (sym c.take.ensures.value ∙ c.in-Some.is)))
-    (ap (λ p. length (kept_of p [])) (sym c.take.ensures.value ∙ c.in-Some.is) ∙ sym c.len-kept.ensures.value)
-    c.in_ok-rest-in-Some.ensures.few
-    (record { used = c.in_ok-rest-in-Some.ensures.listed.used; parts = c.in_ok-rest-in-Some.ensures.listed.parts; limit = c.in_ok-rest-in-Some.ensures.listed.limit; lists = c.in_ok-rest-in-Some.ensures.listed.lists })).listed
+pub returns-in_ok-put_refusal-in-Stopped-clause-listed : goal.returns-in_ok-put_refusal-in-Stopped-clause-listed
+returns-in_ok-put_refusal-in-Stopped-clause-listed c = λ limit stream t.
+    let new : MessageFrames = record { decoder = c.take.new.decoder; offset = c.take.new.self.offset; is_over = true } in
+    let refusal = c.in-Stopped.refusal in
+    let listed =
+    (takes-stopped c.args.self.now new c.args.octets.now refusal _ c.take.new.self c.put_refusal.new.self.listing.now c.if-self.false refl refl
+    (subst (DeliversPiece ListsEntry _ true c.args.self.now.decoder c.args.octets.now c.take.new.decoder _ c.take.new.self) c.in-Stopped.is c.in_ok-delivered.ensures.delivered)
+    (c.in_ok-put_refusal-in-Stopped.ensures.listed ∙ ap (λ (d : Decoding). with_found c.take.new.self.origin.now (entry_found c.take.new.self.offset (Fault refusal.place refusal.why d.octets)) c.take.new.self.listing.now) c.decoder.ensures)).listed limit stream t in
+    rw (take_all (length c.args.octets.now) c.args.octets.now (le_refl (length c.args.octets.now)))
+    (then_is _ c.put_refusal.new.self.listing.now _ listed (search rules))
