@@ -10,10 +10,10 @@ use Rattle.krb_msg.specs.ViewValues.{message_of_view}
 use Rattle.krb_msg.specs.Views.{message_der}
 use Rattle.krb_frame.specs.Decoding.{Decoding, borrowed, found, status_of}
 use Rattle.krb_frame.specs.Decoded.{HasDecoded}
-use Rattle.krb_frame.specs.Deliveries.{Received, IsMessage, contents_in, IsFollowed, status_in, due, Delivers, DeliversBefore, DeliversPrefix, DeliversUpTo}
+use Rattle.krb_frame.specs.Deliveries.{Received, IsMessage, contents_in, IsFollowed, status_in, due, AreUsed, Delivers, DeliversBefore, DeliversPrefix, DeliversUpTo}
 use Rattle.krb_frame.specs.Feeds.{Clears}
 use Rattle.krb_frame.specs.Frame.{framed}
-use Rattle.krb_frame.specs.GoingOn.{Entry, Contents, Fault, Skipping, GoesOn, FeedsAfter, PassesEntry, ClearsEntry, GivesUp, Skips, passed_by, rest_to_come, unless_skipping}
+use Rattle.krb_frame.specs.GoingOn.{Entry, Contents, Fault, Skipping, GoesOn, FeedsAfter, PassesEntry, ClearsEntry, GivesUp, Skips, entries_size, passed_by, rest_to_come, unless_skipping}
 use Rattle.krb_frame.specs.Passes.{contents_of, passed_after}
 use Rattle.krb_frame.specs.inner.Deliveries.{Completes, CompletesEntry, CompletesWith, DeliversFrame, DeliversNext, DeliversOne}
 use Rattle.krb_frame.specs.declared.delivery.Next.{Next}
@@ -22,6 +22,7 @@ use Rattle.krb_frame.specs.declared.decoder.Fed.{Fed}
 use Rattle.krb_frame.specs.declared.decoder.Status.{Status}
 use Rattle.krb_frame.specs.declared.decoder.Status.TheVariants as status
 use Rattle.krb_frame.specs.declared.pass.Passed.{Passed}
+use Rattle.krb_frame.proofs.Announced.{ready-size}
 use Rattle.krb_frame.proofs.DecoderFrames.{more-nothing, same-status}
 use Rattle.krb_frame.proofs.Skips.{HoldsRefused, holds-refused, feeds-after_count, clears-entry}
 
@@ -99,6 +100,10 @@ contents_in-append [] ys = refl
 contents_in-append (Contents contents ∷ xs) ys = ap (λ l. contents ∷ l) (contents_in-append xs ys)
 contents_in-append (Fault place reason prefix ∷ xs) ys = contents_in-append xs ys
 
+entries_size-append : (xs ys : List Entry) → entries_size (xs ++ ys) ≡ entries_size xs + entries_size ys
+entries_size-append [] ys = omega arith
+entries_size-append (x ∷ xs) ys = omega (arith, entries_size-append xs ys)
+
 abbrev nothing : Profile → ℕ → ℕ → ℕ → ℕ → Skipping
 nothing profile limit looks capacity skipped = record { current = record { profile = profile; limit = limit; octets = []; looks = looks; capacity = capacity }; skipped = skipped }
 
@@ -125,6 +130,7 @@ module _ {R : Type 0} (receives : R → Entry → R → Type 0) where
         same_limit = refl;
         few = omega (arith, same);
         followed = λ stream first g. tt;
+        used = λ stream first g. record { size = omega arith; short = λ h. h };
         goes_on = λ stream first g. subst (λ l. GoesOn (messages s.current.profile) new l (first ++ [])) (sym (append-nil stream)) (subst (GoesOn (messages s.current.profile) new stream) (sym (append-nil first)) (record { goes_on = g.goes_on; one = g.one; alone = g.alone }));
         decoded = λ m z stream cleared h. (z, subst (λ l. HasDecoded (messages s.current.profile) new.current l (cleared ++ [])) (sym (append-nil stream)) (subst (HasDecoded (messages s.current.profile) new.current stream) (sym (append-nil cleared)) (record { goes_on = h.goes_on; last = h.last; counted = h.counted; one = h.one })));
       }
@@ -144,6 +150,10 @@ module _ {R : Type 0} (receives : R → Entry → R → Type 0) where
     same_limit = f.others.same_limit;
     few = omega (arith, fed_due old new piece fed f);
     followed = λ stream first g. tt;
+    used = λ stream first g. record {
+      size = omega (arith, f.skipped, f.first, f.others.within, fed_within old new piece fed f, ap length f.others.octets, length-append old.current.octets (take (fed.used - min old.skipped (length piece)) (drop old.skipped piece)), length-take (fed.used - min old.skipped (length piece)) (drop old.skipped piece), length-take fed.used piece, length-drop old.skipped piece);
+      short = λ h. omega (arith, f.skipped, h);
+    };
     goes_on = λ stream first g. subst (GoesOn (messages old.current.profile) new (stream ++ take fed.used piece)) (sym (append-nil first)) (f.goes_on stream first g);
     decoded = λ m z stream cleared h.
         let n : fed.used - min 0 (length piece) ≡ fed.used = omega arith in
@@ -161,6 +171,10 @@ module _ {R : Type 0} (receives : R → Entry → R → Type 0) where
     same_limit = m.same_limit ∙ l.same_limit;
     few = omega (arith, l.few, m.few, length-append l.frames m.frames, length-append xs ys);
     followed = λ stream first g. all_both IsFollowed l.frames m.frames (l.followed stream first g) (m.followed (stream ++ xs) (first ++ l.frames) (subst (λ p. GoesOn (messages p) b (stream ++ xs) (first ++ l.frames)) (sym l.same_profile) (l.goes_on stream first g)));
+    used = λ stream first g.
+        let before : AreUsed a xs l.frames b = l.used stream first g in
+        let after : AreUsed b ys m.frames c = m.used (stream ++ xs) (first ++ l.frames) (subst (λ p. GoesOn (messages p) b (stream ++ xs) (first ++ l.frames)) (sym l.same_profile) (l.goes_on stream first g)) in
+        record { size = omega (arith, before.size, after.size, entries_size-append l.frames m.frames, length-append xs ys); short = λ h. after.short (before.short h) };
     goes_on = λ stream first g.
         subst (λ s. GoesOn (messages a.current.profile) c s (first ++ (l.frames ++ m.frames))) (append_assoc stream xs ys)
         (subst (GoesOn (messages a.current.profile) c ((stream ++ xs) ++ ys)) (append_assoc first l.frames m.frames)
@@ -188,6 +202,7 @@ module _ {R : Type 0} (receives : R → Entry → R → Type 0) where
     same_limit = refl;
     few = omega arith;
     followed = λ stream first g. (tt, tt);
+    used = λ stream first g. record { size = omega arith; short = λ h. h };
     goes_on = p.goes_on;
     decoded = λ m z stream cleared h. (z, p.passes.decoded stream cleared h);
   }
@@ -225,6 +240,10 @@ module _ {R : Type 0} (receives : R → Entry → R → Type 0) where
           same_limit = ap (λ d. d.limit) left;
           few = omega (arith, ap due waits, ap due st);
           followed = λ stream first g. (tt, tt);
+          used = λ stream first g. record {
+            size = omega (arith, ap (λ d. length d.octets) left, c.skipped, ready-size (messages old.current.profile) old.current contents b g.one);
+            short = λ h. omega (arith, c.skipped, h);
+          };
           goes_on = λ stream first g. subst (λ s. GoesOn (messages old.current.profile) new s (first ++ Contents contents ∷ [])) (sym (append-nil stream)) (c.goes_on stream contents first g b);
           decoded = λ m z stream cleared h. (c.skipped ∙ z, subst (λ s. HasDecoded (messages old.current.profile) new.current s (cleared ++ contents ∷ [])) (sym (append-nil stream)) (c.clears.decoded stream contents cleared h b));
         };
@@ -240,6 +259,11 @@ module _ {R : Type 0} (receives : R → Entry → R → Type 0) where
   goes : true ≡ false → ⊥
   goes e = cc
 
+  -- nothing is to be skipped before octets of a frame
+  none_skipped : (skipped : ℕ) (octets : List ℕ) → 4 ≤ length octets → (skipped ≡ 0) ⊎ (octets ≡ []) → skipped ≡ 0
+  none_skipped skipped octets four (inl e) = e
+  none_skipped skipped octets four (inr e) = absurd (omega (arith, four, ap length e))
+
   pub delivers-refused : (old new : Skipping) (refusal : Refusal) (before after : R) → status_in old ≡ status.Refused refusal → Skips (messages old.current.profile) old new true → receives before (Fault refusal.place refusal.why old.current.octets) after → DeliversOne receives true old [] new before after
   delivers-refused old new refusal before after st s r =
       let d : Decoding = old.current in
@@ -254,6 +278,13 @@ module _ {R : Type 0} (receives : R → Entry → R → Type 0) where
           same_limit = ap (λ d. d.limit) left;
           few = omega (arith, ap due waits, ap due st);
           followed = λ stream first g. let held : HoldsRefused (messages d.profile) d o.0 refusal.place refusal.why = holds-refused (messages d.profile) d o.0 refusal.place refusal.why g.one (sym o.1) st in ((held.last, held.short), tt);
+          used = λ stream first g.
+              let held : HoldsRefused (messages d.profile) d o.0 refusal.place refusal.why = holds-refused (messages d.profile) d o.0 refusal.place refusal.why g.one (sym o.1) st in
+              let none : old.skipped ≡ 0 = none_skipped old.skipped d.octets held.four g.alone in
+              record {
+                size = omega (arith, ap (λ d. length d.octets) left, none, s.rest o.0 o.1, held.rest_is);
+                short = λ h. omega (arith, s.rest o.0 o.1, held.rest_is, held.short);
+              };
           goes_on = λ stream first g. subst (λ t. GoesOn (messages d.profile) new t (first ++ Fault refusal.place refusal.why d.octets ∷ [])) (sym (append-nil stream)) (s.goes_on stream first refusal.place refusal.why g st refl);
           decoded = λ m z stream cleared h. absurd m.0;
         };
@@ -280,6 +311,7 @@ module _ {R : Type 0} (receives : R → Entry → R → Type 0) where
       same_limit = o.delivers.same_limit;
       few = o.delivers.few;
       followed = o.delivers.followed;
+      used = λ stream first g. let u : AreUsed old octets o.delivers.frames (nothing profile limit looks capacity skipped) = o.delivers.used stream first g in record { size = u.size; short = u.short };
       goes_on = λ stream first g. let h = o.delivers.goes_on stream first g in record { goes_on = h.goes_on; one = h.one; alone = h.alone };
       decoded = λ m z stream cleared h. let e = o.delivers.decoded m z stream cleared h in (e.0, record { goes_on = e.1.goes_on; last = e.1.last; counted = e.1.counted; one = e.1.one });
     };

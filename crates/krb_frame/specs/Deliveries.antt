@@ -6,7 +6,7 @@ use Rattle.krb_der.specs.declared.verdict.Refusal.{Refusal}
 use Rattle.krb_msg.specs.Grammar.{messages}
 use Rattle.krb_frame.specs.Decoding.{status_of}
 use Rattle.krb_frame.specs.Decoded.{HasDecoded}
-use Rattle.krb_frame.specs.GoingOn.{Entry, Contents, Fault, Skipping, GoesOn, rest_to_come}
+use Rattle.krb_frame.specs.GoingOn.{Entry, Contents, Fault, Skipping, GoesOn, entries_size, rest_to_come}
 use Rattle.krb_frame.specs.declared.decoder.Status.{Status}
 use Rattle.krb_frame.specs.declared.decoder.Status.TheVariants as status
 use Rattle.krb_frame.specs.declared.delivery.Delivered.{Delivered}
@@ -45,6 +45,11 @@ due status.Ready = 1
 due status.Memory = 1
 due (status.Refused refusal) = 1
 
+-- The octets of frames were used, but for those of the last one that are to be skipped.
+pub record AreUsed (old : Skipping) (octets : List ℕ) (frames : List Entry) (new : Skipping) : Type 0 where
+  pub size : entries_size frames + length new.current.octets + old.skipped ≤ length octets + length old.current.octets + new.skipped
+  pub short : old.skipped < 2 ^ 32 → new.skipped < 2 ^ 32
+
 -- Octets were used; the frames that are whole with them or refused were received, and cleared or skipped.
 pub record Delivers {R : Type 0} (receives : R → Entry → R → Type 0) (old : Skipping) (octets : List ℕ) (new : Skipping) (before after : R) : Type 0 where
   pub frames : List Entry
@@ -54,6 +59,7 @@ pub record Delivers {R : Type 0} (receives : R → Entry → R → Type 0) (old 
   -- each frame has an octet at least
   pub few : length frames + due (status_in new) ≤ length octets + due (status_in old)
   pub followed : (stream : List ℕ) (first : List Entry) → GoesOn (messages old.current.profile) old stream first → AllByRecursion IsFollowed frames
+  pub used : (stream : List ℕ) (first : List Entry) → GoesOn (messages old.current.profile) old stream first → AreUsed old octets frames new
   pub goes_on : (stream : List ℕ) (first : List Entry) → GoesOn (messages old.current.profile) old stream first → GoesOn (messages old.current.profile) new (stream ++ octets) (first ++ frames)
   -- as long as nothing is skipped
   pub decoded : AllByRecursion IsMessage frames → old.skipped ≡ 0 → (stream : List ℕ) (cleared : List (List ℕ)) → HasDecoded (messages old.current.profile) old.current stream cleared → (new.skipped ≡ 0) × HasDecoded (messages old.current.profile) new.current (stream ++ octets) (cleared ++ contents_in frames)

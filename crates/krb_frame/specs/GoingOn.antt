@@ -1,6 +1,5 @@
 -- The frames of a stream that is decoded further after a refusal, and the decoder that does this. The length of a frame says where the next one begins (RFC 4120, 7.2.2), even if its contents are refused.
 use Rattle.std.specs.Prelude.{ℕ, zero, suc, ◌+◌, ◌-◌, ◌^◌, ◌≡◌, ◌≤◌, ◌⊎◌, nat_le, min, if◌then◌else◌, Bool, true, List, [], ◌∷◌, ◌++◌, length, map, take, drop, Option, Some, None, is_some}
-use Rattle.std.specs.List.{sum_by}
 use Rattle.krb_der.specs.Octets.{number}
 use Rattle.krb_der.specs.declared.why.Why.{Why}
 use Rattle.krb_der.specs.declared.why.Why.TheVariants as why
@@ -28,7 +27,8 @@ entry_size (Contents contents) = 4 + length contents
 entry_size (Fault place reason prefix) = 4 + number (take 4 prefix)
 
 abbrev pub entries_size : List Entry → ℕ
-entries_size found = sum_by entry_size found
+entries_size [] = 0
+entries_size (entry ∷ others) = entry_size entry + entries_size others
 
 -- the frame at the end, if it is refused or cut, with which these octets begin
 abbrev pub last_entry : End → List ℕ → List Entry

@@ -1,22 +1,24 @@
 -- Frames whose lengths are known.
-use Rattle.std.proofs.Common.{◌≡◌, ℕ, zero, suc, ◌+◌, ◌^◌, ◌<◌, ◌≤◌, inl, inr, Bool, true, false, List, [], ◌∷◌, ◌++◌, length, take, drop, Some, None, refl, sym, ◌∙◌, ap, arith}
+use Rattle.std.proofs.Common.{◌≡◌, ℕ, ◌+◌, ◌^◌, ◌<◌, ◌≤◌, Bool, true, false, List, [], ◌∷◌, ◌++◌, length, take, drop, refl, sym, ◌∙◌, ap, subst, arith, append-nil, append_assoc}
 use Rattle.std.specs.Prelude.{nat_lt, ◌==◌, if◌then◌else◌}
-use Rattle.std.proofs.lemmas.Bool.{cases_lt, lt-leb, le-leb}
+use Rattle.std.specs.List.{AllByRecursion}
+use Rattle.std.proofs.lemmas.Bool.{lt-leb}
 use Rattle.krb_der.specs.Octets.{number}
-use Rattle.krb_der.specs.declared.profile.Profile.TheVariants.{Lenient}
 use Rattle.krb_der.specs.declared.why.Why.TheVariants.{HighBit, TooLong, Empty}
 use Rattle.krb_der.specs.declared.verdict.Refusal.{Refusal}
+use Rattle.krb_msg.specs.Grammar.{messages}
 use Rattle.krb_msg.specs.Judgement.{Outcome, Open, Bad, Done, message_outcome}
-use Rattle.krb_msg.specs.Stream.{Frames, Boundary, Within, Refused, ends, frame_and, frame_of, frames}
+use Rattle.krb_msg.specs.Stream.{Frames, Within, Refused, ends, frame_and, frame_of, frames}
 use Rattle.krb_msg.specs.Term.{Term}
 use Rattle.krb_msg.proofs.FramePrefixes.{frames-length}
 use Rattle.krb_frame.specs.Decoding.{Decoding, found, status_of}
-use Rattle.krb_frame.specs.GoingOn.{Entry, Contents, Fault, rest_of, rest_at, rest_to_come}
-use Rattle.krb_frame.specs.inner.Phases.{end_after}
+use Rattle.krb_frame.specs.Deliveries.{IsFollowed}
+use Rattle.krb_frame.specs.GoingOn.{Entry, Contents, Fault}
 use Rattle.krb_frame.specs.declared.decoder.Status.TheVariants as status
+use Rattle.krb_frame.proofs.Announced.{refused-four}
 use Rattle.krb_frame.proofs.Ends.{refused_end}
-use Rattle.krb_frame.proofs.DecoderFrames.{found-short}
 use Rattle.krb_tool.specs.GoingOn.{EndsUnknown}
+use Rattle.krb_tool.specs.inner.Listers.{IsDecoded}
 
 same_last : {A : Type 0} (xs ys : List A) (x y : A) → xs ++ x ∷ [] ≡ ys ++ y ∷ [] → x ≡ y
 same_last [] [] x y e = cc
@@ -37,7 +39,7 @@ none_unknown u = no u.before u.length_octets u.parts
 pub known_last : (before : List Entry) (x : Entry) → ((prefix : List ℕ) → x ≡ Fault 3 HighBit prefix → ⊥) → EndsUnknown (before ++ x ∷ []) → ⊥
 known_last before x differs u = differs u.length_octets (same_last before u.before x (Fault 3 HighBit u.length_octets) u.parts)
 
-pub whole_known : (contents prefix : List ℕ) → Contents contents ≡ Fault 3 HighBit prefix → ⊥
+whole_known : (contents prefix : List ℕ) → Contents contents ≡ Fault 3 HighBit prefix → ⊥
 whole_known contents prefix e = cc
 
 -- contents are refused after the octets of the length
@@ -72,24 +74,11 @@ not_high grammar limit octets four short e =
     length_known (nat_lt limit n) (n == 0) (frame_of grammar n (drop 4 octets) (frames grammar limit)) (contents_known (message_outcome grammar n (take n (drop 4 octets))) (take n (drop 4 octets)) (frames grammar limit (drop n (drop 4 octets))))
     (sym (rw (lt-leb (2 ^ 31) n short) refl) ∙ (sym (frames-length grammar limit octets four) ∙ e))
 
-not_cut : (size : ℕ) → ends (end_after size) ≡ ends (Refused 3 HighBit) → ⊥
-not_cut zero e = differs (ap (λ f. f.end) e)
-  where
-    differs : Boundary ≡ Refused 3 HighBit → ⊥
-    differs e = cc
-not_cut (suc size) e = differs (ap (λ f. f.end) e)
-  where
-    differs : Within (suc size) ≡ Refused 3 HighBit → ⊥
-    differs e = cc
-
--- a refused frame of which a known number of octets is to come
-pub refused_known : (grammar : List Term) (d : Decoding) (refusal : Refusal) (count : ℕ) → status_of grammar d ≡ status.Refused refusal → rest_to_come grammar d ≡ Some count → (prefix : List ℕ) → Fault refusal.place refusal.why d.octets ≡ Fault 3 HighBit prefix → ⊥
+-- a refused frame whose length has no high bit
+refused_known : (grammar : List Term) (d : Decoding) (refusal : Refusal) → status_of grammar d ≡ status.Refused refusal → number (take 4 d.octets) < 2 ^ 31 → (prefix : List ℕ) → Fault refusal.place refusal.why d.octets ≡ Fault 3 HighBit prefix → ⊥
 unfolding found
-refused_known grammar d refusal count st rest prefix e = not_high grammar d.limit d.octets four short high
+refused_known grammar d refusal st short prefix e = not_high grammar d.limit d.octets (refused-four grammar d refusal st) short high
   where
-    n : ℕ
-    n = number (take 4 d.octets)
-
     r : (place : ℕ) × (refusal.place ≡ 3) × (refusal.why ≡ HighBit)
     r = (3, cc, cc)
 
@@ -101,20 +90,15 @@ refused_known grammar d refusal count st rest prefix e = not_high grammar d.limi
     high : frames grammar d.limit d.octets ≡ ends (Refused 3 HighBit)
     high = f ∙ (λ i. ends (Refused (r.1 i) (r.2 i)))
 
-    four : 4 ≤ length d.octets
-    four = elim (cases_lt (length d.octets) 4) [
-      | inl h ↦ absurd (not_cut (length d.octets) (sym (found-short grammar Lenient d.limit d.octets h) ∙ high))
-      | inr h ↦ h
-    ]
+-- ---- frames that are decoded, and may be followed by others
+one_known : (x : Entry) → IsDecoded x → IsFollowed x → (prefix : List ℕ) → x ≡ Fault 3 HighBit prefix → ⊥
+one_known (Contents contents) d f prefix e = whole_known contents prefix e
+one_known (Fault place reason octets) (d, refused, same) f prefix e =
+    refused_known (messages d.profile) d (record { place = place; why = reason }) refused (subst (λ o. number (take 4 o) < 2 ^ 31) (sym same) f.1) prefix
+    (ap (Fault place reason) same ∙ e)
 
-    no_none : None ≡ Some count → ⊥
-    no_none e = cc
-
-    known : rest_of n (length d.octets) ≡ Some count
-    known = sym (ap (λ s. rest_at s d.octets) st) ∙ rest
-
-    short : n < 2 ^ 31
-    short = elim (cases_lt n (2 ^ 31)) [
-      | inl h ↦ h
-      | inr h ↦ absurd (no_none (sym (rw (le-leb (2 ^ 31) n h) refl) ∙ known))
-    ]
+-- the last of them has a known length
+pub known_more : (before xs : List Entry) → (EndsUnknown before → ⊥) → AllByRecursion IsDecoded xs → AllByRecursion IsFollowed xs → EndsUnknown (before ++ xs) → ⊥
+known_more before [] known d f u = known (subst EndsUnknown (append-nil before) u)
+known_more before (x ∷ xs) known d f u =
+    known_more (before ++ x ∷ []) xs (known_last before x (one_known x d.0 f.0)) d.1 f.1 (subst EndsUnknown (sym (append_assoc before (x ∷ []) xs)) u)

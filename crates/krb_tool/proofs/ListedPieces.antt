@@ -24,8 +24,9 @@ use Rattle.krb_tool.specs.Listing.{run_end, AllIsRead, IsListing, IsNotRefused, 
 use Rattle.krb_tool.specs.GoingOn.{Listed, Faulty, entry_of, messages_in, octets_in, refused_in, lines_after, IsCountedListing, counted_run_end, EndsUnknown, ListsStream, FailsStream}
 use Rattle.krb_tool.specs.inner.Streams.{Taken, with_piece, Begins, IsLast, MayFinish, EndsListing, FailsBy, ListsBy}
 use Rattle.krb_tool.specs.inner.Pieces.{TakesPiece, WaitsAfter, IsLastOf, listing_of}
-use Rattle.krb_tool.specs.inner.Listers.{HasListed, last_listed, last_of, closing, PutsClosing, PutsRefused, AddsEnd, AsksAfter, IsDone, rules_of, frames_kind}
+use Rattle.krb_tool.specs.inner.Listers.{HasListed, last_listed, last_of, closing, PutsClosing, AddsRefused, AddsEnd, AsksAfter, IsDone, rules_of, frames_kind}
 use Rattle.krb_tool.specs.declared.listing.Lister.{Lister}
+use Rattle.krb_tool.specs.declared.listing.StreamLines.{StreamLines}
 use Rattle.krb_tool.specs.declared.run.RunEnd.{RunEnd}
 use Rattle.krb_tool.specs.declared.run.RunFault.{RunFault}
 use Rattle.krb_tool.specs.declared.run.RunFault.TheVariants as fault
@@ -58,18 +59,18 @@ AddsEnd-whole old new ended done e p =
       ended_so = p.ended_so ∙ ap counted_run_end z ∙ ap (λ l. counted_run_end (old.lines.refused + refused_in l)) (sym none);
     }
 
-pub AddsEnd-refused : (old between new : Lister) (ended : RunEnd) (refusal : Refusal) → finish_of (messages old.decoder.current.profile) old.decoder.current ≡ Err refusal → PutsRefused old refusal between → PutsClosing between.lines new.lines ended → AddsEnd old new ended
-AddsEnd-refused old between new ended refusal e r p =
+pub AddsEnd-refused : (old : Lister) (between : StreamLines) (new : Lister) (ended : RunEnd) (refusal : Refusal) → old.lines.refused + 1 < 2 ^ 64 → finish_of (messages old.decoder.current.profile) old.decoder.current ≡ Err refusal → AddsRefused old.decoder.current.profile refusal old.decoder.current.octets old.lines between → PutsClosing between new.lines ended → AddsEnd old new ended
+AddsEnd-refused old between new ended refusal few e r p =
     let one : last_of old ≡ Faulty refusal.place refusal.why old.decoder.current.octets ∷ [] = ap (λ r. last_listed r old.decoder.current.octets) e in
-    let z : between.lines.refused ≡ old.lines.refused + (1 + 0) = omega (arith, r.added.refused) in
+    let z : between.refused ≡ old.lines.refused + (1 + 0) = omega (arith, r.refused few) in
     let form : Form = old.lines.request.form in
     let going : Bool = old.lines.request.keep_going in
     let line : List ℕ = refused_line form old.lines.messages refusal.place refusal.why (frame_path old.decoder.current.profile old.decoder.current.octets) (frame_extent old.lines.offset old.decoder.current.octets) in
     record {
       lines =
           p.line
-          ∙ ap₂ (λ q n. between.lines.text ++ closing q.keep_going q.form n between.lines.refused) r.added.same r.added.messages
-          ∙ ap₂ (λ t k. t ++ closing going form old.lines.messages k) r.added.line z
+          ∙ ap₂ (λ q n. between.text ++ closing q.keep_going q.form n between.refused) r.same r.messages
+          ∙ ap₂ (λ t k. t ++ closing going form old.lines.messages k) r.line z
           ∙ append_assoc old.lines.text line (closing going form old.lines.messages (old.lines.refused + (1 + 0)))
           ∙ ap (λ l. old.lines.text ++ (l ++ closing going form old.lines.messages (old.lines.refused + (1 + 0)))) (sym (append-nil line))
           ∙ ap (λ l. old.lines.text ++ (lines_after form old.decoder.current.profile old.lines.messages old.lines.offset l ++ closing going form old.lines.messages (old.lines.refused + refused_in l))) (sym one);

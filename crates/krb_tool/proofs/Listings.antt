@@ -1,42 +1,25 @@
 -- Frames listed one after another.
-use Rattle.std.proofs.Common.{◌≡◌, ℕ, ◌+◌, ◌-◌, ◌^◌, ◌<◌, ◌≤◌, ◌⊎◌, inl, inr, min, true, false, Bool, List, [], ◌∷◌, ◌++◌, length, take, drop, map, Option, Some, None, refl, sym, ◌∙◌, ap, ap₂, subst, arith, append_assoc, append-nil, length-append, length-drop, length-take}
-use Rattle.std.specs.Prelude.{IsSome, is_some}
-use Rattle.std.specs.Option.{unwrap_or}
-use Rattle.std.proofs.lemmas.List.{map-append}
-use Rattle.krb_der.specs.declared.why.Why.TheVariants.{HighBit}
-use Rattle.krb_der.specs.declared.verdict.Refusal.{Refusal}
-use Rattle.krb_msg.specs.ViewValues.{message_of_view}
-use Rattle.krb_msg.specs.Views.{message_der}
-use Rattle.krb_msg.specs.declared.message.Message.{Message}
-use Rattle.krb_msg.specs.Grammar.{messages}
-use Rattle.krb_frame.specs.Decoding.{Decoding, announced, status_of, borrowed}
-use Rattle.krb_frame.specs.GoingOn.{Contents, Fault, Skipping, entry_size, rest_at, rest_of, rest_to_come, GoesOn, without, FeedsAfter, PassesEntry, GivesUp}
-use Rattle.krb_frame.proofs.Announced.{announced-size, ready-size, refused-four}
-use Rattle.krb_der.specs.Octets.{number}
-use Rattle.std.proofs.lemmas.Bool.{cases_lt, le-leb, lt-leb}
-use Rattle.krb_frame.specs.Frame.{framed}
-use Rattle.krb_frame.specs.Passes.{contents_of}
-use Rattle.krb_frame.specs.declared.decoder.Fed.{Fed}
-use Rattle.krb_frame.specs.declared.pass.Passed.{Passed}
-use Rattle.krb_frame.specs.declared.decoder.Status.{Status}
-use Rattle.krb_frame.specs.declared.decoder.Status.TheVariants as status
-use Rattle.krb_frame.proofs.DecoderFrames.{more-nothing}
-use Rattle.krb_text.specs.declared.form.Form.{Form}
-use Rattle.krb_tool.specs.Lines.{message_line}
-use Rattle.krb_tool.specs.Lines.{refused_line}
+use Rattle.std.proofs.Common.{◌≡◌, ℕ, ◌+◌, ◌^◌, ◌<◌, ◌≤◌, inl, inr, Bool, true, false, List, [], ◌∷◌, ◌++◌, length, take, map, refl, sym, ◌∙◌, ap, ap₂, subst, arith, append_assoc, append-nil, length-append}
+use Rattle.std.specs.List.{AllByRecursion}
+use Rattle.std.proofs.lemmas.Bool.{cases_lt}
+use Rattle.std.proofs.lemmas.List.{map-append, take_at}
 use Rattle.krb_der.specs.declared.profile.Profile.{Profile}
+use Rattle.krb_der.specs.declared.verdict.Refusal.{Refusal}
+use Rattle.krb_msg.specs.Grammar.{messages}
+use Rattle.krb_frame.specs.Decoding.{Decoding}
+use Rattle.krb_frame.specs.Deliveries.{AreUsed, Delivers, DeliversBefore, DeliversPrefix, DeliversUpTo, IsMessage, Received, due}
+use Rattle.krb_frame.specs.GoingOn.{Entry, GoesOn, entries_size, entry_size}
+use Rattle.krb_text.specs.declared.form.Form.{Form}
+use Rattle.krb_tool.specs.Lines.{message_line, refused_line}
 use Rattle.krb_tool.specs.Paths.{frame_extent, frame_path}
 use Rattle.krb_tool.specs.GoingOn.{Listed, Whole, Faulty, entry_of, messages_in, octets_in, refused_in, lines_after, EndsUnknown}
-use Rattle.krb_tool.specs.inner.Pieces.{IsFed, Goes, TakesPiece}
-use Rattle.krb_tool.specs.inner.Listers.{HasListed, AddsLine, ListsReady, ListsRefused, SkipsRefused, request_of, frames_kind}
+use Rattle.krb_tool.specs.inner.Streams.{AcceptsPiece}
+use Rattle.krb_tool.specs.inner.Pieces.{Goes, TakesPiece, listing_of}
+use Rattle.krb_tool.specs.inner.Listers.{HasListed, IsDecoded, ListsEntry, request_of, frames_kind}
 use Rattle.krb_tool.specs.declared.listing.Lister.{Lister}
-use Rattle.krb_tool.proofs.KnownLengths.{known_last, whole_known, refused_known}
-use Rattle.krb_tool.proofs.Pieces.{IsFed-used, IsFed-frame}
-use Rattle.krb_tool.proofs.DecoderResults.{is_status, is_borrowed, some_used-by, memory_ready, memory_more, memory_refused, more_ready, cleared_is, cleared_waits}
+use Rattle.krb_tool.specs.declared.listing.StreamLines.{StreamLines}
 use Rattle.krb_tool.specs.declared.stream_run.Request.{Request}
-
-pub more_refused : (refusal : Refusal) → status.More ≡ status.Refused refusal → ⊥
-more_refused refusal e = cc
+use Rattle.krb_tool.proofs.KnownLengths.{known_more}
 
 -- ---- lists of frames
 pub messages_in-append : (xs ys : List Listed) → messages_in (xs ++ ys) ≡ messages_in xs + messages_in ys
@@ -73,207 +56,172 @@ lines_after-append form profile n offset (Faulty place reason prefix ∷ xs) ys 
     ∙ sym (append_assoc line (lines_after form profile n (offset + size) xs) (lines_after form profile (n + messages_in xs) (offset + size + octets_in xs) ys))
     ∙ ap (λ m. (line ++ lines_after form profile n (offset + size) xs) ++ lines_after form profile (n + messages_in xs) m ys) o
 
--- one frame more
-HasListed-more : (old new : Lister) (x : Listed) (stream grown written : List ℕ) (h : HasListed old stream written) → ((prefix : List ℕ) → entry_of x ≡ Fault 3 HighBit prefix → ⊥) → (old.lines.request.keep_going ≡ false → refused_in (x ∷ []) ≡ 0) → new.decoder.current.profile ≡ old.decoder.current.profile → new.lines.request ≡ old.lines.request → new.lines.text ≡ old.lines.text ++ lines_after old.lines.request.form old.decoder.current.profile old.lines.messages old.lines.offset (x ∷ []) → new.lines.messages ≡ old.lines.messages + messages_in (x ∷ []) → new.lines.refused ≡ old.lines.refused + refused_in (x ∷ []) → new.lines.offset ≡ old.lines.offset + entry_size (entry_of x) → new.lines.offset + length new.decoder.current.octets ≤ length grown + new.decoder.skipped → new.decoder.skipped < 2 ^ 32 → GoesOn (messages old.decoder.current.profile) new.decoder grown (map entry_of h.listed ++ entry_of x ∷ []) → HasListed new grown written
-HasListed-more old new x stream grown written h known whole p o t m r k within short g =
-    let form : Form = old.lines.request.form in
-    let profile : Profile = old.decoder.current.profile in
-    let all : List Listed = h.listed ++ x ∷ [] in
+one_counted : (x : Listed) → messages_in (x ∷ []) + refused_in (x ∷ []) ≡ 1
+one_counted (Whole message) = omega arith
+one_counted (Faulty place reason prefix) = omega arith
+
+all_counted : (xs : List Listed) → messages_in xs + refused_in xs ≡ length (map entry_of xs)
+all_counted [] = omega arith
+all_counted (Whole message ∷ xs) = omega (arith, all_counted xs)
+all_counted (Faulty place reason prefix ∷ xs) = omega (arith, all_counted xs)
+
+all_sized : (xs : List Listed) → octets_in xs ≡ entries_size (map entry_of xs)
+all_sized [] = refl
+all_sized (x ∷ xs) = omega (arith, all_sized xs)
+
+none_refused : (xs : List Listed) → AllByRecursion IsMessage (map entry_of xs) → refused_in xs ≡ 0
+none_refused [] m = refl
+none_refused (Whole message ∷ xs) m = none_refused xs m.1
+none_refused (Faulty place reason prefix ∷ xs) m = absurd m.0
+
+-- ---- frames that were received
+record ListsEntries (old : StreamLines) (frames : List Entry) (new : StreamLines) : Type 0 where
+  listed : List Listed
+  are : map entry_of listed ≡ frames
+  decoded : AllByRecursion IsDecoded frames
+  lines : new.text ≡ old.text ++ lines_after old.request.form old.request.profile old.messages old.offset listed
+  messages : new.messages ≡ old.messages + messages_in listed
+  refused : new.refused ≡ old.refused + refused_in listed
+  offset : new.offset ≡ old.offset + octets_in listed
+  same : new.request ≡ old.request
+
+lists-entries : (old : StreamLines) (frames : List Entry) (new : StreamLines) → Received ListsEntry old frames new → old.messages + old.refused + length frames < 2 ^ 64 → old.offset + entries_size frames < 2 ^ 64 → ListsEntries old frames new
+lists-entries old [] new e few room = record {
+  listed = [];
+  are = refl;
+  decoded = tt;
+  lines = ap (λ (l : StreamLines). l.text) e ∙ sym (append-nil old.text);
+  messages = omega (arith, ap (λ (l : StreamLines). l.messages) e);
+  refused = omega (arith, ap (λ (l : StreamLines). l.refused) e);
+  offset = omega (arith, ap (λ (l : StreamLines). l.offset) e);
+  same = ap (λ (l : StreamLines). l.request) e;
+}
+lists-entries old (x ∷ xs) new (between, first, others) few room =
+    let one : List Listed = first.listed ∷ [] in
+    let m : between.messages ≡ old.messages + messages_in (first.listed ∷ []) = first.messages (omega (arith, few)) in
+    let r : between.refused ≡ old.refused + refused_in (first.listed ∷ []) = first.refused (omega (arith, few)) in
+    let o : between.offset ≡ old.offset + octets_in (first.listed ∷ []) = omega (arith, first.offset (omega (arith, room)), ap entry_size first.is_entry) in
+    let l : ListsEntries between xs new = lists-entries between xs new others (omega (arith, few, m, r, one_counted first.listed)) (omega (arith, room, first.offset (omega (arith, room)))) in
+    let line : List ℕ = lines_after old.request.form old.request.profile old.messages old.offset (first.listed ∷ []) in
     record {
-      listed = all;
-      goes_on = subst (λ p. GoesOn (messages p) new.decoder grown (map entry_of all)) (sym p) (subst (GoesOn (messages profile) new.decoder grown) (sym (map-append entry_of h.listed (x ∷ []))) g);
-      known = subst (λ l. EndsUnknown l → ⊥) (sym (map-append entry_of h.listed (x ∷ []))) (known_last (map entry_of h.listed) (entry_of x) known);
-      whole = λ stops. let kept = sym (ap (λ q. q.keep_going) o) ∙ stops in omega (arith, refused_in-append h.listed (x ∷ []), h.whole kept, whole kept);
+      listed = first.listed ∷ l.listed;
+      are = ap₂ (λ h t. h ∷ t) first.is_entry l.are;
+      decoded = (first.decoded, l.decoded);
       lines =
-          ap (λ l. written ++ l) t
-          ∙ sym (append_assoc written old.lines.text (lines_after form profile old.lines.messages old.lines.offset (x ∷ [])))
-          ∙ ap (λ l. l ++ lines_after form profile old.lines.messages old.lines.offset (x ∷ [])) h.lines
-          ∙ ap₂ (λ n k. lines_after form profile 0 0 h.listed ++ lines_after form profile n k (x ∷ [])) (let e : old.lines.messages ≡ 0 + messages_in h.listed = omega (arith, h.messages) in e) (let e : old.lines.offset ≡ 0 + octets_in h.listed = omega (arith, h.offset) in e)
-          ∙ sym (lines_after-append form profile 0 0 h.listed (x ∷ []))
-          ∙ ap₂ (λ request profile. lines_after request.form profile 0 0 all) (sym o) (sym p);
-      messages = omega (arith, m, h.messages, messages_in-append h.listed (x ∷ []));
-      refused = omega (arith, r, h.refused, refused_in-append h.listed (x ∷ []));
-      offset = omega (arith, k, h.offset, octets_in-append h.listed (x ∷ []));
-      within = within;
-      short = short;
+          l.lines
+          ∙ ap₂ (λ t q. t ++ lines_after q.form q.profile between.messages between.offset l.listed) first.line first.same
+          ∙ ap₂ (λ n k. (old.text ++ line) ++ lines_after old.request.form old.request.profile n k l.listed) m o
+          ∙ append_assoc old.text line (lines_after old.request.form old.request.profile (old.messages + messages_in one) (old.offset + octets_in one) l.listed)
+          ∙ ap (λ t. old.text ++ t) (sym (lines_after-append old.request.form old.request.profile old.messages old.offset one l.listed));
+      messages = omega (arith, l.messages, m, messages_in-append (first.listed ∷ []) l.listed);
+      refused = omega (arith, l.refused, r, refused_in-append (first.listed ∷ []) l.listed);
+      offset = omega (arith, l.offset, o, octets_in-append (first.listed ∷ []) l.listed);
+      same = l.same ∙ first.same;
     }
-
--- the line of a message more
-HasListed-message : (old new : Lister) (message : Message) (size : ℕ) (stream grown written : List ℕ) (h : HasListed old stream written) → AddsLine message size old.lines new.lines → size ≡ 4 + length (message_der message) → new.decoder.current.profile ≡ old.decoder.current.profile → new.lines.offset + length new.decoder.current.octets ≤ length grown + new.decoder.skipped → new.decoder.skipped < 2 ^ 32 → GoesOn (messages old.decoder.current.profile) new.decoder grown (map entry_of h.listed ++ Contents (message_der message) ∷ []) → HasListed new grown written
-HasListed-message old new message size stream grown written h a sized p within short g =
-    HasListed-more old new (Whole message) stream grown written h (whole_known (message_der message)) (λ stops. refl) p a.same (a.line ∙ ap (λ t. old.lines.text ++ t) (sym (append-nil (message_line old.lines.request.form message)))) (omega (arith, a.messages)) (omega (arith, a.refused)) (omega (arith, a.offset, sized)) within short g
-
--- ---- a frame that is skipped
-some_rest : (o : Option ℕ) → true ≡ is_some o → (count : ℕ) × (o ≡ Some count)
-some_rest (Some count) e = (count, refl)
-some_rest None e = absurd cc
-
-skipped_is : (old new : Lister) (refusal : Refusal) → ListsRefused old refusal new → new.decoder.current ≡ record old.decoder.current { octets = []; capacity = new.decoder.current.capacity }
-skipped_is old new refusal l =
-    let o = some_rest (rest_to_come (messages old.decoder.current.profile) old.decoder.current) l.skipped.is_known in
-    (subst (GivesUp (messages old.decoder.current.profile) old.decoder.current new.decoder.current) o.1 l.skipped.gives_up).left
-
--- nothing is to be skipped before octets of a frame
-pub none_skipped : (skipped : ℕ) (octets : List ℕ) → 4 ≤ length octets → (skipped ≡ 0) ⊎ (octets ≡ []) → skipped ≡ 0
-none_skipped skipped octets four (inl e) = e
-none_skipped skipped octets four (inr e) = absurd (omega (arith, four, ap length e))
-
--- how many octets of a refused frame are to come
-rest_known : (s : Skipping) (refusal : Refusal) (count skipped : ℕ) → status_of (messages s.current.profile) s.current ≡ status.Refused refusal → rest_to_come (messages s.current.profile) s.current ≡ Some count → skipped ≡ count → (number (take 4 s.current.octets) < 2 ^ 31) × (skipped ≡ 4 + number (take 4 s.current.octets) - length s.current.octets)
-rest_known s refusal count skipped st e k = elim (cases_lt size (2 ^ 31)) [
-  | inl h ↦ (h, k ∙ sym (same (4 + size - length octets) count (sym (rw (lt-leb (2 ^ 31) size h) refl) ∙ known)))
-  | inr h ↦ absurd (none count (sym (rw (le-leb (2 ^ 31) size h) refl) ∙ known))
-]
-  where
-    octets : List ℕ
-    octets = s.current.octets
-
-    size : ℕ
-    size = number (take 4 s.current.octets)
-
-    known : rest_of (number (take 4 s.current.octets)) (length s.current.octets) ≡ Some count
-    known = sym (ap (λ t. rest_at t s.current.octets) st) ∙ e
-
-    same : (n m : ℕ) → Some n ≡ Some m → n ≡ m
-    same n m e = cc
-
-    none : (n : ℕ) → None ≡ Some n → ⊥
-    none n e = cc
-
--- and that they are known, if the frame has a known length
-pub rest-known : (s : Skipping) (refusal : Refusal) → status_of (messages s.current.profile) s.current ≡ status.Refused refusal → unwrap_or (announced s.current.octets) 0 < 2 ^ 31 → true ≡ is_some (rest_to_come (messages s.current.profile) s.current)
-rest-known s refusal st few =
-    let octets : List ℕ = s.current.octets in
-    let short : number (take 4 octets) < 2 ^ 31 = omega (arith, few, announced-size octets (refused-four (messages s.current.profile) s.current refusal st)) in
-    let known : rest_of (number (take 4 octets)) (length octets) ≡ Some (4 + number (take 4 octets) - length octets) = rw (lt-leb (2 ^ 31) (number (take 4 octets)) short) refl in
-    ap is_some (sym (ap (λ t. rest_at t octets) st ∙ known))
 
 same_request : (request request' : Request) (old new : Decoding) → request' ≡ request → new.profile ≡ old.profile → new.limit ≡ old.limit → request_of request' new ≡ request_of request old
 same_request request request' old new q p l = λ i. record { form = (q i).form; profile = p i; limit = l i; keep_going = (q i).keep_going }
 
-both_ways : true ≡ false → ⊥
-both_ways e = cc
+-- ---- the frames of a piece were delivered
+-- a lister waits, and can count the frames of a piece and their octets
+pub record HasRoom (lister : Lister) (piece : List ℕ) : Type 0 where
+  pub stream : List ℕ
+  pub written : List ℕ
+  pub listed : HasListed lister stream written
+  pub waits : frames_kind.IsWaiting lister
+  pub few : lister.lines.messages + lister.lines.refused + length piece < 2 ^ 64
+  pub room : length stream + length piece < 2 ^ 63
 
--- ---- the decoder used octets of a piece
-module _ (old new : Lister) (piece : List ℕ) (fed : Fed) (f : FeedsAfter (messages old.decoder.current.profile) old.decoder piece new.decoder fed) where
-  pub fed_within : fed.used ≤ length piece
-  fed_within = omega (arith, f.first, f.others.within, length-drop old.decoder.skipped piece)
-
-  fed_all : fed.status ≡ status.More → fed.used ≡ length piece
-  fed_all e = omega (arith, f.first, f.others.all e, length-drop old.decoder.skipped piece)
-
-  pub fed_some : (answer : Status) → frames_kind.IsWaiting old → fed.status ≡ answer → (status.More ≡ answer → ⊥) → (status.Memory ≡ answer → ⊥) → 0 < fed.used
-  fed_some answer w e differs never =
-      let s : 0 < fed.used - min old.decoder.skipped (length piece) = some_used-by old.decoder.current.profile old.decoder.current new.decoder.current (drop old.decoder.skipped piece) (without (min old.decoder.skipped (length piece)) fed) answer f.others w e differs never in
-      omega (arith, s)
-
-  pub status_is : (answer : Status) → fed.status ≡ answer → (status.Memory ≡ answer → ⊥) → status_of (messages new.decoder.current.profile) new.decoder.current ≡ answer
-  status_is answer e never =
-      subst (λ p. status_of (messages p) new.decoder.current ≡ answer) (sym f.others.same_profile)
-      (is_status old.decoder.current.profile old.decoder.current new.decoder.current (drop old.decoder.skipped piece) (without (min old.decoder.skipped (length piece)) fed) answer f.others e never)
-
-  pub fed_borrowed : fed.status ≡ status.Ready → IsSome (borrowed (messages new.decoder.current.profile) new.decoder.current)
-  fed_borrowed e =
-      subst (λ p. IsSome (borrowed (messages p) new.decoder.current)) (sym f.others.same_profile)
-      (is_borrowed old.decoder.current.profile old.decoder.current new.decoder.current (drop old.decoder.skipped piece) (without (min old.decoder.skipped (length piece)) fed) f.others e)
-
-  module _ (l : new.lines ≡ old.lines) where
-    pub HasListed-used : (stream written : List ℕ) → HasListed old stream written → HasListed new (stream ++ take fed.used piece) written
-    HasListed-used stream written h = record {
-      listed = h.listed;
-      goes_on = subst (λ p. GoesOn (messages p) new.decoder (stream ++ take fed.used piece) (map entry_of h.listed)) (sym f.others.same_profile) (f.goes_on stream (map entry_of h.listed) h.goes_on);
-      known = h.known;
-      whole = λ stops. h.whole (sym (ap (λ x. x.request.keep_going) l) ∙ stops);
-      lines = ap (λ x. written ++ x.text) l ∙ h.lines ∙ ap₂ (λ x profile. lines_after x.request.form profile 0 0 h.listed) (sym l) (sym f.others.same_profile);
-      messages = ap (λ x. x.messages) l ∙ h.messages;
-      refused = ap (λ x. x.refused) l ∙ h.refused;
-      offset = ap (λ x. x.offset) l ∙ h.offset;
-      within = used_within stream h;
-      short = omega (arith, f.skipped, h.short);
+pub has_room : (lister : Lister) (piece : List ℕ) → AcceptsPiece (listing_of frames_kind lister) → length piece ≤ 65536 → HasRoom lister piece
+has_room lister piece m short =
+    let w = m.waits.1 in
+    record {
+      stream = m.taken.octets;
+      written = m.taken.written;
+      listed = w.listed;
+      waits = w.waits;
+      few = omega (arith, m.few, w.few, short);
+      room = omega (arith, m.few, w.short, short);
     }
-      where
-        used_within : (stream : List ℕ) (h : HasListed old stream written) → new.lines.offset + length new.decoder.current.octets ≤ length (stream ++ take fed.used piece) + new.decoder.skipped
-        used_within stream h = omega (arith, ap (λ x. x.offset) l, h.within, f.skipped, f.first, f.others.within, fed_within, ap length f.others.octets, length-append old.decoder.current.octets (take (fed.used - min old.decoder.skipped (length piece)) (drop old.decoder.skipped piece)), length-take (fed.used - min old.decoder.skipped (length piece)) (drop old.decoder.skipped piece), length-append stream (take fed.used piece), length-take fed.used piece, length-drop old.decoder.skipped piece)
 
-    same : frames_kind.request new ≡ frames_kind.request old
-    same = same_request old.lines.request new.lines.request old.decoder.current new.decoder.current (ap (λ x. x.request) l) f.others.same_profile f.others.same_limit
+module _ (old new : Lister) (piece rest : List ℕ) (r : HasRoom old piece) (p : DeliversPrefix ListsEntry old.lines.request.keep_going old.decoder piece rest new.decoder old.lines new.lines) where
+  within : length p.used ≤ length piece
+  within = omega (arith, ap length p.parts, length-append p.used rest)
 
-    taken : (goes_on : Bool) → Goes frames_kind new (length piece) fed.used goes_on → TakesPiece frames_kind old piece new goes_on
-    taken goes_on g = record { used = fed.used; within = fed_within; same = same; listed = HasListed-used; few = omega (arith, ap (λ x. x.messages) l, ap (λ x. x.refused) l); goes = g }
+  few_frames : length p.delivers.frames ≤ length p.used
+  few_frames = omega (arith, p.delivers.few, ap due r.waits)
 
-    -- it was used to its end
-    pub TakesPiece-more : fed.status ≡ status.More → TakesPiece frames_kind old piece new true
-    TakesPiece-more e = taken true (fed_all e, status_is status.More e memory_more)
+  used_by : (stream written : List ℕ) (h : HasListed old stream written) → AreUsed old.decoder p.used p.delivers.frames new.decoder
+  used_by stream written h = p.delivers.used stream (map entry_of h.listed) h.goes_on
 
-    -- a frame is refused and not skipped
-    pub TakesPiece-refused : (refusal : Refusal) → fed.status ≡ status.Refused refusal → (new.lines.request.keep_going ≡ true → rest_to_come (messages new.decoder.current.profile) new.decoder.current ≡ None) → TakesPiece frames_kind old piece new false
-    TakesPiece-refused refusal e n = taken false (refusal, status_is (status.Refused refusal) e (memory_refused refusal), n)
+  lists : ListsEntries old.lines p.delivers.frames new.lines
+  lists =
+      let u : AreUsed old.decoder p.used p.delivers.frames new.decoder = used_by r.stream r.written r.listed in
+      lists-entries old.lines p.delivers.frames new.lines p.delivers.received (omega (arith, r.few, few_frames, within))
+      (omega (arith, u.size, u.short r.listed.short, r.listed.within, r.room, within))
 
-    -- a frame is ready, and is listed
-    pub IsFed-ready : (next : Lister) → frames_kind.IsWaiting old → fed.status ≡ status.Ready → ListsReady new next → IsFed frames_kind old piece (drop fed.used piece) next
-    IsFed-ready next w e r =
-        let cleared = cleared_is new.decoder.current.profile new.decoder.current next.decoder.current r.contents r.cleared.clears r.is_ready in
-        let profile : next.decoder.current.profile ≡ new.decoder.current.profile = ap (λ d. d.profile) cleared in
-        IsFed-used frames_kind old next piece fed.used fed_within
-        (same_request new.lines.request next.lines.request new.decoder.current next.decoder.current r.added.same profile (ap (λ d. d.limit) cleared) ∙ same)
-        (cleared_waits new.decoder.current.profile new.decoder.current next.decoder.current r.contents r.cleared.clears r.is_ready)
-        (omega (arith, fed_some status.Ready w e more_ready memory_ready, ap (λ x. x.messages) l, ap (λ x. x.refused) l, r.added.messages, r.added.refused))
-        (λ stream written h.
-        let u = HasListed-used stream written h in
-        let grown : List ℕ = stream ++ take fed.used piece in
-        let size : length new.decoder.current.octets ≡ 4 + length (message_der r.message) = ready-size (messages new.decoder.current.profile) new.decoder.current r.contents r.is_ready u.goes_on.one ∙ ap (λ c. 4 + length c) (sym r.form) in
-        HasListed-message new next r.message (length new.decoder.current.octets) grown grown written u r.added size profile
-        (omega (arith, r.added.offset, u.within, r.cleared.skipped, ap (λ d. length d.octets) cleared))
-        (omega (arith, u.short, r.cleared.skipped))
-        (subst (λ o. GoesOn (messages new.decoder.current.profile) next.decoder grown (map entry_of u.listed ++ Contents o ∷ [])) (sym r.form) (r.cleared.goes_on grown r.contents (map entry_of u.listed) u.goes_on r.is_ready)))
+  delivered : (stream written : List ℕ) → HasListed old stream written → HasListed new (stream ++ p.used) written
+  delivered stream written h =
+      let d : Delivers ListsEntry old.decoder p.used new.decoder old.lines new.lines = p.delivers in
+      let u : AreUsed old.decoder p.used p.delivers.frames new.decoder = used_by stream written h in
+      let form : Form = old.lines.request.form in
+      let profile : Profile = old.decoder.current.profile in
+      let all : List Listed = h.listed ++ lists.listed in
+      let both : map entry_of (h.listed ++ lists.listed) ≡ map entry_of h.listed ++ p.delivers.frames = map-append entry_of h.listed lists.listed ∙ ap (λ l. map entry_of h.listed ++ l) lists.are in
+      let m : old.lines.messages ≡ 0 + messages_in h.listed = omega (arith, h.messages) in
+      let o : old.lines.offset ≡ 0 + octets_in h.listed = omega (arith, h.offset) in
+      record {
+        listed = h.listed ++ lists.listed;
+        goes_on =
+            subst (λ q. GoesOn (messages q) new.decoder (stream ++ p.used) (map entry_of all)) (sym d.same_profile)
+            (subst (GoesOn (messages profile) new.decoder (stream ++ p.used)) (sym both) (d.goes_on stream (map entry_of h.listed) h.goes_on));
+        known = subst (λ l. EndsUnknown l → ⊥) (sym both) (known_more (map entry_of h.listed) p.delivers.frames h.known lists.decoded (d.followed stream (map entry_of h.listed) h.goes_on));
+        whole = λ stops.
+            let kept : old.lines.request.keep_going ≡ false = sym (ap (λ q. q.keep_going) lists.same) ∙ stops in
+            omega (arith, refused_in-append h.listed lists.listed, h.whole kept, none_refused lists.listed (subst (AllByRecursion IsMessage) (sym lists.are) (p.stops kept)));
+        profile = ap (λ q. q.profile) lists.same ∙ h.profile ∙ sym d.same_profile;
+        lines =
+            ap (λ t. written ++ t) lists.lines
+            ∙ sym (append_assoc written old.lines.text (lines_after form old.lines.request.profile old.lines.messages old.lines.offset lists.listed))
+            ∙ ap₂ (λ t q. t ++ lines_after form q old.lines.messages old.lines.offset lists.listed) h.lines h.profile
+            ∙ ap₂ (λ n k. lines_after form profile 0 0 h.listed ++ lines_after form profile n k lists.listed) m o
+            ∙ sym (lines_after-append form profile 0 0 h.listed lists.listed)
+            ∙ ap₂ (λ q x. lines_after q.form x 0 0 all) (sym lists.same) (sym d.same_profile);
+        messages = omega (arith, lists.messages, h.messages, messages_in-append h.listed lists.listed);
+        refused = omega (arith, lists.refused, h.refused, refused_in-append h.listed lists.listed);
+        offset = omega (arith, lists.offset, h.offset, octets_in-append h.listed lists.listed);
+        within = omega (arith, lists.offset, all_sized lists.listed, ap entries_size lists.are, u.size, h.within, length-append stream p.used);
+        short = u.short h.short;
+      }
 
-    -- a frame is refused, and is skipped
-    pub IsFed-refused : (next : Lister) (refusal : Refusal) → frames_kind.IsWaiting old → fed.status ≡ status.Refused refusal → ListsRefused new refusal next → IsFed frames_kind old piece (drop fed.used piece) next
-    IsFed-refused next refusal w e r =
-        let gone = skipped_is new next refusal r in
-        let rest = some_rest (rest_to_come (messages new.decoder.current.profile) new.decoder.current) r.skipped.is_known in
-        let refused = status_is (status.Refused refusal) e (memory_refused refusal) in
-        let profile : next.decoder.current.profile ≡ new.decoder.current.profile = ap (λ d. d.profile) gone in
-        IsFed-used frames_kind old next piece fed.used fed_within
-        (same_request new.lines.request next.lines.request new.decoder.current next.decoder.current r.added.same profile (ap (λ d. d.limit) gone) ∙ same)
-        (ap (λ d. status_of (messages d.profile) d) gone ∙ more-nothing (messages new.decoder.current.profile) new.decoder.current.profile new.decoder.current.limit new.decoder.current.looks next.decoder.current.capacity)
-        (omega (arith, fed_some (status.Refused refusal) w e (more_refused refusal) (memory_refused refusal), ap (λ x. x.messages) l, ap (λ x. x.refused) l, r.added.messages, r.added.refused))
-        (λ stream written h.
-        let u = HasListed-used stream written h in
-        let grown : List ℕ = stream ++ take fed.used piece in
-        let four : 4 ≤ length new.decoder.current.octets = refused-four (messages new.decoder.current.profile) new.decoder.current refusal refused in
-        let none : new.decoder.skipped ≡ 0 = none_skipped new.decoder.skipped new.decoder.current.octets four u.goes_on.alone in
-        let moved : next.lines.offset ≡ new.lines.offset + (4 + number (take 4 new.decoder.current.octets)) = omega (arith, r.offset, announced-size new.decoder.current.octets four) in
-        let left : (number (take 4 new.decoder.current.octets) < 2 ^ 31) × (next.decoder.skipped ≡ 4 + number (take 4 new.decoder.current.octets) - length new.decoder.current.octets) = rest_known new.decoder refusal rest.0 next.decoder.skipped refused rest.1 (r.skipped.rest rest.0 rest.1) in
-        let line : List ℕ = refused_line new.lines.request.form new.lines.messages refusal.place refusal.why (frame_path new.decoder.current.profile new.decoder.current.octets) (frame_extent new.lines.offset new.decoder.current.octets) in
-        HasListed-more new next (Faulty refusal.place refusal.why new.decoder.current.octets) grown grown written u (refused_known (messages new.decoder.current.profile) new.decoder.current refusal rest.0 refused rest.1) (λ stops. absurd (both_ways (sym r.asked ∙ stops))) profile r.added.same (r.added.line ∙ ap (λ t. new.lines.text ++ t) (sym (append-nil line))) (omega (arith, r.added.messages)) (omega (arith, r.added.refused))
-        moved
-        (omega (arith, moved, none, u.within, left.1, ap (λ d. length d.octets) gone))
-        (omega (arith, left.0, left.1))
-        (r.skipped.goes_on grown (map entry_of u.listed) refusal.place refusal.why u.goes_on refused refl))
+  taken : (goes_on : Bool) → Goes frames_kind new (length piece) (length p.used) goes_on → TakesPiece frames_kind old piece new goes_on
+  taken goes_on g =
+      let prefix : take (length p.used) piece ≡ p.used = ap (take (length p.used)) p.parts ∙ take_at p.used rest (length p.used) refl in
+      record {
+        used = length p.used;
+        within = within;
+        same = same_request old.lines.request new.lines.request old.decoder.current new.decoder.current lists.same p.delivers.same_profile p.delivers.same_limit;
+        listed = λ stream written h. subst (λ l. HasListed new (stream ++ l) written) (sym prefix) (delivered stream written h);
+        few = omega (arith, lists.messages, lists.refused, all_counted lists.listed, ap length lists.are, few_frames, within);
+        goes = g;
+      }
 
--- ---- a frame that is passed
-contents_is : (passed : Passed) → contents_of passed ≡ message_der (message_of_view passed.message)
-unfolding contents_of
-contents_is passed = refl
+  keeps : old.lines.request.keep_going ≡ new.lines.request.keep_going
+  keeps = ap (λ q. q.keep_going) (sym lists.same)
 
-module _ (old new : Lister) (octets : List ℕ) (passed : Passed) (p : PassesEntry (messages old.decoder.current.profile) old.decoder octets passed) (size : ℕ) (sized : size ≡ length octets - length passed.rest.now) (a : AddsLine (message_of_view passed.message) size old.lines new.lines) (d : new.decoder ≡ old.decoder) where
-  HasListed-passed : (stream written : List ℕ) → HasListed old stream written → HasListed new (stream ++ framed (contents_of passed)) written
-  HasListed-passed stream written h =
-      let message : Message = message_of_view passed.message in
-      let grown : List ℕ = stream ++ framed (contents_of passed) in
-      let moved : size ≡ 4 + length (message_der message) = omega (arith, sized, ap length p.passes.parts, length-append (framed (contents_of passed)) passed.rest.now, ap length (contents_is passed)) in
-      HasListed-message old new message size stream grown written h a moved (ap (λ s. s.current.profile) d)
-      (omega (arith, a.offset, moved, h.within, ap length (contents_is passed), ap (λ s. length s.current.octets) d, ap (λ s. s.skipped) d, length-append stream (framed (contents_of passed))))
-      (omega (arith, h.short, ap (λ s. s.skipped) d))
-      (subst (λ s. GoesOn (messages old.decoder.current.profile) s grown (map entry_of h.listed ++ Contents (message_der message) ∷ [])) (sym d)
-      (subst (λ o. GoesOn (messages old.decoder.current.profile) old.decoder grown (map entry_of h.listed ++ Contents o ∷ [])) (contents_is passed)
-      (p.goes_on stream (map entry_of h.listed) h.goes_on)))
+-- all of them
+pub takes-up-to : (old new : Lister) (piece rest : List ℕ) → HasRoom old piece → DeliversUpTo ListsEntry (λ lines. ⊥) old.lines.request.keep_going old.decoder piece rest new.decoder old.lines new.lines → TakesPiece frames_kind old piece new true
+takes-up-to old new piece rest r d = taken old new piece rest r d.prefix true (all, d.waits)
+  where
+    none : length rest ≤ 0
+    none = elim (cases_lt 0 (length rest)) [
+      | inl h ↦ absurd (d.full h)
+      | inr h ↦ h
+    ]
 
-  pub IsFed-passed : frames_kind.IsWaiting old → IsFed frames_kind old octets passed.rest.now new
-  IsFed-passed w =
-      IsFed-frame frames_kind old new octets (contents_of passed) passed.rest.now p.passes.parts
-      (λ i. request_of (a.same i) (d i).current)
-      (ap (λ s. status_of (messages s.current.profile) s.current) d ∙ w)
-      (omega (arith, a.messages, a.refused))
-      HasListed-passed
+    all : length d.prefix.used ≡ length piece
+    all = omega (arith, none, ap length d.prefix.parts, length-append d.prefix.used rest)
+
+-- those before a frame that is refused and not skipped
+pub takes-stopped : (old new : Lister) (piece : List ℕ) (refusal : Refusal) → HasRoom old piece → DeliversBefore ListsEntry old.lines.request.keep_going old.decoder piece refusal new.decoder old.lines new.lines → TakesPiece frames_kind old piece new false
+takes-stopped old new piece refusal r d = taken old new piece d.rest r d.prefix false (refusal, d.refused, λ kept. d.unknown (keeps old new piece d.rest r d.prefix ∙ kept))

@@ -2,11 +2,7 @@
 use Rattle.std.proofs.Common.{◌≡◌, ℕ, ◌+◌, ◌-◌, ◌*◌, ◌^◌, ◌<◌, ◌≤◌, inl, inr, Bool, true, false, List, [], ◌++◌, length, take, drop, Option, refl, sym, ◌∙◌, ap, subst, arith, append-nil, append_assoc, length-append, length-drop, length-take, drop_at}
 use Rattle.std.proofs.lemmas.List.{drop-drop, take_all, take_at}
 use Rattle.std.proofs.Math.Seq.{take-add}
-use Rattle.krb_msg.specs.Term.{Term}
-use Rattle.krb_frame.specs.Decoding.{Decoding}
 use Rattle.krb_frame.specs.Frame.{framed}
-use Rattle.krb_frame.specs.Passes.{Passes, contents_of}
-use Rattle.krb_frame.specs.declared.pass.Passed.{Passed}
 use Rattle.krb_tool.specs.inner.Streams.{Taken, with_piece, Begins, GoesOn, IsNew, AcceptsPiece, Feeds, Clears, IsLast, EndsListing, Finishes}
 use Rattle.krb_tool.specs.inner.Pieces.{Kind, IsFed, Goes, TakesPiece, WaitsAfter, IsLastOf, listing_of}
 
@@ -16,10 +12,6 @@ together piece rest stream used e =
     append_assoc stream (take (length piece - length rest) piece) (take used rest)
     ∙ ap (λ l. stream ++ (take (length piece - length rest) piece ++ take used l)) e
     ∙ ap (λ l. stream ++ l) (sym (take-add (length piece - length rest) used piece))
-
--- fewer octets follow a frame that is passed
-pub passed_shorter : {messages : List Term} {decoding : Decoding} {octets : List ℕ} {passed : Passed} → Passes messages decoding octets passed → length passed.rest.now < length octets
-passed_shorter {passed = passed} p = omega (arith, ap length p.parts, length-append (framed (contents_of passed)) passed.rest.now)
 
 module _ {L Q E : Type 0} (kind : Kind L Q E) where
   -- ---- a piece, as far as it was used
@@ -100,29 +92,9 @@ module _ {L Q E : Type 0} (kind : Kind L Q E) where
   pub may_wait : {lister : L} → AcceptsPiece (listing_of kind lister) → kind.IsWaiting lister
   may_wait m = m.waits.1.waits
 
-  -- the frames of a piece can be counted, and one more after some of its octets
+  -- the frames of a piece can be counted
   pub few_left : {initial now : L} {piece rest : List ℕ} → AcceptsPiece (listing_of kind initial) → length piece ≤ 65536 → IsFed kind initial piece rest now → kind.count now + length rest < 2 ^ 64
   few_left {initial = initial} m short i = let few : kind.count initial ≤ 65536 * m.taken.pieces = m.waits.1.few in omega (arith, m.few, i.few)
-
-  pub one_more : {initial now : L} {piece rest : List ℕ} (used : ℕ) → AcceptsPiece (listing_of kind initial) → length piece ≤ 65536 → IsFed kind initial piece rest now → 0 < used → used ≤ length rest → kind.count now + 1 < 2 ^ 64
-  one_more used m short i some within = omega (arith, few_left m short i)
-
-  -- what came is listed as far as it was used, and few octets came
-  pub record Came (now : L) (left : ℕ) : Type 0 where
-    pub stream : List ℕ
-    pub written : List ℕ
-    pub listed : kind.HasListed now stream written
-    pub few : length stream + left < 2 ^ 58
-
-  pub came : {initial now : L} {piece rest : List ℕ} → AcceptsPiece (listing_of kind initial) → length piece ≤ 65536 → IsFed kind initial piece rest now → Came now (length rest)
-  came {piece = piece} {rest = rest} m short i =
-      let w = m.waits.1 in
-      record {
-        stream = m.taken.octets ++ take (length piece - length rest) piece;
-        written = m.taken.written;
-        listed = i.listed m.taken.octets m.taken.written w.listed;
-        few = omega (arith, w.short, m.few, short, i.within, length-append m.taken.octets (take (length piece - length rest) piece), length-take (length piece - length rest) piece);
-      }
 
   -- ---- a lister of a stream
   module _ (begins : (lister : L) (taken : Taken) → WaitsAfter kind lister taken → Begins (kind.rules (kind.request lister)) taken (kind.text lister)) where

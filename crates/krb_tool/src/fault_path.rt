@@ -7,7 +7,7 @@ ghost use Rattle.krb_text.specs.Refusals.{path_in};
 ghost use Rattle.krb_tool.specs.Paths.{frame_extent, frame_path, refused_path};
 
 use crate::run::RunFault;
-use krb_der::{Profile, Refusal};
+use krb_der::{Memory, Profile, Refusal};
 use krb_frame::Decoder;
 use krb_judge::path;
 use krb_text::{Extent, Form};
@@ -24,31 +24,30 @@ fn shown_path(
     profile: Profile,
     size: u32,
     front: &[u8],
-) -> Result<Option<String>, RunFault>
+) -> Result<Option<String>, Memory>
     requires short { size < 2 ^ 31 }
     requires present { length front.now ≤ size }
-    ensures path { IfOk result (λ path. path_in form (option_map string_bytes path) ≡ path_in form (message_path profile size front.now)) }
-    ensures fault { IfErr result (λ e. e ≡ RunFault.Memory) }
+    ensures { IfOk result (λ path. path_in form (option_map string_bytes path) ≡ path_in form (message_path profile size front.now)) }
 {
     if form == Form::Lines {
         return Ok(None);
     }
-    Ok(path(alloc, profile, size, front)?)
+    path(alloc, profile, size, front)
 }
 
-/// Returns the path in the frame that a decoder refused or has a part of, if records of the form
-/// show it.
+/// Returns the path in the frame that a decoder refused or has a part of, as a message by a profile,
+/// if records of the form show it.
 pub(crate) fn frame_path(
     alloc: Global,
     form: Form,
+    profile: Profile,
     decoder: &Decoder,
-) -> Result<Option<String>, RunFault>
-    ensures path { IfOk result (λ path. path_in form (option_map string_bytes path) ≡ path_in form (frame_path decoder.now.profile decoder.now.octets)) }
-    ensures fault { IfErr result (λ e. e ≡ RunFault.Memory) }
+) -> Result<Option<String>, Memory>
+    ensures { IfOk result (λ path. path_in form (option_map string_bytes path) ≡ path_in form (frame_path profile decoder.now.octets)) }
 {
     match decoder.partial() {
         None => Ok(None),
-        Some(partial) => shown_path(alloc, form, decoder.profile(), partial.size, partial.octets),
+        Some(partial) => shown_path(alloc, form, profile, partial.size, partial.octets),
     }
 }
 
@@ -79,5 +78,5 @@ pub(crate) fn refused_path(
         return Ok(None);
     }
     let prefix = (refusal.place as usize + 1).min(octets.len());
-    shown_path(alloc, form, profile, octets.len() as u32, &octets[..prefix])
+    Ok(shown_path(alloc, form, profile, octets.len() as u32, &octets[..prefix])?)
 }

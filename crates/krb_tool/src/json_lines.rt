@@ -168,7 +168,8 @@ impl JsonLister {
         match self.decoder.finish() {
             Ok(()) => Ok(DecodeEnd::Clean),
             Err(refusal) => {
-                let path = frame_path(self.alloc, Form::NamedLines, &self.decoder)?;
+                let profile = self.decoder.profile();
+                let path = frame_path(self.alloc, Form::NamedLines, profile, &self.decoder)?;
                 let messages = self.lines.messages;
                 Ok(DecodeEnd::Refused {
                     messages,

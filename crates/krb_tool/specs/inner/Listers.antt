@@ -1,20 +1,17 @@
 -- What a lister does with a stream, up to its end or its first refusal, or also after refusals.
-use Rattle.std.specs.Prelude.{ℕ, zero, suc, ◌≡◌, ◌+◌, ◌*◌, ◌≤◌, ◌<◌, ◌^◌, ◌⊎◌, Bool, true, false, List, [], ◌∷◌, ◌++◌, length, map, Option, Some, None, Result, Ok, Err}
-use Rattle.std.specs.Option.{unwrap_or}
+use Rattle.std.specs.Prelude.{ℕ, zero, suc, ◌≡◌, ◌+◌, ◌*◌, ◌≤◌, ◌<◌, ◌^◌, ◌⊎◌, Bool, true, false, List, [], ◌∷◌, ◌++◌, length, map, Option, None, Result, Ok, Err}
 use Rattle.std.specs.Io.KnownBytes.{IsAtEnd}
 use Rattle.krb_der.specs.declared.profile.Profile.{Profile}
 use Rattle.krb_der.specs.declared.why.Why.TheVariants.{HighBit}
 use Rattle.krb_der.specs.declared.verdict.Refusal.{Refusal}
-use Rattle.krb_msg.specs.declared.message.Message.{Message}
 use Rattle.krb_msg.specs.Grammar.{messages as grammar}
 use Rattle.krb_msg.specs.Stream.{Refused}
-use Rattle.krb_msg.specs.Views.{message_der}
-use Rattle.krb_frame.specs.Decoding.{Decoding, announced, found, status_of, borrowed, finish_of}
-use Rattle.krb_frame.specs.GoingOn.{Entry, entries, rest_to_come, GoesOn, ClearsEntry, Skips}
+use Rattle.krb_frame.specs.Decoding.{Decoding, found, status_of, finish_of}
+use Rattle.krb_frame.specs.GoingOn.{Entry, Contents, Fault, entries, entry_size, rest_to_come, GoesOn}
 use Rattle.krb_frame.specs.declared.decoder.Status.TheVariants as status
 use Rattle.krb_text.specs.Streams.{stream_end_line}
 use Rattle.krb_text.specs.declared.form.Form.{Form}
-use Rattle.krb_tool.specs.Lines.{message_line, refused_line, counted_end_line}
+use Rattle.krb_tool.specs.Lines.{refused_line, counted_end_line}
 use Rattle.krb_tool.specs.Paths.{frame_extent, frame_path}
 use Rattle.krb_tool.specs.Listing.{end_of, run_end, IsListing, AllIsRead, AreLines, IsNotRefused, StopsInPiece}
 use Rattle.krb_tool.specs.GoingOn.{Listed, Faulty, entry_of, messages_in, refused_in, lines_after, IsCountedListing, AreCountedLines, EndsUnknown, counted_run_end, octets_in}
@@ -26,19 +23,28 @@ use Rattle.krb_tool.specs.declared.run.RunEnd.{RunEnd}
 use Rattle.krb_tool.specs.declared.stream_run.Request.{Request}
 
 -- ---- lines
--- the line of a message was added, which is counted, with the octets of its frame
-pub record AddsLine (message : Message) (size : ℕ) (old new : StreamLines) : Type 0 where
-  pub line : new.text ≡ old.text ++ message_line old.request.form message
-  pub messages : new.messages ≡ old.messages + 1
-  pub refused : new.refused ≡ old.refused
-  pub offset : new.offset ≡ old.offset + size
+-- a frame is a message, or refused by a decoder
+abbrev pub IsDecoded : Entry → Type 0
+IsDecoded (Contents contents) = Unit {0}
+IsDecoded (Fault place reason prefix) = (d : Decoding) × (status_of (grammar d.profile) d ≡ status.Refused (record { place = place; why = reason })) × (d.octets ≡ prefix)
+
+-- The line of a frame was added. The frame is counted, with its octets, unless there are too many.
+pub record ListsEntry (old : StreamLines) (entry : Entry) (new : StreamLines) : Type 0 where
+  pub listed : Listed
+  pub is_entry : entry_of listed ≡ entry
+  pub decoded : IsDecoded entry
+  pub line : new.text ≡ old.text ++ lines_after old.request.form old.request.profile old.messages old.offset (listed ∷ [])
+  pub messages : old.messages + 1 < 2 ^ 64 → new.messages ≡ old.messages + messages_in (listed ∷ [])
+  pub refused : old.refused + 1 < 2 ^ 64 → new.refused ≡ old.refused + refused_in (listed ∷ [])
+  pub offset : old.offset + entry_size entry < 2 ^ 64 → new.offset ≡ old.offset + entry_size entry
   pub same : new.request ≡ old.request
 
--- the line of the frame that a decoder refused or has a part of was added, which is counted
-pub record AddsRefused (d : Decoding) (refusal : Refusal) (old new : StreamLines) : Type 0 where
-  pub line : new.text ≡ old.text ++ refused_line old.request.form old.messages refusal.place refusal.why (frame_path d.profile d.octets) (frame_extent old.offset d.octets)
+-- the line was added of a frame that is refused or cut, with these octets of it
+pub record AddsRefused (profile : Profile) (refusal : Refusal) (octets : List ℕ) (old new : StreamLines) : Type 0 where
+  pub line : new.text ≡ old.text ++ refused_line old.request.form old.messages refusal.place refusal.why (frame_path profile octets) (frame_extent old.offset octets)
   pub messages : new.messages ≡ old.messages
-  pub refused : new.refused ≡ old.refused + 1
+  pub refused : old.refused + 1 < 2 ^ 64 → new.refused ≡ old.refused + 1
+  pub offset : new.offset ≡ old.offset
   pub same : new.request ≡ old.request
 
 -- the last line: if refused frames are counted, with their number, and else that of a stream without any
@@ -61,6 +67,7 @@ pub record HasListed (lister : Lister) (stream written : List ℕ) : Type 0 wher
   pub known : EndsUnknown (map entry_of listed) → ⊥
   -- none is refused, unless the lister goes on
   pub whole : lister.lines.request.keep_going ≡ false → refused_in listed ≡ 0
+  pub profile : lister.lines.request.profile ≡ lister.decoder.current.profile
   pub lines : written ++ lister.lines.text ≡ lines_after lister.lines.request.form lister.decoder.current.profile 0 0 listed
   pub messages : lister.lines.messages ≡ messages_in listed
   pub refused : lister.lines.refused ≡ refused_in listed
@@ -68,33 +75,6 @@ pub record HasListed (lister : Lister) (stream written : List ℕ) : Type 0 wher
   -- of these only those that are to be skipped are not in the stream
   pub within : lister.lines.offset + length lister.decoder.current.octets ≤ length stream + lister.decoder.skipped
   pub short : lister.decoder.skipped < 2 ^ 32
-
--- the line of the message that is ready was added, and its frame is cleared
-pub record ListsReady (old new : Lister) : Type 0 where
-  pub contents : List ℕ
-  pub is_ready : borrowed (grammar old.decoder.current.profile) old.decoder.current ≡ Some contents
-  pub message : Message
-  pub form : message_der message ≡ contents
-  pub added : AddsLine message (length old.decoder.current.octets) old.lines new.lines
-  pub cleared : ClearsEntry (grammar old.decoder.current.profile) old.decoder new.decoder true
-
--- the line of the frame that is refused or cut was added
-pub record PutsRefused (old : Lister) (refusal : Refusal) (new : Lister) : Type 0 where
-  pub added : AddsRefused old.decoder.current refusal old.lines new.lines
-  pub offset : new.lines.offset ≡ old.lines.offset
-  pub same_decoder : new.decoder ≡ old.decoder
-
--- and the frame, whose length is known, is skipped
-pub record ListsRefused (old : Lister) (refusal : Refusal) (new : Lister) : Type 0 where
-  pub asked : old.lines.request.keep_going ≡ true
-  pub added : AddsRefused old.decoder.current refusal old.lines new.lines
-  pub offset : new.lines.offset ≡ old.lines.offset + (4 + unwrap_or (announced old.decoder.current.octets) 0)
-  pub skipped : Skips (grammar old.decoder.current.profile) old.decoder new.decoder true
-
--- unless the lister goes on, and the length is known, nothing changes
-abbrev pub SkipsRefused : Lister → Refusal → Lister → Bool → Type 0
-SkipsRefused old refusal new true = ListsRefused old refusal new
-SkipsRefused old refusal new false = (new ≡ old) × (old.lines.request.keep_going ≡ true → rest_to_come (grammar old.decoder.current.profile) old.decoder.current ≡ None)
 
 -- what is listed of the end of a stream, if the frame is refused or cut in which it ends, with the octets of that frame
 abbrev pub last_listed : Result (Unit {0}) Refusal → List ℕ → List Listed

@@ -6,15 +6,11 @@ use Rattle.krb_text.specs.Refusals.{path_in}
 use Rattle.krb_tool.specs.Paths.{frame_path}
 use Rattle.krb_tool.proofs.fault_path.frame_path.Goals as goal
 
-pub returns-in-None-clause-path : goal.returns-in-None-clause-path
+pub returns-in-None : goal.returns-in-None
 unfolding frame_path
-returns-in-None-clause-path c = ap (path_in c.args.form) (sym (ap (message_path c.args.decoder.now.profile (number (take 4 c.args.decoder.now.octets))) c.in-None.ensures))
+returns-in-None c = ap (path_in c.args.form) (sym (ap (message_path c.args.profile (number (take 4 c.args.decoder.now.octets))) c.in-None.ensures))
 
-pub returns-in-Some-clause-path : goal.returns-in-Some-clause-path
+pub returns-in-Some : goal.returns-in-Some
 unfolding frame_path
-returns-in-Some-clause-path c =
-    IfOk-weaker c.shown_path.result _ _ (λ path e.
-    e
-    ∙ ap (path_in c.args.form)
-    (ap (λ profile. message_path profile c.in-Some.partial.size c.in-Some.partial.octets.now) c.profile.ensures
-    ∙ ap₂ (message_path c.args.decoder.now.profile) c.in-Some.ensures.announced c.in-Some.ensures.kept)) c.shown_path.ensures.path
+returns-in-Some c =
+    IfOk-weaker c.shown_path.result _ _ (λ path e. e ∙ ap (path_in c.args.form) (ap₂ (message_path c.args.profile) c.in-Some.ensures.announced c.in-Some.ensures.kept)) c.shown_path.ensures

@@ -1,6 +1,5 @@
 use Rattle.std.proofs.Common.{◌≡◌, None, length, refl, arith, ap, ◌∙◌}
 use Rattle.std.proofs.lemmas.Bool.{lt-ltb}
-use Rattle.std.proofs.lemmas.Result.{IfOk-weaker}
 use Rattle.krb_text.specs.Refusals.{path_in}
 use Rattle.krb_tool.specs.Paths.{refused_path}
 use Rattle.krb_tool.proofs.FaultPaths.{short_path}
@@ -14,4 +13,4 @@ returns-then-octets-gt-MOST_OCTETS-clause-path c =
 
 pub returns-clause-path : goal.returns-clause-path
 returns-clause-path c =
-    IfOk-weaker c.shown_path.result _ _ (λ path e. e ∙ ap (path_in c.args.form) (short_path c.args.profile c.args.octets.now c.args.refusal (length c.args.octets.now) c.min-prefix.result (omega arith) refl c.min-prefix.ensures)) c.shown_path.ensures.path
+    c.in_ok-shown_path.ensures ∙ ap (path_in c.args.form) (short_path c.args.profile c.args.octets.now c.args.refusal (length c.args.octets.now) c.min-prefix.result (omega arith) refl c.min-prefix.ensures)

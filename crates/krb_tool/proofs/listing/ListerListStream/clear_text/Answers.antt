@@ -11,6 +11,7 @@ returns c =
       goes_on = h.goes_on;
       known = h.known;
       whole = h.whole;
+      profile = h.profile;
       lines = ap (λ l. (written ++ c.args.self.now.lines.text) ++ l) c.clear.ensures ∙ append-nil (written ++ c.args.self.now.lines.text) ∙ h.lines;
       messages = h.messages;
       refused = h.refused;

@@ -21,6 +21,7 @@ returns c =
         goes_on = subst (λ d. GoesOn (messages d.profile) c.new.result [] []) (sym same) (c.new.ensures.goes_on [] [] (subst (λ d. HasDecoded (messages d.profile) c.with_profile-decoder.result [] []) (sym nothing) c.with_profile-decoder.ensures.decoded));
         known = none_unknown;
         whole = λ stops. refl;
+        profile = sym (ap (λ d. d.profile) (same ∙ nothing));
         lines = c.new-2.ensures;
         messages = refl;
         refused = refl;

@@ -1,0 +1,17 @@
+use Rattle.std.proofs.Common.{refl, sym, ◌∙◌, ap, arith, append-nil, ◌++◌}
+use Rattle.krb_tool.specs.GoingOn.{Faulty}
+use Rattle.krb_tool.proofs.listing.StreamLinesReceiver.receive_refusal.Goals as goal
+
+pub returns : goal.returns
+returns c =
+    let put = c.in_ok-put_refusal.ensures in
+    record {
+      listed = Faulty c.args.refusal.place c.args.refusal.why c.args.decoder.now.octets;
+      is_entry = refl;
+      decoded = (c.args.decoder.now, c.requires.refused, refl);
+      line = put.line ∙ ap (λ t. c.args.self.now.text ++ t) (sym (append-nil _));
+      messages = λ few. omega (arith, put.messages);
+      refused = λ few. put.refused few;
+      offset = λ few. omega (arith, few, put.offset, c.requires.size, c.saturating_add-self.ensures);
+      same = put.same;
+    }
