@@ -223,7 +223,8 @@ module _ (version : ℕ) where
       let shorter = (Shortens-credential one_enctype version).shorter (limited None) s f.first f.after f.read in
       step-alike more limit place (octet ∷ before) (octets ++ after) (octets ++ other) f.first f.after f.read
       (items-alike bound f.after.place f.after.octets k (omega (arith, shorter, le)) f.others more limit octets after other some same)
-  items-alike another place [] k le e (suc more) limit octets after other some same = some-alike more limit place octets after other some (subst (λ (p : ℕ). IsAlike masked_credential item_at None p octets after other) (sym (ok_is place k e)) same)
+  items-alike zero place [] k le e (suc more) limit octets after other some same = some-alike more limit place octets after other some (subst (λ (p : ℕ). IsAlike masked_credential item_at None p octets after other) (sym (ok_is place k e)) same)
+  items-alike (suc bound) place [] k le e (suc more) limit octets after other some same = some-alike more limit place octets after other some (subst (λ (p : ℕ). IsAlike masked_credential item_at None p octets after other) (sym (ok_is place k e)) same)
 
 -- ---- a file
 Shortens-key_size : (version : ℕ) → Shortens (key_size_at version)
