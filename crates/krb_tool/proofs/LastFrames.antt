@@ -1,5 +1,5 @@
 -- The last frame of a stream that is decoded.
-use Rattle.std.proofs.Common.{◌≡◌, ℕ, ◌+◌, List, [], ◌∷◌, ◌++◌, length, drop, sym, ◌∙◌, ap, ap₂, subst, arith, append-nil, append_assoc, drop_at, length-append}
+use Rattle.std.proofs.Common.{◌≡◌, ℕ, ◌+◌, List, [], ◌∷◌, ◌++◌, drop, sym, ◌∙◌, ap, ap₂, subst, append-nil, append_assoc, drop_at}
 use Rattle.std.proofs.lemmas.List.{take_at}
 use Rattle.krb_msg.specs.Grammar.{messages}
 use Rattle.krb_msg.specs.Stream.{End, Boundary, Within, Refused, Frames, frames}
@@ -9,7 +9,7 @@ use Rattle.krb_frame.specs.GoingOn.{after_contents}
 use Rattle.krb_frame.specs.declared.decoder.Status.TheVariants as status
 use Rattle.krb_frame.proofs.Ends.{found_of}
 use Rattle.krb_tool.specs.Listing.{IsNotRefused}
-use Rattle.krb_tool.specs.Paths.{end_extent, end_path, frame_extent, frame_path, last_octets}
+use Rattle.krb_tool.specs.Paths.{end_path, frame_path, last_octets}
 
 -- ---- while more is awaited
 pub more_not_refused : (contents : List (List ℕ)) (end : End) → status_at contents end ≡ status.More → IsNotRefused end

@@ -1,5 +1,5 @@
 -- A stream that is listed piece by piece, up to its end or the first refusal, or also after refusals.
-use Rattle.std.proofs.Common.{◌≡◌, ℕ, ◌+◌, ◌*◌, ◌^◌, ◌<◌, ◌≤◌, ◌⊎◌, inl, inr, Bool, true, false, List, [], ◌∷◌, ◌++◌, length, map, take, drop, Option, Result, Ok, Err, refl, sym, ◌∙◌, ap, ap₂, subst, arith, append-nil, append_assoc, take-append-drop}
+use Rattle.std.proofs.Common.{◌≡◌, ℕ, ◌+◌, ◌^◌, ◌<◌, ◌≤◌, ◌⊎◌, inl, inr, Bool, true, false, List, [], ◌∷◌, ◌++◌, length, map, take, drop, Option, Ok, Err, refl, sym, ◌∙◌, ap, ap₂, subst, arith, append-nil, append_assoc, take-append-drop}
 use Rattle.std.proofs.lemmas.List.{map-append, take_at}
 use Rattle.std.specs.List.{flat_map}
 use Rattle.std.specs.Io.KnownBytes.{IsAtEnd}
@@ -16,7 +16,6 @@ use Rattle.krb_frame.specs.GoingOn.{Entry, Fault, after_contents, last_entry, en
 use Rattle.krb_frame.proofs.Ends.{refused_end, refused_more}
 use Rattle.krb_frame.proofs.GoingOn.{entries-refused}
 use Rattle.krb_frame.proofs.Skips.{entries-waiting, entries-last}
-use Rattle.krb_text.specs.declared.extent.Extent.{Extent}
 use Rattle.krb_text.specs.declared.form.Form.{Form}
 use Rattle.krb_tool.specs.Lines.{message_line, refused_line, end_line}
 use Rattle.krb_tool.specs.Paths.{frame_extent, frame_path, last_octets}
@@ -30,7 +29,6 @@ use Rattle.krb_tool.specs.declared.listing.StreamLines.{StreamLines}
 use Rattle.krb_tool.specs.declared.run.RunEnd.{RunEnd}
 use Rattle.krb_tool.specs.declared.run.RunFault.{RunFault}
 use Rattle.krb_tool.specs.declared.run.RunFault.TheVariants as fault
-use Rattle.krb_tool.specs.declared.stream_run.Request.{Request}
 use Rattle.krb_tool.proofs.FirstRefusals.{IsTold, is_told, SameEnd, AreWhole, are_whole, frames-begin, frames-first}
 use Rattle.krb_tool.proofs.KnownLengths.{known_last}
 use Rattle.krb_tool.proofs.LastFrames.{more_not_refused}

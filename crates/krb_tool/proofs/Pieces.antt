@@ -1,5 +1,5 @@
 -- Pieces of a stream, whatever kind of lister lists it.
-use Rattle.std.proofs.Common.{◌≡◌, ℕ, ◌+◌, ◌-◌, ◌*◌, ◌^◌, ◌<◌, ◌≤◌, inl, inr, Bool, true, false, List, [], ◌++◌, length, take, drop, Option, refl, sym, ◌∙◌, ap, subst, arith, append-nil, append_assoc, length-append, length-drop, length-take, drop_at}
+use Rattle.std.proofs.Common.{◌≡◌, ℕ, ◌+◌, ◌-◌, ◌*◌, ◌^◌, ◌<◌, ◌≤◌, inl, inr, Bool, true, false, List, [], ◌++◌, length, take, drop, Option, refl, sym, ◌∙◌, ap, subst, arith, append-nil, append_assoc, length-append, length-drop, drop_at}
 use Rattle.std.proofs.lemmas.List.{drop-drop, take_all, take_at}
 use Rattle.std.proofs.Math.Seq.{take-add}
 use Rattle.krb_frame.specs.Frame.{framed}

@@ -1,5 +1,5 @@
 -- What a run that writes one text of what it reads, messages as lines or lines as messages, does to its reader and its writer.
-use Rattle.std.specs.Prelude.{ℕ, ◌≡◌, ◌≤◌, List, ◌++◌, length, Option}
+use Rattle.std.specs.Prelude.{ℕ, ◌≡◌, List, ◌++◌, Option}
 use Rattle.std.specs.Io.KnownBytes.{Consumes, Appends, IsAtEnd}
 use Rattle.krb_tool.specs.Listing.{StopsInPiece, WritesPrefix}
 
