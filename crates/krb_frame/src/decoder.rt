@@ -206,6 +206,7 @@ impl Decoder {
     /// as if the frame had been fed and cleared, but nothing is kept of it and the machine looks at
     /// none of its octets. Returns `None` of any other piece, and if a part of a frame was fed
     /// before or one is ready or refused: then the piece is to be fed. It allocates nothing.
+    #[inline(always)]
     pub fn pass<'p>(&self, piece: &'p [u8]) -> Option<Passed<'p>>
         ensures frame { option_map contents_of result ≡ passed self.now piece.now }
         ensures passes { IfSome result (Passes (messages self.now.profile) self.now piece.now) }
