@@ -71,12 +71,14 @@ impl SkippingDecoder {
     ) -> Result<Next<'p>, Memory>
         ensures { IfOk result (DeliversNext R.Receives keeps_going self.old piece.now self.new receiver.old receiver.new) }
     {
-        let Some(passed) = self.pass(piece) else {
-            return self.deliver_cut(piece, keeps_going, receiver);
-        };
-        let size = (piece.len() - passed.rest.len()) as u64;
-        receiver.receive_message(&passed.message, size)?;
-        Ok(Next::Frame(passed.rest))
+        match self.pass(piece) {
+            None => self.deliver_cut(piece, keeps_going, receiver),
+            Some(passed) => {
+                let size = (piece.len() - passed.rest.len()) as u64;
+                receiver.receive_message(&passed.message, size)?;
+                Ok(Next::Frame(passed.rest))
+            }
+        }
     }
 
     /// Delivers the first frame of a piece, as [`deliver_next`](SkippingDecoder::deliver_next)

@@ -71,6 +71,7 @@ impl SkippingDecoder {
 
     /// Passes the frame with which a piece begins, as [`Decoder::pass`] does. Returns `None`, too,
     /// while octets of a skipped frame are to come: then the piece is to be fed.
+    #[inline(always)]
     pub fn pass<'p>(&self, piece: &'p [u8]) -> Option<Passed<'p>>
         ensures frame { option_map contents_of result ≡ passed_by self.now piece.now }
         ensures passes { IfSome result (PassesEntry (messages self.now.current.profile) self.now piece.now) }
