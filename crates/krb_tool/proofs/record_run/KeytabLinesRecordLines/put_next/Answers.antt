@@ -15,6 +15,6 @@ pub returns-in-Ok-Done-clause-line : goal.returns-in-Ok-Done-clause-line
 returns-in-Ok-Done-clause-line g c = λ left is_left.
     stop_added c.args.self.now.form c.args.self.now.records.reader c.next_record.new.self.reader c.args.self.now.records.state c.next_record.new.self.state c.args.count left c.args.text.now c.put_stop.new.text is_left c.in-Ok-Done.stop c.put_stop.result (rw c.in-Ok-Done.field-0-is at c.in-Ok-Done.ensures.next) (rw c.in-Ok-Done.field-0-is at c.put_stop.ensures.line)
 
-pub returns-in-Err-clause-line : goal.returns-in-Err-clause-line
-returns-in-Err-clause-line g c = λ left is_left.
+pub returns-in_ok-path-in-Err-clause-line : goal.returns-in_ok-path-in-Err-clause-line
+returns-in_ok-path-in-Err-clause-line g c = λ left is_left.
     refusal_added c.args.self.now.form c.args.self.now.records.reader c.next_record.new.self.reader c.args.self.now.records.state c.next_record.new.self.state c.args.count left c.args.text.now c.put_fault.new.text is_left c.in-Err.fault c.put_fault.result c.in-Err.ensures.next (refusal_shown (keytab_path c.args.count) c.args.self.now.form c.in-Err.fault (option_map string_bytes c.in_ok-path-in-Err.path) c.args.text.now c.put_fault.new.text c.put_fault.result (rw c.field.ensures at c.in_ok-path-in-Err.ensures.path) c.put_fault.ensures.refused)
