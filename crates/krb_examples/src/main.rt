@@ -269,7 +269,7 @@ fn put_capture(
                 packets.give_back(packet);
             }
             Ok(None) => return capture.finish(text).or(Err(FileFault::Memory)),
-            Err(fault) => return Err(fault.fault),
+            Err(fault) => return Err(fault),
         }
     }
     Ok(false)

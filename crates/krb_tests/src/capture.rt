@@ -65,7 +65,7 @@ fn put_records(
             }
             Ok(None) => return Ok(capture.finish(text)?),
             Err(fault) => {
-                let FileFault::Refused(refusal) = fault.fault else {
+                let FileFault::Refused(refusal) = fault else {
                     return Err(Fail::from("a fault of the file"));
                 };
                 let extent = Extent {

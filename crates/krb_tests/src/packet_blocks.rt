@@ -89,7 +89,8 @@ fn cut_blocks_are_refused(rt: HostRuntime) -> Result<(), Fail> {
     let mut packets = Packets::new(&CAPTURE[..500]);
     match packets.next_packet(rt.alloc()) {
         Err(refused) => {
-            let text = format!(in rt.alloc(); "{} in {}", refused.fault, refused.field)?;
+            let field = refused.field().ok_or("a field")?;
+            let text = format!(in rt.alloc(); "{refused} in {field}")?;
             assert_eq!(rt; text.as_str(), "refused at 304: Truncated in block[2].body");
         }
         Ok(_) => panic!(rt; "not refused"),

@@ -42,10 +42,7 @@ fn fault_of(alloc: Global, file: &File, octets: &[u8]) -> Result<Option<FileFaul
                 Err(fault) => Ok(Some(fault)),
             }
         }
-        File::Capture => match Packets::new(octets).next_packet(alloc) {
-            Ok(_) => Ok(None),
-            Err(fault) => Ok(Some(fault.fault)),
-        },
+        File::Capture => Ok(Packets::new(octets).next_packet(alloc).err()),
     }
 }
 
