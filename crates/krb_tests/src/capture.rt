@@ -112,9 +112,9 @@ const HEADERS: &str =
 const FRAMES: usize = 1000;
 
 /// How many octets of text the steps over the packet leave: the record of the direction's
-/// beginning, of 87 octets, and of 607 frames, each of 108, with the last of which the text has 64
-/// KiB; and the records of the other 393.
-const STEPS: [usize; 2] = [65643, 42444];
+/// beginning, of 87 octets, and of 608 frames, each of 108, with the last but one of which the text
+/// has 64 KiB; and the records of the other 392.
+const STEPS: [usize; 2] = [65751, 42336];
 
 /// Returns how many octets of text each step over the packet leaves.
 fn step_sizes(alloc: Global, packet: &Packet, text: &mut TextBuffer) -> Result<Vec<usize>, Memory> {
