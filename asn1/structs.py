@@ -48,7 +48,7 @@ def ghost_uses(module, it, body):
         ("Rattle.krb_msg.specs.Term", ["Application as ApplicationTerm", "der", "Fits", "tag_of"]),
         ("Rattle.krb_msg.specs.Notes", ["has", "notes_by"]),
         ("Rattle.krb_msg.specs.Grammar", [term] + [name for name in lists if name != it.term]),
-        ("Rattle.krb_msg.specs.Types", [f"{it.term}_{word}" for word in "value of view_value of_view".split()] + [f"{it.rust}Lists"]),
+        ("Rattle.krb_msg.specs.Types", [f"{it.term}_{word}" for word in "value of view_value of_view".split()] + [f"IsValid{it.rust}"]),
         ("Rattle.krb_msg.specs.Viewed", ["AreContents", "AreNoContents", "IsNotWhole", "IsViewOf", "items_of"]),
         ("Rattle.krb_msg.specs.inner.Fitting", ["IsSized"]),
         ("Rattle.krb_msg.specs.inner.PrefixFree", ["begins", "type_is_prefix_free"]),
@@ -146,9 +146,9 @@ def cut_views(it):
     fields, kept = "⟦<Rest<Owned> as ViewFields<'static>>⟧", "⟦<Cut<Rest<Owned>> as ViewFields<'static>>⟧"
     clauses = (
         f"values {{ {kept}.values result ≡ {fields}.values seen.now }}",
-        f"lists {{ {fields}.Lists seen.now → {kept}.Lists result }}",
+        f"lists {{ {fields}.IsValid seen.now → {kept}.IsValid result }}",
         f"values {{ {fields}.values result ≡ {kept}.values self.now }}",
-        f"lists {{ {kept}.Lists self.now → {fields}.Lists result }}",
+        f"lists {{ {kept}.IsValid self.now → {fields}.IsValid result }}",
     )
     made = [f"{field.rust}: {path('seen', at)}" for at, field in enumerate(after)]
     return fill(
@@ -166,9 +166,9 @@ def view_of_fields(it):
     layout = f"⟦<Layout<Owned{numbers}> as View<'static>>⟧"
     clauses = (
         f"value {{ {it.term}_view_value{argument} result ≡ {layout}.value seen.now }}",
-        f"lists {{ {layout}.Lists seen.now → {it.rust}Lists result }}",
+        f"lists {{ {layout}.IsValid seen.now → IsValid{it.rust} result }}",
         f"value {{ {layout}.value result ≡ {it.term}_view_value{argument} self.now }}",
-        f"lists {{ {it.rust}Lists self.now → {layout}.Lists result }}",
+        f"lists {{ IsValid{it.rust} self.now → {layout}.IsValid result }}",
     )
     first = f"let rest = &seen{'.1' * it.cut};\n" if it.cut else ""
     kept = it.kept[: it.cut] if it.cut else it.kept

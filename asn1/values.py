@@ -137,7 +137,7 @@ def known(field, value):
     if field.is_list:
         name, fact = "items", f"AreViewed {term_of(field.part)} {{}}.octets.now"
     elif isinstance(field.type, Sequence):
-        return f"IfPresent {field.type.rust}Lists {value}" if field.optional else f"{field.type.rust}Lists {value}"
+        return f"IfPresent IsValid{field.type.rust} {value}" if field.optional else f"IsValid{field.type.rust} {value}"
     elif field.type.form in ("time", "micros", "octets"):
         facts = {
             "time": ("time", "IsTimeFrom 14 {}.now"),
@@ -165,9 +165,9 @@ def view_values(it):
     values = [fixed_value(field) if field.is_fixed else seen_value(field, f"{letter}.{field.rust}") for field in it.fields]
     facts = {field.rust: fact for field in it.kept if (fact := known(field, f"{letter}.{field.rust}"))}
     if len(facts) > 2:
-        lists = f"pub record {it.rust}Lists ({letter} : {view}) : Type 0 where\n" + "".join(f"  pub {name} : {fact}\n" for name, fact in facts.items())
+        lists = f"pub record IsValid{it.rust} ({letter} : {view}) : Type 0 where\n" + "".join(f"  pub {name} : {fact}\n" for name, fact in facts.items())
     else:
-        lists = f"abbrev pub {it.rust}Lists : {view} → Type 0\n{it.rust}Lists {letter} = {' × '.join(facts.values()) or '⊤'}\n"
+        lists = f"abbrev pub IsValid{it.rust} : {view} → Type 0\nIsValid{it.rust} {letter} = {' × '.join(facts.values()) or '⊤'}\n"
     return f"""-- ---- a view of it: as a value of its term, as a value of the type, and what is known of it
 abbrev pub {it.term}_view_value : {number}{view} → {value_type(it)}
 {equation(f"{it.term}_view_value{argument} {letter}", values)}
@@ -206,7 +206,7 @@ def values_file(it):
         text += f"use Rattle.{it.crate}.specs.declared.{it.term}.{name}.{{{name}}}\n"
     for part in parts_in(it):
         if isinstance(part, Sequence):
-            words = [f"{part.term}_value", f"{part.term}_of", f"{part.term}_view_value", f"{part.rust}Lists"]
+            words = [f"{part.term}_value", f"{part.term}_of", f"{part.term}_view_value", f"IsValid{part.rust}"]
             text += brought(body, [(f"Rattle.{part.crate}.specs.Types.{part.rust}", words)])
     return f"{text}\n{body}"
 
@@ -214,7 +214,7 @@ def values_file(it):
 def defined(it):
     """The definitions of a type."""
     names = [f"{it.rust}Value"] * it.is_parametric + [f"{it.term}_{word}" for word in ("value", "of", "view_value", "of_view")]
-    return names + [f"{it.rust}Lists"]
+    return names + [f"IsValid{it.rust}"]
 
 
 def index_of_types(module):
@@ -286,7 +286,7 @@ def seen_part(field, facts, letter):
         law = "option_items-back" if field.optional else "items-back"
         return f"{law} {part.term} {ways} {part.term}_value-of {value if field.optional else value + '.octets.now'} {facts[field.rust]} i"
     if field.optional:
-        return f"option_part-back {part.rust}Lists {part.term}_view_value {ways} {part.term}_value-seen {value} {facts[field.rust]} i"
+        return f"option_part-back IsValid{part.rust} {part.term}_view_value {ways} {part.term}_value-seen {value} {facts[field.rust]} i"
     return f"{part.term}_value-seen {value} {facts[field.rust]} i"
 
 
@@ -301,7 +301,7 @@ def value_lemmas(it):
     return f"""pub {it.term}_value-of : {n}(v : {value_type(it)}) → {fits} → {it.term}_value{number} ({it.term}_of v) ≡ v
 {equation(f"{it.term}_value-of{number} v f = λ i.", of).replace(". =", ".")}
 
-pub {it.term}_value-seen : {n}({letter} : {it.rust}View) → {it.rust}Lists {letter} → {same}
+pub {it.term}_value-seen : {n}({letter} : {it.rust}View) → IsValid{it.rust} {letter} → {same}
 {equation(f"{it.term}_value-seen{number} {letter} lists = λ i.", seen).replace(". =", ".")}
 """
 

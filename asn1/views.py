@@ -28,7 +28,7 @@ def ghost_uses(it, body):
         ("Rattle.krb_msg.specs.Basic", ["sequence_of"]),
         ("Rattle.krb_msg.specs.Viewed", ["AreContents", "AreNoContents", "AreViewed", "items_of"]),
         (f"Rattle.{it.crate}.specs.Grammar", [it.term]),
-        (f"Rattle.{it.crate}.specs.Types", [f"{it.term}_view_value", f"{it.rust}Lists"]),
+        (f"Rattle.{it.crate}.specs.Types", [f"{it.term}_view_value", f"IsValid{it.rust}"]),
     ]
     return brought(body + INHERITED, homes, "ghost ")
 

@@ -2,7 +2,7 @@
 
 ghost use Rattle.std.specs.Prelude.{◌≡◌, ◌↔◌, ◌++◌, IsTrue, OnOk, string_bytes};
 ghost use Rattle.std.specs.Option.{option_copied};
-ghost use Rattle.krb_msg.specs.ViewValues.{MessageLists, message_of_view};
+ghost use Rattle.krb_msg.specs.ViewValues.{IsValidMessage, message_of_view};
 ghost use Rattle.krb_text.specs.Captures.{capture_end_line, capture_refused_line};
 ghost use Rattle.krb_capture.specs.Found.{IsFull, Whole, Faulty, Joined, Missing, Password, and_more, nothing_written, totals, with_found};
 
@@ -99,7 +99,7 @@ impl Listing {
         origin: &Origin,
         view: &MessageView<'_>,
     ) -> Result<(), Memory>
-        requires { MessageLists view.now }
+        requires { IsValidMessage view.now }
         ensures { OnOk result (self.new ≡ with_found origin.now (Whole (message_of_view view.now)) self.old) }
     {
         put_captured_message(&mut self.text, self.form, origin, view)?;

@@ -5,7 +5,7 @@ use Rattle.krb_der.specs.Octets.{when}
 use Rattle.krb_der.specs.declared.verdict.Refusal.{Refusal}
 use Rattle.krb_msg.specs.Grammar.{ticket}
 use Rattle.krb_msg.specs.ValueOfDer.{value_of_der}
-use Rattle.krb_msg.specs.Types.{TicketLists, ticket_of_view, ticket_of}
+use Rattle.krb_msg.specs.Types.{IsValidTicket, ticket_of_view, ticket_of}
 use Rattle.krb_msg.specs.declared.ticket.Ticket.{Ticket}
 use Rattle.krb_judge.specs.Parses.{ticket_refusal, AreOfTicket}
 use Rattle.krb_ccache.specs.declared.value.Credential.{Credential}
@@ -43,7 +43,7 @@ state_viewed (views.Refused refusal) = states.Refused refusal
 abbrev pub StateLists : TicketStateView → Type 0
 StateLists views.Absent = Unit {0}
 StateLists views.Config = Unit {0}
-StateLists (views.Ticket view) = TicketLists view
+StateLists (views.Ticket view) = IsValidTicket view
 StateLists (views.Refused refusal) = Unit {0}
 
 -- if the contents are a Ticket, the octets are its DER

@@ -6,7 +6,7 @@ ghost use Rattle.krb_msg.specs.Grammar.{ticket};
 ghost use Rattle.krb_msg.specs.Nodes.{term_at};
 ghost use Rattle.krb_msg.specs.Profiles.{profile_term};
 ghost use Rattle.krb_msg.specs.ViewValues.{IsMessageView};
-ghost use Rattle.krb_msg.specs.Types.{TicketLists, ticket_of_view};
+ghost use Rattle.krb_msg.specs.Types.{IsValidTicket, ticket_of_view};
 ghost use Rattle.krb_msg.specs.Shape.{has_octet_tags, is_unambiguous};
 ghost use Rattle.krb_msg.specs.Table.{IsNode};
 ghost use Rattle.krb_msg.specs.Viewed.{IsViewOf};
@@ -150,7 +150,7 @@ pub(crate) fn ticket_node(profile: Profile) -> u16
 /// profile. It allocates nothing.
 pub fn read_ticket(octets: &[u8]) -> Result<TicketView<'_>, Refusal>
     ensures ticket { IfOk result (λ view. AreOfTicket Profile.Lenient octets.now (ticket_of_view view)) }
-    ensures lists { IfOk result TicketLists }
+    ensures lists { IfOk result IsValidTicket }
     ensures refused { (r : Refusal) → IsErrOf result r ↔ (ticket_refusal Profile.Lenient octets.now ≡ Some r) }
 {
     read_ticket_in(Profile::Lenient, octets)
@@ -160,7 +160,7 @@ pub fn read_ticket(octets: &[u8]) -> Result<TicketView<'_>, Refusal>
 /// nothing.
 pub fn read_ticket_in(profile: Profile, octets: &[u8]) -> Result<TicketView<'_>, Refusal>
     ensures ticket { IfOk result (λ view. AreOfTicket profile octets.now (ticket_of_view view)) }
-    ensures lists { IfOk result TicketLists }
+    ensures lists { IfOk result IsValidTicket }
     ensures refused { (r : Refusal) → IsErrOf result r ↔ (ticket_refusal profile octets.now ≡ Some r) }
 {
     read_item::<Ticket>(profile, ticket_node(profile), octets)
@@ -216,7 +216,7 @@ fn read_item<'a, T: View<'a>>(
     requires term { term_at node ≡ profile_term profile false T.term }
     requires tags { has_octet_tags T.term ≡ true }
     requires unambiguous { is_unambiguous T.term ≡ true }
-    ensures item { IfOk result (λ seen. IsViewOf T.term octets.now (T.value seen) × T.Lists seen) }
+    ensures item { IfOk result (λ seen. IsViewOf T.term octets.now (T.value seen) × T.IsValid seen) }
     ensures whole { IfOk result (λ _. refusal_by (term_judgement (profile_term profile false T.term)) octets.now ≡ None) }
     ensures refused { (r : Refusal) → IsErrOf result r ↔ (refusal_by (term_judgement (profile_term profile false T.term)) octets.now ≡ Some r) }
 {
@@ -239,7 +239,7 @@ fn viewed_message(octets: &[u8]) -> Option<MessageView<'_>>
 fn viewed_item<'a, T: View<'a>>(octets: &'a [u8]) -> Option<T::Of>
     requires tags { has_octet_tags T.term ≡ true }
     requires unambiguous { is_unambiguous T.term ≡ true }
-    ensures { MatchOption result (refusal_by (term_judgement T.term) octets.now ≢ None) (λ seen. IsViewOf T.term octets.now (T.value seen) × T.Lists seen × (refusal_by (term_judgement T.term) octets.now ≡ None)) }
+    ensures { MatchOption result (refusal_by (term_judgement T.term) octets.now ≢ None) (λ seen. IsViewOf T.term octets.now (T.value seen) × T.IsValid seen × (refusal_by (term_judgement T.term) octets.now ≡ None)) }
 {
     if octets.len() > MOST {
         return None;

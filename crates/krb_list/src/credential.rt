@@ -2,7 +2,7 @@
 
 ghost use Rattle.std.specs.Prelude.{◌≡◌, ◌++◌, [], ◌∷◌, false, IfOk, OnOk, codes, decimal, length, pos, string_bytes};
 ghost use Rattle.krb_der.specs.Reasons.{reason_name, reason_number};
-ghost use Rattle.krb_msg.specs.Types.{TicketLists, ticket_of_view};
+ghost use Rattle.krb_msg.specs.Types.{IsValidTicket, ticket_of_view};
 ghost use Rattle.krb_ccache.specs.Tickets.{StateLists, state_viewed};
 ghost use Rattle.krb_registry.specs.declared.registry.Registry.TheVariants.{EncryptionTypes};
 ghost use Rattle.krb_list.specs.Ccaches.{config_record, counts_fields, credential_record, flags_fields, key_fields, state, state_record, ticket_server, ticketed_record, tickets_fields, times_fields, who_fields};
@@ -257,7 +257,7 @@ impl Shown for RefusedOctets {
 
 /// Returns the server of a ticket.
 fn server_of<'a>(view: &TicketView<'a>) -> Principal<'a, ViewedStrings<'a>>
-    requires { TicketLists view.now }
+    requires { IsValidTicket view.now }
     ensures { IsPrincipal result.name_type result.components result.realm.now ≡ ticket_server (ticket_of_view view.now) }
 {
     Principal {

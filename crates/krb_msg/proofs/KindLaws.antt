@@ -8,7 +8,7 @@ use Rattle.krb_msg.specs.Shape.{IsOneOf}
 use Rattle.krb_msg.specs.Term.{Term, Value, Fits, tag_of}
 use Rattle.krb_msg.specs.Types.{kdc_req_of, kdc_rep_of, ap_req_of, ap_rep_of, krb_safe_of, krb_priv_of, krb_cred_of, krb_error_of}
 use Rattle.krb_msg.specs.Views.{kind_term_in, kind_of_tag}
-use Rattle.krb_msg.specs.Kinds.{kind_with_tag, kind_tag, kind_term, message_value, message_of_view, message_view_value, MessageLists}
+use Rattle.krb_msg.specs.Kinds.{kind_with_tag, kind_tag, kind_term, message_value, message_of_view, message_view_value, IsValidMessage}
 use Rattle.krb_msg.specs.declared.message.Message.TheVariants as message
 use Rattle.krb_msg.specs.declared.message.Kind.{Kind}
 use Rattle.krb_msg.specs.declared.message.Kind.TheVariants as kind
@@ -79,7 +79,7 @@ kind_from_tag k tag =
     (λ e. absurd (some_is_none k (sym e))))))))))))
 
 -- a view has the value of its message
-pub message_value-seen : (m : MessageView) → MessageLists m → message_value (message_of_view m) ≡ message_view_value m
+pub message_value-seen : (m : MessageView) → IsValidMessage m → message_value (message_of_view m) ≡ message_view_value m
 message_value-seen (view.AsReq m) lists = kdc_req_value-seen 10 m lists
 message_value-seen (view.AsRep m) lists = kdc_rep_value-seen 11 m lists
 message_value-seen (view.TgsReq m) lists = kdc_req_value-seen 12 m lists

@@ -14,7 +14,7 @@ use Rattle.krb_msg.proofs.Judged.{whole_is_message}
 use Rattle.krb_msg.proofs.KindLaws.{chosen, kind_tags}
 use Rattle.krb_msg.proofs.MessageOfDer.{message_of_der_is_message}
 use Rattle.krb_msg.specs.Viewed.{IsViewOf, IsNotWhole}
-use Rattle.krb_msg.specs.ViewValues.{BeginAs, IsMessageView, IsNoMessage, MessageLists, message_of_view}
+use Rattle.krb_msg.specs.ViewValues.{BeginAs, IsMessageView, IsNoMessage, IsValidMessage, message_of_view}
 use Rattle.krb_msg.specs.declared.message_view.MessageView.{MessageView}
 
 -- ---- octets of no message
@@ -51,7 +51,7 @@ pub message_viewed : (k : Kind) (octets : List ℕ) (value : Value (kind_term k)
 message_viewed k octets value a small some first v =
     subst (IsMessageOf octets) (read_as k octets some first ∙ ap (message_of k) (sym v.read)) (read_message octets a small (judged_as k octets some first ∙ v.whole))
 
-pub viewed_message : (k : Kind) (octets : List ℕ) (m : MessageView) (value : Value (kind_term k)) → message_of k value ≡ message_of_view m → AreOctets octets → BeginAs k octets → IsViewOf (kind_term k) octets value → MessageLists m → IsMessageView octets m
+pub viewed_message : (k : Kind) (octets : List ℕ) (m : MessageView) (value : Value (kind_term k)) → message_of k value ≡ message_of_view m → AreOctets octets → BeginAs k octets → IsViewOf (kind_term k) octets value → IsValidMessage m → IsMessageView octets m
 viewed_message k octets m value same a b v lists =
     let o : IsMessageOf octets (message_of_view m) = subst (IsMessageOf octets) same (message_viewed k octets value a b.short b.some b.first v) in
     record { whole = o.whole; in_profile = o.in_profile; form = o.form; read = o.read; lists = lists }

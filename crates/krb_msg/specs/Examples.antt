@@ -118,19 +118,19 @@ a_wrong_version = refl
 abbrev ticket_octets : List ℕ
 ticket_octets = hex (codes "612B3029 A003020105 A1031B0141 A20E300CA003020102A10530031B0168 A30D300BA003020112A2040402BEEF")
 
-abbrev sealed_octets : List ℕ
-sealed_octets = hex (codes "300BA003020112A2040402BEEF")
+abbrev encrypted_octets : List ℕ
+encrypted_octets = hex (codes "300BA003020112A2040402BEEF")
 
 ticket_whole : item_outcome ticket 45 true ticket_octets ≡ Done 45
 ticket_whole = refl
 
-ap_req_whole : item_outcome ap_req 85 true (hex (codes "6E533051 A003020105 A10302010E A20703050000000000 A32D") ++ ticket_octets ++ hex (codes "A40D") ++ sealed_octets) ≡ Done 85
+ap_req_whole : item_outcome ap_req 85 true (hex (codes "6E533051 A003020105 A10302010E A20703050000000000 A32D") ++ ticket_octets ++ hex (codes "A40D") ++ encrypted_octets) ≡ Done 85
 ap_req_whole = refl
 
-as_rep_whole : item_outcome as_rep 97 true (hex (codes "6B5F305D A003020105 A10302010B A3031B0141 A40E300CA003020101A10530031B0175 A52D") ++ ticket_octets ++ hex (codes "A60D") ++ sealed_octets) ≡ Done 97
+as_rep_whole : item_outcome as_rep 97 true (hex (codes "6B5F305D A003020105 A10302010B A3031B0141 A40E300CA003020101A10530031B0175 A52D") ++ ticket_octets ++ hex (codes "A60D") ++ encrypted_octets) ≡ Done 97
 as_rep_whole = refl
 
-tgs_rep_whole : item_outcome tgs_rep 97 true (hex (codes "6D5F305D A003020105 A10302010D A3031B0141 A40E300CA003020101A10530031B0175 A52D") ++ ticket_octets ++ hex (codes "A60D") ++ sealed_octets) ≡ Done 97
+tgs_rep_whole : item_outcome tgs_rep 97 true (hex (codes "6D5F305D A003020105 A10302010D A3031B0141 A40E300CA003020101A10530031B0175 A52D") ++ ticket_octets ++ hex (codes "A60D") ++ encrypted_octets) ≡ Done 97
 tgs_rep_whole = refl
 
 -- an AS-REP under the tag of a TGS-REP
@@ -157,14 +157,14 @@ krb_safe_whole = refl
 no_address : item_outcome krb_safe 61 true (hex (codes "743B3039 A003020105 A103020114 A21E301C A0040402CAFE A303020101 A5")) ≡ Bad 29 why.Tag
 no_address = refl
 
-krb_priv_whole : item_outcome krb_priv 29 true (hex (codes "751B3019 A003020105 A103020115 A30D") ++ sealed_octets) ≡ Done 29
+krb_priv_whole : item_outcome krb_priv 29 true (hex (codes "751B3019 A003020105 A103020115 A30D") ++ encrypted_octets) ≡ Done 29
 krb_priv_whole = refl
 
 -- a KRB-PRIV has no [2]
 no_two : item_outcome krb_priv 29 true (hex (codes "751B3019 A003020105 A103020115 A2")) ≡ Bad 14 why.Tag
 no_two = refl
 
-krb_cred_whole : item_outcome krb_cred 78 true (hex (codes "764C304A A003020105 A103020116 A22F302D") ++ ticket_octets ++ hex (codes "A30D") ++ sealed_octets) ≡ Done 78
+krb_cred_whole : item_outcome krb_cred 78 true (hex (codes "764C304A A003020105 A103020116 A22F302D") ++ ticket_octets ++ hex (codes "A30D") ++ encrypted_octets) ≡ Done 78
 krb_cred_whole = refl
 
 krb_error_whole : item_outcome krb_error 81 true (hex (codes "7E4F304D A003020105 A10302011E A411180F32303030303130313030303030305A A503020100 A603020119 A9031B0141 AA0E300CA003020102A10530031B0168 AC0F040D300B3009A103020102A2020400")) ≡ Done 81

@@ -1,6 +1,6 @@
 -- Messages by their kinds. asn1/generate wrote this from asn1/krb5.asn1
 use Rattle.std.specs.Prelude.{ℕ, ◌+◌, ◌==◌, if◌then◌else◌, List, codes, Option, Some, None}
-use Rattle.krb_msg.specs.Types.{kdc_req_value, kdc_req_of, kdc_req_view_value, kdc_req_of_view, KdcReqLists, kdc_rep_value, kdc_rep_of, kdc_rep_view_value, kdc_rep_of_view, KdcRepLists, ap_req_value, ap_req_of, ap_req_view_value, ap_req_of_view, ApReqLists, ap_rep_value, ap_rep_of, ap_rep_view_value, ap_rep_of_view, ApRepLists, krb_safe_value, krb_safe_of, krb_safe_view_value, krb_safe_of_view, KrbSafeLists, krb_priv_value, krb_priv_of, krb_priv_view_value, krb_priv_of_view, KrbPrivLists, krb_cred_value, krb_cred_of, krb_cred_view_value, krb_cred_of_view, KrbCredLists, krb_error_value, krb_error_of, krb_error_view_value, krb_error_of_view, KrbErrorLists}
+use Rattle.krb_msg.specs.Types.{kdc_req_value, kdc_req_of, kdc_req_view_value, kdc_req_of_view, IsValidKdcReq, kdc_rep_value, kdc_rep_of, kdc_rep_view_value, kdc_rep_of_view, IsValidKdcRep, ap_req_value, ap_req_of, ap_req_view_value, ap_req_of_view, IsValidApReq, ap_rep_value, ap_rep_of, ap_rep_view_value, ap_rep_of_view, IsValidApRep, krb_safe_value, krb_safe_of, krb_safe_view_value, krb_safe_of_view, IsValidKrbSafe, krb_priv_value, krb_priv_of, krb_priv_view_value, krb_priv_of_view, IsValidKrbPriv, krb_cred_value, krb_cred_of, krb_cred_view_value, krb_cred_of_view, IsValidKrbCred, krb_error_value, krb_error_of, krb_error_view_value, krb_error_of_view, IsValidKrbError}
 use Rattle.krb_msg.specs.Grammar.{as_req, as_rep, tgs_req, tgs_rep, ap_req, ap_rep, krb_safe, krb_priv, krb_cred, krb_error}
 use Rattle.krb_msg.specs.Term.{Term, Value}
 use Rattle.krb_msg.specs.declared.message.Message.{Message}
@@ -128,17 +128,17 @@ message_view_value (view.KrbPriv m) = krb_priv_view_value m
 message_view_value (view.KrbCred m) = krb_cred_view_value m
 message_view_value (view.KrbError m) = krb_error_view_value m
 
-abbrev pub MessageLists : MessageView → Type 0
-MessageLists (view.AsReq m) = KdcReqLists m
-MessageLists (view.AsRep m) = KdcRepLists m
-MessageLists (view.TgsReq m) = KdcReqLists m
-MessageLists (view.TgsRep m) = KdcRepLists m
-MessageLists (view.ApReq m) = ApReqLists m
-MessageLists (view.ApRep m) = ApRepLists m
-MessageLists (view.KrbSafe m) = KrbSafeLists m
-MessageLists (view.KrbPriv m) = KrbPrivLists m
-MessageLists (view.KrbCred m) = KrbCredLists m
-MessageLists (view.KrbError m) = KrbErrorLists m
+abbrev pub IsValidMessage : MessageView → Type 0
+IsValidMessage (view.AsReq m) = IsValidKdcReq m
+IsValidMessage (view.AsRep m) = IsValidKdcRep m
+IsValidMessage (view.TgsReq m) = IsValidKdcReq m
+IsValidMessage (view.TgsRep m) = IsValidKdcRep m
+IsValidMessage (view.ApReq m) = IsValidApReq m
+IsValidMessage (view.ApRep m) = IsValidApRep m
+IsValidMessage (view.KrbSafe m) = IsValidKrbSafe m
+IsValidMessage (view.KrbPriv m) = IsValidKrbPriv m
+IsValidMessage (view.KrbCred m) = IsValidKrbCred m
+IsValidMessage (view.KrbError m) = IsValidKrbError m
 
 -- the realm that a message is of (RFC 4120, 5.2.2), if it is of one
 abbrev pub realm_of : Message → Option (List ℕ)

@@ -6,7 +6,7 @@ use Rattle.krb_msg.specs.Judgement.{judgement}
 use Rattle.krb_msg.specs.Views.{message_of_der, kind_tag, message_der, IsInProfile}
 use Rattle.krb_msg.specs.declared.message.Kind.{Kind}
 use Rattle.krb_msg.specs.declared.message_view.MessageView.{MessageView}
-pub use Rattle.krb_msg.specs.Kinds.{message_of_view, MessageLists}
+pub use Rattle.krb_msg.specs.Kinds.{message_of_view, IsValidMessage}
 
 -- a view of the octets of a message: they are judged whole, and are the DER of the view's message
 pub record IsMessageView (octets : List ℕ) (m : MessageView) : Type 0 where
@@ -14,7 +14,7 @@ pub record IsMessageView (octets : List ℕ) (m : MessageView) : Type 0 where
   pub in_profile : IsInProfile Lenient (message_of_view m)
   pub form : message_der (message_of_view m) ≡ octets
   pub read : message_of_view m ≡ message_of_der octets
-  pub lists : MessageLists m
+  pub lists : IsValidMessage m
 
 -- they are not judged whole, or are more than a frame holds
 abbrev pub IsNoMessage : List ℕ → Type 0

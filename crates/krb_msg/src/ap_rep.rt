@@ -3,7 +3,7 @@
 ghost use Rattle.std.specs.Prelude.{◌≡◌, refl, ◌^◌, ◌<◌, true, length, MatchOption};
 ghost use Rattle.krb_msg.specs.Term.{der, Fits, tag_of};
 ghost use Rattle.krb_msg.specs.Grammar.{ap_rep};
-ghost use Rattle.krb_msg.specs.Types.{ap_rep_value, ap_rep_of, ap_rep_view_value, ap_rep_of_view, ApRepLists};
+ghost use Rattle.krb_msg.specs.Types.{ap_rep_value, ap_rep_of, ap_rep_view_value, ap_rep_of_view, IsValidApRep};
 ghost use Rattle.krb_msg.specs.Viewed.{AreContents, AreNoContents};
 ghost use Rattle.krb_msg.specs.inner.PrefixFree.{begins, type_is_prefix_free};
 ghost use Rattle.krb_msg.specs.inner.RoundTrips.{ap_rep-back};
@@ -23,14 +23,14 @@ use std::alloc::Global;
 /// fixed, and so not kept.
 #[derive(PartialEq, Eq, Debug, Drop)]
 pub struct ApRep {
-    /// The sealed EncAPRepPart.
+    /// The encrypted EncAPRepPart.
     pub enc_part: EncryptedData,
 }
 
 /// A view of an AP-REP: its strings and lists are borrowed from the octets.
 #[derive(Clone, Copy)]
 pub struct ApRepView<'a> {
-    /// The sealed EncAPRepPart.
+    /// The encrypted EncAPRepPart.
     pub enc_part: EncryptedDataView<'a>,
 }
 
@@ -96,7 +96,7 @@ impl<'a> ApRepView<'a> {
     #[inline(always)]
     fn of_fields(seen: &Seen<'a>) -> ApRepView<'a>
         ensures value { ap_rep_view_value result ≡ ⟦<Layout<Owned> as View<'static>>⟧.value seen.now }
-        ensures lists { ⟦<Layout<Owned> as View<'static>>⟧.Lists seen.now → ApRepLists result }
+        ensures lists { ⟦<Layout<Owned> as View<'static>>⟧.IsValid seen.now → IsValidApRep result }
     {
         ApRepView { enc_part: seen.0 }
     }
@@ -105,7 +105,7 @@ impl<'a> ApRepView<'a> {
     #[inline(always)]
     fn fields(&self) -> Seen<'a>
         ensures value { ⟦<Layout<Owned> as View<'static>>⟧.value result ≡ ap_rep_view_value self.now }
-        ensures lists { ApRepLists self.now → ⟦<Layout<Owned> as View<'static>>⟧.Lists result }
+        ensures lists { IsValidApRep self.now → ⟦<Layout<Owned> as View<'static>>⟧.IsValid result }
     {
         (self.enc_part, ())
     }
@@ -118,7 +118,7 @@ impl<'a> View<'a> for ApRep {
 
     ghost value = { ap_rep_view_value };
 
-    ghost Lists = { ApRepLists };
+    ghost IsValid = { IsValidApRep };
 
     #[inline(always)]
     fn tag() -> u8

@@ -3,7 +3,7 @@
 ghost use Rattle.std.specs.Prelude.{◌≡◌, refl, ◌^◌, ◌<◌, true, length, MatchOption};
 ghost use Rattle.krb_msg.specs.Term.{der, Fits, tag_of};
 ghost use Rattle.krb_msg.specs.Grammar.{ap_req};
-ghost use Rattle.krb_msg.specs.Types.{ap_req_value, ap_req_of, ap_req_view_value, ap_req_of_view, ApReqLists};
+ghost use Rattle.krb_msg.specs.Types.{ap_req_value, ap_req_of, ap_req_view_value, ap_req_of_view, IsValidApReq};
 ghost use Rattle.krb_msg.specs.Viewed.{AreContents, AreNoContents};
 ghost use Rattle.krb_msg.specs.inner.PrefixFree.{begins, type_is_prefix_free};
 ghost use Rattle.krb_msg.specs.inner.RoundTrips.{ap_req-back};
@@ -29,7 +29,7 @@ pub struct ApReq {
     pub ap_options: Flags,
     /// The ticket for the server.
     pub ticket: Ticket,
-    /// The sealed Authenticator.
+    /// The encrypted Authenticator.
     pub authenticator: EncryptedData,
 }
 
@@ -40,7 +40,7 @@ pub struct ApReqView<'a> {
     pub ap_options: FlagsView<'a>,
     /// The ticket for the server.
     pub ticket: TicketView<'a>,
-    /// The sealed Authenticator.
+    /// The encrypted Authenticator.
     pub authenticator: EncryptedDataView<'a>,
 }
 
@@ -123,7 +123,7 @@ impl<'a> ApReqView<'a> {
     #[inline(always)]
     fn of_fields(seen: &Seen<'a>) -> ApReqView<'a>
         ensures value { ap_req_view_value result ≡ ⟦<Layout<Owned> as View<'static>>⟧.value seen.now }
-        ensures lists { ⟦<Layout<Owned> as View<'static>>⟧.Lists seen.now → ApReqLists result }
+        ensures lists { ⟦<Layout<Owned> as View<'static>>⟧.IsValid seen.now → IsValidApReq result }
     {
         ApReqView {
             ap_options: seen.0,
@@ -136,7 +136,7 @@ impl<'a> ApReqView<'a> {
     #[inline(always)]
     fn fields(&self) -> Seen<'a>
         ensures value { ⟦<Layout<Owned> as View<'static>>⟧.value result ≡ ap_req_view_value self.now }
-        ensures lists { ApReqLists self.now → ⟦<Layout<Owned> as View<'static>>⟧.Lists result }
+        ensures lists { IsValidApReq self.now → ⟦<Layout<Owned> as View<'static>>⟧.IsValid result }
     {
         (self.ap_options, (self.ticket, (self.authenticator, ())))
     }
@@ -149,7 +149,7 @@ impl<'a> View<'a> for ApReq {
 
     ghost value = { ap_req_view_value };
 
-    ghost Lists = { ApReqLists };
+    ghost IsValid = { IsValidApReq };
 
     #[inline(always)]
     fn tag() -> u8

@@ -3,7 +3,7 @@
 ghost use Rattle.std.specs.Prelude.{◌≡◌, refl, ◌^◌, ◌<◌, true, length, MatchOption};
 ghost use Rattle.krb_msg.specs.Term.{der, Fits, tag_of};
 ghost use Rattle.krb_msg.specs.Grammar.{checksum as checksum_term};
-ghost use Rattle.krb_msg.specs.Types.{checksum_value, checksum_of, checksum_view_value, checksum_of_view, ChecksumLists};
+ghost use Rattle.krb_msg.specs.Types.{checksum_value, checksum_of, checksum_view_value, checksum_of_view, IsValidChecksum};
 ghost use Rattle.krb_msg.specs.Viewed.{AreContents, AreNoContents};
 ghost use Rattle.krb_msg.specs.inner.PrefixFree.{begins, type_is_prefix_free};
 ghost use Rattle.krb_msg.specs.inner.RoundTrips.{checksum-back};
@@ -93,7 +93,7 @@ impl<'a> View<'a> for Checksum {
 
     ghost value = { checksum_view_value };
 
-    ghost Lists = { ChecksumLists };
+    ghost IsValid = { IsValidChecksum };
 
     #[inline(always)]
     fn tag() -> u8

@@ -23,7 +23,7 @@ pub trait FromView<'a>: View<'a> + Drop {
     /// copied; each string of octets is copied once.
     fn from_view(alloc: Global, seen: &Self::Of) -> Result<Self, Memory>
         requires fits { Fits Self.View.term (Self.View.value seen.now) }
-        requires lists { Self.View.Lists seen.now }
+        requires lists { Self.View.IsValid seen.now }
         ensures { IfOk result (λ it. it ≡ copied seen.now) };
 }
 
@@ -33,7 +33,7 @@ pub(crate) fn copy_option<'a, T: FromView<'a>>(
     seen: &Option<T::Of>,
 ) -> Result<Option<T>, Memory>
     requires fits { IfPresent (Fits T.View.term) (option_map T.View.value seen.now) }
-    requires lists { IfPresent T.View.Lists seen.now }
+    requires lists { IfPresent T.View.IsValid seen.now }
     ensures { IfOk result (λ it. it ≡ option_map T.copied seen.now) }
 {
     match seen {

@@ -3,7 +3,7 @@
 ghost use Rattle.std.specs.Prelude.{◌≡◌, refl, ◌^◌, ◌<◌, true, length, MatchOption};
 ghost use Rattle.krb_msg.specs.Term.{der, Fits, tag_of};
 ghost use Rattle.krb_msg.specs.Grammar.{encrypted_data};
-ghost use Rattle.krb_msg.specs.Types.{encrypted_data_value, encrypted_data_of, encrypted_data_view_value, encrypted_data_of_view, EncryptedDataLists};
+ghost use Rattle.krb_msg.specs.Types.{encrypted_data_value, encrypted_data_of, encrypted_data_view_value, encrypted_data_of_view, IsValidEncryptedData};
 ghost use Rattle.krb_msg.specs.Viewed.{AreContents, AreNoContents};
 ghost use Rattle.krb_msg.specs.inner.PrefixFree.{begins, type_is_prefix_free};
 ghost use Rattle.krb_msg.specs.inner.RoundTrips.{encrypted_data-back};
@@ -18,14 +18,14 @@ use crate::notes::Notes;
 use krb_der::{Der, Int32, Memory, Octets, Wide32};
 use std::alloc::Global;
 
-/// What is sealed (RFC 4120, 5.2.9). Its cipher is never opened.
+/// What is encrypted (RFC 4120, 5.2.9). Its cipher is never opened.
 #[derive(PartialEq, Eq, Debug, Drop)]
 pub struct EncryptedData {
     /// The encryption type (RFC 3961), of which none is refused.
     pub etype: Int32,
     /// The version of the key, if it is said.
     pub kvno: Option<Wide32>,
-    /// The sealed octets.
+    /// The encrypted octets.
     pub cipher: Octets,
 }
 
@@ -36,7 +36,7 @@ pub struct EncryptedDataView<'a> {
     pub etype: i64,
     /// The version of the key, if it is said.
     pub kvno: Option<i64>,
-    /// The sealed octets.
+    /// The encrypted octets.
     pub cipher: &'a [u8],
 }
 
@@ -107,7 +107,7 @@ impl<'a> View<'a> for EncryptedData {
 
     ghost value = { encrypted_data_view_value };
 
-    ghost Lists = { EncryptedDataLists };
+    ghost IsValid = { IsValidEncryptedData };
 
     #[inline(always)]
     fn tag() -> u8

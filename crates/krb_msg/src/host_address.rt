@@ -3,7 +3,7 @@
 ghost use Rattle.std.specs.Prelude.{◌≡◌, refl, ◌^◌, ◌<◌, true, length, MatchOption};
 ghost use Rattle.krb_msg.specs.Term.{der, Fits, tag_of};
 ghost use Rattle.krb_msg.specs.Grammar.{host_address};
-ghost use Rattle.krb_msg.specs.Types.{host_address_value, host_address_of, host_address_view_value, host_address_of_view, HostAddressLists};
+ghost use Rattle.krb_msg.specs.Types.{host_address_value, host_address_of, host_address_view_value, host_address_of_view, IsValidHostAddress};
 ghost use Rattle.krb_msg.specs.Viewed.{AreContents, AreNoContents};
 ghost use Rattle.krb_msg.specs.inner.PrefixFree.{begins, type_is_prefix_free};
 ghost use Rattle.krb_msg.specs.inner.RoundTrips.{host_address-back};
@@ -93,7 +93,7 @@ impl<'a> View<'a> for HostAddress {
 
     ghost value = { host_address_view_value };
 
-    ghost Lists = { HostAddressLists };
+    ghost IsValid = { IsValidHostAddress };
 
     #[inline(always)]
     fn tag() -> u8

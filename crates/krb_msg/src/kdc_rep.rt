@@ -7,7 +7,7 @@ ghost use Rattle.krb_msg.specs.Shape.{has_octet_tags};
 ghost use Rattle.krb_msg.specs.Term.{Application as ApplicationTerm, der, Fits};
 ghost use Rattle.krb_msg.specs.Notes.{has, notes_by};
 ghost use Rattle.krb_msg.specs.Grammar.{kdc_rep};
-ghost use Rattle.krb_msg.specs.Types.{kdc_rep_value, kdc_rep_view_value, kdc_rep_of_view, KdcRepLists};
+ghost use Rattle.krb_msg.specs.Types.{kdc_rep_value, kdc_rep_view_value, kdc_rep_of_view, IsValidKdcRep};
 ghost use Rattle.krb_msg.specs.Viewed.{IsNotWhole, IsViewOf};
 ghost use Rattle.krb_msg.specs.inner.Fitting.{IsSized};
 
@@ -38,7 +38,7 @@ pub struct KdcRep {
     pub cname: PrincipalName,
     /// The ticket that is issued.
     pub ticket: Ticket,
-    /// The sealed EncASRepPart or EncTGSRepPart.
+    /// The encrypted EncASRepPart or EncTGSRepPart.
     pub enc_part: EncryptedData,
 }
 
@@ -53,7 +53,7 @@ pub struct KdcRepView<'a> {
     pub cname: PrincipalNameView<'a>,
     /// The ticket that is issued.
     pub ticket: TicketView<'a>,
-    /// The sealed EncASRepPart or EncTGSRepPart.
+    /// The encrypted EncASRepPart or EncTGSRepPart.
     pub enc_part: EncryptedDataView<'a>,
 }
 
@@ -138,7 +138,7 @@ impl KdcRep {
     pub(crate) fn view<const N: u8>(octets: &[u8]) -> Option<KdcRepView<'_>>
         requires short { length octets.now < 2 ^ 31 }
         requires tags { has_octet_tags (ApplicationTerm N (kdc_rep N)) ≡ true }
-        ensures { MatchOption result (IsNotWhole (ApplicationTerm N (kdc_rep N)) octets.now) (λ seen. IsViewOf (ApplicationTerm N (kdc_rep N)) octets.now (kdc_rep_view_value N seen) × KdcRepLists seen) }
+        ensures { MatchOption result (IsNotWhole (ApplicationTerm N (kdc_rep N)) octets.now) (λ seen. IsViewOf (ApplicationTerm N (kdc_rep N)) octets.now (kdc_rep_view_value N seen) × IsValidKdcRep seen) }
     {
         let Some(seen) = view_whole::<Layout<Owned, N>>(octets) else {
             return None;
@@ -150,7 +150,7 @@ impl KdcRep {
     /// is copied once.
     pub(crate) fn copy<const N: u8>(alloc: Global, seen: &KdcRepView<'_>) -> Result<KdcRep, Memory>
         requires fits { Fits (ApplicationTerm N (kdc_rep N)) (kdc_rep_view_value N seen.now) }
-        requires lists { KdcRepLists seen.now }
+        requires lists { IsValidKdcRep seen.now }
         ensures { IfOk result (λ it. it ≡ kdc_rep_of_view seen.now) }
     {
         Ok(KdcRep {
@@ -180,7 +180,7 @@ impl<'a> KdcRepView<'a> {
     #[inline(always)]
     fn of_fields<const N: u8>(seen: &Seen<'a>) -> KdcRepView<'a>
         ensures value { kdc_rep_view_value N result ≡ ⟦<Layout<Owned, N> as View<'static>>⟧.value seen.now }
-        ensures lists { ⟦<Layout<Owned, N> as View<'static>>⟧.Lists seen.now → KdcRepLists result }
+        ensures lists { ⟦<Layout<Owned, N> as View<'static>>⟧.IsValid seen.now → IsValidKdcRep result }
     {
         KdcRepView {
             padata: seen.0,
@@ -195,7 +195,7 @@ impl<'a> KdcRepView<'a> {
     #[inline(always)]
     fn fields<const N: u8>(&self) -> Seen<'a>
         ensures value { ⟦<Layout<Owned, N> as View<'static>>⟧.value result ≡ kdc_rep_view_value N self.now }
-        ensures lists { KdcRepLists self.now → ⟦<Layout<Owned, N> as View<'static>>⟧.Lists result }
+        ensures lists { IsValidKdcRep self.now → ⟦<Layout<Owned, N> as View<'static>>⟧.IsValid result }
     {
         (
             self.padata,
@@ -208,7 +208,7 @@ impl<'a> KdcRepView<'a> {
 
     /// Returns the notes that hold in a message.
     pub(crate) fn notes<const N: u8>(&self) -> Notes
-        requires { KdcRepLists self.now }
+        requires { IsValidKdcRep self.now }
         ensures { result ≡ notes_by (λ note. has note (ApplicationTerm N (kdc_rep N)) (kdc_rep_view_value N self.now)) }
     {
         Layout::<Owned, N>::notes(&self.fields::<N>())

@@ -7,7 +7,7 @@ ghost use Rattle.krb_msg.specs.Shape.{has_octet_tags};
 ghost use Rattle.krb_msg.specs.Term.{Application as ApplicationTerm, der, Fits};
 ghost use Rattle.krb_msg.specs.Notes.{has, notes_by};
 ghost use Rattle.krb_msg.specs.Grammar.{kdc_req};
-ghost use Rattle.krb_msg.specs.Types.{kdc_req_value, kdc_req_view_value, kdc_req_of_view, KdcReqLists};
+ghost use Rattle.krb_msg.specs.Types.{kdc_req_value, kdc_req_view_value, kdc_req_of_view, IsValidKdcReq};
 ghost use Rattle.krb_msg.specs.Viewed.{IsNotWhole, IsViewOf};
 ghost use Rattle.krb_msg.specs.inner.Fitting.{IsSized};
 
@@ -103,7 +103,7 @@ impl KdcReq {
     pub(crate) fn view<const N: u8>(octets: &[u8]) -> Option<KdcReqView<'_>>
         requires short { length octets.now < 2 ^ 31 }
         requires tags { has_octet_tags (ApplicationTerm N (kdc_req N)) ≡ true }
-        ensures { MatchOption result (IsNotWhole (ApplicationTerm N (kdc_req N)) octets.now) (λ seen. IsViewOf (ApplicationTerm N (kdc_req N)) octets.now (kdc_req_view_value N seen) × KdcReqLists seen) }
+        ensures { MatchOption result (IsNotWhole (ApplicationTerm N (kdc_req N)) octets.now) (λ seen. IsViewOf (ApplicationTerm N (kdc_req N)) octets.now (kdc_req_view_value N seen) × IsValidKdcReq seen) }
     {
         let Some(seen) = view_whole::<Layout<Owned, N>>(octets) else {
             return None;
@@ -115,7 +115,7 @@ impl KdcReq {
     /// is copied once.
     pub(crate) fn copy<const N: u8>(alloc: Global, seen: &KdcReqView<'_>) -> Result<KdcReq, Memory>
         requires fits { Fits (ApplicationTerm N (kdc_req N)) (kdc_req_view_value N seen.now) }
-        requires lists { KdcReqLists seen.now }
+        requires lists { IsValidKdcReq seen.now }
         ensures { IfOk result (λ it. it ≡ kdc_req_of_view seen.now) }
     {
         Ok(KdcReq {
@@ -133,7 +133,7 @@ impl<'a> KdcReqView<'a> {
     #[inline(always)]
     fn of_fields<const N: u8>(seen: &Seen<'a>) -> KdcReqView<'a>
         ensures value { kdc_req_view_value N result ≡ ⟦<Layout<Owned, N> as View<'static>>⟧.value seen.now }
-        ensures lists { ⟦<Layout<Owned, N> as View<'static>>⟧.Lists seen.now → KdcReqLists result }
+        ensures lists { ⟦<Layout<Owned, N> as View<'static>>⟧.IsValid seen.now → IsValidKdcReq result }
     {
         KdcReqView {
             padata: seen.0,
@@ -145,14 +145,14 @@ impl<'a> KdcReqView<'a> {
     #[inline(always)]
     fn fields<const N: u8>(&self) -> Seen<'a>
         ensures value { ⟦<Layout<Owned, N> as View<'static>>⟧.value result ≡ kdc_req_view_value N self.now }
-        ensures lists { KdcReqLists self.now → ⟦<Layout<Owned, N> as View<'static>>⟧.Lists result }
+        ensures lists { IsValidKdcReq self.now → ⟦<Layout<Owned, N> as View<'static>>⟧.IsValid result }
     {
         (self.padata, (self.body, ()))
     }
 
     /// Returns the notes that hold in a message.
     pub(crate) fn notes<const N: u8>(&self) -> Notes
-        requires { KdcReqLists self.now }
+        requires { IsValidKdcReq self.now }
         ensures { result ≡ notes_by (λ note. has note (ApplicationTerm N (kdc_req N)) (kdc_req_view_value N self.now)) }
     {
         Layout::<Owned, N>::notes(&self.fields::<N>())

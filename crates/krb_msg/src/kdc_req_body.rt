@@ -3,7 +3,7 @@
 ghost use Rattle.std.specs.Prelude.{◌≡◌, refl, ◌^◌, ◌<◌, true, length, MatchOption};
 ghost use Rattle.krb_msg.specs.Term.{der, Fits, tag_of};
 ghost use Rattle.krb_msg.specs.Grammar.{kdc_req_body};
-ghost use Rattle.krb_msg.specs.Types.{kdc_req_body_value, kdc_req_body_of, kdc_req_body_view_value, kdc_req_body_of_view, KdcReqBodyLists};
+ghost use Rattle.krb_msg.specs.Types.{kdc_req_body_value, kdc_req_body_of, kdc_req_body_view_value, kdc_req_body_of_view, IsValidKdcReqBody};
 ghost use Rattle.krb_msg.specs.Viewed.{AreContents, AreNoContents};
 ghost use Rattle.krb_msg.specs.inner.PrefixFree.{begins, type_is_prefix_free};
 ghost use Rattle.krb_msg.specs.inner.RoundTrips.{kdc_req_body-back};
@@ -47,7 +47,7 @@ pub struct KdcReqBody {
     pub etype: Many<Int32>,
     /// The addresses from which the ticket is to serve.
     pub addresses: Option<Many<HostAddress>>,
-    /// The sealed AuthorizationData.
+    /// The encrypted AuthorizationData.
     pub enc_authorization_data: Option<EncryptedData>,
     /// Further tickets, which some options ask for.
     pub additional_tickets: Option<Many<Ticket>>,
@@ -76,7 +76,7 @@ pub struct KdcReqBodyView<'a> {
     pub etype: ItemsView<'a>,
     /// The addresses from which the ticket is to serve.
     pub addresses: Option<ItemsView<'a>>,
-    /// The sealed AuthorizationData.
+    /// The encrypted AuthorizationData.
     pub enc_authorization_data: Option<EncryptedDataView<'a>>,
     /// Further tickets, which some options ask for.
     pub additional_tickets: Option<ItemsView<'a>>,
@@ -237,7 +237,7 @@ pub struct RestView<'a> {
     etype: ItemsView<'a>,
     /// The addresses from which the ticket is to serve.
     addresses: Option<ItemsView<'a>>,
-    /// The sealed AuthorizationData.
+    /// The encrypted AuthorizationData.
     enc_authorization_data: Option<EncryptedDataView<'a>>,
     /// Further tickets, which some options ask for.
     additional_tickets: Option<ItemsView<'a>>,
@@ -278,7 +278,7 @@ impl<'a> RestView<'a> {
     #[inline(always)]
     fn of_fields(seen: &RestSeen<'a>) -> RestView<'a>
         ensures values { ⟦<Cut<Rest<Owned>> as ViewFields<'static>>⟧.values result ≡ ⟦<Rest<Owned> as ViewFields<'static>>⟧.values seen.now }
-        ensures lists { ⟦<Rest<Owned> as ViewFields<'static>>⟧.Lists seen.now → ⟦<Cut<Rest<Owned>> as ViewFields<'static>>⟧.Lists result }
+        ensures lists { ⟦<Rest<Owned> as ViewFields<'static>>⟧.IsValid seen.now → ⟦<Cut<Rest<Owned>> as ViewFields<'static>>⟧.IsValid result }
     {
         RestView {
             rtime: seen.0,
@@ -294,7 +294,7 @@ impl<'a> RestView<'a> {
     #[inline(always)]
     fn fields(&self) -> RestSeen<'a>
         ensures values { ⟦<Rest<Owned> as ViewFields<'static>>⟧.values result ≡ ⟦<Cut<Rest<Owned>> as ViewFields<'static>>⟧.values self.now }
-        ensures lists { ⟦<Cut<Rest<Owned>> as ViewFields<'static>>⟧.Lists self.now → ⟦<Rest<Owned> as ViewFields<'static>>⟧.Lists result }
+        ensures lists { ⟦<Cut<Rest<Owned>> as ViewFields<'static>>⟧.IsValid self.now → ⟦<Rest<Owned> as ViewFields<'static>>⟧.IsValid result }
     {
         (
             self.rtime,
@@ -319,7 +319,7 @@ impl<'a> ViewFields<'a> for Cut<Rest<Owned>> {
 
     ghost values = { λ seen. ⟦<Rest<Owned> as ViewFields<'static>>⟧.values (seen.rtime, (seen.nonce, (seen.etype, (seen.addresses, (seen.enc_authorization_data, (seen.additional_tickets, tt)))))) };
 
-    ghost Lists = { λ seen. ⟦<Rest<Owned> as ViewFields<'static>>⟧.Lists (seen.rtime, (seen.nonce, (seen.etype, (seen.addresses, (seen.enc_authorization_data, (seen.additional_tickets, tt)))))) };
+    ghost IsValid = { λ seen. ⟦<Rest<Owned> as ViewFields<'static>>⟧.IsValid (seen.rtime, (seen.nonce, (seen.etype, (seen.addresses, (seen.enc_authorization_data, (seen.additional_tickets, tt)))))) };
 
     #[inline(always)]
     fn view_fields(octets: &'a [u8]) -> Option<RestView<'a>> {
@@ -342,7 +342,7 @@ impl<'a> KdcReqBodyView<'a> {
     #[inline(always)]
     fn of_fields(seen: &Seen<'a>) -> KdcReqBodyView<'a>
         ensures value { kdc_req_body_view_value result ≡ ⟦<Layout<Owned> as View<'static>>⟧.value seen.now }
-        ensures lists { ⟦<Layout<Owned> as View<'static>>⟧.Lists seen.now → KdcReqBodyLists result }
+        ensures lists { ⟦<Layout<Owned> as View<'static>>⟧.IsValid seen.now → IsValidKdcReqBody result }
     {
         let rest = &seen.1.1.1.1.1.1;
         KdcReqBodyView {
@@ -365,7 +365,7 @@ impl<'a> KdcReqBodyView<'a> {
     #[inline(always)]
     fn fields(&self) -> Seen<'a>
         ensures value { ⟦<Layout<Owned> as View<'static>>⟧.value result ≡ kdc_req_body_view_value self.now }
-        ensures lists { KdcReqBodyLists self.now → ⟦<Layout<Owned> as View<'static>>⟧.Lists result }
+        ensures lists { IsValidKdcReqBody self.now → ⟦<Layout<Owned> as View<'static>>⟧.IsValid result }
     {
         let rest = RestView {
             rtime: self.rtime,
@@ -392,7 +392,7 @@ impl<'a> View<'a> for KdcReqBody {
 
     ghost value = { kdc_req_body_view_value };
 
-    ghost Lists = { KdcReqBodyLists };
+    ghost IsValid = { IsValidKdcReqBody };
 
     #[inline(always)]
     fn tag() -> u8

@@ -3,7 +3,7 @@
 ghost use Rattle.std.specs.Prelude.{◌≡◌, refl, ◌^◌, ◌<◌, true, length, MatchOption};
 ghost use Rattle.krb_msg.specs.Term.{der, Fits, tag_of};
 ghost use Rattle.krb_msg.specs.Grammar.{krb_cred};
-ghost use Rattle.krb_msg.specs.Types.{krb_cred_value, krb_cred_of, krb_cred_view_value, krb_cred_of_view, KrbCredLists};
+ghost use Rattle.krb_msg.specs.Types.{krb_cred_value, krb_cred_of, krb_cred_view_value, krb_cred_of_view, IsValidKrbCred};
 ghost use Rattle.krb_msg.specs.Viewed.{AreContents, AreNoContents};
 ghost use Rattle.krb_msg.specs.inner.PrefixFree.{begins, type_is_prefix_free};
 ghost use Rattle.krb_msg.specs.inner.RoundTrips.{krb_cred-back};
@@ -21,13 +21,13 @@ use crate::view::items::ItemsView;
 use krb_der::{Der, Many, Memory};
 use std::alloc::Global;
 
-/// Tickets, handed on with what is sealed of them (RFC 4120, 5.8.1). Its version and its message
+/// Tickets, handed on with what is encrypted of them (RFC 4120, 5.8.1). Its version and its message
 /// type are fixed, and so not kept.
 #[derive(PartialEq, Eq, Debug, Drop)]
 pub struct KrbCred {
     /// The tickets.
     pub tickets: Many<Ticket>,
-    /// The sealed EncKrbCredPart.
+    /// The encrypted EncKrbCredPart.
     pub enc_part: EncryptedData,
 }
 
@@ -36,7 +36,7 @@ pub struct KrbCred {
 pub struct KrbCredView<'a> {
     /// The tickets.
     pub tickets: ItemsView<'a>,
-    /// The sealed EncKrbCredPart.
+    /// The encrypted EncKrbCredPart.
     pub enc_part: EncryptedDataView<'a>,
 }
 
@@ -112,7 +112,7 @@ impl<'a> KrbCredView<'a> {
     #[inline(always)]
     fn of_fields(seen: &Seen<'a>) -> KrbCredView<'a>
         ensures value { krb_cred_view_value result ≡ ⟦<Layout<Owned> as View<'static>>⟧.value seen.now }
-        ensures lists { ⟦<Layout<Owned> as View<'static>>⟧.Lists seen.now → KrbCredLists result }
+        ensures lists { ⟦<Layout<Owned> as View<'static>>⟧.IsValid seen.now → IsValidKrbCred result }
     {
         KrbCredView {
             tickets: seen.0,
@@ -124,7 +124,7 @@ impl<'a> KrbCredView<'a> {
     #[inline(always)]
     fn fields(&self) -> Seen<'a>
         ensures value { ⟦<Layout<Owned> as View<'static>>⟧.value result ≡ krb_cred_view_value self.now }
-        ensures lists { KrbCredLists self.now → ⟦<Layout<Owned> as View<'static>>⟧.Lists result }
+        ensures lists { IsValidKrbCred self.now → ⟦<Layout<Owned> as View<'static>>⟧.IsValid result }
     {
         (self.tickets, (self.enc_part, ()))
     }
@@ -137,7 +137,7 @@ impl<'a> View<'a> for KrbCred {
 
     ghost value = { krb_cred_view_value };
 
-    ghost Lists = { KrbCredLists };
+    ghost IsValid = { IsValidKrbCred };
 
     #[inline(always)]
     fn tag() -> u8

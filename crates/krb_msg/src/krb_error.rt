@@ -3,7 +3,7 @@
 ghost use Rattle.std.specs.Prelude.{◌≡◌, refl, ◌^◌, ◌<◌, true, length, MatchOption};
 ghost use Rattle.krb_msg.specs.Term.{der, Fits, tag_of};
 ghost use Rattle.krb_msg.specs.Grammar.{krb_error};
-ghost use Rattle.krb_msg.specs.Types.{krb_error_value, krb_error_of, krb_error_view_value, krb_error_of_view, KrbErrorLists};
+ghost use Rattle.krb_msg.specs.Types.{krb_error_value, krb_error_of, krb_error_view_value, krb_error_of_view, IsValidKrbError};
 ghost use Rattle.krb_msg.specs.Viewed.{AreContents, AreNoContents};
 ghost use Rattle.krb_msg.specs.inner.PrefixFree.{begins, type_is_prefix_free};
 ghost use Rattle.krb_msg.specs.inner.RoundTrips.{krb_error-back};
@@ -258,7 +258,7 @@ impl<'a> RestView<'a> {
     #[inline(always)]
     fn of_fields(seen: &RestSeen<'a>) -> RestView<'a>
         ensures values { ⟦<Cut<Rest<Owned>> as ViewFields<'static>>⟧.values result ≡ ⟦<Rest<Owned> as ViewFields<'static>>⟧.values seen.now }
-        ensures lists { ⟦<Rest<Owned> as ViewFields<'static>>⟧.Lists seen.now → ⟦<Cut<Rest<Owned>> as ViewFields<'static>>⟧.Lists result }
+        ensures lists { ⟦<Rest<Owned> as ViewFields<'static>>⟧.IsValid seen.now → ⟦<Cut<Rest<Owned>> as ViewFields<'static>>⟧.IsValid result }
     {
         RestView {
             crealm: seen.0,
@@ -274,7 +274,7 @@ impl<'a> RestView<'a> {
     #[inline(always)]
     fn fields(&self) -> RestSeen<'a>
         ensures values { ⟦<Rest<Owned> as ViewFields<'static>>⟧.values result ≡ ⟦<Cut<Rest<Owned>> as ViewFields<'static>>⟧.values self.now }
-        ensures lists { ⟦<Cut<Rest<Owned>> as ViewFields<'static>>⟧.Lists self.now → ⟦<Rest<Owned> as ViewFields<'static>>⟧.Lists result }
+        ensures lists { ⟦<Cut<Rest<Owned>> as ViewFields<'static>>⟧.IsValid self.now → ⟦<Rest<Owned> as ViewFields<'static>>⟧.IsValid result }
     {
         (
             self.crealm,
@@ -293,7 +293,7 @@ impl<'a> ViewFields<'a> for Cut<Rest<Owned>> {
 
     ghost values = { λ seen. ⟦<Rest<Owned> as ViewFields<'static>>⟧.values (seen.crealm, (seen.cname, (seen.realm, (seen.sname, (seen.e_text, (seen.e_data, tt)))))) };
 
-    ghost Lists = { λ seen. ⟦<Rest<Owned> as ViewFields<'static>>⟧.Lists (seen.crealm, (seen.cname, (seen.realm, (seen.sname, (seen.e_text, (seen.e_data, tt)))))) };
+    ghost IsValid = { λ seen. ⟦<Rest<Owned> as ViewFields<'static>>⟧.IsValid (seen.crealm, (seen.cname, (seen.realm, (seen.sname, (seen.e_text, (seen.e_data, tt)))))) };
 
     #[inline(always)]
     fn view_fields(octets: &'a [u8]) -> Option<RestView<'a>> {
@@ -316,7 +316,7 @@ impl<'a> KrbErrorView<'a> {
     #[inline(always)]
     fn of_fields(seen: &Seen<'a>) -> KrbErrorView<'a>
         ensures value { krb_error_view_value result ≡ ⟦<Layout<Owned> as View<'static>>⟧.value seen.now }
-        ensures lists { ⟦<Layout<Owned> as View<'static>>⟧.Lists seen.now → KrbErrorLists result }
+        ensures lists { ⟦<Layout<Owned> as View<'static>>⟧.IsValid seen.now → IsValidKrbError result }
     {
         let rest = &seen.1.1.1.1.1;
         KrbErrorView {
@@ -338,7 +338,7 @@ impl<'a> KrbErrorView<'a> {
     #[inline(always)]
     fn fields(&self) -> Seen<'a>
         ensures value { ⟦<Layout<Owned> as View<'static>>⟧.value result ≡ krb_error_view_value self.now }
-        ensures lists { KrbErrorLists self.now → ⟦<Layout<Owned> as View<'static>>⟧.Lists result }
+        ensures lists { IsValidKrbError self.now → ⟦<Layout<Owned> as View<'static>>⟧.IsValid result }
     {
         let rest = RestView {
             crealm: self.crealm,
@@ -365,7 +365,7 @@ impl<'a> View<'a> for KrbError {
 
     ghost value = { krb_error_view_value };
 
-    ghost Lists = { KrbErrorLists };
+    ghost IsValid = { IsValidKrbError };
 
     #[inline(always)]
     fn tag() -> u8

@@ -3,7 +3,7 @@
 ghost use Rattle.std.specs.Prelude.{◌≡◌, refl, ◌^◌, ◌<◌, true, length, MatchOption};
 ghost use Rattle.krb_msg.specs.Term.{der, Fits, tag_of};
 ghost use Rattle.krb_msg.specs.Grammar.{krb_priv};
-ghost use Rattle.krb_msg.specs.Types.{krb_priv_value, krb_priv_of, krb_priv_view_value, krb_priv_of_view, KrbPrivLists};
+ghost use Rattle.krb_msg.specs.Types.{krb_priv_value, krb_priv_of, krb_priv_view_value, krb_priv_of_view, IsValidKrbPriv};
 ghost use Rattle.krb_msg.specs.Viewed.{AreContents, AreNoContents};
 ghost use Rattle.krb_msg.specs.inner.PrefixFree.{begins, type_is_prefix_free};
 ghost use Rattle.krb_msg.specs.inner.RoundTrips.{krb_priv-back};
@@ -19,18 +19,18 @@ use crate::notes::Notes;
 use krb_der::{Der, Memory};
 use std::alloc::Global;
 
-/// A message that is sealed (RFC 4120, 5.7.1). Its version and its message type are fixed, and so
-/// not kept.
+/// A message that is encrypted (RFC 4120, 5.7.1). Its version and its message type are fixed, and
+/// so not kept.
 #[derive(PartialEq, Eq, Debug, Drop)]
 pub struct KrbPriv {
-    /// The sealed EncKrbPrivPart.
+    /// The encrypted EncKrbPrivPart.
     pub enc_part: EncryptedData,
 }
 
 /// A view of a KRB-PRIV: its strings and lists are borrowed from the octets.
 #[derive(Clone, Copy)]
 pub struct KrbPrivView<'a> {
-    /// The sealed EncKrbPrivPart.
+    /// The encrypted EncKrbPrivPart.
     pub enc_part: EncryptedDataView<'a>,
 }
 
@@ -96,7 +96,7 @@ impl<'a> KrbPrivView<'a> {
     #[inline(always)]
     fn of_fields(seen: &Seen<'a>) -> KrbPrivView<'a>
         ensures value { krb_priv_view_value result ≡ ⟦<Layout<Owned> as View<'static>>⟧.value seen.now }
-        ensures lists { ⟦<Layout<Owned> as View<'static>>⟧.Lists seen.now → KrbPrivLists result }
+        ensures lists { ⟦<Layout<Owned> as View<'static>>⟧.IsValid seen.now → IsValidKrbPriv result }
     {
         KrbPrivView { enc_part: seen.0 }
     }
@@ -105,7 +105,7 @@ impl<'a> KrbPrivView<'a> {
     #[inline(always)]
     fn fields(&self) -> Seen<'a>
         ensures value { ⟦<Layout<Owned> as View<'static>>⟧.value result ≡ krb_priv_view_value self.now }
-        ensures lists { KrbPrivLists self.now → ⟦<Layout<Owned> as View<'static>>⟧.Lists result }
+        ensures lists { IsValidKrbPriv self.now → ⟦<Layout<Owned> as View<'static>>⟧.IsValid result }
     {
         (self.enc_part, ())
     }
@@ -118,7 +118,7 @@ impl<'a> View<'a> for KrbPriv {
 
     ghost value = { krb_priv_view_value };
 
-    ghost Lists = { KrbPrivLists };
+    ghost IsValid = { IsValidKrbPriv };
 
     #[inline(always)]
     fn tag() -> u8

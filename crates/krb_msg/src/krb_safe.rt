@@ -3,7 +3,7 @@
 ghost use Rattle.std.specs.Prelude.{◌≡◌, refl, ◌^◌, ◌<◌, true, length, MatchOption};
 ghost use Rattle.krb_msg.specs.Term.{der, Fits, tag_of};
 ghost use Rattle.krb_msg.specs.Grammar.{krb_safe};
-ghost use Rattle.krb_msg.specs.Types.{krb_safe_value, krb_safe_of, krb_safe_view_value, krb_safe_of_view, KrbSafeLists};
+ghost use Rattle.krb_msg.specs.Types.{krb_safe_value, krb_safe_of, krb_safe_view_value, krb_safe_of_view, IsValidKrbSafe};
 ghost use Rattle.krb_msg.specs.Viewed.{AreContents, AreNoContents};
 ghost use Rattle.krb_msg.specs.inner.PrefixFree.{begins, type_is_prefix_free};
 ghost use Rattle.krb_msg.specs.inner.RoundTrips.{krb_safe-back};
@@ -111,7 +111,7 @@ impl<'a> KrbSafeView<'a> {
     #[inline(always)]
     fn of_fields(seen: &Seen<'a>) -> KrbSafeView<'a>
         ensures value { krb_safe_view_value result ≡ ⟦<Layout<Owned> as View<'static>>⟧.value seen.now }
-        ensures lists { ⟦<Layout<Owned> as View<'static>>⟧.Lists seen.now → KrbSafeLists result }
+        ensures lists { ⟦<Layout<Owned> as View<'static>>⟧.IsValid seen.now → IsValidKrbSafe result }
     {
         KrbSafeView {
             body: seen.0,
@@ -123,7 +123,7 @@ impl<'a> KrbSafeView<'a> {
     #[inline(always)]
     fn fields(&self) -> Seen<'a>
         ensures value { ⟦<Layout<Owned> as View<'static>>⟧.value result ≡ krb_safe_view_value self.now }
-        ensures lists { KrbSafeLists self.now → ⟦<Layout<Owned> as View<'static>>⟧.Lists result }
+        ensures lists { IsValidKrbSafe self.now → ⟦<Layout<Owned> as View<'static>>⟧.IsValid result }
     {
         (self.body, (self.cksum, ()))
     }
@@ -136,7 +136,7 @@ impl<'a> View<'a> for KrbSafe {
 
     ghost value = { krb_safe_view_value };
 
-    ghost Lists = { KrbSafeLists };
+    ghost IsValid = { IsValidKrbSafe };
 
     #[inline(always)]
     fn tag() -> u8

@@ -3,7 +3,7 @@
 ghost use Rattle.std.specs.Prelude.{◌≡◌, refl, ◌^◌, ◌<◌, true, length, MatchOption};
 ghost use Rattle.krb_msg.specs.Term.{der, Fits, tag_of};
 ghost use Rattle.krb_msg.specs.Grammar.{krb_safe_body};
-ghost use Rattle.krb_msg.specs.Types.{krb_safe_body_value, krb_safe_body_of, krb_safe_body_view_value, krb_safe_body_of_view, KrbSafeBodyLists};
+ghost use Rattle.krb_msg.specs.Types.{krb_safe_body_value, krb_safe_body_of, krb_safe_body_view_value, krb_safe_body_of_view, IsValidKrbSafeBody};
 ghost use Rattle.krb_msg.specs.Viewed.{AreContents, AreNoContents};
 ghost use Rattle.krb_msg.specs.inner.PrefixFree.{begins, type_is_prefix_free};
 ghost use Rattle.krb_msg.specs.inner.RoundTrips.{krb_safe_body-back};
@@ -154,7 +154,7 @@ impl<'a> KrbSafeBodyView<'a> {
     #[inline(always)]
     fn of_fields(seen: &Seen<'a>) -> KrbSafeBodyView<'a>
         ensures value { krb_safe_body_view_value result ≡ ⟦<Layout<Owned> as View<'static>>⟧.value seen.now }
-        ensures lists { ⟦<Layout<Owned> as View<'static>>⟧.Lists seen.now → KrbSafeBodyLists result }
+        ensures lists { ⟦<Layout<Owned> as View<'static>>⟧.IsValid seen.now → IsValidKrbSafeBody result }
     {
         KrbSafeBodyView {
             user_data: seen.0,
@@ -170,7 +170,7 @@ impl<'a> KrbSafeBodyView<'a> {
     #[inline(always)]
     fn fields(&self) -> Seen<'a>
         ensures value { ⟦<Layout<Owned> as View<'static>>⟧.value result ≡ krb_safe_body_view_value self.now }
-        ensures lists { KrbSafeBodyLists self.now → ⟦<Layout<Owned> as View<'static>>⟧.Lists result }
+        ensures lists { IsValidKrbSafeBody self.now → ⟦<Layout<Owned> as View<'static>>⟧.IsValid result }
     {
         (
             self.user_data,
@@ -192,7 +192,7 @@ impl<'a> View<'a> for KrbSafeBody {
 
     ghost value = { krb_safe_body_view_value };
 
-    ghost Lists = { KrbSafeBodyLists };
+    ghost IsValid = { IsValidKrbSafeBody };
 
     #[inline(always)]
     fn tag() -> u8

@@ -36,7 +36,7 @@ pub enum Message {
     ApRep(ApRep),
     /// What one sends the other, protected against changes (5.6.1).
     KrbSafe(KrbSafe),
-    /// What one sends the other, sealed (5.7.1).
+    /// What one sends the other, encrypted (5.7.1).
     KrbPriv(KrbPriv),
     /// Tickets that one hands on to the other (5.8.1).
     KrbCred(KrbCred),

@@ -6,7 +6,7 @@ ghost use Rattle.krb_der.specs.declared.profile.Profile.TheVariants.{Lenient};
 ghost use Rattle.krb_msg.specs.Notes.{notes_of};
 ghost use Rattle.krb_msg.specs.Realm.{realm_of};
 ghost use Rattle.krb_msg.specs.Views.{IsInProfile, kind_of};
-ghost use Rattle.krb_msg.specs.ViewValues.{BeginAs, IsMessageView, IsNoMessage, MessageLists, message_of_view};
+ghost use Rattle.krb_msg.specs.ViewValues.{BeginAs, IsMessageView, IsNoMessage, IsValidMessage, message_of_view};
 ghost use Rattle.krb_msg.specs.declared.message.Kind.TheVariants as kind;
 
 use crate::ap_rep::{ApRep, ApRepView};
@@ -43,7 +43,7 @@ pub enum MessageView<'a> {
     ApRep(ApRepView<'a>),
     /// What one sends the other, protected against changes (5.6.1).
     KrbSafe(KrbSafeView<'a>),
-    /// What one sends the other, sealed (5.7.1).
+    /// What one sends the other, encrypted (5.7.1).
     KrbPriv(KrbPrivView<'a>),
     /// Tickets that one hands on to the other (5.8.1).
     KrbCred(KrbCredView<'a>),
@@ -91,7 +91,7 @@ impl<'a> MessageView<'a> {
     /// Returns the message of the view. Nothing is judged again, and each string of octets is
     /// copied once.
     pub fn to_message(&self, alloc: Global) -> Result<Message, Memory>
-        requires lists { MessageLists self.now }
+        requires lists { IsValidMessage self.now }
         requires in_profile { IsInProfile Lenient (message_of_view self.now) }
         ensures { IfOk result (λ message. message ≡ message_of_view self.now) }
     {
@@ -117,7 +117,7 @@ impl<'a> MessageView<'a> {
 /// Returns the notes that hold in a message that is viewed in place, which are
 /// [`notes_of`](crate::notes_of)'s. It allocates nothing.
 pub fn notes_of_view(view: &MessageView<'_>) -> Notes
-    requires { MessageLists view.now }
+    requires { IsValidMessage view.now }
     ensures { result ≡ notes_of (message_of_view view.now) }
 {
     match view {

@@ -2,8 +2,8 @@
 
 ghost use Rattle.std.specs.Prelude.{◌≡◌, false};
 ghost use Rattle.krb_msg.specs.Notes.{are_none, is_strict, notes_by, notes_have, notes_of_ticket, either};
-ghost use Rattle.krb_msg.specs.Types.{TicketLists, ticket_of_view};
-ghost use Rattle.krb_msg.specs.ViewValues.{MessageLists, message_of_view};
+ghost use Rattle.krb_msg.specs.Types.{IsValidTicket, ticket_of_view};
+ghost use Rattle.krb_msg.specs.ViewValues.{IsValidMessage, message_of_view};
 
 pub mod items;
 mod lists;
@@ -88,7 +88,7 @@ pub fn is_strict(message: &Message) -> bool
 /// Returns whether a message that is viewed in place keeps the strict rules
 /// ([`is_strict`](crate::is_strict)). It allocates nothing.
 pub fn is_strict_view(view: &MessageView<'_>) -> bool
-    requires { MessageLists view.now }
+    requires { IsValidMessage view.now }
     ensures { result ≡ is_strict (message_of_view view.now) }
 {
     notes_of_view(view).are_none()
@@ -97,7 +97,7 @@ pub fn is_strict_view(view: &MessageView<'_>) -> bool
 /// Returns the notes that hold in a Ticket that is viewed in place, alone (RFC 4120, 5.3). It
 /// allocates nothing.
 pub fn notes_of_ticket(view: &TicketView<'_>) -> Notes
-    requires { TicketLists view.now }
+    requires { IsValidTicket view.now }
     ensures { result ≡ notes_of_ticket (ticket_of_view view.now) }
 {
     Ticket::notes(view)

@@ -3,7 +3,7 @@
 ghost use Rattle.std.specs.Prelude.{◌≡◌, refl, ◌^◌, ◌<◌, true, length, map, MatchOption};
 ghost use Rattle.krb_msg.specs.Term.{der, Fits, tag_of};
 ghost use Rattle.krb_msg.specs.Grammar.{pa_data};
-ghost use Rattle.krb_msg.specs.Types.{pa_data_value, pa_data_of, pa_data_view_value, pa_data_of_view, PaDataLists};
+ghost use Rattle.krb_msg.specs.Types.{pa_data_value, pa_data_of, pa_data_view_value, pa_data_of_view, IsValidPaData};
 ghost use Rattle.krb_msg.specs.Viewed.{AreContents, AreNoContents, items_of};
 ghost use Rattle.krb_msg.specs.inner.PrefixFree.{begins, type_is_prefix_free};
 ghost use Rattle.krb_msg.specs.inner.RoundTrips.{pa_data-back};
@@ -94,7 +94,7 @@ impl<'a> View<'a> for PaData {
 
     ghost value = { pa_data_view_value };
 
-    ghost Lists = { PaDataLists };
+    ghost IsValid = { IsValidPaData };
 
     #[inline(always)]
     fn tag() -> u8

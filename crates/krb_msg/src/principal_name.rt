@@ -3,7 +3,7 @@
 ghost use Rattle.std.specs.Prelude.{◌≡◌, refl, ◌^◌, ◌<◌, true, length, MatchOption};
 ghost use Rattle.krb_msg.specs.Term.{der, Fits, tag_of};
 ghost use Rattle.krb_msg.specs.Grammar.{principal_name};
-ghost use Rattle.krb_msg.specs.Types.{principal_name_value, principal_name_of, principal_name_view_value, principal_name_of_view, PrincipalNameLists};
+ghost use Rattle.krb_msg.specs.Types.{principal_name_value, principal_name_of, principal_name_view_value, principal_name_of_view, IsValidPrincipalName};
 ghost use Rattle.krb_msg.specs.Viewed.{AreContents, AreNoContents};
 ghost use Rattle.krb_msg.specs.inner.PrefixFree.{begins, type_is_prefix_free};
 ghost use Rattle.krb_msg.specs.inner.RoundTrips.{principal_name-back};
@@ -96,7 +96,7 @@ impl<'a> View<'a> for PrincipalName {
 
     ghost value = { principal_name_view_value };
 
-    ghost Lists = { PrincipalNameLists };
+    ghost IsValid = { IsValidPrincipalName };
 
     #[inline(always)]
     fn tag() -> u8

@@ -3,7 +3,7 @@
 ghost use Rattle.std.specs.Prelude.{◌≡◌, refl, ◌^◌, ◌<◌, true, length, MatchOption};
 ghost use Rattle.krb_msg.specs.Term.{der, Fits, tag_of};
 ghost use Rattle.krb_msg.specs.Grammar.{ticket as ticket_term};
-ghost use Rattle.krb_msg.specs.Types.{ticket_value, ticket_of, ticket_view_value, ticket_of_view, TicketLists};
+ghost use Rattle.krb_msg.specs.Types.{ticket_value, ticket_of, ticket_view_value, ticket_of_view, IsValidTicket};
 ghost use Rattle.krb_msg.specs.Viewed.{AreContents, AreNoContents};
 ghost use Rattle.krb_msg.specs.inner.PrefixFree.{begins, type_is_prefix_free};
 ghost use Rattle.krb_msg.specs.inner.RoundTrips.{ticket-back};
@@ -27,7 +27,7 @@ pub struct Ticket {
     pub realm: KString,
     /// The server.
     pub sname: PrincipalName,
-    /// The sealed EncTicketPart.
+    /// The encrypted EncTicketPart.
     pub enc_part: EncryptedData,
 }
 
@@ -38,7 +38,7 @@ pub struct TicketView<'a> {
     pub realm: &'a [u8],
     /// The server.
     pub sname: PrincipalNameView<'a>,
-    /// The sealed EncTicketPart.
+    /// The encrypted EncTicketPart.
     pub enc_part: EncryptedDataView<'a>,
 }
 
@@ -120,7 +120,7 @@ impl<'a> TicketView<'a> {
     #[inline(always)]
     fn of_fields(seen: &Seen<'a>) -> TicketView<'a>
         ensures value { ticket_view_value result ≡ ⟦<Layout<Owned> as View<'static>>⟧.value seen.now }
-        ensures lists { ⟦<Layout<Owned> as View<'static>>⟧.Lists seen.now → TicketLists result }
+        ensures lists { ⟦<Layout<Owned> as View<'static>>⟧.IsValid seen.now → IsValidTicket result }
     {
         TicketView {
             realm: seen.0,
@@ -133,7 +133,7 @@ impl<'a> TicketView<'a> {
     #[inline(always)]
     fn fields(&self) -> Seen<'a>
         ensures value { ⟦<Layout<Owned> as View<'static>>⟧.value result ≡ ticket_view_value self.now }
-        ensures lists { TicketLists self.now → ⟦<Layout<Owned> as View<'static>>⟧.Lists result }
+        ensures lists { IsValidTicket self.now → ⟦<Layout<Owned> as View<'static>>⟧.IsValid result }
     {
         (self.realm, (self.sname, (self.enc_part, ())))
     }
@@ -146,7 +146,7 @@ impl<'a> View<'a> for Ticket {
 
     ghost value = { ticket_view_value };
 
-    ghost Lists = { TicketLists };
+    ghost IsValid = { IsValidTicket };
 
     #[inline(always)]
     fn tag() -> u8

@@ -20,7 +20,7 @@ pub fn view_whole<'a, T: View<'a>>(octets: &'a [u8]) -> Option<T::Of>
     requires short { length octets.now < 2 ^ 31 }
     requires tags { has_octet_tags T.term ≡ true }
     requires unambiguous { is_unambiguous T.term ≡ true }
-    ensures { MatchOption result (IsNotWhole T.term octets.now) (λ seen. IsViewOf T.term octets.now (T.value seen) × T.Lists seen) }
+    ensures { MatchOption result (IsNotWhole T.term octets.now) (λ seen. IsViewOf T.term octets.now (T.value seen) × T.IsValid seen) }
 {
     let contents = only_item(T::tag(), octets)?;
     T::view(contents)

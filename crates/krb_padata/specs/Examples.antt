@@ -26,8 +26,8 @@ for_user : der pa_for_user (pa_for_user_value (record { user_name = record { nam
 for_user = refl
 
 -- ---- armored
-abbrev sealed : EncryptedData
-sealed = record { etype = pos 18; kvno = None; cipher = hex (codes "DEADBEEF") }
+abbrev encrypted : EncryptedData
+encrypted = record { etype = pos 18; kvno = None; cipher = hex (codes "DEADBEEF") }
 
 abbrev checked : Checksum
 checked = record { cksumtype = pos 16; checksum = 0xAB ∷ [] }
@@ -38,7 +38,7 @@ request = hex (codes "A02F302D A00C300AA003020101A10304016E A10C300AA003020110A1
 request_whole : term_judgement pa_fx_fast_request 49 request ≡ verdict.Whole
 request_whole = refl
 
-request_armor : krb_fast_armored_req_of (value_of_der pa_fx_fast_request request) ≡ record { armor = Some (record { armor_type = pos 1; armor_value = 0x6E ∷ [] }); req_checksum = checked; enc_fast_req = sealed }
+request_armor : krb_fast_armored_req_of (value_of_der pa_fx_fast_request request) ≡ record { armor = Some (record { armor_type = pos 1; armor_value = 0x6E ∷ [] }); req_checksum = checked; enc_fast_req = encrypted }
 request_armor = refl
 
 abbrev reply : List ℕ
@@ -47,8 +47,8 @@ reply = hex (codes "A0133011 A00F300DA003020112A2060404DEADBEEF")
 reply_whole : term_judgement pa_fx_fast_reply 21 reply ≡ verdict.Whole
 reply_whole = refl
 
-reply_sealed : krb_fast_armored_rep_of (value_of_der pa_fx_fast_reply reply) ≡ record { enc_fast_rep = sealed }
-reply_sealed = refl
+reply_encrypted : krb_fast_armored_rep_of (value_of_der pa_fx_fast_reply reply) ≡ record { enc_fast_rep = encrypted }
+reply_encrypted = refl
 
 -- ---- options
 options : pa_pac_options_of (value_of_der pa_pac_options (hex (codes "3009A00703050010000000"))) ≡ record { flags = (0, hex (codes "10000000")) }

@@ -5,7 +5,7 @@ ghost use Rattle.krb_msg.specs.Term.{tag_of};
 ghost use Rattle.krb_msg.specs.Basic.{sequence_of};
 ghost use Rattle.krb_msg.specs.Viewed.{AreContents, AreNoContents, AreViewed, items_of};
 ghost use Rattle.krb_padata.specs.Grammar.{etype_info2_entry};
-ghost use Rattle.krb_padata.specs.Types.{etype_info2_entry_view_value, EtypeInfo2EntryLists};
+ghost use Rattle.krb_padata.specs.Types.{etype_info2_entry_view_value, IsValidEtypeInfo2Entry};
 
 use krb_der::{Int32, KString, Octets};
 use krb_msg::{End, ItemsView, Optional, Required, Sequence, View, view_items};
@@ -43,7 +43,7 @@ impl<'a> View<'a> for EtypeInfo2Entry {
 
     ghost value = { etype_info2_entry_view_value };
 
-    ghost Lists = { EtypeInfo2EntryLists };
+    ghost IsValid = { IsValidEtypeInfo2Entry };
 
     #[inline(always)]
     fn tag() -> u8
@@ -75,7 +75,7 @@ impl<'a> View<'a> for EtypeInfo2 {
 
     ghost value = { λ seen. items_of etype_info2_entry seen.octets.now };
 
-    ghost Lists = { λ seen. AreViewed etype_info2_entry seen.octets.now };
+    ghost IsValid = { λ seen. AreViewed etype_info2_entry seen.octets.now };
 
     #[inline(always)]
     fn tag() -> u8

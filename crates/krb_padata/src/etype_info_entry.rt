@@ -5,7 +5,7 @@ ghost use Rattle.krb_msg.specs.Term.{tag_of};
 ghost use Rattle.krb_msg.specs.Basic.{sequence_of};
 ghost use Rattle.krb_msg.specs.Viewed.{AreContents, AreNoContents, AreViewed, items_of};
 ghost use Rattle.krb_padata.specs.Grammar.{etype_info_entry};
-ghost use Rattle.krb_padata.specs.Types.{etype_info_entry_view_value, EtypeInfoEntryLists};
+ghost use Rattle.krb_padata.specs.Types.{etype_info_entry_view_value, IsValidEtypeInfoEntry};
 
 use krb_der::{Int32, Octets};
 use krb_msg::{End, ItemsView, Optional, Required, Sequence, View, view_items};
@@ -38,7 +38,7 @@ impl<'a> View<'a> for EtypeInfoEntry {
 
     ghost value = { etype_info_entry_view_value };
 
-    ghost Lists = { EtypeInfoEntryLists };
+    ghost IsValid = { IsValidEtypeInfoEntry };
 
     #[inline(always)]
     fn tag() -> u8
@@ -66,7 +66,7 @@ impl<'a> View<'a> for EtypeInfo {
 
     ghost value = { λ seen. items_of etype_info_entry seen.octets.now };
 
-    ghost Lists = { λ seen. AreViewed etype_info_entry seen.octets.now };
+    ghost IsValid = { λ seen. AreViewed etype_info_entry seen.octets.now };
 
     #[inline(always)]
     fn tag() -> u8

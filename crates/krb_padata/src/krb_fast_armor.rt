@@ -4,7 +4,7 @@ ghost use Rattle.std.specs.Prelude.{◌≡◌, ◌^◌, ◌<◌, true, length, M
 ghost use Rattle.krb_msg.specs.Term.{tag_of};
 ghost use Rattle.krb_msg.specs.Viewed.{AreContents, AreNoContents};
 ghost use Rattle.krb_padata.specs.Grammar.{krb_fast_armor};
-ghost use Rattle.krb_padata.specs.Types.{krb_fast_armor_view_value, KrbFastArmorLists};
+ghost use Rattle.krb_padata.specs.Types.{krb_fast_armor_view_value, IsValidKrbFastArmor};
 
 use krb_der::{Int32, Octets};
 use krb_msg::{End, Required, Sequence, View};
@@ -37,7 +37,7 @@ impl<'a> View<'a> for KrbFastArmor {
 
     ghost value = { krb_fast_armor_view_value };
 
-    ghost Lists = { KrbFastArmorLists };
+    ghost IsValid = { IsValidKrbFastArmor };
 
     #[inline(always)]
     fn tag() -> u8

@@ -4,7 +4,7 @@ ghost use Rattle.std.specs.Prelude.{◌≡◌, ◌^◌, ◌<◌, true, length, M
 ghost use Rattle.krb_msg.specs.Term.{tag_of};
 ghost use Rattle.krb_msg.specs.Viewed.{AreContents, AreNoContents};
 ghost use Rattle.krb_padata.specs.Grammar.{krb_fast_armored_rep};
-ghost use Rattle.krb_padata.specs.Types.{krb_fast_armored_rep_view_value, KrbFastArmoredRepLists};
+ghost use Rattle.krb_padata.specs.Types.{krb_fast_armored_rep_view_value, IsValidKrbFastArmoredRep};
 
 use krb_msg::{EncryptedData, EncryptedDataView, End, Required, Sequence, Tagged, View};
 
@@ -32,7 +32,7 @@ impl<'a> View<'a> for KrbFastArmoredRep {
 
     ghost value = { krb_fast_armored_rep_view_value };
 
-    ghost Lists = { KrbFastArmoredRepLists };
+    ghost IsValid = { IsValidKrbFastArmoredRep };
 
     #[inline(always)]
     fn tag() -> u8

@@ -4,7 +4,7 @@ ghost use Rattle.std.specs.Prelude.{◌≡◌, ◌^◌, ◌<◌, true, length, M
 ghost use Rattle.krb_msg.specs.Term.{tag_of};
 ghost use Rattle.krb_msg.specs.Viewed.{AreContents, AreNoContents};
 ghost use Rattle.krb_padata.specs.Grammar.{krb_fast_armored_req};
-ghost use Rattle.krb_padata.specs.Types.{krb_fast_armored_req_view_value, KrbFastArmoredReqLists};
+ghost use Rattle.krb_padata.specs.Types.{krb_fast_armored_req_view_value, IsValidKrbFastArmoredReq};
 
 use crate::krb_fast_armor::{KrbFastArmor, KrbFastArmorView};
 use krb_msg::{
@@ -46,7 +46,7 @@ impl<'a> View<'a> for KrbFastArmoredReq {
 
     ghost value = { krb_fast_armored_req_view_value };
 
-    ghost Lists = { KrbFastArmoredReqLists };
+    ghost IsValid = { IsValidKrbFastArmoredReq };
 
     #[inline(always)]
     fn tag() -> u8

@@ -4,7 +4,7 @@ ghost use Rattle.std.specs.Prelude.{◌≡◌, ◌^◌, ◌<◌, true, length, M
 ghost use Rattle.krb_msg.specs.Term.{tag_of};
 ghost use Rattle.krb_msg.specs.Viewed.{AreContents, AreNoContents};
 ghost use Rattle.krb_padata.specs.Grammar.{pa_for_user};
-ghost use Rattle.krb_padata.specs.Types.{pa_for_user_view_value, PaForUserLists};
+ghost use Rattle.krb_padata.specs.Types.{pa_for_user_view_value, IsValidPaForUser};
 
 use krb_der::KString;
 use krb_msg::{
@@ -53,7 +53,7 @@ impl<'a> View<'a> for PaForUser {
 
     ghost value = { pa_for_user_view_value };
 
-    ghost Lists = { PaForUserLists };
+    ghost IsValid = { IsValidPaForUser };
 
     #[inline(always)]
     fn tag() -> u8

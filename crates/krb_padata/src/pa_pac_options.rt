@@ -4,7 +4,7 @@ ghost use Rattle.std.specs.Prelude.{◌≡◌, ◌^◌, ◌<◌, true, length, M
 ghost use Rattle.krb_msg.specs.Term.{tag_of};
 ghost use Rattle.krb_msg.specs.Viewed.{AreContents, AreNoContents};
 ghost use Rattle.krb_padata.specs.Grammar.{pa_pac_options};
-ghost use Rattle.krb_padata.specs.Types.{pa_pac_options_view_value, PaPacOptionsLists};
+ghost use Rattle.krb_padata.specs.Types.{pa_pac_options_view_value, IsValidPaPacOptions};
 
 use krb_der::Flags;
 use krb_msg::{End, FlagsView, Required, Sequence, View};
@@ -33,7 +33,7 @@ impl<'a> View<'a> for PaPacOptions {
 
     ghost value = { pa_pac_options_view_value };
 
-    ghost Lists = { PaPacOptionsLists };
+    ghost IsValid = { IsValidPaPacOptions };
 
     #[inline(always)]
     fn tag() -> u8

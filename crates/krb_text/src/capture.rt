@@ -2,7 +2,7 @@
 
 ghost use Rattle.std.specs.Prelude.{◌≡◌, ◌++◌, OnOk};
 ghost use Rattle.std.specs.Option.{option_copied};
-ghost use Rattle.krb_msg.specs.ViewValues.{MessageLists, message_of_view};
+ghost use Rattle.krb_msg.specs.ViewValues.{IsValidMessage, message_of_view};
 ghost use Rattle.krb_text.specs.Captures.{capture_end_line, capture_refused_line, captured_message_line, captured_refused_line, count_fields, joined_line, lost_line, password_line};
 ghost use Rattle.krb_text.specs.Forms.{fields_text};
 
@@ -27,7 +27,7 @@ pub fn put_captured_message(
     origin: &Origin,
     view: &MessageView<'_>,
 ) -> Result<(), Memory>
-    requires { MessageLists view.now }
+    requires { IsValidMessage view.now }
     ensures { OnOk result (text.new ≡ text.old ++ captured_message_line form origin.now (message_of_view view.now)) }
 {
     put_captured_opening(text, form, origin, view.kind().name())?;

@@ -3,9 +3,9 @@
 ghost use Rattle.std.specs.Prelude.{◌≡◌, ◌++◌, ◌^◌, ◌<◌, codes, length, IfOk, MatchOption, None, OnOk, Some};
 ghost use Rattle.std.specs.Option.{option_map};
 ghost use Rattle.krb_msg.specs.Grammar.{encrypted_data};
-ghost use Rattle.krb_msg.specs.Types.{ApReqLists, ap_req_of, ap_req_of_view, ap_req_view_value, encrypted_data_of, encrypted_data_of_view, ticket_of_view};
+ghost use Rattle.krb_msg.specs.Types.{IsValidApReq, ap_req_of, ap_req_of_view, ap_req_view_value, encrypted_data_of, encrypted_data_of_view, ticket_of_view};
 ghost use Rattle.krb_msg.specs.Term.{IfPresent};
-ghost use Rattle.krb_padata.specs.Types.{KrbFastArmorLists, etype_info2_entry_of_view, etype_info_entry_of_view, krb_fast_armor_of, krb_fast_armor_view_value, krb_fast_armored_rep_of_view, krb_fast_armored_req_of_view, pa_for_user_of_view, pa_pac_options_of_view};
+ghost use Rattle.krb_padata.specs.Types.{IsValidKrbFastArmor, etype_info2_entry_of_view, etype_info_entry_of_view, krb_fast_armor_of, krb_fast_armor_view_value, krb_fast_armored_rep_of_view, krb_fast_armored_req_of_view, pa_for_user_of_view, pa_pac_options_of_view};
 ghost use Rattle.krb_registry.specs.declared.registry.Registry.TheVariants.{EncryptionTypes};
 ghost use Rattle.krb_text.specs.Forms.{field, part_text};
 ghost use Rattle.krb_text.specs.Inside.{ap_req_in, etype_info2_part, etype_info_part, fast_reply_part, fast_request_part, for_user_part, one_if, pac_options_part, pac_request_part, salt_part, encrypted_part, tgs_req_part, ticket_part};
@@ -152,8 +152,8 @@ fn put_etype_field(text: &mut TextBuffer, form: Form, etype: &i64) -> Result<(),
 
 /// Returns a view of the AP-REQ that an armor is, if there is one and it is that.
 fn ap_req_of_armor<'a>(armor: &Option<KrbFastArmorView<'a>>) -> Option<ApReqView<'a>>
-    requires { IfPresent KrbFastArmorLists armor.now }
-    ensures { let seen = option_map krb_fast_armor_of (option_map krb_fast_armor_view_value armor.now) in MatchOption result (ap_req_in seen ≡ None) (λ req. ApReqLists req × (ap_req_in seen ≡ Some (ap_req_view_value req))) }
+    requires { IfPresent IsValidKrbFastArmor armor.now }
+    ensures { let seen = option_map krb_fast_armor_of (option_map krb_fast_armor_view_value armor.now) in MatchOption result (ap_req_in seen ≡ None) (λ req. IsValidApReq req × (ap_req_in seen ≡ Some (ap_req_view_value req))) }
 {
     match armor {
         Some(armor) if armor.armor_type == AP_REQUEST_ARMOR => {
@@ -183,7 +183,7 @@ fn put_ticket_fields(
     form: Form,
     req: &Option<ApReqView<'_>>,
 ) -> Result<(), AllocError>
-    requires { IfPresent ApReqLists req.now }
+    requires { IfPresent IsValidApReq req.now }
     ensures { let seen = option_map ap_req_view_value req.now in OnOk result (text.new ≡ text.old
         ++ field form (codes "server") (if_there (λ v. principal (ap_req_of v).ticket.realm (ap_req_of v).ticket.sname) seen)
         ++ field form (codes "ticket") (if_there (λ v. encrypted (ap_req_of v).ticket.enc_part) seen)) }
@@ -208,7 +208,7 @@ fn put_armor_fields(
     form: Form,
     armor: &Option<KrbFastArmorView<'_>>,
 ) -> Result<(), AllocError>
-    requires { IfPresent KrbFastArmorLists armor.now }
+    requires { IfPresent IsValidKrbFastArmor armor.now }
     ensures { let seen = option_map krb_fast_armor_of (option_map krb_fast_armor_view_value armor.now) in OnOk result (text.new ≡ text.old
         ++ field form (codes "armor") (if_there (λ a. Number a.armor_type) seen)
         ++ field form (codes "server") (if_there (λ v. principal (ap_req_of v).ticket.realm (ap_req_of v).ticket.sname) (ap_req_in seen))

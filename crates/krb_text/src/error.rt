@@ -2,7 +2,7 @@
 
 ghost use Rattle.std.specs.Prelude.{◌≡◌, ◌++◌, ◌^◌, ◌<◌, Some, None, codes, length, pos, MatchOption, OnOk};
 ghost use Rattle.krb_msg.specs.Grammar.{method_data, pa_data};
-ghost use Rattle.krb_msg.specs.Types.{KrbErrorLists, krb_error_of_view};
+ghost use Rattle.krb_msg.specs.Types.{IsValidKrbError, krb_error_of_view};
 ghost use Rattle.krb_msg.specs.Viewed.{AreViewed, items_of};
 ghost use Rattle.krb_registry.specs.declared.registry.Registry.TheVariants.{PreAuthenticationData};
 ghost use Rattle.krb_text.specs.Errors.{code_suffix, code_text};
@@ -95,7 +95,7 @@ pub(crate) fn method_data(octets: &[u8]) -> Option<ItemsView<'_>>
 /// Returns the types of the METHOD-DATA of an error that asks for pre-authentication, if its data is
 /// that.
 fn methods_of<'a>(error: &KrbErrorView<'a>) -> Option<PaDataTypes<'a>>
-    requires { KrbErrorLists error.now }
+    requires { IsValidKrbError error.now }
     ensures { let seen = krb_error_of_view error.now in if_there (Numbers PreAuthenticationData) result ≡ methods seen.error_code seen.e_data }
 {
     match error.e_data {
@@ -113,7 +113,7 @@ fn put_first_fields(
     form: Form,
     error: &KrbErrorView<'_>,
 ) -> Result<(), AllocError>
-    requires { KrbErrorLists error.now }
+    requires { IsValidKrbError error.now }
     ensures { let seen = krb_error_of_view error.now in OnOk result (text.new ≡ text.old
         ++ field form (codes "code") (ErrorCode seen.error_code)
         ++ field form (codes "client") (client seen.cname seen.crealm)
@@ -134,7 +134,7 @@ fn put_last_fields(
     form: Form,
     error: &KrbErrorView<'_>,
 ) -> Result<(), AllocError>
-    requires { KrbErrorLists error.now }
+    requires { IsValidKrbError error.now }
     ensures { let seen = krb_error_of_view error.now in OnOk result (text.new ≡ text.old
         ++ field form (codes "stime") (Word seen.stime)
         ++ field form (codes "susec") (Number (pos seen.susec))
@@ -155,7 +155,7 @@ pub(crate) fn put_krb_error(
     form: Form,
     error: &KrbErrorView<'_>,
 ) -> Result<(), AllocError>
-    requires { KrbErrorLists error.now }
+    requires { IsValidKrbError error.now }
     ensures { OnOk result (text.new ≡ text.old ++ fields_text form (krb_error_fields (krb_error_of_view error.now))) }
 {
     put_first_fields(text, form, error)?;

@@ -3,8 +3,8 @@
 ghost use Rattle.std.specs.Prelude.{◌≡◌, ◌+◌, ◌^◌, ◌<◌, ◌≤◌, ◌++◌, ◌||◌, None, Some, false, true, length, map, IfOk, List, MatchOption, OnOk};
 ghost use Rattle.std.specs.Option.{option_map};
 ghost use Rattle.krb_msg.specs.Grammar.{pa_data, ticket};
-ghost use Rattle.krb_msg.specs.Types.{KdcRepLists, KdcReqLists, KrbCredLists, KrbErrorLists, kdc_rep_of_view, kdc_req_of_view, krb_cred_of_view, krb_error_of_view, pa_data_of, ticket_of};
-ghost use Rattle.krb_msg.specs.ViewValues.{MessageLists, message_of_view};
+ghost use Rattle.krb_msg.specs.Types.{IsValidKdcRep, IsValidKdcReq, IsValidKrbCred, IsValidKrbError, kdc_rep_of_view, kdc_req_of_view, krb_cred_of_view, krb_error_of_view, pa_data_of, ticket_of};
+ghost use Rattle.krb_msg.specs.ViewValues.{IsValidMessage, message_of_view};
 ghost use Rattle.krb_msg.specs.Term.{IfPresent};
 ghost use Rattle.krb_msg.specs.Viewed.{AreViewed, items_of};
 ghost use Rattle.krb_text.specs.Forms.{ending, part_text};
@@ -33,16 +33,16 @@ trait HasParts {
     ghost parts: { Self → List Part };
 
     /// What is known of a view.
-    ghost Lists: { Self → Type 0 };
+    ghost IsValid: { Self → Type 0 };
 
     /// Returns how many parts it has.
     fn count_parts(&self) -> u64
-        requires { Lists self.now }
+        requires { IsValid self.now }
         ensures { result ≡ length (parts self.now) };
 
     /// Appends the parts.
     fn put_parts(&self, text: &mut TextBuffer, form: Form) -> Result<(), AllocError>
-        requires { Lists self.now }
+        requires { IsValid self.now }
         ensures { OnOk result (text.new ≡ text.old ++ parts_after form false (parts self.now)) };
 }
 
@@ -117,7 +117,7 @@ fn put_optional_tickets(
 impl<'a> HasParts for KdcReqView<'a> {
     ghost parts = { λ m. kdc_req_parts (kdc_req_of_view m) };
 
-    ghost Lists = { KdcReqLists };
+    ghost IsValid = { IsValidKdcReq };
 
     fn count_parts(&self) -> u64 {
         count_optional_padata(true, self.padata) + count_tickets(self.body.additional_tickets)
@@ -133,7 +133,7 @@ impl<'a> HasParts for KdcReqView<'a> {
 impl<'a> HasParts for KdcRepView<'a> {
     ghost parts = { λ m. padata_parts false (kdc_rep_of_view m).padata };
 
-    ghost Lists = { KdcRepLists };
+    ghost IsValid = { IsValidKdcRep };
 
     fn count_parts(&self) -> u64 {
         count_optional_padata(false, self.padata)
@@ -148,7 +148,7 @@ impl<'a> HasParts for KdcRepView<'a> {
 impl<'a> HasParts for KrbCredView<'a> {
     ghost parts = { λ m. map ticket_part (krb_cred_of_view m).tickets };
 
-    ghost Lists = { KrbCredLists };
+    ghost IsValid = { IsValidKrbCred };
 
     fn count_parts(&self) -> u64 {
         count_items::<Ticket>(self.tickets) as u64
@@ -171,7 +171,7 @@ fn has_methods(code: i64) -> bool
 /// Returns a view of the METHOD-DATA of an error that asks for pre-authentication or says that it
 /// failed (RFC 4120, 5.9.1), if its data is that.
 fn methods_of<'a>(error: &KrbErrorView<'a>) -> Option<ItemsView<'a>>
-    requires { KrbErrorLists error.now }
+    requires { IsValidKrbError error.now }
     ensures { let seen = krb_error_of_view error.now in let found = method_data_if (asks_for_preauth seen.error_code || says_preauth_failed seen.error_code) seen.e_data in MatchOption result (found ≡ None) (λ items. AreViewed pa_data items.octets.now × (found ≡ Some (items_of pa_data items.octets.now))) }
 {
     match error.e_data {
@@ -194,7 +194,7 @@ fn put_methods(text: &mut TextBuffer, form: Form, items: ItemsView<'_>) -> Resul
 impl<'a> HasParts for KrbErrorView<'a> {
     ghost parts = { λ m. krb_error_parts (krb_error_of_view m) };
 
-    ghost Lists = { KrbErrorLists };
+    ghost IsValid = { IsValidKrbError };
 
     fn count_parts(&self) -> u64 {
         let Some(items) = methods_of(self) else {
@@ -226,7 +226,7 @@ impl<'a> HasParts for KrbErrorView<'a> {
 #[inline(always)]
 #[tactic(auto, unfolding(crate::specs::Forms::closing, crate::specs::Forms::inside_text))]
 fn put_list<M: HasParts>(text: &mut TextBuffer, form: Form, message: &M) -> Result<(), AllocError>
-    requires { M.Lists message.now }
+    requires { M.IsValid message.now }
     ensures { OnOk result (text.new ≡ text.old ++ ending form (Some (M.parts message.now))) }
 {
     match form {
@@ -251,7 +251,7 @@ pub(crate) fn put_ending(
     form: Form,
     view: &MessageView<'_>,
 ) -> Result<(), AllocError>
-    requires { MessageLists view.now }
+    requires { IsValidMessage view.now }
     ensures { OnOk result (text.new ≡ text.old ++ ending form (inside_of (message_of_view view.now))) }
 {
     match view {

@@ -1,8 +1,8 @@
 //! What is printed of messages, written from views of their octets.
 
 ghost use Rattle.std.specs.Prelude.{◌≡◌, ◌++◌, IfOk, OnOk, codes, string_bytes};
-ghost use Rattle.krb_msg.specs.Types.{KdcReqBodyLists, KdcReqLists, KdcRepLists, ApReqLists, KrbSafeLists, KrbCredLists, kdc_req_body_of_view, kdc_req_of_view, kdc_rep_of_view, ap_req_of_view, ap_rep_of_view, krb_safe_of_view, krb_priv_of_view, krb_cred_of_view};
-ghost use Rattle.krb_msg.specs.ViewValues.{MessageLists, message_of_view};
+ghost use Rattle.krb_msg.specs.Types.{IsValidKdcReqBody, IsValidKdcReq, IsValidKdcRep, IsValidApReq, IsValidKrbSafe, IsValidKrbCred, kdc_req_body_of_view, kdc_req_of_view, kdc_rep_of_view, ap_req_of_view, ap_rep_of_view, krb_safe_of_view, krb_priv_of_view, krb_cred_of_view};
+ghost use Rattle.krb_msg.specs.ViewValues.{IsValidMessage, message_of_view};
 ghost use Rattle.krb_registry.specs.declared.registry.Registry.TheVariants as registries;
 ghost use Rattle.krb_text.specs.Forms.{ending, field, fields_text};
 ghost use Rattle.krb_text.specs.Messages.{padata, kdc_req_fields, kdc_rep_fields, ap_req_fields, ap_rep_fields, krb_safe_fields, krb_priv_fields, krb_cred_fields, fields_of, message_record, message_text, message_line, message_line_from, message_origin};
@@ -36,7 +36,7 @@ fn put_kdc_req_first_fields(
     form: Form,
     body: &KdcReqBodyView<'_>,
 ) -> Result<(), AllocError>
-    requires { KdcReqBodyLists body.now }
+    requires { IsValidKdcReqBody body.now }
     ensures { let seen = kdc_req_body_of_view body.now in OnOk result (text.new ≡ text.old
         ++ field form (codes "realm") (Escaped seen.realm)
         ++ field form (codes "client") (if_there (principal seen.realm) seen.cname)
@@ -61,7 +61,7 @@ fn put_kdc_req_last_fields(
     form: Form,
     req: &KdcReqView<'_>,
 ) -> Result<(), AllocError>
-    requires { KdcReqLists req.now }
+    requires { IsValidKdcReq req.now }
     ensures { let seen = kdc_req_of_view req.now in OnOk result (text.new ≡ text.old
         ++ field form (codes "nonce") (Number seen.body.nonce)
         ++ field form (codes "etypes") (Numbers registries.EncryptionTypes seen.body.etype)
@@ -80,7 +80,7 @@ fn put_kdc_req_last_fields(
 }
 
 fn put_kdc_req(text: &mut TextBuffer, form: Form, req: &KdcReqView<'_>) -> Result<(), AllocError>
-    requires { KdcReqLists req.now }
+    requires { IsValidKdcReq req.now }
     ensures { OnOk result (text.new ≡ text.old ++ fields_text form (kdc_req_fields (kdc_req_of_view req.now))) }
 {
     put_kdc_req_first_fields(text, form, &req.body)?;
@@ -88,7 +88,7 @@ fn put_kdc_req(text: &mut TextBuffer, form: Form, req: &KdcReqView<'_>) -> Resul
 }
 
 fn put_kdc_rep(text: &mut TextBuffer, form: Form, rep: &KdcRepView<'_>) -> Result<(), AllocError>
-    requires { KdcRepLists rep.now }
+    requires { IsValidKdcRep rep.now }
     ensures { OnOk result (text.new ≡ text.old ++ fields_text form (kdc_rep_fields (kdc_rep_of_view rep.now))) }
 {
     let ticket = &rep.ticket;
@@ -104,7 +104,7 @@ pub(crate) fn put_ap_req(
     form: Form,
     req: &ApReqView<'_>,
 ) -> Result<(), AllocError>
-    requires { ApReqLists req.now }
+    requires { IsValidApReq req.now }
     ensures { OnOk result (text.new ≡ text.old ++ fields_text form (ap_req_fields (ap_req_of_view req.now))) }
 {
     let ticket = &req.ticket;
@@ -121,7 +121,7 @@ fn put_ap_rep(text: &mut TextBuffer, form: Form, rep: &ApRepView<'_>) -> Result<
 }
 
 fn put_krb_safe(text: &mut TextBuffer, form: Form, safe: &KrbSafeView<'_>) -> Result<(), AllocError>
-    requires { KrbSafeLists safe.now }
+    requires { IsValidKrbSafe safe.now }
     ensures { OnOk result (text.new ≡ text.old ++ fields_text form (krb_safe_fields (krb_safe_of_view safe.now))) }
 {
     let body = &safe.body;
@@ -145,7 +145,7 @@ fn put_krb_priv(
 }
 
 fn put_krb_cred(text: &mut TextBuffer, form: Form, cred: &KrbCredView<'_>) -> Result<(), AllocError>
-    requires { KrbCredLists cred.now }
+    requires { IsValidKrbCred cred.now }
     ensures { OnOk result (text.new ≡ text.old ++ fields_text form (krb_cred_fields (krb_cred_of_view cred.now))) }
 {
     put_field!(text, form, "tickets": &ticket_count(cred.tickets))?;
@@ -154,7 +154,7 @@ fn put_krb_cred(text: &mut TextBuffer, form: Form, cred: &KrbCredView<'_>) -> Re
 
 /// Appends the fields of a message but the notes.
 fn put_fields(text: &mut TextBuffer, form: Form, view: &MessageView<'_>) -> Result<(), AllocError>
-    requires { MessageLists view.now }
+    requires { IsValidMessage view.now }
     ensures { OnOk result (text.new ≡ text.old ++ fields_text form (fields_of (message_of_view view.now))) }
 {
     match view {
@@ -177,7 +177,7 @@ pub(crate) fn put_rest(
     form: Form,
     view: &MessageView<'_>,
 ) -> Result<(), AllocError>
-    requires { MessageLists view.now }
+    requires { IsValidMessage view.now }
     ensures { OnOk result (text.new ≡ text.old ++ fields_text form (message_record (message_of_view view.now)).fields ++ ending form (message_record (message_of_view view.now)).inside) }
 {
     put_fields(text, form, view)?;
@@ -188,7 +188,7 @@ pub(crate) fn put_rest(
 /// Appends a message without its line feed.
 #[tactic(auto, unfolding(crate::specs::Forms::record_text, crate::specs::Messages::message_record))]
 fn put_text(text: &mut TextBuffer, form: Form, view: &MessageView<'_>) -> Result<(), AllocError>
-    requires { MessageLists view.now }
+    requires { IsValidMessage view.now }
     ensures { OnOk result (text.new ≡ text.old ++ message_text form (message_of_view view.now)) }
 {
     put_opening(text, form, view.kind().name())?;
@@ -203,7 +203,7 @@ pub fn put_message_view(
     form: Form,
     view: &MessageView<'_>,
 ) -> Result<(), Memory>
-    requires { MessageLists view.now }
+    requires { IsValidMessage view.now }
     ensures { OnOk result (text.new ≡ text.old ++ message_line form (message_of_view view.now)) }
 {
     put_text(text, form, view)?;
@@ -220,7 +220,7 @@ pub fn put_message_from(
     origin: &MessageOrigin<'_>,
     view: &MessageView<'_>,
 ) -> Result<(), Memory>
-    requires { MessageLists view.now }
+    requires { IsValidMessage view.now }
     ensures { OnOk result (text.new ≡ text.old ++ message_line_from form (message_origin origin.now.line origin.now.layers.now) (message_of_view view.now)) }
 {
     put_message_opening(text, form, origin, view.kind().name())?;

@@ -32,7 +32,7 @@ pub(crate) trait Clear<'a>: View<'a> {
 
     /// Appends the part of an item, after what separates it from the parts that were told before.
     fn put_part(text: &mut TextBuffer, at: PartPlace, seen: &Self::Of) -> Result<(), AllocError>
-        requires { Self.View.Lists seen.now }
+        requires { Self.View.IsValid seen.now }
         ensures { OnOk result (text.new ≡ text.old ++ separator at.form at.told ++ part_text at.form (part seen.now)) };
 }
 
@@ -42,7 +42,7 @@ pub(crate) fn view_judged<'a, T: View<'a>>(octets: &'a [u8]) -> Option<T::Of>
     requires short { length octets.now < 2 ^ 31 }
     requires tags { has_octet_tags T.term ≡ true }
     requires unambiguous { is_unambiguous T.term ≡ true }
-    ensures { MatchOption result (judged T.term octets.now ≡ None) (λ seen. (judged T.term octets.now ≡ Some (T.value seen)) × T.Lists seen) }
+    ensures { MatchOption result (judged T.term octets.now ≡ None) (λ seen. (judged T.term octets.now ≡ Some (T.value seen)) × T.IsValid seen) }
 {
     view_whole::<T>(octets)
 }

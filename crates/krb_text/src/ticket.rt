@@ -1,7 +1,7 @@
 //! What is printed of Tickets that lie in no message, written from views of their octets.
 
 ghost use Rattle.std.specs.Prelude.{◌≡◌, ◌++◌, OnOk};
-ghost use Rattle.krb_msg.specs.Types.{TicketLists, ticket_of_view};
+ghost use Rattle.krb_msg.specs.Types.{IsValidTicket, ticket_of_view};
 ghost use Rattle.krb_text.specs.Messages.{message_origin, ticket_line};
 
 use crate::field::put_end;
@@ -22,7 +22,7 @@ pub fn put_ticket(
     origin: &MessageOrigin<'_>,
     ticket: &TicketView<'_>,
 ) -> Result<(), AllocError>
-    requires { TicketLists ticket.now }
+    requires { IsValidTicket ticket.now }
     ensures { OnOk result (text.new ≡ text.old ++ ticket_line form (message_origin origin.now.line origin.now.layers.now) (ticket_of_view ticket.now)) }
 {
     put_message_opening(text, form, origin, "Ticket")?;

@@ -5,7 +5,7 @@ ghost use Rattle.std.specs.Option.{option_map};
 ghost use Rattle.krb_der.specs.Scalars.{IsTimeFrom};
 ghost use Rattle.krb_msg.specs.Basic.{flags_of_view, micros_of};
 ghost use Rattle.krb_msg.specs.Grammar.{host_address, pa_data, ticket};
-ghost use Rattle.krb_msg.specs.Types.{PrincipalNameLists, host_address_of, pa_data_of, principal_name_of, principal_name_of_view, principal_name_view_value, ticket_of};
+ghost use Rattle.krb_msg.specs.Types.{IsValidPrincipalName, host_address_of, pa_data_of, principal_name_of, principal_name_of_view, principal_name_view_value, ticket_of};
 ghost use Rattle.krb_msg.specs.Term.{IfPresent};
 ghost use Rattle.krb_msg.specs.Viewed.{AreViewed, items_of};
 ghost use Rattle.krb_text.specs.Messages.{padata};
@@ -28,7 +28,7 @@ type ViewedPrincipal<'a> = Principal<'a, ViewedStrings<'a>>;
 /// Returns the principal of a name in a realm.
 #[inline(always)]
 pub(crate) fn principal_of<'a>(name: &PrincipalNameView<'a>, realm: &'a [u8]) -> ViewedPrincipal<'a>
-    requires { PrincipalNameLists name.now }
+    requires { IsValidPrincipalName name.now }
     ensures { IsPrincipal result.name_type result.components result.realm.now ≡ principal realm.entry.now (principal_name_of_view name.now) }
 {
     Principal {
@@ -44,7 +44,7 @@ pub(crate) fn optional_principal_of<'a>(
     name: &Option<PrincipalNameView<'a>>,
     realm: &'a [u8],
 ) -> Option<ViewedPrincipal<'a>>
-    requires { IfPresent PrincipalNameLists name.now }
+    requires { IfPresent IsValidPrincipalName name.now }
     ensures { if_there (λ p. IsPrincipal p.name_type p.components p.realm.now) result ≡ if_there (principal realm.entry.now) (option_map principal_name_of (option_map principal_name_view_value name.now)) }
 {
     match name {
@@ -59,7 +59,7 @@ pub(crate) fn client_of<'a>(
     name: &Option<PrincipalNameView<'a>>,
     realm: Option<&'a [u8]>,
 ) -> Option<ViewedPrincipal<'a>>
-    requires { IfPresent PrincipalNameLists name.now }
+    requires { IfPresent IsValidPrincipalName name.now }
     ensures { if_there (λ p. IsPrincipal p.name_type p.components p.realm.now) result ≡ client (option_map principal_name_of (option_map principal_name_view_value name.now)) (option_map (λ octets. octets.now) realm.entry) }
 {
     match (name, realm) {

@@ -4,7 +4,7 @@ use Rattle.krb_msg.specs.Term.{Value}
 use Rattle.krb_msg.specs.Grammar.{ap_rep}
 use Rattle.krb_msg.specs.declared.ap_rep.ApRep.{ApRep}
 use Rattle.krb_msg.specs.declared.ap_rep.ApRepView.{ApRepView}
-use Rattle.krb_msg.specs.Types.EncryptedData.{encrypted_data_value, encrypted_data_of, encrypted_data_view_value, EncryptedDataLists}
+use Rattle.krb_msg.specs.Types.EncryptedData.{encrypted_data_value, encrypted_data_of, encrypted_data_view_value, IsValidEncryptedData}
 
 abbrev pub ap_rep_value : ApRep → Value ap_rep
 ap_rep_value m = (pos 5, (pos 15, (encrypted_data_value m.enc_part, tt)))
@@ -19,5 +19,5 @@ ap_rep_view_value m = (pos 5, (pos 15, (encrypted_data_view_value m.enc_part, tt
 abbrev pub ap_rep_of_view : ApRepView → ApRep
 ap_rep_of_view m = ap_rep_of (ap_rep_view_value m)
 
-abbrev pub ApRepLists : ApRepView → Type 0
-ApRepLists m = EncryptedDataLists m.enc_part
+abbrev pub IsValidApRep : ApRepView → Type 0
+IsValidApRep m = IsValidEncryptedData m.enc_part

@@ -5,8 +5,8 @@ use Rattle.krb_msg.specs.Basic.{flags_of_view}
 use Rattle.krb_msg.specs.Grammar.{ap_req}
 use Rattle.krb_msg.specs.declared.ap_req.ApReq.{ApReq}
 use Rattle.krb_msg.specs.declared.ap_req.ApReqView.{ApReqView}
-use Rattle.krb_msg.specs.Types.Ticket.{ticket_value, ticket_of, ticket_view_value, TicketLists}
-use Rattle.krb_msg.specs.Types.EncryptedData.{encrypted_data_value, encrypted_data_of, encrypted_data_view_value, EncryptedDataLists}
+use Rattle.krb_msg.specs.Types.Ticket.{ticket_value, ticket_of, ticket_view_value, IsValidTicket}
+use Rattle.krb_msg.specs.Types.EncryptedData.{encrypted_data_value, encrypted_data_of, encrypted_data_view_value, IsValidEncryptedData}
 
 abbrev pub ap_req_value : ApReq → Value ap_req
 ap_req_value m = (pos 5, (pos 14, (m.ap_options, (ticket_value m.ticket, (encrypted_data_value m.authenticator, tt)))))
@@ -21,5 +21,5 @@ ap_req_view_value m = (pos 5, (pos 14, (flags_of_view m.ap_options, (ticket_view
 abbrev pub ap_req_of_view : ApReqView → ApReq
 ap_req_of_view m = ap_req_of (ap_req_view_value m)
 
-abbrev pub ApReqLists : ApReqView → Type 0
-ApReqLists m = TicketLists m.ticket × EncryptedDataLists m.authenticator
+abbrev pub IsValidApReq : ApReqView → Type 0
+IsValidApReq m = IsValidTicket m.ticket × IsValidEncryptedData m.authenticator

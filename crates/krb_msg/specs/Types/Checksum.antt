@@ -18,5 +18,5 @@ checksum_view_value c = (c.cksumtype, (c.checksum.now, tt))
 abbrev pub checksum_of_view : ChecksumView → Checksum
 checksum_of_view c = checksum_of (checksum_view_value c)
 
-abbrev pub ChecksumLists : ChecksumView → Type 0
-ChecksumLists c = length c.checksum.now < 2 ^ 31
+abbrev pub IsValidChecksum : ChecksumView → Type 0
+IsValidChecksum c = length c.checksum.now < 2 ^ 31

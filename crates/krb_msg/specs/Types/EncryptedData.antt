@@ -18,5 +18,5 @@ encrypted_data_view_value e = (e.etype, (e.kvno, (e.cipher.now, tt)))
 abbrev pub encrypted_data_of_view : EncryptedDataView → EncryptedData
 encrypted_data_of_view e = encrypted_data_of (encrypted_data_view_value e)
 
-abbrev pub EncryptedDataLists : EncryptedDataView → Type 0
-EncryptedDataLists e = length e.cipher.now < 2 ^ 31
+abbrev pub IsValidEncryptedData : EncryptedDataView → Type 0
+IsValidEncryptedData e = length e.cipher.now < 2 ^ 31

@@ -18,5 +18,5 @@ host_address_view_value a = (a.addr_type, (a.address.now, tt))
 abbrev pub host_address_of_view : HostAddressView → HostAddress
 host_address_of_view a = host_address_of (host_address_view_value a)
 
-abbrev pub HostAddressLists : HostAddressView → Type 0
-HostAddressLists a = length a.address.now < 2 ^ 31
+abbrev pub IsValidHostAddress : HostAddressView → Type 0
+IsValidHostAddress a = length a.address.now < 2 ^ 31

@@ -7,9 +7,9 @@ use Rattle.krb_msg.specs.Grammar.{as_rep, pa_data}
 use Rattle.krb_msg.specs.declared.kdc_rep.KdcRep.{KdcRep}
 use Rattle.krb_msg.specs.declared.kdc_rep.KdcRepView.{KdcRepView}
 use Rattle.krb_msg.specs.Types.PaData.{pa_data_value, pa_data_of}
-use Rattle.krb_msg.specs.Types.PrincipalName.{principal_name_value, principal_name_of, principal_name_view_value, PrincipalNameLists}
-use Rattle.krb_msg.specs.Types.Ticket.{ticket_value, ticket_of, ticket_view_value, TicketLists}
-use Rattle.krb_msg.specs.Types.EncryptedData.{encrypted_data_value, encrypted_data_of, encrypted_data_view_value, EncryptedDataLists}
+use Rattle.krb_msg.specs.Types.PrincipalName.{principal_name_value, principal_name_of, principal_name_view_value, IsValidPrincipalName}
+use Rattle.krb_msg.specs.Types.Ticket.{ticket_value, ticket_of, ticket_view_value, IsValidTicket}
+use Rattle.krb_msg.specs.Types.EncryptedData.{encrypted_data_value, encrypted_data_of, encrypted_data_view_value, IsValidEncryptedData}
 
 -- the values of AS-REP and of TGS-REP, which differ in their message type alone
 abbrev pub KdcRepValue : Type 0
@@ -44,8 +44,8 @@ kdc_rep_view_value message_type m = (
 abbrev pub kdc_rep_of_view : KdcRepView → KdcRep
 kdc_rep_of_view m = kdc_rep_of (kdc_rep_view_value 11 m)
 
-pub record KdcRepLists (m : KdcRepView) : Type 0 where
+pub record IsValidKdcRep (m : KdcRepView) : Type 0 where
   pub padata : IfPresent (λ items. AreViewed pa_data items.octets.now) m.padata
-  pub cname : PrincipalNameLists m.cname
-  pub ticket : TicketLists m.ticket
-  pub enc_part : EncryptedDataLists m.enc_part
+  pub cname : IsValidPrincipalName m.cname
+  pub ticket : IsValidTicket m.ticket
+  pub enc_part : IsValidEncryptedData m.enc_part

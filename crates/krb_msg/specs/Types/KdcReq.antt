@@ -7,7 +7,7 @@ use Rattle.krb_msg.specs.Grammar.{as_req, pa_data}
 use Rattle.krb_msg.specs.declared.kdc_req.KdcReq.{KdcReq}
 use Rattle.krb_msg.specs.declared.kdc_req.KdcReqView.{KdcReqView}
 use Rattle.krb_msg.specs.Types.PaData.{pa_data_value, pa_data_of}
-use Rattle.krb_msg.specs.Types.KdcReqBody.{kdc_req_body_value, kdc_req_body_of, kdc_req_body_view_value, KdcReqBodyLists}
+use Rattle.krb_msg.specs.Types.KdcReqBody.{kdc_req_body_value, kdc_req_body_of, kdc_req_body_view_value, IsValidKdcReqBody}
 
 -- the values of AS-REQ and of TGS-REQ, which differ in their message type alone
 abbrev pub KdcReqValue : Type 0
@@ -27,5 +27,5 @@ kdc_req_view_value message_type m =
 abbrev pub kdc_req_of_view : KdcReqView → KdcReq
 kdc_req_of_view m = kdc_req_of (kdc_req_view_value 10 m)
 
-abbrev pub KdcReqLists : KdcReqView → Type 0
-KdcReqLists m = IfPresent (λ items. AreViewed pa_data items.octets.now) m.padata × KdcReqBodyLists m.body
+abbrev pub IsValidKdcReq : KdcReqView → Type 0
+IsValidKdcReq m = IfPresent (λ items. AreViewed pa_data items.octets.now) m.padata × IsValidKdcReqBody m.body

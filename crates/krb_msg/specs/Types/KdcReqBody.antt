@@ -7,9 +7,9 @@ use Rattle.krb_msg.specs.Viewed.{AreViewed, items_of}
 use Rattle.krb_msg.specs.Grammar.{kdc_req_body, int32, host_address, ticket}
 use Rattle.krb_msg.specs.declared.kdc_req_body.KdcReqBody.{KdcReqBody}
 use Rattle.krb_msg.specs.declared.kdc_req_body.KdcReqBodyView.{KdcReqBodyView}
-use Rattle.krb_msg.specs.Types.PrincipalName.{principal_name_value, principal_name_of, principal_name_view_value, PrincipalNameLists}
+use Rattle.krb_msg.specs.Types.PrincipalName.{principal_name_value, principal_name_of, principal_name_view_value, IsValidPrincipalName}
 use Rattle.krb_msg.specs.Types.HostAddress.{host_address_value, host_address_of}
-use Rattle.krb_msg.specs.Types.EncryptedData.{encrypted_data_value, encrypted_data_of, encrypted_data_view_value, EncryptedDataLists}
+use Rattle.krb_msg.specs.Types.EncryptedData.{encrypted_data_value, encrypted_data_of, encrypted_data_view_value, IsValidEncryptedData}
 use Rattle.krb_msg.specs.Types.Ticket.{ticket_value, ticket_of}
 
 abbrev pub kdc_req_body_value : KdcReqBody → Value kdc_req_body
@@ -101,13 +101,13 @@ kdc_req_body_view_value b = (
 abbrev pub kdc_req_body_of_view : KdcReqBodyView → KdcReqBody
 kdc_req_body_of_view b = kdc_req_body_of (kdc_req_body_view_value b)
 
-pub record KdcReqBodyLists (b : KdcReqBodyView) : Type 0 where
-  pub cname : IfPresent PrincipalNameLists b.cname
-  pub sname : IfPresent PrincipalNameLists b.sname
+pub record IsValidKdcReqBody (b : KdcReqBodyView) : Type 0 where
+  pub cname : IfPresent IsValidPrincipalName b.cname
+  pub sname : IfPresent IsValidPrincipalName b.sname
   pub from : IfPresent (λ time. IsTimeFrom 14 time.now) b.from
   pub till : IsTimeFrom 14 b.till.now
   pub rtime : IfPresent (λ time. IsTimeFrom 14 time.now) b.rtime
   pub etype : AreViewed int32 b.etype.octets.now
   pub addresses : IfPresent (λ items. AreViewed host_address items.octets.now) b.addresses
-  pub enc_authorization_data : IfPresent EncryptedDataLists b.enc_authorization_data
+  pub enc_authorization_data : IfPresent IsValidEncryptedData b.enc_authorization_data
   pub additional_tickets : IfPresent (λ items. AreViewed ticket items.octets.now) b.additional_tickets

@@ -6,7 +6,7 @@ use Rattle.krb_msg.specs.Grammar.{krb_cred, ticket}
 use Rattle.krb_msg.specs.declared.krb_cred.KrbCred.{KrbCred}
 use Rattle.krb_msg.specs.declared.krb_cred.KrbCredView.{KrbCredView}
 use Rattle.krb_msg.specs.Types.Ticket.{ticket_value, ticket_of}
-use Rattle.krb_msg.specs.Types.EncryptedData.{encrypted_data_value, encrypted_data_of, encrypted_data_view_value, EncryptedDataLists}
+use Rattle.krb_msg.specs.Types.EncryptedData.{encrypted_data_value, encrypted_data_of, encrypted_data_view_value, IsValidEncryptedData}
 
 abbrev pub krb_cred_value : KrbCred → Value krb_cred
 krb_cred_value m = (pos 5, (pos 22, (map ticket_value m.tickets, (encrypted_data_value m.enc_part, tt))))
@@ -21,5 +21,5 @@ krb_cred_view_value m = (pos 5, (pos 22, (items_of ticket m.tickets.octets.now, 
 abbrev pub krb_cred_of_view : KrbCredView → KrbCred
 krb_cred_of_view m = krb_cred_of (krb_cred_view_value m)
 
-abbrev pub KrbCredLists : KrbCredView → Type 0
-KrbCredLists m = AreViewed ticket m.tickets.octets.now × EncryptedDataLists m.enc_part
+abbrev pub IsValidKrbCred : KrbCredView → Type 0
+IsValidKrbCred m = AreViewed ticket m.tickets.octets.now × IsValidEncryptedData m.enc_part

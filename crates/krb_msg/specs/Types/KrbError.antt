@@ -6,7 +6,7 @@ use Rattle.krb_msg.specs.Basic.{micros_of}
 use Rattle.krb_msg.specs.Grammar.{krb_error}
 use Rattle.krb_msg.specs.declared.krb_error.KrbError.{KrbError}
 use Rattle.krb_msg.specs.declared.krb_error.KrbErrorView.{KrbErrorView}
-use Rattle.krb_msg.specs.Types.PrincipalName.{principal_name_value, principal_name_of, principal_name_view_value, PrincipalNameLists}
+use Rattle.krb_msg.specs.Types.PrincipalName.{principal_name_value, principal_name_of, principal_name_view_value, IsValidPrincipalName}
 
 abbrev pub krb_error_value : KrbError → Value krb_error
 krb_error_value m = (
@@ -90,11 +90,11 @@ krb_error_view_value m = (
 abbrev pub krb_error_of_view : KrbErrorView → KrbError
 krb_error_of_view m = krb_error_of (krb_error_view_value m)
 
-pub record KrbErrorLists (m : KrbErrorView) : Type 0 where
+pub record IsValidKrbError (m : KrbErrorView) : Type 0 where
   pub ctime : IfPresent (λ time. IsTimeFrom 14 time.now) m.ctime
   pub cusec : IfPresent (λ number. pos 0 ≤ℤ number) m.cusec
   pub stime : IsTimeFrom 14 m.stime.now
   pub susec : pos 0 ≤ℤ m.susec
-  pub cname : IfPresent PrincipalNameLists m.cname
-  pub sname : PrincipalNameLists m.sname
+  pub cname : IfPresent IsValidPrincipalName m.cname
+  pub sname : IsValidPrincipalName m.sname
   pub e_data : IfPresent (λ octets. length octets.now < 2 ^ 31) m.e_data

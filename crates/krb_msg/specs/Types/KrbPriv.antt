@@ -4,7 +4,7 @@ use Rattle.krb_msg.specs.Term.{Value}
 use Rattle.krb_msg.specs.Grammar.{krb_priv}
 use Rattle.krb_msg.specs.declared.krb_priv.KrbPriv.{KrbPriv}
 use Rattle.krb_msg.specs.declared.krb_priv.KrbPrivView.{KrbPrivView}
-use Rattle.krb_msg.specs.Types.EncryptedData.{encrypted_data_value, encrypted_data_of, encrypted_data_view_value, EncryptedDataLists}
+use Rattle.krb_msg.specs.Types.EncryptedData.{encrypted_data_value, encrypted_data_of, encrypted_data_view_value, IsValidEncryptedData}
 
 abbrev pub krb_priv_value : KrbPriv → Value krb_priv
 krb_priv_value m = (pos 5, (pos 21, (encrypted_data_value m.enc_part, tt)))
@@ -19,5 +19,5 @@ krb_priv_view_value m = (pos 5, (pos 21, (encrypted_data_view_value m.enc_part, 
 abbrev pub krb_priv_of_view : KrbPrivView → KrbPriv
 krb_priv_of_view m = krb_priv_of (krb_priv_view_value m)
 
-abbrev pub KrbPrivLists : KrbPrivView → Type 0
-KrbPrivLists m = EncryptedDataLists m.enc_part
+abbrev pub IsValidKrbPriv : KrbPrivView → Type 0
+IsValidKrbPriv m = IsValidEncryptedData m.enc_part

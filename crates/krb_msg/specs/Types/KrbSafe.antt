@@ -4,8 +4,8 @@ use Rattle.krb_msg.specs.Term.{Value}
 use Rattle.krb_msg.specs.Grammar.{krb_safe}
 use Rattle.krb_msg.specs.declared.krb_safe.KrbSafe.{KrbSafe}
 use Rattle.krb_msg.specs.declared.krb_safe.KrbSafeView.{KrbSafeView}
-use Rattle.krb_msg.specs.Types.KrbSafeBody.{krb_safe_body_value, krb_safe_body_of, krb_safe_body_view_value, KrbSafeBodyLists}
-use Rattle.krb_msg.specs.Types.Checksum.{checksum_value, checksum_of, checksum_view_value, ChecksumLists}
+use Rattle.krb_msg.specs.Types.KrbSafeBody.{krb_safe_body_value, krb_safe_body_of, krb_safe_body_view_value, IsValidKrbSafeBody}
+use Rattle.krb_msg.specs.Types.Checksum.{checksum_value, checksum_of, checksum_view_value, IsValidChecksum}
 
 abbrev pub krb_safe_value : KrbSafe → Value krb_safe
 krb_safe_value m = (pos 5, (pos 20, (krb_safe_body_value m.body, (checksum_value m.cksum, tt))))
@@ -20,5 +20,5 @@ krb_safe_view_value m = (pos 5, (pos 20, (krb_safe_body_view_value m.body, (chec
 abbrev pub krb_safe_of_view : KrbSafeView → KrbSafe
 krb_safe_of_view m = krb_safe_of (krb_safe_view_value m)
 
-abbrev pub KrbSafeLists : KrbSafeView → Type 0
-KrbSafeLists m = KrbSafeBodyLists m.body × ChecksumLists m.cksum
+abbrev pub IsValidKrbSafe : KrbSafeView → Type 0
+IsValidKrbSafe m = IsValidKrbSafeBody m.body × IsValidChecksum m.cksum

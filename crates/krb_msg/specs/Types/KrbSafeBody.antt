@@ -6,7 +6,7 @@ use Rattle.krb_msg.specs.Basic.{micros_of}
 use Rattle.krb_msg.specs.Grammar.{krb_safe_body}
 use Rattle.krb_msg.specs.declared.krb_safe_body.KrbSafeBody.{KrbSafeBody}
 use Rattle.krb_msg.specs.declared.krb_safe_body.KrbSafeBodyView.{KrbSafeBodyView}
-use Rattle.krb_msg.specs.Types.HostAddress.{host_address_value, host_address_of, host_address_view_value, HostAddressLists}
+use Rattle.krb_msg.specs.Types.HostAddress.{host_address_value, host_address_of, host_address_view_value, IsValidHostAddress}
 
 abbrev pub krb_safe_body_value : KrbSafeBody → Value krb_safe_body
 krb_safe_body_value b =
@@ -35,9 +35,9 @@ krb_safe_body_view_value b = (
 abbrev pub krb_safe_body_of_view : KrbSafeBodyView → KrbSafeBody
 krb_safe_body_of_view b = krb_safe_body_of (krb_safe_body_view_value b)
 
-pub record KrbSafeBodyLists (b : KrbSafeBodyView) : Type 0 where
+pub record IsValidKrbSafeBody (b : KrbSafeBodyView) : Type 0 where
   pub user_data : length b.user_data.now < 2 ^ 31
   pub timestamp : IfPresent (λ time. IsTimeFrom 14 time.now) b.timestamp
   pub usec : IfPresent (λ number. pos 0 ≤ℤ number) b.usec
-  pub s_address : HostAddressLists b.s_address
-  pub r_address : IfPresent HostAddressLists b.r_address
+  pub s_address : IsValidHostAddress b.s_address
+  pub r_address : IfPresent IsValidHostAddress b.r_address

@@ -18,5 +18,5 @@ pa_data_view_value p = (p.padata_type, (p.padata_value.now, tt))
 abbrev pub pa_data_of_view : PaDataView → PaData
 pa_data_of_view p = pa_data_of (pa_data_view_value p)
 
-abbrev pub PaDataLists : PaDataView → Type 0
-PaDataLists p = length p.padata_value.now < 2 ^ 31
+abbrev pub IsValidPaData : PaDataView → Type 0
+IsValidPaData p = length p.padata_value.now < 2 ^ 31

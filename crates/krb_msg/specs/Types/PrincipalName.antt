@@ -18,5 +18,5 @@ principal_name_view_value p = (p.name_type, (items_of kerberos_string p.name.oct
 abbrev pub principal_name_of_view : PrincipalNameView → PrincipalName
 principal_name_of_view p = principal_name_of (principal_name_view_value p)
 
-abbrev pub PrincipalNameLists : PrincipalNameView → Type 0
-PrincipalNameLists p = AreViewed kerberos_string p.name.octets.now
+abbrev pub IsValidPrincipalName : PrincipalNameView → Type 0
+IsValidPrincipalName p = AreViewed kerberos_string p.name.octets.now

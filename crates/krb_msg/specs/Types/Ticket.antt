@@ -4,8 +4,8 @@ use Rattle.krb_msg.specs.Term.{Value}
 use Rattle.krb_msg.specs.Grammar.{ticket}
 use Rattle.krb_msg.specs.declared.ticket.Ticket.{Ticket}
 use Rattle.krb_msg.specs.declared.ticket.TicketView.{TicketView}
-use Rattle.krb_msg.specs.Types.PrincipalName.{principal_name_value, principal_name_of, principal_name_view_value, PrincipalNameLists}
-use Rattle.krb_msg.specs.Types.EncryptedData.{encrypted_data_value, encrypted_data_of, encrypted_data_view_value, EncryptedDataLists}
+use Rattle.krb_msg.specs.Types.PrincipalName.{principal_name_value, principal_name_of, principal_name_view_value, IsValidPrincipalName}
+use Rattle.krb_msg.specs.Types.EncryptedData.{encrypted_data_value, encrypted_data_of, encrypted_data_view_value, IsValidEncryptedData}
 
 abbrev pub ticket_value : Ticket → Value ticket
 ticket_value t = (pos 5, (t.realm, (principal_name_value t.sname, (encrypted_data_value t.enc_part, tt))))
@@ -20,5 +20,5 @@ ticket_view_value t = (pos 5, (t.realm.now, (principal_name_view_value t.sname, 
 abbrev pub ticket_of_view : TicketView → Ticket
 ticket_of_view t = ticket_of (ticket_view_value t)
 
-abbrev pub TicketLists : TicketView → Type 0
-TicketLists t = PrincipalNameLists t.sname × EncryptedDataLists t.enc_part
+abbrev pub IsValidTicket : TicketView → Type 0
+IsValidTicket t = IsValidPrincipalName t.sname × IsValidEncryptedData t.enc_part

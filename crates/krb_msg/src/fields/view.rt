@@ -23,7 +23,7 @@ pub trait View<'a> {
     ghost value: { Self.Of → Value term };
 
     /// What is known of a view: lists are items, times are times, and so on.
-    ghost Lists: { Self.Of → Type 0 };
+    ghost IsValid: { Self.Of → Type 0 };
 
     /// Returns the identifier octet.
     fn tag() -> u8
@@ -35,7 +35,7 @@ pub trait View<'a> {
         requires short { length contents.now < 2 ^ 31 }
         requires tags { has_octet_tags term ≡ true }
         requires unambiguous { is_unambiguous term ≡ true }
-        ensures { MatchOption result (AreNoContents term contents.now) (λ seen. AreContents term contents.now (value seen) × Lists seen) };
+        ensures { MatchOption result (AreNoContents term contents.now) (λ seen. AreContents term contents.now (value seen) × IsValid seen) };
 }
 
 /// Fields, from one on, that are judged and viewed in place.
@@ -50,14 +50,14 @@ pub trait ViewFields<'a> {
     ghost values: { Self.Of → Values fields };
 
     /// What is known of a view: lists are items, times are times, and so on.
-    ghost Lists: { Self.Of → Type 0 };
+    ghost IsValid: { Self.Of → Type 0 };
 
     /// Returns a view of the fields that octets are, if they are those.
     fn view_fields(octets: &'a [u8]) -> Option<Self::Of>
         requires short { length octets.now < 2 ^ 31 }
         requires tags { have_octet_tags fields ≡ true }
         requires unambiguous { are_unambiguous fields ≡ true }
-        ensures { MatchOption result (AreNoFields fields octets.now) (λ seen. AreFields fields octets.now (values seen) × Lists seen) };
+        ensures { MatchOption result (AreNoFields fields octets.now) (λ seen. AreFields fields octets.now (values seen) × IsValid seen) };
 }
 
 /// Returns the field `[INDEX]` with which octets begin, and what follows it.
@@ -66,7 +66,7 @@ fn view_field<'a, const INDEX: u8, T: View<'a>>(octets: &'a [u8]) -> Option<(T::
     requires short { length octets.now < 2 ^ 31 }
     requires tags { has_octet_tags (TaggedTerm INDEX T.term) ≡ true }
     requires unambiguous { is_unambiguous T.term ≡ true }
-    ensures { MatchOption result (BeginsWithNoValue (TaggedTerm INDEX T.term) octets.now) (λ (seen, rest). BeginsWithValue (TaggedTerm INDEX T.term) octets.now (T.value seen) rest.now × T.Lists seen) }
+    ensures { MatchOption result (BeginsWithNoValue (TaggedTerm INDEX T.term) octets.now) (λ (seen, rest). BeginsWithValue (TaggedTerm INDEX T.term) octets.now (T.value seen) rest.now × T.IsValid seen) }
 {
     let Some((contents, rest)) = first_field(0xA0 + INDEX, T::tag(), octets) else {
         return None;
@@ -85,7 +85,7 @@ fn view_optional<'a, const INDEX: u8, T: View<'a>>(
     requires short { length octets.now < 2 ^ 31 }
     requires tags { has_octet_tags (TaggedTerm INDEX T.term) ≡ true }
     requires unambiguous { is_unambiguous T.term ≡ true }
-    ensures { MatchOption result (IsMalformedField (TaggedTerm INDEX T.term) octets.now) (λ (seen, rest). MayBeginWithValue (TaggedTerm INDEX T.term) octets.now (option_map T.value seen) rest.now × IfPresent T.Lists seen) }
+    ensures { MatchOption result (IsMalformedField (TaggedTerm INDEX T.term) octets.now) (λ (seen, rest). MayBeginWithValue (TaggedTerm INDEX T.term) octets.now (option_map T.value seen) rest.now × IfPresent T.IsValid seen) }
 {
     match octets.first() {
         Some(tag) if *tag == 0xA0 + INDEX => {
@@ -105,7 +105,7 @@ impl<'a> ViewFields<'a> for End {
 
     ghost values = { λ seen. tt };
 
-    ghost Lists = { λ seen. ⊤ };
+    ghost IsValid = { λ seen. ⊤ };
 
     #[inline(always)]
     fn view_fields(octets: &'a [u8]) -> Option<()> {
@@ -120,7 +120,7 @@ impl<'a, const INDEX: u8, T: View<'a>, F: ViewFields<'a>> ViewFields<'a> for Req
 
     ghost values = { λ seen. (T.value seen.0, F.values seen.1) };
 
-    ghost Lists = { λ seen. T.Lists seen.0 × F.Lists seen.1 };
+    ghost IsValid = { λ seen. T.IsValid seen.0 × F.IsValid seen.1 };
 
     #[inline(always)]
     fn view_fields(octets: &'a [u8]) -> Option<(T::Of, F::Of)> {
@@ -141,7 +141,7 @@ impl<'a, const INDEX: u8, T: View<'a>, F: ViewFields<'a>> ViewFields<'a> for Opt
 
     ghost values = { λ seen. (option_map T.value seen.0, F.values seen.1) };
 
-    ghost Lists = { λ seen. IfPresent T.Lists seen.0 × F.Lists seen.1 };
+    ghost IsValid = { λ seen. IfPresent T.IsValid seen.0 × F.IsValid seen.1 };
 
     #[inline(always)]
     fn view_fields(octets: &'a [u8]) -> Option<(Option<T::Of>, F::Of)> {
@@ -163,7 +163,7 @@ impl<'a, const INDEX: u8, const NUMBER: u8, F: ViewFields<'a>> ViewFields<'a>
 
     ghost values = { λ seen. (pos NUMBER, F.values seen) };
 
-    ghost Lists = { λ seen. F.Lists seen };
+    ghost IsValid = { λ seen. F.IsValid seen };
 
     #[inline(always)]
     fn view_fields(octets: &'a [u8]) -> Option<F::Of> {
@@ -181,7 +181,7 @@ impl<'a, F: ViewFields<'a>> View<'a> for Sequence<F> {
 
     ghost value = { λ seen. F.values seen };
 
-    ghost Lists = { λ seen. F.Lists seen };
+    ghost IsValid = { λ seen. F.IsValid seen };
 
     #[inline(always)]
     fn tag() -> u8 {
@@ -201,7 +201,7 @@ impl<'a, const INDEX: u8, E: View<'a>> View<'a> for Tagged<INDEX, E> {
 
     ghost value = { λ seen. E.value seen };
 
-    ghost Lists = { λ seen. E.Lists seen };
+    ghost IsValid = { λ seen. E.IsValid seen };
 
     #[inline(always)]
     fn tag() -> u8 {
@@ -224,7 +224,7 @@ impl<'a, const NUMBER: u8, E: View<'a>> View<'a> for Application<NUMBER, E> {
 
     ghost value = { λ seen. E.value seen };
 
-    ghost Lists = { λ seen. E.Lists seen };
+    ghost IsValid = { λ seen. E.IsValid seen };
 
     #[inline(always)]
     fn tag() -> u8 {

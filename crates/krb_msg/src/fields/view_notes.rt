@@ -13,12 +13,12 @@ use crate::notes::items::note_of_empty_list;
 pub trait NotedView<'a>: View<'a> {
     /// Returns whether a view is of a list without items.
     fn is_empty_list(seen: &Self::Of) -> bool
-        requires { Self.View.Lists seen.now }
+        requires { Self.View.IsValid seen.now }
         ensures { result ≡ is_list_that_has EmptyList Self.View.term (Self.View.value seen.now) };
 
     /// Returns the notes that hold in a view.
     fn notes(seen: &Self::Of) -> Notes
-        requires { Self.View.Lists seen.now }
+        requires { Self.View.IsValid seen.now }
         ensures { result ≡ notes_by (λ note. has note Self.View.term (Self.View.value seen.now)) };
 }
 
@@ -26,14 +26,14 @@ pub trait NotedView<'a>: View<'a> {
 pub trait NotedViewFields<'a>: ViewFields<'a> {
     /// Returns the notes that hold in views of them.
     fn notes(seen: &Self::Of) -> Notes
-        requires { Self.ViewFields.Lists seen.now }
+        requires { Self.ViewFields.IsValid seen.now }
         ensures { result ≡ notes_by (λ note. any_has note Self.ViewFields.fields (Self.ViewFields.values seen.now)) };
 }
 
 /// Returns the notes on a field that may be left out, if it is there.
 #[inline(always)]
 fn optional_notes<'a, T: NotedView<'a>>(field: &Option<T::Of>) -> Notes
-    requires { IfPresent T.View.Lists field.now }
+    requires { IfPresent T.View.IsValid field.now }
     ensures { result ≡ notes_by (λ note. option_any (λ value. is_list_that_has note T.View.term value || has note T.View.term value) (option_map T.View.value field.now)) }
 {
     match field {

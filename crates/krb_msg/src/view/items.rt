@@ -56,7 +56,7 @@ pub fn next_item<'a, T: View<'a>>(items: ItemsView<'a>) -> Option<(T::Of, ItemsV
     requires tags { has_octet_tags T.term ≡ true }
     requires unambiguous { is_unambiguous T.term ≡ true }
     requires viewed { AreViewed T.term items.octets.now }
-    ensures { MatchOption result (items_of T.term items.entry.octets.now ≡ []) (λ (seen, rest). IsFirstItem T.term items.entry.octets.now (T.value seen) rest.octets.now × T.Lists seen) }
+    ensures { MatchOption result (items_of T.term items.entry.octets.now ≡ []) (λ (seen, rest). IsFirstItem T.term items.entry.octets.now (T.value seen) rest.octets.now × T.IsValid seen) }
 {
     if items.octets.is_empty() {
         return None;

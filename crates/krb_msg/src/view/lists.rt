@@ -20,7 +20,7 @@ impl<'a> View<'a> for Many<HostAddress> {
 
     ghost value = { λ seen. items_of host_address seen.octets.now };
 
-    ghost Lists = { λ seen. AreViewed host_address seen.octets.now };
+    ghost IsValid = { λ seen. AreViewed host_address seen.octets.now };
 
     #[inline(always)]
     fn tag() -> u8
@@ -42,7 +42,7 @@ impl<'a> View<'a> for Many<Int32> {
 
     ghost value = { λ seen. items_of int32 seen.octets.now };
 
-    ghost Lists = { λ seen. AreViewed int32 seen.octets.now };
+    ghost IsValid = { λ seen. AreViewed int32 seen.octets.now };
 
     #[inline(always)]
     fn tag() -> u8
@@ -64,7 +64,7 @@ impl<'a> View<'a> for Many<KString> {
 
     ghost value = { λ seen. items_of kerberos_string seen.octets.now };
 
-    ghost Lists = { λ seen. AreViewed kerberos_string seen.octets.now };
+    ghost IsValid = { λ seen. AreViewed kerberos_string seen.octets.now };
 
     #[inline(always)]
     fn tag() -> u8
@@ -86,7 +86,7 @@ impl<'a> View<'a> for Many<PaData> {
 
     ghost value = { λ seen. items_of pa_data seen.octets.now };
 
-    ghost Lists = { λ seen. AreViewed pa_data seen.octets.now };
+    ghost IsValid = { λ seen. AreViewed pa_data seen.octets.now };
 
     #[inline(always)]
     fn tag() -> u8
@@ -108,7 +108,7 @@ impl<'a> View<'a> for Many<Ticket> {
 
     ghost value = { λ seen. items_of ticket seen.octets.now };
 
-    ghost Lists = { λ seen. AreViewed ticket seen.octets.now };
+    ghost IsValid = { λ seen. AreViewed ticket seen.octets.now };
 
     #[inline(always)]
     fn tag() -> u8

@@ -20,7 +20,7 @@ impl<'a, const NUMBER: u8> View<'a> for Exactly<NUMBER> {
 
     ghost value = { λ seen. pos NUMBER };
 
-    ghost Lists = { λ seen. ⊤ };
+    ghost IsValid = { λ seen. ⊤ };
 
     #[inline(always)]
     fn tag() -> u8 {
@@ -43,7 +43,7 @@ impl<'a> View<'a> for Int32 {
 
     ghost value = { λ number. number };
 
-    ghost Lists = { λ seen. ⊤ };
+    ghost IsValid = { λ seen. ⊤ };
 
     #[inline(always)]
     fn tag() -> u8 {
@@ -63,7 +63,7 @@ impl<'a> View<'a> for Wide32 {
 
     ghost value = { λ number. number };
 
-    ghost Lists = { λ seen. ⊤ };
+    ghost IsValid = { λ seen. ⊤ };
 
     #[inline(always)]
     fn tag() -> u8 {
@@ -83,7 +83,7 @@ impl<'a> View<'a> for KString {
 
     ghost value = { λ octets. octets.now };
 
-    ghost Lists = { λ seen. ⊤ };
+    ghost IsValid = { λ seen. ⊤ };
 
     #[inline(always)]
     fn tag() -> u8
@@ -105,7 +105,7 @@ impl<'a> View<'a> for Octets {
 
     ghost value = { λ octets. octets.now };
 
-    ghost Lists = { λ octets. length octets.now < 2 ^ 31 };
+    ghost IsValid = { λ octets. length octets.now < 2 ^ 31 };
 
     #[inline(always)]
     fn tag() -> u8
@@ -127,7 +127,7 @@ impl<'a> View<'a> for Micros {
 
     ghost value = { λ number. number };
 
-    ghost Lists = { λ number. pos 0 ≤ℤ number };
+    ghost IsValid = { λ number. pos 0 ≤ℤ number };
 
     #[inline(always)]
     fn tag() -> u8 {
@@ -161,7 +161,7 @@ impl<'a> View<'a> for KerberosTime {
 
     ghost value = { λ octets. octets.now };
 
-    ghost Lists = { λ octets. IsTimeFrom 14 octets.now };
+    ghost IsValid = { λ octets. IsTimeFrom 14 octets.now };
 
     #[inline(always)]
     fn tag() -> u8
@@ -204,7 +204,7 @@ impl<'a> View<'a> for Flags {
 
     ghost value = { λ seen. (seen.unused, seen.octets.now) };
 
-    ghost Lists = { λ seen. ⊤ };
+    ghost IsValid = { λ seen. ⊤ };
 
     #[inline(always)]
     fn tag() -> u8

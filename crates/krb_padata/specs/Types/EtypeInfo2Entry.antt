@@ -19,5 +19,5 @@ etype_info2_entry_view_value e = (e.etype, (option_map (λ octets. octets.now) e
 abbrev pub etype_info2_entry_of_view : EtypeInfo2EntryView → EtypeInfo2Entry
 etype_info2_entry_of_view e = etype_info2_entry_of (etype_info2_entry_view_value e)
 
-abbrev pub EtypeInfo2EntryLists : EtypeInfo2EntryView → Type 0
-EtypeInfo2EntryLists e = IfPresent (λ octets. length octets.now < 2 ^ 31) e.s2kparams
+abbrev pub IsValidEtypeInfo2Entry : EtypeInfo2EntryView → Type 0
+IsValidEtypeInfo2Entry e = IfPresent (λ octets. length octets.now < 2 ^ 31) e.s2kparams

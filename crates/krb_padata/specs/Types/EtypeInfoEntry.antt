@@ -19,5 +19,5 @@ etype_info_entry_view_value e = (e.etype, (option_map (λ octets. octets.now) e.
 abbrev pub etype_info_entry_of_view : EtypeInfoEntryView → EtypeInfoEntry
 etype_info_entry_of_view e = etype_info_entry_of (etype_info_entry_view_value e)
 
-abbrev pub EtypeInfoEntryLists : EtypeInfoEntryView → Type 0
-EtypeInfoEntryLists e = IfPresent (λ octets. length octets.now < 2 ^ 31) e.salt
+abbrev pub IsValidEtypeInfoEntry : EtypeInfoEntryView → Type 0
+IsValidEtypeInfoEntry e = IfPresent (λ octets. length octets.now < 2 ^ 31) e.salt

@@ -18,5 +18,5 @@ krb_fast_armor_view_value a = (a.armor_type, (a.armor_value.now, tt))
 abbrev pub krb_fast_armor_of_view : KrbFastArmorView → KrbFastArmor
 krb_fast_armor_of_view a = krb_fast_armor_of (krb_fast_armor_view_value a)
 
-abbrev pub KrbFastArmorLists : KrbFastArmorView → Type 0
-KrbFastArmorLists a = length a.armor_value.now < 2 ^ 31
+abbrev pub IsValidKrbFastArmor : KrbFastArmorView → Type 0
+IsValidKrbFastArmor a = length a.armor_value.now < 2 ^ 31

@@ -3,7 +3,7 @@ use Rattle.krb_msg.specs.Term.{Value}
 use Rattle.krb_padata.specs.Grammar.{krb_fast_armored_rep}
 use Rattle.krb_padata.specs.declared.krb_fast_armored_rep.KrbFastArmoredRep.{KrbFastArmoredRep}
 use Rattle.krb_padata.specs.declared.krb_fast_armored_rep.KrbFastArmoredRepView.{KrbFastArmoredRepView}
-use Rattle.krb_msg.specs.Types.EncryptedData.{encrypted_data_value, encrypted_data_of, encrypted_data_view_value, EncryptedDataLists}
+use Rattle.krb_msg.specs.Types.EncryptedData.{encrypted_data_value, encrypted_data_of, encrypted_data_view_value, IsValidEncryptedData}
 
 abbrev pub krb_fast_armored_rep_value : KrbFastArmoredRep → Value krb_fast_armored_rep
 krb_fast_armored_rep_value r = (encrypted_data_value r.enc_fast_rep, tt)
@@ -18,5 +18,5 @@ krb_fast_armored_rep_view_value r = (encrypted_data_view_value r.enc_fast_rep, t
 abbrev pub krb_fast_armored_rep_of_view : KrbFastArmoredRepView → KrbFastArmoredRep
 krb_fast_armored_rep_of_view r = krb_fast_armored_rep_of (krb_fast_armored_rep_view_value r)
 
-abbrev pub KrbFastArmoredRepLists : KrbFastArmoredRepView → Type 0
-KrbFastArmoredRepLists r = EncryptedDataLists r.enc_fast_rep
+abbrev pub IsValidKrbFastArmoredRep : KrbFastArmoredRepView → Type 0
+IsValidKrbFastArmoredRep r = IsValidEncryptedData r.enc_fast_rep

@@ -4,9 +4,9 @@ use Rattle.krb_msg.specs.Term.{Value, IfPresent}
 use Rattle.krb_padata.specs.Grammar.{krb_fast_armored_req}
 use Rattle.krb_padata.specs.declared.krb_fast_armored_req.KrbFastArmoredReq.{KrbFastArmoredReq}
 use Rattle.krb_padata.specs.declared.krb_fast_armored_req.KrbFastArmoredReqView.{KrbFastArmoredReqView}
-use Rattle.krb_padata.specs.Types.KrbFastArmor.{krb_fast_armor_value, krb_fast_armor_of, krb_fast_armor_view_value, KrbFastArmorLists}
-use Rattle.krb_msg.specs.Types.Checksum.{checksum_value, checksum_of, checksum_view_value, ChecksumLists}
-use Rattle.krb_msg.specs.Types.EncryptedData.{encrypted_data_value, encrypted_data_of, encrypted_data_view_value, EncryptedDataLists}
+use Rattle.krb_padata.specs.Types.KrbFastArmor.{krb_fast_armor_value, krb_fast_armor_of, krb_fast_armor_view_value, IsValidKrbFastArmor}
+use Rattle.krb_msg.specs.Types.Checksum.{checksum_value, checksum_of, checksum_view_value, IsValidChecksum}
+use Rattle.krb_msg.specs.Types.EncryptedData.{encrypted_data_value, encrypted_data_of, encrypted_data_view_value, IsValidEncryptedData}
 
 abbrev pub krb_fast_armored_req_value : KrbFastArmoredReq → Value krb_fast_armored_req
 krb_fast_armored_req_value r = (option_map krb_fast_armor_value r.armor, (checksum_value r.req_checksum, (encrypted_data_value r.enc_fast_req, tt)))
@@ -26,7 +26,7 @@ krb_fast_armored_req_view_value r =
 abbrev pub krb_fast_armored_req_of_view : KrbFastArmoredReqView → KrbFastArmoredReq
 krb_fast_armored_req_of_view r = krb_fast_armored_req_of (krb_fast_armored_req_view_value r)
 
-pub record KrbFastArmoredReqLists (r : KrbFastArmoredReqView) : Type 0 where
-  pub armor : IfPresent KrbFastArmorLists r.armor
-  pub req_checksum : ChecksumLists r.req_checksum
-  pub enc_fast_req : EncryptedDataLists r.enc_fast_req
+pub record IsValidKrbFastArmoredReq (r : KrbFastArmoredReqView) : Type 0 where
+  pub armor : IfPresent IsValidKrbFastArmor r.armor
+  pub req_checksum : IsValidChecksum r.req_checksum
+  pub enc_fast_req : IsValidEncryptedData r.enc_fast_req

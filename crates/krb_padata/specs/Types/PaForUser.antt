@@ -3,8 +3,8 @@ use Rattle.krb_msg.specs.Term.{Value}
 use Rattle.krb_padata.specs.Grammar.{pa_for_user}
 use Rattle.krb_padata.specs.declared.pa_for_user.PaForUser.{PaForUser}
 use Rattle.krb_padata.specs.declared.pa_for_user.PaForUserView.{PaForUserView}
-use Rattle.krb_msg.specs.Types.PrincipalName.{principal_name_value, principal_name_of, principal_name_view_value, PrincipalNameLists}
-use Rattle.krb_msg.specs.Types.Checksum.{checksum_value, checksum_of, checksum_view_value, ChecksumLists}
+use Rattle.krb_msg.specs.Types.PrincipalName.{principal_name_value, principal_name_of, principal_name_view_value, IsValidPrincipalName}
+use Rattle.krb_msg.specs.Types.Checksum.{checksum_value, checksum_of, checksum_view_value, IsValidChecksum}
 
 abbrev pub pa_for_user_value : PaForUser → Value pa_for_user
 pa_for_user_value p = (principal_name_value p.user_name, (p.user_realm, (checksum_value p.cksum, (p.auth_package, tt))))
@@ -19,5 +19,5 @@ pa_for_user_view_value p = (principal_name_view_value p.user_name, (p.user_realm
 abbrev pub pa_for_user_of_view : PaForUserView → PaForUser
 pa_for_user_of_view p = pa_for_user_of (pa_for_user_view_value p)
 
-abbrev pub PaForUserLists : PaForUserView → Type 0
-PaForUserLists p = PrincipalNameLists p.user_name × ChecksumLists p.cksum
+abbrev pub IsValidPaForUser : PaForUserView → Type 0
+IsValidPaForUser p = IsValidPrincipalName p.user_name × IsValidChecksum p.cksum

@@ -19,5 +19,5 @@ pa_pac_options_view_value p = (flags_of_view p.flags, tt)
 abbrev pub pa_pac_options_of_view : PaPacOptionsView → PaPacOptions
 pa_pac_options_of_view p = pa_pac_options_of (pa_pac_options_view_value p)
 
-abbrev pub PaPacOptionsLists : PaPacOptionsView → Type 0
-PaPacOptionsLists p = ⊤
+abbrev pub IsValidPaPacOptions : PaPacOptionsView → Type 0
+IsValidPaPacOptions p = ⊤
