@@ -9,7 +9,7 @@ ghost use Rattle.krb_ccache.specs.Streaming.{Reads, FailsStart, ReturnsNext};
 
 use crate::reading::{Start, beginning, next};
 use crate::value::{Credential, FilePrincipal, Header};
-use krb_file::{FieldLimit, FileFault, StreamReader};
+use krb_file::{FileFault, Limit, StreamReader};
 use std::alloc::Global;
 use std::io::Read;
 
@@ -38,7 +38,7 @@ impl<R: Read + Drop> Credentials<R> {
     /// Reads what is before the credentials of a cache, which are the version, 3 or 4, the header
     /// and the default principal, and returns a reader of the credentials. A field of octets may
     /// not be longer than the limit.
-    pub fn start(alloc: Global, reader: R, limit: FieldLimit) -> Result<Credentials<R>, FileFault>
+    pub fn start(alloc: Global, reader: R, limit: Limit) -> Result<Credentials<R>, FileFault>
         ensures begins { IfOk result (λ made. (file : List ℕ) → R.remaining reader ≡ Some file → Reads (Some limit) made.reader made.start made.state file 0) }
         // No octet after the default principal was read.
         ensures fetched { IfOk result (λ made. made.reader.ahead ≡ []) }

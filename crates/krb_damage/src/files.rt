@@ -3,7 +3,7 @@
 use crate::fakes::Slow;
 use krb_ccache::{Ccache, Credential, Credentials, FilePrincipal, Header, read3, upgrade};
 use krb_der::Many;
-use krb_file::{FieldLimit, FileFault, FileRefusal, FileWhy};
+use krb_file::{FileFault, FileRefusal, FileWhy, Limit};
 use krb_keytab::{Hole, Keytab, Next, Record, Records, Stop};
 use std::alloc::Global;
 use std::io::Read;
@@ -37,7 +37,7 @@ fn written_keytab(alloc: Global, records: Vec<Record>, stop: Stop) -> Option<Vec
 
 /// Reads a keytab one record after another, at most `most` of them.
 fn keytab_of<R: Read + Drop>(alloc: Global, reader: R, most: usize) -> Option<Written> {
-    let mut reader = Records::new(reader, FieldLimit::new(16777216)?);
+    let mut reader = Records::new(reader, Limit::new(16777216)?);
     let mut records = Vec::new(alloc);
     for _ in 0..=most {
         match reader.next_record(alloc) {
@@ -107,7 +107,7 @@ fn credentials_of<R: Read + Drop>(
 /// Reads a cache one credential after another. Returns `None` if its header or principal differs
 /// from that of the cache that is read whole from the same octets.
 fn cache_of<R: Read + Drop>(alloc: Global, reader: R, octets: &[u8]) -> Option<Written> {
-    let mut reader = match Credentials::start(alloc, reader, FieldLimit::new(16777216)?) {
+    let mut reader = match Credentials::start(alloc, reader, Limit::new(16777216)?) {
         Ok(reader) => reader,
         Err(fault) => return Some(Err(fault)),
     };

@@ -12,7 +12,8 @@
 //! - [`SpareVectors::take`] returns a vector that a value left to be used again, or a new one.
 //!
 //! A [`Refusal`] says which octet is at fault and why ([`Why`]), a [`Verdict`] what the first
-//! octets of a message decide, and [`Memory`] that an allocation failed.
+//! octets of a message decide, and [`Memory`] that an allocation failed. A [`Limit`] is the greatest
+//! length of what is read.
 //!
 //! Nothing here judges octets or finds items in them, and nothing knows a Kerberos message:
 //! `krb_msg`, `krb_judge` and `krb_scan` do.
@@ -27,6 +28,7 @@ mod int32;
 mod item;
 mod kerberos_time;
 mod kstring;
+mod limit;
 mod many;
 mod memory;
 mod micros;
@@ -44,6 +46,7 @@ pub use int32::Int32;
 pub use item::{TOO_LONG, add_sizes, item_size, put_header, put_item, put_octets, size_of};
 pub use kerberos_time::KerberosTime;
 pub use kstring::KString;
+pub use limit::Limit;
 pub use many::Many;
 pub use memory::Memory;
 pub use micros::Micros;

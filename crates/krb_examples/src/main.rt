@@ -10,7 +10,7 @@ use anyhow::Result;
 use krb_capture::Capture;
 use krb_ccache::{Ccache, Credentials, TicketStateView, read3, ticket_view_of, upgrade};
 use krb_der::{Int32, KString, Many, Memory, Octets, Profile, Refusal, Verdict};
-use krb_file::{Field, FieldLimit, FieldReader, FileFault, SliceReader, String16};
+use krb_file::{Field, FieldReader, FileFault, SliceReader, String16};
 use krb_frame::{Decoder, Limit, SkippingDecoder, Status, frame};
 use krb_json::{LineFault, Scratch, put_text, read_line, unencrypted_path};
 use krb_judge::{ParseFault, judge, parse, read_ticket};
@@ -170,11 +170,7 @@ fn number_and_string(alloc: Global, octets: &[u8]) -> Result<(u32, KString), Fil
 }
 
 /// Returns the highest version of a key in a keytab.
-fn highest_kvno<R: Read + Drop>(
-    alloc: Global,
-    file: R,
-    limit: FieldLimit,
-) -> Result<u32, FileFault> {
+fn highest_kvno<R: Read + Drop>(alloc: Global, file: R, limit: Limit) -> Result<u32, FileFault> {
     let mut records = Records::new(file, limit);
     let mut highest = 0;
     for _ in 0..u64::MAX {
@@ -191,7 +187,7 @@ fn highest_kvno<R: Read + Drop>(
 }
 
 /// Returns when the first ticket of a cache of either version expires, in seconds since 1970.
-fn first_end(alloc: Global, file: &[u8], limit: FieldLimit) -> Result<Option<u32>, FileFault> {
+fn first_end(alloc: Global, file: &[u8], limit: Limit) -> Result<Option<u32>, FileFault> {
     let mut credentials = Credentials::start(alloc, file, limit)?;
     for _ in 0..u64::MAX {
         let Some(credential) = credentials.next_credential(alloc)? else {
@@ -421,7 +417,7 @@ fn show_stream(rt: &HostRuntime) -> Result<()> {
 /// Shows what is done with files.
 fn show_files(rt: &HostRuntime) -> Result<()> {
     let alloc = rt.alloc();
-    let Some(limit) = FieldLimit::new(65536) else {
+    let Some(limit) = Limit::new(65536) else {
         return Ok(());
     };
     let (number, _) = number_and_string(alloc, b"\x00\x00\x00\x07\x00\x01u")?;

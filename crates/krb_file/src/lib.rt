@@ -5,7 +5,7 @@
 //!
 //! - [`SliceReader::new`] reads a file that is in memory, and [`StreamReader::new`] anything that
 //!   can be read, as it comes. Both are a [`FieldReader`], which reads numbers, and octets after
-//!   their number, up to an end and under a limit ([`FieldLimit`]).
+//!   their number, up to an end and under a limit ([`Limit`]).
 //! - [`read_many`] reads fields of a kind ([`Field`]) one after another.
 //! - [`Part::put`] appends the octets of a part of a file, and [`Part::size`] returns their number.
 //!
@@ -21,7 +21,6 @@
 
 mod ahead;
 mod fault;
-mod field_limit;
 mod field_name;
 mod field_reader;
 mod part;
@@ -32,9 +31,9 @@ pub use fault::{
     FileFault, FileRefusal, FileWhy, called, file_why_length, file_why_number, file_why_text,
     in_part,
 };
-pub use field_limit::FieldLimit;
 pub use field_name::{FieldName, FileField, FilePart};
 pub use field_reader::{Field, FieldReader, String16, String32, read_many};
+pub use krb_der::Limit;
 pub use part::{
     Count16, Count32, Counted16, Counted32, Each, GREATEST_FILE, Listed, Measured, Part, Plain,
     Strings16, Then,

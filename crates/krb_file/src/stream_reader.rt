@@ -2,10 +2,9 @@
 
 use crate::ahead::Ahead;
 use crate::fault::{FileFault, FileWhy, ReadFailed};
-use crate::field_limit::FieldLimit;
 use crate::field_reader::FieldReader;
 use crate::slice_reader::are_zero;
-use krb_der::{GiveBack, KString, SpareVectors};
+use krb_der::{GiveBack, KString, Limit, SpareVectors};
 use std::alloc::Global;
 use std::io::Read;
 use std::marker::Model;
@@ -27,7 +26,7 @@ const GREATEST_PIECE: u64 = 1 << 22;
 #[derive(Drop)]
 pub struct StreamReader<R: Read> {
     reader: R,
-    limit: FieldLimit,
+    limit: Limit,
     place: u64,
     end: Option<u64>,
     /// The octets that were read ahead.
@@ -87,7 +86,7 @@ pub(crate) fn ask<R: Read>(
 impl<R: Read> StreamReader<R> {
     /// Returns a reader of the fields of `reader`, from place 0 on. A field of octets may not be
     /// longer than the limit.
-    pub fn new(reader: R, limit: FieldLimit) -> StreamReader<R>
+    pub fn new(reader: R, limit: Limit) -> StreamReader<R>
         ensures { result ≡ record { ahead = []; left = R.remaining reader; place = 0; bounds = record { end = None; limit = Some limit } } }
     {
         StreamReader {
@@ -397,7 +396,7 @@ impl<R: Read> FieldReader for StreamReader<R> {
 
 /// Returns the least number of octets of a field at `place` that was not read ahead or that passes
 /// the end or the limit, if `ahead` octets were read ahead.
-fn near(ahead: usize, place: u64, end: Option<u64>, limit: FieldLimit) -> usize
+fn near(ahead: usize, place: u64, end: Option<u64>, limit: Limit) -> usize
     requires { ahead ≤ 512 }
     ensures { AreNear result ahead place end limit }
 {

@@ -3,10 +3,9 @@
 use crate::contents::{CONTENTS_KEPT, clear_contents, deliver_contents, take_contents};
 use crate::framed::Framed;
 use crate::length::{HIGH_BIT, accepted_size};
-use crate::limit::Limit;
 use crate::pass::{Passed, first_contents};
 use crate::receiver::Receiver;
-use krb_der::{Memory, Profile, Refusal, Why};
+use krb_der::{Limit, Memory, Profile, Refusal, Why};
 use krb_msg::view_message_in;
 use krb_scan::Machine;
 use std::alloc::Global;

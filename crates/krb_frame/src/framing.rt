@@ -6,7 +6,7 @@ ghost use Rattle.krb_msg.specs.declared.encoding.EncodeFault.TheVariants as faul
 ghost use Rattle.krb_frame.specs.Frame.{framed};
 
 use crate::decoder::LENGTH_OCTETS;
-use crate::limit::Limit;
+use krb_der::Limit;
 use krb_msg::{EncodeFault, Message, put, size};
 use std::alloc::Global;
 

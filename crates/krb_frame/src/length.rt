@@ -5,8 +5,7 @@ ghost use Rattle.krb_frame.specs.Frame.{length_fault};
 ghost use Rattle.krb_frame.specs.inner.Phases.{IsAccepted, IsRefusedLength};
 
 use crate::decoder::LENGTH_OCTETS;
-use crate::limit::Limit;
-use krb_der::Why;
+use krb_der::{Limit, Why};
 
 /// The bit of a frame's length that is reserved (RFC 4120, 7.2.2).
 pub(crate) const HIGH_BIT: u32 = 1 << 31;

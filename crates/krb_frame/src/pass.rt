@@ -5,7 +5,7 @@ ghost use Rattle.krb_frame.specs.inner.Passing.{BeginWithContents, HaveNoFrame};
 
 use crate::decoder::LENGTH_OCTETS;
 use crate::length::accepted_size;
-use crate::limit::Limit;
+use krb_der::Limit;
 use krb_msg::MessageView;
 
 /// A whole frame with which a piece of a stream begins, and what follows it there.

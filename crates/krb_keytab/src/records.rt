@@ -12,7 +12,7 @@ ghost use Rattle.krb_keytab.specs.Streaming.{Reads, ReturnsNext, announced_in};
 
 use crate::reading::{Next, record};
 use crate::value::{Entry, Record, Stop};
-use krb_file::{FieldLimit, FieldReader, FileFault, StreamReader};
+use krb_file::{FieldReader, FileFault, Limit, StreamReader};
 use std::alloc::Global;
 use std::io::Read;
 
@@ -41,7 +41,7 @@ pub struct Records<R: Read> {
 impl<R: Read> Records<R> {
     /// Returns a reader of the records of `reader`. A field of octets may not be longer than the
     /// limit. Nothing is read yet.
-    pub fn new(reader: R, limit: FieldLimit) -> Records<R>
+    pub fn new(reader: R, limit: Limit) -> Records<R>
         ensures begins { (file : List ℕ) → R.remaining reader ≡ Some file → Reads (Some limit) result.reader result.state file 0 }
         // No octet was read.
         ensures fetched { result.reader.ahead ≡ [] }

@@ -3,7 +3,7 @@
 use crate::format::{Format, Next, next_step, packet};
 use crate::packet::Packet;
 use crate::pcap::{Header, MOST_CAPTURED};
-use krb_file::{FieldLimit, FieldReader, FileFault, StreamReader};
+use krb_file::{FieldReader, FileFault, Limit, StreamReader};
 use std::alloc::Global;
 use std::io::Read;
 use std::marker::Model;
@@ -57,7 +57,7 @@ impl<R: Read> Packets<R> {
         // No octet was read.
         ensures fetched { result.cursor.ahead ≡ [] }
     {
-        let limit = FieldLimit::new(MOST_CAPTURED).unwrap();
+        let limit = Limit::new(MOST_CAPTURED).unwrap();
         Packets {
             reader: StreamReader::new(reader, limit),
             state: State::Open(Format::Unknown),

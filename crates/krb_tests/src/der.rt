@@ -4,7 +4,7 @@ use krb_ccache::CcacheFault;
 use krb_der::{
     Der, Flags, Int32, KString, KerberosTime, Memory, Micros, Octets, Refusal, Why, Wide32,
 };
-use krb_file::{FieldLimit, FileFault, FileWhy};
+use krb_file::{FileFault, FileWhy, Limit};
 use krb_judge::ParseFault;
 use krb_keytab::KeytabFault;
 use krb_msg::EncodeFault;
@@ -47,7 +47,7 @@ fn takes_what_is_in_range(rt: HostRuntime) {
         (2147483647, true),
         (2147483648, false),
     ] {
-        let limit = match FieldLimit::new(number) {
+        let limit = match Limit::new(number) {
             Some(limit) => Some(limit.get()),
             None => None
         };

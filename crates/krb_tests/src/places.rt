@@ -2,7 +2,7 @@
 
 use crate::examples::octets_of;
 use krb_ccache::Credentials;
-use krb_file::{FieldLimit, FileFault, FileWhy};
+use krb_file::{FileFault, FileWhy, Limit};
 use krb_keytab::Records;
 use krb_packet::Packets;
 use std::alloc::Global;
@@ -32,11 +32,11 @@ enum File {
 fn fault_of(alloc: Global, file: &File, octets: &[u8]) -> Result<Option<FileFault>, Fail> {
     match file {
         File::Keytab(limit) => {
-            let limit = FieldLimit::new(*limit).ok_or("a limit")?;
+            let limit = Limit::new(*limit).ok_or("a limit")?;
             Ok(Records::new(octets, limit).next_record(alloc).err())
         }
         File::Cache(limit) => {
-            let limit = FieldLimit::new(*limit).ok_or("a limit")?;
+            let limit = Limit::new(*limit).ok_or("a limit")?;
             match Credentials::start(alloc, octets, limit) {
                 Ok(mut credentials) => Ok(credentials.next_credential(alloc).err()),
                 Err(fault) => Ok(Some(fault)),

@@ -4,7 +4,7 @@
 use crate::examples::{CACHE, CACHE3, KEYTAB, octets_of};
 use crate::fakes::{Asked, Watched};
 use krb_ccache::{Credential, Credentials};
-use krb_file::{FieldLimit, FileFault};
+use krb_file::{FileFault, Limit};
 use krb_keytab::{Next, Record, Records, Stop};
 use std::alloc::{AllocError, Global};
 use std::io::Read;
@@ -83,7 +83,7 @@ fn put_credentials<R: Read + Drop>(
 fn keytab<R: Read + Drop>(
     alloc: Global,
     reader: R,
-    limit: FieldLimit,
+    limit: Limit,
     asked: &Asked,
 ) -> Result<String, Fail> {
     let mut text = String::new(alloc);
@@ -113,7 +113,7 @@ fn put_start<R: Read + Drop>(
 fn ccache<R: Read + Drop>(
     alloc: Global,
     reader: R,
-    limit: FieldLimit,
+    limit: Limit,
     asked: &Asked,
 ) -> Result<String, Fail> {
     let mut text = String::new(alloc);
@@ -311,7 +311,7 @@ const CCACHES: [Row; 17] = [
 fn is_answered(alloc: Global, row: &Row, is_keytab: bool, at_most: usize) -> Result<bool, Fail> {
     let Row(digits, count, fails, most, wanted) = row;
     let octets = octets_of(alloc, digits)?;
-    let limit = FieldLimit::new(*most).ok_or("a limit")?;
+    let limit = Limit::new(*most).ok_or("a limit")?;
     let asked = Asked::new();
     let reader = Watched {
         octets: octets.as_slice().get(..*count).ok_or("a front")?,

@@ -16,7 +16,7 @@ use crate::file_path::{credential_path, field_path, keytab_path};
 use crate::run::{PIECE_OCTETS, RunEnd, RunFault};
 use crate::transfer::{MOST_ASKS, too_many_reads, write_all};
 use krb_ccache::{Credential, Credentials, FilePrincipal, Header};
-use krb_file::{FieldLimit, FileFault, FileRefusal};
+use krb_file::{FileFault, FileRefusal, Limit};
 use krb_keytab::{Next, Record, Records, Stop};
 use krb_list::{put_cache, put_cache_end, put_credential, put_keytab_end, put_record};
 use krb_text::{Form, TextBuffer, put_file_refusal};
@@ -85,16 +85,6 @@ pub(crate) fn in_pieces<R: Read + Drop>(alloc: Global, reader: R) -> Result<BufR
     match BufReader::with_capacity(alloc, PIECE_OCTETS, reader) {
         Ok(reader) => Ok(reader),
         Err(_) => Err(RunFault::Memory),
-    }
-}
-
-/// Returns the greatest number of octets that a field of a file may have.
-fn field_limit() -> FieldLimit
-    ensures { result ≡ 16777216 }
-{
-    match FieldLimit::new(16777216) {
-        Some(limit) => limit,
-        None => unreachable!(),
     }
 }
 
@@ -403,7 +393,7 @@ pub fn run_keytab_in<R: Read, W: Write>(
     let watch = Watch::new();
     let watch = &watch;
     let reader = in_pieces(alloc, Watched { reader, watch })?;
-    let records = Records::new(reader, field_limit());
+    let records = Records::new(reader, Limit::DEFAULT);
     let mut text = TextBuffer::new(alloc);
     list_records(
         alloc,
@@ -447,7 +437,7 @@ pub fn run_ccache_in<R: Read, W: Write>(
     let watch = &watch;
     let reader = in_pieces(alloc, Watched { reader, watch })?;
     let mut text = TextBuffer::new(alloc);
-    match Credentials::start(alloc, reader, field_limit()) {
+    match Credentials::start(alloc, reader, Limit::DEFAULT) {
         Ok(credentials) => {
             put_first(
                 &mut text,

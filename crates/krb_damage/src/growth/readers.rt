@@ -4,7 +4,7 @@ use super::Outcome;
 use super::octets::{CACHE, CACHE3, KEYTAB};
 use crate::files::next_of;
 use krb_ccache::{Cache3, Credentials, read3, upgrade};
-use krb_file::{FieldLimit, FileFault};
+use krb_file::{FileFault, Limit};
 use krb_keytab::{Next, Records, Stop};
 use std::alloc::Global;
 
@@ -19,7 +19,7 @@ pub(super) fn faulted(fault: FileFault, after: Option<FileFault>) -> Outcome {
 
 /// Reads the two records of a keytab.
 pub(super) fn records(alloc: Global) -> Outcome {
-    let Some(limit) = FieldLimit::new(64) else {
+    let Some(limit) = Limit::new(64) else {
         return Outcome::Wrong;
     };
     let mut records = Records::new(KEYTAB, limit);
@@ -49,7 +49,7 @@ fn both_credentials(alloc: Global, credentials: &mut Credentials<&[u8]>) -> Outc
 
 /// Reads the two credentials of a cache.
 pub(super) fn credentials(alloc: Global) -> Outcome {
-    let Some(limit) = FieldLimit::new(64) else {
+    let Some(limit) = Limit::new(64) else {
         return Outcome::Wrong;
     };
     match Credentials::start(alloc, CACHE, limit) {

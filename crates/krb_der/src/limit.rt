@@ -1,9 +1,9 @@
-//! The greatest length of a frame.
+//! The greatest length of what is read.
 
-use crate::length::HIGH_BIT;
 use std::marker::Model;
 
-/// The greatest number of octets that a frame may announce: 1 to 2147483647.
+/// The greatest number of octets that the message of a frame or a field of octets may have: 1 to
+/// 2147483647.
 #[derive(Clone, Copy, PartialEq, Eq, Debug)]
 pub struct Limit {
     octets: u32,
@@ -27,19 +27,19 @@ impl Limit {
     /// What the program uses if nothing else is said: 16777216.
     pub const DEFAULT: Limit = Limit { octets: 16777216 };
 
-    /// Returns the limit of `octets` octets, and `None` of 0 and of more than 2147483647.
+    /// Returns the limit of `octets` octets, or `None` if they are none or more than 2147483647.
     pub fn new(octets: u32) -> Option<Limit>
         ensures range { IsSome result ↔ ((0 < octets) × (octets < 2 ^ 31)) }
         ensures value { IfSome result (λ limit. limit ≡ octets) }
     {
-        if 0 < octets && octets < HIGH_BIT {
+        if 0 < octets && octets < 1 << 31 {
             Some(Limit { octets })
         } else {
             None
         }
     }
 
-    /// Returns the octets.
+    /// Returns the number of octets.
     pub fn get(self) -> u32
         ensures value { result ≡ self }
         ensures some { 0 < result }
