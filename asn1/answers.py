@@ -70,7 +70,7 @@ def type_answers(it):
         names = {f"{it.rust}ViewImpl/view": "view", f"{it.rust}Der/size": "size"}
         names[f"{it.rust}Der/put"] = "put" if it.application is None else "put_tagged"
     if it.cut:
-        names |= {"CutRestOwnedViewFields/view_fields": "cut_view", f"{it.rust}NotedView/notes": "noted_view"}
+        names["CutRestOwnedViewFields/view_fields"] = "cut_view"
     made = {name: fill(f"answers/{template}.antt", type=it.term, Type=it.rust) for name, template in names.items()}
     if it.cut:
         made[f"{it.rust}View/of_fields"] = lists_answer(it)

@@ -1,6 +1,6 @@
 use Rattle.std.proofs.Common.{◌∙◌}
 use Rattle.krb_msg.proofs.Noted.{optional-has}
-use Rattle.krb_msg.proofs.fields.view_notes.optional_notes.Goals as goal
+use Rattle.krb_msg.proofs.fields.view_notes.optional_view_notes.Goals as goal
 
 pub returns-in-Some : goal.returns-in-Some
 returns-in-Some g c =
