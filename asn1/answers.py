@@ -3,6 +3,7 @@
 from kinds import file, messages_of
 from model import back, is_plain, mapped
 from module import Basic, Sequence
+from structs import may_have_notes, noted_in_view, noted_of_value
 from tables import count_of_rows
 from text import BY, brought, fill, path, record
 from values import known, parts_in
@@ -61,6 +62,17 @@ def copy_answer(it):
     return text + record(f"returns {given} = λ i.", rows).replace(". = record", ". record") + "\n"
 
 
+def notes_answer(it, impl, call, value):
+    """That the notes are those of the fields, each by a call."""
+    names = [call(field, value).partition("(")[0].partition("::")[0] for field in it.kept if may_have_notes(field)]
+    names = ["notes" if name.startswith(("<", value)) else name for name in names]
+    calls = ["or"] * len(names)
+    numbered = [f"c.{name}" + (f"-{at}" if at > 1 else "") + ".ensures" for name, at in [(name, (calls[:i]).count(name) + 1) for calls in (calls, names) for i, name in enumerate(calls)]]
+    ors, notes = numbered[: len(names)], numbered[len(names) :]
+    goals = f"use Rattle.krb_msg.proofs.{it.term}.{it.rust}{impl}.notes.Goals as goal"
+    return f"use Rattle.std.proofs.Common.{{refl}}\n{goals}\n\npub returns : goal.returns\nreturns c = rw ({', '.join([*reversed(ors), 'c.none.ensures', *notes])}) refl\n"
+
+
 def type_answers(it):
     """The answers of a type, by their paths below its name."""
     names = {}
@@ -74,6 +86,8 @@ def type_answers(it):
     made = {name: fill(f"answers/{template}.antt", type=it.term, Type=it.rust) for name, template in names.items()}
     if it.cut:
         made[f"{it.rust}View/of_fields"] = lists_answer(it)
+        made[f"{it.rust}Noted/notes"] = notes_answer(it, "Noted", noted_of_value, "self.")
+        made[f"{it.rust}NotedView/notes"] = notes_answer(it, "NotedView", noted_in_view, "seen.")
     if any(field.is_list for field in it.kept):
         made[f"{it.rust}/copy" if it.is_parametric else f"{it.rust}FromView/from_view"] = copy_answer(it)
     return {f"{it.term}/{name}": text for name, text in made.items()}

@@ -207,9 +207,14 @@ def noted_in_view(field, value):
     return f"optional_view_notes::<{owned(field.type)}>(&{value})" if field.optional else f"<{owned(field.type)} as NotedView<'_>>::notes(&{value})"
 
 
+def may_have_notes(field):
+    """Whether there may be notes on a field, of which it is no matter whether it is there."""
+    return field.optional or field.is_list or has_notes(field.part)
+
+
 def noted(it, call, value):
-    """The notes on a value or on a view, field by field. On some fields there can be none."""
-    calls = [call(field, f"{value}.{field.rust}") for field in it.kept if field.optional or field.is_list or has_notes(field.part)]
+    """The notes on a value or on a view, field by field."""
+    calls = [call(field, f"{value}.{field.rust}") for field in it.kept if may_have_notes(field)]
     return f"any_of!({', '.join(calls)})" if calls else "Notes::none()"
 
 
