@@ -199,7 +199,7 @@ def view_impls(it):
 
 def noted_of_value(field, value):
     """The notes on a field of a value."""
-    return f"optional_notes({value}.as_ref())" if field.optional else f"{value}.notes()"
+    return f"optional_notes(&{value})" if field.optional else f"{value}.notes()"
 
 
 def noted_in_view(field, value):

@@ -96,7 +96,7 @@ impl Noted for EncryptedData {
     }
 
     fn notes(&self) -> Notes {
-        any_of!(optional_notes(self.kvno.as_ref()))
+        any_of!(optional_notes(&self.kvno))
     }
 }
 

@@ -130,7 +130,7 @@ impl KdcRep {
         ensures { result ≡ notes_by (λ note. has note (ApplicationTerm N (kdc_rep N)) (kdc_rep_value N self.now)) }
     {
         any_of!(
-            optional_notes(self.padata.as_ref()),
+            optional_notes(&self.padata),
             self.crealm.notes(),
             self.cname.notes(),
             self.ticket.notes(),

@@ -94,7 +94,7 @@ impl KdcReq {
     pub(crate) fn notes<const N: u8>(&self) -> Notes
         ensures { result ≡ notes_by (λ note. has note (ApplicationTerm N (kdc_req N)) (kdc_req_value N self.now)) }
     {
-        any_of!(optional_notes(self.padata.as_ref()), self.body.notes())
+        any_of!(optional_notes(&self.padata), self.body.notes())
     }
 
     /// Returns a view of the message of a number and a message type that octets are, if they are

@@ -218,16 +218,16 @@ impl Noted for KdcReqBody {
     fn notes(&self) -> Notes {
         any_of!(
             self.kdc_options.notes(),
-            optional_notes(self.cname.as_ref()),
+            optional_notes(&self.cname),
             self.realm.notes(),
-            optional_notes(self.sname.as_ref()),
-            optional_notes(self.from.as_ref()),
-            optional_notes(self.rtime.as_ref()),
+            optional_notes(&self.sname),
+            optional_notes(&self.from),
+            optional_notes(&self.rtime),
             self.nonce.notes(),
             self.etype.notes(),
-            optional_notes(self.addresses.as_ref()),
-            optional_notes(self.enc_authorization_data.as_ref()),
-            optional_notes(self.additional_tickets.as_ref())
+            optional_notes(&self.addresses),
+            optional_notes(&self.enc_authorization_data),
+            optional_notes(&self.additional_tickets)
         )
     }
 }

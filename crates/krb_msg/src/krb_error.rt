@@ -206,14 +206,14 @@ impl Noted for KrbError {
 
     fn notes(&self) -> Notes {
         any_of!(
-            optional_notes(self.ctime.as_ref()),
-            optional_notes(self.cusec.as_ref()),
-            optional_notes(self.crealm.as_ref()),
-            optional_notes(self.cname.as_ref()),
+            optional_notes(&self.ctime),
+            optional_notes(&self.cusec),
+            optional_notes(&self.crealm),
+            optional_notes(&self.cname),
             self.realm.notes(),
             self.sname.notes(),
-            optional_notes(self.e_text.as_ref()),
-            optional_notes(self.e_data.as_ref())
+            optional_notes(&self.e_text),
+            optional_notes(&self.e_data)
         )
     }
 }

@@ -131,10 +131,10 @@ impl Noted for KrbSafeBody {
 
     fn notes(&self) -> Notes {
         any_of!(
-            optional_notes(self.timestamp.as_ref()),
-            optional_notes(self.usec.as_ref()),
-            optional_notes(self.seq_number.as_ref()),
-            optional_notes(self.r_address.as_ref())
+            optional_notes(&self.timestamp),
+            optional_notes(&self.usec),
+            optional_notes(&self.seq_number),
+            optional_notes(&self.r_address)
         )
     }
 }

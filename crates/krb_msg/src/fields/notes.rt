@@ -21,8 +21,8 @@ pub trait Noted: Item {
 
 /// Returns the notes on a field that may be left out, if it is there.
 #[inline(always)]
-pub fn optional_notes<T: Noted>(field: Option<&T>) -> Notes
-    ensures { result ≡ notes_by (λ note. option_any (λ value. is_list_that_has note T.Item.term value || has note T.Item.term value) (option_map (λ value. T.Item.value value.now) field.entry)) }
+pub fn optional_notes<T: Noted>(field: &Option<T>) -> Notes
+    ensures { result ≡ notes_by (λ note. option_any (λ value. is_list_that_has note T.Item.term value || has note T.Item.term value) (option_map T.Item.value field.now)) }
 {
     match field {
         Some(value) => note_of_empty_list(value.is_empty_list()).or(value.notes()),
