@@ -99,7 +99,8 @@ def answers(module):
     """All answers, by their paths in krb_msg/proofs."""
     made = {name: text for it in module.types for name, text in type_answers(it).items()}
     for words in messages_of(module):
-        made[f"message_view/view_{words['kind']}"] = fill("answers/view_message.antt", **words)
+        for name in ("view", "notes"):
+            made[f"message_kinds/{words['Kind']}KindMessageKind/{name}"] = fill(f"answers/kind_{name}.antt", **words)
     for list_of in module.lists:
         item = list_of.item
         made[f"{item.term}/Many{item.rust}FromView/from_view"] = fill("answers/copy_list.antt", type=item.term, Type=item.rust)

@@ -7,12 +7,10 @@ ghost use Rattle.krb_msg.specs.Notes.{notes_of};
 ghost use Rattle.krb_msg.specs.Realm.{realm_of};
 ghost use Rattle.krb_msg.specs.Views.{IsInProfile, kind_of};
 ghost use Rattle.krb_msg.specs.ViewValues.{BeginAs, IsMessageView, IsNoMessage, IsValidMessage, message_of_view};
-ghost use Rattle.krb_msg.specs.declared.message.Kind.TheVariants as kind;
 
 use crate::ap_rep::{ApRep, ApRepView};
 use crate::ap_req::{ApReq, ApReqView};
 use crate::copying::FromView;
-use crate::fields::NotedView;
 use crate::kdc_rep::{KdcRep, KdcRepView};
 use crate::kdc_req::{KdcReq, KdcReqView};
 use crate::krb_cred::{KrbCred, KrbCredView};
@@ -20,8 +18,12 @@ use crate::krb_error::{KrbError, KrbErrorView};
 use crate::krb_priv::{KrbPriv, KrbPrivView};
 use crate::krb_safe::{KrbSafe, KrbSafeView};
 use crate::message::{Kind, Message};
+use crate::message_kind::{MessageKind, view_as};
+use crate::message_kinds::{
+    ApRepKind, ApReqKind, AsRepKind, AsReqKind, KrbCredKind, KrbErrorKind, KrbPrivKind,
+    KrbSafeKind, TgsRepKind, TgsReqKind,
+};
 use crate::notes::Notes;
-use crate::view::view_whole;
 use krb_der::Memory;
 use std::alloc::Global;
 
@@ -121,16 +123,16 @@ pub fn notes_of_view(view: &MessageView<'_>) -> Notes
     ensures { result ≡ notes_of (message_of_view view.now) }
 {
     match view {
-        MessageView::AsReq(req) => req.notes::<10>(),
-        MessageView::AsRep(rep) => rep.notes::<11>(),
-        MessageView::TgsReq(req) => req.notes::<12>(),
-        MessageView::TgsRep(rep) => rep.notes::<13>(),
-        MessageView::ApReq(req) => ApReq::notes(req),
-        MessageView::ApRep(rep) => ApRep::notes(rep),
-        MessageView::KrbSafe(safe) => KrbSafe::notes(safe),
-        MessageView::KrbPriv(private) => KrbPriv::notes(private),
-        MessageView::KrbCred(cred) => KrbCred::notes(cred),
-        MessageView::KrbError(error) => KrbError::notes(error),
+        MessageView::AsReq(m) => AsReqKind::notes(m),
+        MessageView::AsRep(m) => AsRepKind::notes(m),
+        MessageView::TgsReq(m) => TgsReqKind::notes(m),
+        MessageView::TgsRep(m) => TgsRepKind::notes(m),
+        MessageView::ApReq(m) => ApReqKind::notes(m),
+        MessageView::ApRep(m) => ApRepKind::notes(m),
+        MessageView::KrbSafe(m) => KrbSafeKind::notes(m),
+        MessageView::KrbPriv(m) => KrbPrivKind::notes(m),
+        MessageView::KrbCred(m) => KrbCredKind::notes(m),
+        MessageView::KrbError(m) => KrbErrorKind::notes(m),
     }
 }
 
@@ -141,125 +143,15 @@ pub(crate) fn view_of_kind(kind: Kind, octets: &[u8]) -> Option<MessageView<'_>>
     ensures { MatchOption result (IsNoMessage octets.now) (λ m. IsMessageView octets.now m) }
 {
     match kind {
-        Kind::AsReq => view_as_req(octets),
-        Kind::AsRep => view_as_rep(octets),
-        Kind::TgsReq => view_tgs_req(octets),
-        Kind::TgsRep => view_tgs_rep(octets),
-        Kind::ApReq => view_ap_req(octets),
-        Kind::ApRep => view_ap_rep(octets),
-        Kind::KrbSafe => view_krb_safe(octets),
-        Kind::KrbPriv => view_krb_priv(octets),
-        Kind::KrbCred => view_krb_cred(octets),
-        Kind::KrbError => view_krb_error(octets),
+        Kind::AsReq => view_as::<AsReqKind>(octets),
+        Kind::AsRep => view_as::<AsRepKind>(octets),
+        Kind::TgsReq => view_as::<TgsReqKind>(octets),
+        Kind::TgsRep => view_as::<TgsRepKind>(octets),
+        Kind::ApReq => view_as::<ApReqKind>(octets),
+        Kind::ApRep => view_as::<ApRepKind>(octets),
+        Kind::KrbSafe => view_as::<KrbSafeKind>(octets),
+        Kind::KrbPriv => view_as::<KrbPrivKind>(octets),
+        Kind::KrbCred => view_as::<KrbCredKind>(octets),
+        Kind::KrbError => view_as::<KrbErrorKind>(octets),
     }
-}
-
-/// Returns a view of the AS-REQ that octets are, if they are one.
-fn view_as_req(octets: &[u8]) -> Option<MessageView<'_>>
-    requires { BeginAs kind.AsReq octets.now }
-    ensures { MatchOption result (IsNoMessage octets.now) (λ m. IsMessageView octets.now m) }
-{
-    let Some(m) = KdcReq::view::<10>(octets) else {
-        return None;
-    };
-    Some(MessageView::AsReq(m))
-}
-
-/// Returns a view of the AS-REP that octets are, if they are one.
-fn view_as_rep(octets: &[u8]) -> Option<MessageView<'_>>
-    requires { BeginAs kind.AsRep octets.now }
-    ensures { MatchOption result (IsNoMessage octets.now) (λ m. IsMessageView octets.now m) }
-{
-    let Some(m) = KdcRep::view::<11>(octets) else {
-        return None;
-    };
-    Some(MessageView::AsRep(m))
-}
-
-/// Returns a view of the TGS-REQ that octets are, if they are one.
-fn view_tgs_req(octets: &[u8]) -> Option<MessageView<'_>>
-    requires { BeginAs kind.TgsReq octets.now }
-    ensures { MatchOption result (IsNoMessage octets.now) (λ m. IsMessageView octets.now m) }
-{
-    let Some(m) = KdcReq::view::<12>(octets) else {
-        return None;
-    };
-    Some(MessageView::TgsReq(m))
-}
-
-/// Returns a view of the TGS-REP that octets are, if they are one.
-fn view_tgs_rep(octets: &[u8]) -> Option<MessageView<'_>>
-    requires { BeginAs kind.TgsRep octets.now }
-    ensures { MatchOption result (IsNoMessage octets.now) (λ m. IsMessageView octets.now m) }
-{
-    let Some(m) = KdcRep::view::<13>(octets) else {
-        return None;
-    };
-    Some(MessageView::TgsRep(m))
-}
-
-/// Returns a view of the AP-REQ that octets are, if they are one.
-fn view_ap_req(octets: &[u8]) -> Option<MessageView<'_>>
-    requires { BeginAs kind.ApReq octets.now }
-    ensures { MatchOption result (IsNoMessage octets.now) (λ m. IsMessageView octets.now m) }
-{
-    let Some(m) = view_whole::<ApReq>(octets) else {
-        return None;
-    };
-    Some(MessageView::ApReq(m))
-}
-
-/// Returns a view of the AP-REP that octets are, if they are one.
-fn view_ap_rep(octets: &[u8]) -> Option<MessageView<'_>>
-    requires { BeginAs kind.ApRep octets.now }
-    ensures { MatchOption result (IsNoMessage octets.now) (λ m. IsMessageView octets.now m) }
-{
-    let Some(m) = view_whole::<ApRep>(octets) else {
-        return None;
-    };
-    Some(MessageView::ApRep(m))
-}
-
-/// Returns a view of the KRB-SAFE that octets are, if they are one.
-fn view_krb_safe(octets: &[u8]) -> Option<MessageView<'_>>
-    requires { BeginAs kind.KrbSafe octets.now }
-    ensures { MatchOption result (IsNoMessage octets.now) (λ m. IsMessageView octets.now m) }
-{
-    let Some(m) = view_whole::<KrbSafe>(octets) else {
-        return None;
-    };
-    Some(MessageView::KrbSafe(m))
-}
-
-/// Returns a view of the KRB-PRIV that octets are, if they are one.
-fn view_krb_priv(octets: &[u8]) -> Option<MessageView<'_>>
-    requires { BeginAs kind.KrbPriv octets.now }
-    ensures { MatchOption result (IsNoMessage octets.now) (λ m. IsMessageView octets.now m) }
-{
-    let Some(m) = view_whole::<KrbPriv>(octets) else {
-        return None;
-    };
-    Some(MessageView::KrbPriv(m))
-}
-
-/// Returns a view of the KRB-CRED that octets are, if they are one.
-fn view_krb_cred(octets: &[u8]) -> Option<MessageView<'_>>
-    requires { BeginAs kind.KrbCred octets.now }
-    ensures { MatchOption result (IsNoMessage octets.now) (λ m. IsMessageView octets.now m) }
-{
-    let Some(m) = view_whole::<KrbCred>(octets) else {
-        return None;
-    };
-    Some(MessageView::KrbCred(m))
-}
-
-/// Returns a view of the KRB-ERROR that octets are, if they are one.
-fn view_krb_error(octets: &[u8]) -> Option<MessageView<'_>>
-    requires { BeginAs kind.KrbError octets.now }
-    ensures { MatchOption result (IsNoMessage octets.now) (λ m. IsMessageView octets.now m) }
-{
-    let Some(m) = view_whole::<KrbError>(octets) else {
-        return None;
-    };
-    Some(MessageView::KrbError(m))
 }
