@@ -23,9 +23,9 @@ use Rattle.krb_text.specs.inner.Records.{heading_origin, is_kept, text_after}
 use Rattle.krb_text.proofs.Records.{message_fields, message_inside, message_kind}
 
 -- ---- the text
-pub text_of_parts : (form : Form) (from : Heading) (m : Message) {old l₁ l₂ l₃ l₄ : List ℕ} → l₁ ≡ old ++ heading form (heading_origin from) (kind_name (kind_of m)) → l₂ ≡ l₁ ++ fields_text form (fields_of m) → l₃ ≡ l₂ ++ field form (codes "notes") (notes (notes_of m)) → l₄ ≡ l₃ ++ ending form (inside_of m) → l₄ ≡ old ++ text_after form from m
+pub text_of_parts : (form : Form) (from : Heading) (m : Message) (old : List ℕ) {l₁ l₂ l₃ l₄ : List ℕ} → l₁ ≡ old ++ heading form (heading_origin from) (kind_name (kind_of m)) → l₂ ≡ l₁ ++ fields_text form (fields_of m) → l₃ ≡ l₂ ++ field form (codes "notes") (notes (notes_of m)) → l₄ ≡ l₃ ++ ending form (inside_of m) → l₄ ≡ old ++ text_after form from m
 unfolding record_text
-text_of_parts form from m h₁ h₂ h₃ h₄ = rw (h₄, h₃, h₂, h₁, message_kind m, message_fields form m, message_inside m) (simp append_assoc)
+text_of_parts form from m old h₁ h₂ h₃ h₄ = rw (h₄, h₃, h₂, h₁, message_kind m, message_fields form m, message_inside m) (simp append_assoc)
 
 -- ---- the profile
 pub any_or_none : (n : Notes) → not (list_any (notes_have n) (1 ∷ 2 ∷ 3 ∷ 4 ∷ [])) ≡ are_none n
@@ -48,9 +48,3 @@ not_kept profiles.Strict octets view are seen kept short whole = let e = strict_
 
 pub no_message : (profile : Profile) (octets : List ℕ) → AreOctets octets → IsNoMessage octets → length octets < 2 ^ 31 → judgement profile (length octets) octets ≡ Whole → ⊥
 no_message profile octets are none short whole = none short (lenient_whole profile (length octets) octets short are (omega arith) whole)
-
--- ---- what was appended
--- the same line by another name
-pub puts_as : {profile : Profile} {octets old new : List ℕ} {line other : Message → List ℕ} (listed : Bool) → ((m : Message) → line m ≡ other m) → PutsMessage profile octets line old new listed → PutsMessage profile octets other old new listed
-puts_as true same puts = (puts.0, rw (← same _) puts.1)
-puts_as false same puts = puts

@@ -15,10 +15,10 @@ ghost use Rattle.krb_text.specs.inner.Parts.{Tells, separator};
 
 use crate::field::put_closing;
 use crate::form::Form;
-use crate::record::HasRecord;
 use crate::number::Numbered;
 use crate::part::{Clear, PartPlace, put_part_opening, view_judged};
 use crate::put_field;
+use crate::record::HasRecord;
 use crate::shown::QuotedText;
 use crate::text_buffer::TextBuffer;
 use crate::viewed::{ABSENT, flags_of, optional_hex, optional_quoted, principal_of};

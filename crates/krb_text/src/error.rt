@@ -16,9 +16,9 @@ use crate::form::Form;
 use crate::inside::put_list;
 use crate::item::{put_name_member, put_named};
 use crate::list::PaDataTypes;
-use crate::record::HasRecord;
 use crate::part::view_judged;
 use crate::put_field;
+use crate::record::HasRecord;
 use crate::shown::{Shown, put_begin};
 use crate::text_buffer::TextBuffer;
 use crate::viewed::{

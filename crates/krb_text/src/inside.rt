@@ -224,7 +224,11 @@ impl<'a> HasParts for KrbErrorView<'a> {
 /// nothing there.
 #[inline(always)]
 #[tactic(auto, unfolding(crate::specs::Forms::closing, crate::specs::Forms::inside_text))]
-pub(crate) fn put_list<M: HasParts>(text: &mut TextBuffer, form: Form, message: &M) -> Result<(), AllocError>
+pub(crate) fn put_list<M: HasParts>(
+    text: &mut TextBuffer,
+    form: Form,
+    message: &M,
+) -> Result<(), AllocError>
     requires { M.IsValid message.now }
     ensures { OnOk result (text.new ≡ text.old ++ ending form (Some (M.parts message.now))) }
 {

@@ -69,11 +69,11 @@ pub use law::{
     escape_is_graphic, message_is_one_line, plain_lines_have_nothing_inside,
     principal_text_is_injective,
 };
-pub use record::{message_line, put_message, put_message_from, put_message_in};
 pub use message_origin::MessageOrigin;
 pub use number::{Encrypted, Numbered};
 pub use origin::{Origin, Transport};
 pub use principal::{Principal, Strings, ViewedStrings, principal_text, put_principal};
+pub use record::{message_line, put_message, put_message_from, put_message_in};
 pub use refusal::{put_file_refusal, put_message_refusal, put_untold_message_refusal};
 pub use shown::{Plain, QuotedText, Shown, put_begin};
 pub use stream::{

@@ -12,8 +12,8 @@ use crate::field::put_closing;
 use crate::form::Form;
 use crate::inside::put_list;
 use crate::list::EncryptionTypes;
-use crate::record::HasRecord;
 use crate::put_field;
+use crate::record::HasRecord;
 use crate::shown::Text;
 use crate::text_buffer::TextBuffer;
 use crate::viewed::{

@@ -213,7 +213,13 @@ fn put_text_of(text: &mut TextBuffer, form: Form, message: &Message) -> Result<(
     let Ok(octets) = encode(text.allocator(), message) else {
         return Err(Memory);
     };
-    if put_text(text, form, Heading::Alone, Profile::Lenient, octets.as_slice())? {
+    if put_text(
+        text,
+        form,
+        Heading::Alone,
+        Profile::Lenient,
+        octets.as_slice(),
+    )? {
         Ok(())
     } else {
         unreachable!()
