@@ -15,10 +15,10 @@ ghost use Rattle.krb_text.specs.inner.Parts.{Tells, separator};
 
 use crate::field::put_closing;
 use crate::form::Form;
-use crate::message::put_ap_req;
 use crate::number::Numbered;
 use crate::part::{Clear, PartPlace, put_part_opening, view_judged};
 use crate::put_field;
+use crate::record::HasRecord;
 use crate::shown::QuotedText;
 use crate::text_buffer::TextBuffer;
 use crate::viewed::{ABSENT, flags_of, optional_hex, optional_quoted, principal_of};
@@ -40,7 +40,7 @@ impl<'a> Clear<'a> for ApReq {
     #[tactic(auto, unfolding(crate::specs::Forms::part_text))]
     fn put_part(text: &mut TextBuffer, at: PartPlace, seen: &Self::Of) -> Result<(), AllocError> {
         put_part_opening(text, at, "PA-TGS-REQ")?;
-        put_ap_req(text, at.form, seen)?;
+        seen.put_fields(text, at.form)?;
         put_closing(text, at.form)
     }
 }

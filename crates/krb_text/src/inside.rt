@@ -4,11 +4,10 @@ ghost use Rattle.std.specs.Prelude.{◌≡◌, ◌+◌, ◌^◌, ◌<◌, ◌≤
 ghost use Rattle.std.specs.Option.{option_map};
 ghost use Rattle.krb_msg.specs.Grammar.{pa_data, ticket};
 ghost use Rattle.krb_msg.specs.Types.{IsValidKdcRep, IsValidKdcReq, IsValidKrbCred, IsValidKrbError, kdc_rep_of_view, kdc_req_of_view, krb_cred_of_view, krb_error_of_view, pa_data_of, ticket_of};
-ghost use Rattle.krb_msg.specs.ViewValues.{IsValidMessage, message_of_view};
 ghost use Rattle.krb_msg.specs.Term.{IfPresent};
 ghost use Rattle.krb_msg.specs.Viewed.{AreViewed, items_of};
 ghost use Rattle.krb_text.specs.Forms.{ending, part_text};
-ghost use Rattle.krb_text.specs.Inside.{each_if, inside_of, kdc_req_parts, krb_error_parts, method_data_if, methods_part, padata_parts, ticket_part};
+ghost use Rattle.krb_text.specs.Inside.{each_if, kdc_req_parts, krb_error_parts, method_data_if, methods_part, padata_parts, ticket_part};
 ghost use Rattle.krb_text.specs.Judged.{asks_for_preauth, says_preauth_failed};
 ghost use Rattle.krb_text.specs.Values.{Part};
 ghost use Rattle.krb_text.specs.inner.Parts.{Tells, parts_after, separator};
@@ -21,14 +20,14 @@ use crate::padata::{count_padata, put_padata};
 use crate::part::{PartPlace, put_each, put_part_opening};
 use crate::put_field;
 use crate::text_buffer::TextBuffer;
-use krb_msg::{ItemsView, KdcRepView, KdcReqView, KrbCredView, KrbErrorView, MessageView, Ticket};
+use krb_msg::{ItemsView, KdcRepView, KdcReqView, KrbCredView, KrbErrorView, Ticket};
 use std::alloc::AllocError;
 
 /// The code of an error that says that pre-authentication failed (RFC 4120, 7.5.9).
 const PREAUTH_FAILED: i64 = 24;
 
 /// A message that may have parts.
-trait HasParts {
+pub(crate) trait HasParts {
     /// The parts.
     ghost parts: { Self → List Part };
 
@@ -225,7 +224,11 @@ impl<'a> HasParts for KrbErrorView<'a> {
 /// nothing there.
 #[inline(always)]
 #[tactic(auto, unfolding(crate::specs::Forms::closing, crate::specs::Forms::inside_text))]
-fn put_list<M: HasParts>(text: &mut TextBuffer, form: Form, message: &M) -> Result<(), AllocError>
+pub(crate) fn put_list<M: HasParts>(
+    text: &mut TextBuffer,
+    form: Form,
+    message: &M,
+) -> Result<(), AllocError>
     requires { M.IsValid message.now }
     ensures { OnOk result (text.new ≡ text.old ++ ending form (Some (M.parts message.now))) }
 {
@@ -241,27 +244,5 @@ fn put_list<M: HasParts>(text: &mut TextBuffer, form: Form, message: &M) -> Resu
             message.put_parts(text, form)?;
             text.push_str("]}")
         }
-    }
-}
-
-/// Appends what follows the fields of the record of a message.
-#[inline(always)]
-pub(crate) fn put_ending(
-    text: &mut TextBuffer,
-    form: Form,
-    view: &MessageView<'_>,
-) -> Result<(), AllocError>
-    requires { IsValidMessage view.now }
-    ensures { OnOk result (text.new ≡ text.old ++ ending form (inside_of (message_of_view view.now))) }
-{
-    match view {
-        MessageView::AsReq(req) | MessageView::TgsReq(req) => put_list(text, form, req),
-        MessageView::AsRep(rep) | MessageView::TgsRep(rep) => put_list(text, form, rep),
-        MessageView::KrbCred(cred) => put_list(text, form, cred),
-        MessageView::KrbError(error) => put_list(text, form, error),
-        MessageView::ApReq(_)
-        | MessageView::ApRep(_)
-        | MessageView::KrbSafe(_)
-        | MessageView::KrbPriv(_) => put_closing(text, form),
     }
 }
