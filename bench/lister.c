@@ -47,6 +47,7 @@ INLINE bool take_padata(struct octets *in, unsigned number, bool *has_padata, si
     return true;
 }
 
+/* Puts the types that take_padata kept, or - if there are no data. */
 INLINE void put_padata(struct line *line, bool has_padata, size_t count)
 {
     put_text(line, " padata=");
@@ -88,6 +89,7 @@ INLINE bool list_names(struct octets *body, struct line *line)
     return true;
 }
 
+/* An AS-REQ or a TGS-REQ. */
 APART uint8_t *kdc_req(uint8_t *at, struct octets in, unsigned type)
 {
     struct line line = {at, 0};
@@ -113,6 +115,7 @@ APART uint8_t *kdc_req(uint8_t *at, struct octets in, unsigned type)
     return end_line(line);
 }
 
+/* An AS-REP or a TGS-REP. */
 APART uint8_t *kdc_rep(uint8_t *at, struct octets in, unsigned type)
 {
     struct line line = {at, 0};
@@ -137,6 +140,7 @@ APART uint8_t *kdc_rep(uint8_t *at, struct octets in, unsigned type)
     return list_field(&line, " enc=", list_encrypted, &in, 6) && ends(in) ? end_line(line) : NULL;
 }
 
+/* An AP-REQ. */
 APART uint8_t *ap_req(uint8_t *at, struct octets in)
 {
     struct line line = {at, 0};
@@ -153,6 +157,7 @@ APART uint8_t *ap_req(uint8_t *at, struct octets in)
     return list_field(&line, " auth=", list_encrypted, &in, 4) && ends(in) ? end_line(line) : NULL;
 }
 
+/* An AP-REP. */
 APART uint8_t *ap_rep(uint8_t *at, struct octets in)
 {
     struct line line = {at, 0};
@@ -161,6 +166,7 @@ APART uint8_t *ap_rep(uint8_t *at, struct octets in)
     return is_listed ? end_line(line) : NULL;
 }
 
+/* A KRB-PRIV. */
 APART uint8_t *krb_priv(uint8_t *at, struct octets in)
 {
     struct line line = {at, 0};
@@ -169,6 +175,7 @@ APART uint8_t *krb_priv(uint8_t *at, struct octets in)
     return is_listed ? end_line(line) : NULL;
 }
 
+/* A KRB-CRED. */
 APART uint8_t *krb_cred(uint8_t *at, struct octets in)
 {
     struct line line = {at, 0};
@@ -177,6 +184,7 @@ APART uint8_t *krb_cred(uint8_t *at, struct octets in)
     return is_listed ? end_line(line) : NULL;
 }
 
+/* A KRB-SAFE. */
 APART uint8_t *krb_safe(uint8_t *at, struct octets in)
 {
     struct line line = {at, 0};
@@ -193,9 +201,9 @@ APART uint8_t *krb_safe(uint8_t *at, struct octets in)
 }
 
 /* The names of errors that lines have, each with how many characters it has. */
-#define NAME(name)                                                                                                     \
-    {                                                                                                                  \
-        sizeof name - 1, name                                                                                          \
+#define NAME(name)            \
+    {                         \
+        sizeof name - 1, name \
     }
 static const struct {
     uint8_t size, name[32];
@@ -207,6 +215,7 @@ static const struct {
     [61] = NAME(":KRB_ERR_FIELD_TOOLONG"),
 };
 
+/* Puts the number of an error, and its name if lines have one. */
 INLINE void put_error(struct line *line, int64_t code)
 {
     put_integer(line, code);
@@ -259,6 +268,7 @@ INLINE void put_client(struct line *line, struct octets names, struct octets rea
     }
 }
 
+/* A KRB-ERROR. */
 APART uint8_t *krb_error(uint8_t *at, struct octets in)
 {
     enum { TIMES = 80 };
@@ -306,15 +316,18 @@ static uint8_t *message(uint8_t *at, struct octets in)
 
 /* Streams */
 
-enum {
-    PIECE = 1 << 16,       /* the octets that are read at once, and after which lines are written */
-    MOST_OCTETS = 1 << 24, /* the most that a message has */
-    MOST_TIMES =
-        12, /* a line has at most this many characters for each octet of its message: three times its realm, escaped */
-    LABELS = 1024, /* and beside them at most so many */
-    LARGE = 1 << 13,
-    LEAST_PADATA = 11 /* the fewest octets of a PA-DATA */
-};
+/* How many octets are read at once, and after how many lines are written. */
+enum { PIECE = 1 << 16 };
+
+/* The most octets of a message, and the fewest of a PA-DATA. */
+enum { MOST_OCTETS = 1 << 24, LEAST_PADATA = 11 };
+
+/* A line has at most so many characters for each octet of its message, if that is a KDC-REQ with all but a long realm,
+   which is put three times and escaped; and beside these no more than its labels and its numbers. */
+enum { MOST_CHARACTERS = 12, LABELS = 1024 };
+
+/* For the lines of a piece, and one of a message of as many octets as few have, there is room from the beginning. */
+enum { OUTPUT = PIECE + MOST_CHARACTERS * 10000 };
 
 /* Writes the lines that are there. */
 static void write_output(void)
@@ -328,6 +341,7 @@ static void write_output(void)
     output_at = output;
 }
 
+/* Ends the lines that are there with the word, and the program. */
 RARE _Noreturn void refuse(void)
 {
     memcpy(output_at, "refused\n", 8);
@@ -336,7 +350,7 @@ RARE _Noreturn void refuse(void)
     exit(1);
 }
 
-/* A vector of octets of another size, with what it has. */
+/* A vector with what it has, and of another size. */
 static void *resized(void *octets, size_t size)
 {
     octets = realloc(octets, size);
@@ -345,16 +359,15 @@ static void *resized(void *octets, size_t size)
     return octets;
 }
 
-/* Makes room for the line of a message of some octets. */
+/* Makes room for a line of at most so many characters. */
 INLINE void make_room(size_t size)
 {
-    size_t line = MOST_TIMES * size + LABELS;
-    if (LIKELY((size_t)(output + output_room - output_at) >= line))
+    if (LIKELY((size_t)(output + output_room - output_at) >= size))
         return;
     write_output();
-    if (output_room < line) {
-        output_room = line;
-        output_at = output = resized(output, line);
+    if (output_room < size) {
+        output_room = size;
+        output_at = output = resized(output, size);
     }
 }
 
@@ -383,7 +396,7 @@ static void list_frames(void)
             refuse();
         if (size_of(in) - 4 < size)
             break;
-        make_room(size);
+        make_room(MOST_CHARACTERS * size + LABELS);
         in.at += 4;
         uint8_t *end = message(output_at, (struct octets){in.at, in.at + size});
         if (end == NULL)
@@ -398,9 +411,10 @@ static void list_frames(void)
     memmove(input, in.at, input_size);
 }
 
+/* Lists the standard input. */
 int main(void)
 {
-    make_room(2 * LARGE);
+    make_room(OUTPUT);
     while (read_piece())
         list_frames();
     if (input_size > 0)

@@ -23,6 +23,7 @@ INLINE bool list_optional(struct line *line, const char *label, list list, struc
     return true;
 }
 
+/* A KerberosTime. */
 INLINE bool list_time(struct octets *in, unsigned number, struct line *line)
 {
     struct octets time;
@@ -32,6 +33,7 @@ INLINE bool list_time(struct octets *in, unsigned number, struct line *line)
     return true;
 }
 
+/* A number of 32 bits, with a sign or without. */
 INLINE bool list_wide32(struct octets *in, unsigned number, struct line *line)
 {
     int64_t value;
@@ -41,6 +43,7 @@ INLINE bool list_wide32(struct octets *in, unsigned number, struct line *line)
     return true;
 }
 
+/* A number of microseconds. */
 INLINE bool list_microseconds(struct octets *in, unsigned number, struct line *line)
 {
     int64_t value;
@@ -72,6 +75,7 @@ INLINE bool list_text(struct octets *in, unsigned number, struct line *line)
     return true;
 }
 
+/* An EncryptedData. */
 INLINE bool list_encrypted(struct octets *in, unsigned number, struct line *line)
 {
     struct encrypted encrypted;
@@ -81,6 +85,7 @@ INLINE bool list_encrypted(struct octets *in, unsigned number, struct line *line
     return true;
 }
 
+/* A HostAddress. */
 INLINE bool list_address(struct octets *in, unsigned number, struct line *line)
 {
     struct typed address;
@@ -104,6 +109,7 @@ INLINE bool list_checksum(struct octets *in, unsigned number, struct line *line)
     return true;
 }
 
+/* Types of encryption. */
 INLINE bool list_etypes(struct octets *in, unsigned number, struct line *line)
 {
     struct octets etypes, contents;
@@ -148,6 +154,7 @@ INLINE void note_string(struct octets in, struct line *line)
             line->notes |= HIGH_OCTETS;
 }
 
+/* Notes of the strings of a name that is not listed. */
 INLINE void note_names(struct octets names, struct line *line)
 {
     while (names.at < names.end)

@@ -46,8 +46,10 @@ struct typed {
 /* The types of the pre-authentication data of a message, with room for those of each that was read. */
 static int32_t *padata_types;
 
+/* How many octets are left. */
 INLINE size_t size_of(struct octets in) { return in.end - in.at; }
 
+/* Whether no octet is left. */
 INLINE bool ends(struct octets in) { return in.at == in.end; }
 
 /* The four octets from a place on, as a number with the first one as its least. */
@@ -58,8 +60,10 @@ INLINE uint32_t load(const uint8_t *at)
     return number;
 }
 
+/* The sixteen octets from a place on. */
 INLINE __m128i load_16(const uint8_t *at) { return _mm_loadu_si128((const __m128i *)at); }
 
+/* Sets the sixteen octets from a place on. */
 INLINE void store_16(uint8_t *at, __m128i octets) { _mm_storeu_si128((__m128i *)at, octets); }
 
 /* Items of DER */
@@ -108,7 +112,8 @@ INLINE bool take(struct octets *in, unsigned head, unsigned size, struct octets 
     return true;
 }
 
-/* How many octets the head of an item has, whose contents are fewer than 0x10000; or 0 if it is none. */
+/* How many octets the head of an item has, and how many octets its contents are, if they are fewer than 0x10000; or 0
+   if its length is greater, or not in its shortest form. */
 INLINE unsigned head_of(const uint8_t *at, unsigned *size)
 {
     if (at[1] == 0x82 && at[2] != 0) {
@@ -141,8 +146,9 @@ INLINE bool take_item(struct octets *in, unsigned tag, struct octets *contents)
     return contents->at != NULL;
 }
 
-/* Takes the next field, of this number, and the only item in it, of this tag. Mostly each of the two lengths has one
-   octet. */
+/* Takes the next field, of this number, and the contents of the only item in it, of this tag. Mostly both lengths have
+   one octet: then the heads are compared at once, without the length of the item, by which the one of the field is
+   greater than 2. */
 INLINE bool take_field(struct octets *in, unsigned number, unsigned tag, struct octets *contents)
 {
     uint32_t heads = load(in->at);
@@ -191,6 +197,7 @@ INLINE bool integer(struct octets in, int64_t least, int64_t most, int64_t *valu
     return least <= number && number <= most;
 }
 
+/* A field that is an INTEGER between these two. */
 INLINE bool take_integer(struct octets *in, unsigned number, int64_t least, int64_t most, int64_t *value)
 {
     struct octets contents;
@@ -203,7 +210,7 @@ INLINE bool take_int32(struct octets *in, unsigned number, int64_t *value)
     return take_integer(in, number, INT32_MIN, INT32_MAX, value);
 }
 
-/* An Int32 that has one octet, mostly, which is compared at once with the heads before it. */
+/* An Int32 that mostly has one octet: then all that is before it is compared at once. */
 INLINE bool take_type(struct octets *in, unsigned number, int64_t *value)
 {
     if (!LIKELY(load(in->at) == (0x010203A0 | number)))
@@ -294,6 +301,7 @@ INLINE bool encrypted_of(struct octets in, struct encrypted *encrypted)
     return ends(in);
 }
 
+/* A field that is an EncryptedData. */
 INLINE bool take_encrypted(struct octets *in, unsigned number, struct encrypted *encrypted)
 {
     struct octets contents;
@@ -309,6 +317,7 @@ INLINE bool ticket_of(struct octets in, struct ticket *ticket)
            take_encrypted(&fields, 3, &ticket->encrypted) && ends(fields);
 }
 
+/* A field that is a Ticket. */
 INLINE bool take_ticket(struct octets *in, unsigned number, struct ticket *ticket)
 {
     struct octets contents;
@@ -324,6 +333,7 @@ APART struct typed typed_of(struct octets in)
     return typed;
 }
 
+/* A field that is a HostAddress or a Checksum. */
 INLINE bool take_typed(struct octets *in, unsigned number, struct typed *typed)
 {
     struct octets contents;

@@ -20,6 +20,7 @@ static const char pairs_of_digits[] = "00010203040506070809101112131415161718192
 
 static const uint8_t hexadecimal[] = "0123456789abcdef";
 
+/* Puts one character. */
 INLINE void put_character(struct line *line, char character) { *line->at++ = character; }
 
 /* Puts a text whose size the compiler knows. */
@@ -29,8 +30,10 @@ INLINE void put_text(struct line *line, const char *text)
     line->at += strlen(text);
 }
 
+/* Sets the digits of a number below 100, with zeros before them. */
 INLINE void set_two_digits(uint8_t *at, unsigned number) { memcpy(at, pairs_of_digits + 2 * number, 2); }
 
+/* Sets the digits of a number below 100000000, likewise. */
 INLINE void set_eight_digits(uint8_t *at, uint32_t number)
 {
     uint32_t high = number / 10000, low = number % 10000;
@@ -79,6 +82,7 @@ static uint8_t *set_digits(uint8_t *at, uint64_t number)
     return at + 8;
 }
 
+/* Puts a number in decimal. */
 INLINE void put_number(struct line *line, uint64_t number)
 {
     if (number < 10) {
@@ -91,6 +95,7 @@ INLINE void put_number(struct line *line, uint64_t number)
     }
 }
 
+/* Puts a number in decimal, with its sign if it is negative. */
 INLINE void put_integer(struct line *line, int64_t number)
 {
     if (!LIKELY(number >= 0)) {
@@ -175,6 +180,7 @@ INLINE void set_hexadecimal(uint8_t *at, const uint8_t *octets)
     _mm_storel_epi64((__m128i *)at, _mm_shuffle_epi8(load_16(hexadecimal), digits));
 }
 
+/* Puts octets in hexadecimal. */
 INLINE void put_hexadecimal(struct line *line, struct octets in)
 {
     for (; size_of(in) >= 4; in.at += 4, line->at += 8)
@@ -185,6 +191,7 @@ INLINE void put_hexadecimal(struct line *line, struct octets in)
     }
 }
 
+/* Puts how many bits a KerberosFlags has, and its octets. */
 INLINE void put_flags(struct line *line, struct octets flags)
 {
     size_t bits = 8 * (size_of(flags) - 1) - *flags.at++;
@@ -195,6 +202,7 @@ INLINE void put_flags(struct line *line, struct octets flags)
     put_hexadecimal(line, flags);
 }
 
+/* Puts a KerberosTime. */
 INLINE void put_time(struct line *line, struct octets time)
 {
     store_16(line->at, load_16(time.at));
@@ -236,12 +244,14 @@ INLINE void put_names(struct line *line, struct octets names)
     line->at[-1] = '@';
 }
 
+/* Puts a name and its realm. */
 INLINE void put_principal(struct line *line, struct octets names, struct octets realm)
 {
     put_names(line, names);
     put_string(line, realm);
 }
 
+/* Puts what is in the clear of an EncryptedData. */
 INLINE void put_encrypted(struct line *line, const struct encrypted *encrypted)
 {
     put_integer(line, encrypted->etype);
@@ -254,6 +264,7 @@ INLINE void put_encrypted(struct line *line, const struct encrypted *encrypted)
     put_number(line, encrypted->cipher_size);
 }
 
+/* Puts a number of a list, and a comma. */
 INLINE void put_list_item(struct line *line, int64_t number)
 {
     put_integer(line, number);
