@@ -1,11 +1,13 @@
 -- The names of fields as text.
-use Rattle.std.specs.Prelude.{ℕ, List, ◌++◌, codes, Option, Some, None}
+use Rattle.std.specs.Prelude.{ℕ, List, [], ◌++◌, codes, Option, Some, None}
 use Rattle.std.specs.Fmt.{decimal}
 use Rattle.krb_file.specs.declared.field_name.FieldName.{FieldName}
 use Rattle.krb_file.specs.declared.field_name.FieldName.TheVariants as fields
 use Rattle.krb_file.specs.declared.field_name.FilePart.{FilePart}
 use Rattle.krb_file.specs.declared.field_name.FilePart.TheVariants as parts
 use Rattle.krb_file.specs.declared.field_name.FileField.{FileField}
+use Rattle.krb_file.specs.declared.field_path.FieldPath.{FieldPath}
+use Rattle.krb_file.specs.declared.field_path.FieldPath.TheVariants as paths
 
 -- a word, and an index from 0 in brackets
 abbrev pub numbered : List ℕ → ℕ → List ℕ
@@ -74,3 +76,14 @@ in_part_text (Some part) name = part_text part ++ codes "." ++ name
 -- the name of a field, after its part if it is in one
 abbrev pub field_text : FileField → List ℕ
 field_text field = in_part_text field.part (name_text field.name)
+
+-- the record of a field, by its index from 0; the first two fields of a file are in no record
+abbrev pub record_text : ℕ → FieldName → List ℕ
+record_text records fields.Magic = []
+record_text records fields.Version = []
+record_text records other = numbered (codes "record") records ++ codes "."
+
+abbrev pub path_text : FieldPath → List ℕ
+path_text (paths.File field) = field_text field
+path_text (paths.Record records field) = record_text records field.name ++ field_text field
+path_text (paths.Credential credentials field) = numbered (codes "credential") credentials ++ codes "." ++ field_text field
