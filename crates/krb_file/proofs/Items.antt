@@ -1,6 +1,6 @@
 -- Items that are read one after another: how each step changes what is left of them.
 use Rattle.std.proofs.Common.{◌≡◌, ℕ, zero, suc, ◌<◌, ◌≤◌, Option, Result, Ok, Err, List, [], ◌∷◌, ◌++◌, length, sym, ◌∙◌, ap, subst, arith, append_assoc, append-nil, length-append}
-use Rattle.krb_file.specs.Fields.{Source, Fault, Bounds, Reader, limited, Fails}
+use Rattle.krb_file.specs.Fields.{Source, Fault, Bounds, Reader, limited, Fails, IsStreamFaultIn}
 use Rattle.krb_file.specs.FieldReaders.{Cursor, MayRemain, source_at, HasRead, FailsBy}
 use Rattle.krb_file.specs.Items.{Items, no_items, with_first, before, IsItem, EndsBy, FailsAfter, Gave, GaveFirst}
 use Rattle.krb_file.specs.declared.fault.FileFault.{FileFault}
@@ -90,3 +90,8 @@ module _ {X A E : Type 0} (step : Reader X) (limit : Option ℕ) (left : Source 
 -- nothing was read
 pub gave_none : {A E : Type 0} (left : Source → Items A E) (limit : Option ℕ) (file : List ℕ) (cursor : Cursor) → cursor.bounds ≡ limited limit → ((octets : List ℕ) → MayRemain cursor octets → octets ≡ file) → Gave left (left (source_at cursor.place file)) limit cursor []
 gave_none left limit file cursor bounds only = record { bounds = bounds; rest = λ octets there. ap (λ (o : List ℕ). left (source_at cursor.place o)) (only octets there) }
+
+-- a refusal is at a place of the file or at its end, if the end of the items is
+pub fault_in_file : {A E : Type 0} (refused : Fault → E) (all : Items A E) (count : ℕ) (file : List ℕ) (e : FileFault) → ((f : Fault) → all.end ≡ refused f → f.place ≤ length file) → FailsAfter refused all count e → IsStreamFaultIn file e
+fault_in_file refused all count file (faults.Refused fault) inside fails = inside fault fails.is
+fault_in_file refused all count file other inside fails = tt

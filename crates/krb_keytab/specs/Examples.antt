@@ -125,7 +125,7 @@ limit_1 = refl
 limit_2 : items (Some 2) keytab_octets ≡ record { records = []; end = Err (long 2 29 4 fields.Rest) }
 limit_2 = refl
 
-limit_4 : items (Some 4) keytab_octets ≡ record { records = keytab.records; end = Ok (stops.Zero, 49) }
+limit_4 : items (Some 4) keytab_octets ≡ record { items = keytab.records; end = Ok (stops.Zero, 49) }
 limit_4 = refl
 
 too_long_before_truncated : items (Some 1) (hex (codes "0502 0000001B 0001 0003 41")) ≡ record { records = []; end = Err (long 2 10 3 fields.Realm) }
