@@ -7,7 +7,8 @@ use Rattle.krb_file.specs.declared.field_name.FilePart.{FilePart}
 use Rattle.krb_file.specs.declared.field_name.FilePart.TheVariants as parts
 use Rattle.krb_file.specs.declared.field_name.FileField.{FileField}
 use Rattle.krb_file.specs.declared.field_path.FieldPath.{FieldPath}
-use Rattle.krb_file.specs.declared.field_path.FieldPath.TheVariants as paths
+use Rattle.krb_file.specs.declared.field_path.FileItem.{FileItem}
+use Rattle.krb_file.specs.declared.field_path.FileItem.TheVariants as items
 
 -- a word, and an index from 0 in brackets
 abbrev pub numbered : List ℕ → ℕ → List ℕ
@@ -79,11 +80,15 @@ field_text field = in_part_text field.part (name_text field.name)
 
 -- the record of a field, by its index from 0; the first two fields of a file are in no record
 abbrev pub record_text : ℕ → FieldName → List ℕ
-record_text records fields.Magic = []
-record_text records fields.Version = []
-record_text records other = numbered (codes "record") records ++ codes "."
+record_text index fields.Magic = []
+record_text index fields.Version = []
+record_text index other = numbered (codes "record") index ++ codes "."
+
+-- the item of a field
+abbrev pub item_text : FileItem → FieldName → List ℕ
+item_text items.File name = []
+item_text (items.Record index) name = record_text index name
+item_text (items.Credential index) name = numbered (codes "credential") index ++ codes "."
 
 abbrev pub path_text : FieldPath → List ℕ
-path_text (paths.File field) = field_text field
-path_text (paths.Record records field) = record_text records field.name ++ field_text field
-path_text (paths.Credential credentials field) = numbered (codes "credential") credentials ++ codes "." ++ field_text field
+path_text path = item_text path.item path.field.name ++ field_text path.field

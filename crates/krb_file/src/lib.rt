@@ -33,7 +33,7 @@ pub use fault::{
     in_part,
 };
 pub use field_name::{FieldName, FileField, FilePart};
-pub use field_path::FieldPath;
+pub use field_path::{FieldPath, FileItem};
 pub use field_reader::{Field, FieldReader, String16, String32, read_many};
 pub use krb_der::Limit;
 pub use part::{

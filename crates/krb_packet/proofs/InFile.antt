@@ -13,6 +13,7 @@ use Rattle.krb_file.specs.declared.field_name.FieldName.TheVariants as fields
 use Rattle.krb_file.specs.declared.field_name.FilePart.TheVariants as parts
 use Rattle.krb_file.specs.FieldReaders.{skipped_at}
 use Rattle.krb_file.proofs.Fields.{err_is, and_then-err, refused_at-ok, piece-ok, at}
+use Rattle.krb_file.proofs.Items.{fault_in_file}
 use Rattle.krb_packet.specs.declared.order.ByteOrder.{ByteOrder}
 use Rattle.krb_packet.specs.declared.order.ByteOrder.TheVariants as orders
 use Rattle.krb_packet.specs.declared.block.BlockKind.{BlockKind}
@@ -261,15 +262,15 @@ Stops-step (formats.Pcapng section) count =
 -- ---- all steps
 from_within : (count : ℕ) (s : Source) (read : Result (Next × Source) Fault) (others : Format → ℕ → Source → Packets) (f : Fault)
     → ((x : Fault) → read ≡ Err x → Within s x)
-    → ((packet : Packet) (after : Format) (t : Source) → read ≡ Ok (nexts.Packet packet after, t) → (others after (count + 1) t).refusal ≡ Some f → Within s f)
-    → ((after : Format) (t : Source) → read ≡ Ok (nexts.NoPacket after, t) → (others after count t).refusal ≡ Some f → Within s f)
-    → (packets_from count read others).refusal ≡ Some f → Within s f
+    → ((packet : Packet) (after : Format) (t : Source) → read ≡ Ok (nexts.Packet packet after, t) → (others after (count + 1) t).end ≡ Some f → Within s f)
+    → ((after : Format) (t : Source) → read ≡ Ok (nexts.NoPacket after, t) → (others after count t).end ≡ Some f → Within s f)
+    → (packets_from count read others).end ≡ Some f → Within s f
 from_within count s (Err x) others f fails one two e = let same : x ≡ f = cc in subst (Within s) same (fails x refl)
 from_within count s (Ok (nexts.End, t)) others f fails one two e = absurd cc
 from_within count s (Ok (nexts.Packet packet after, t)) others f fails one two e = one packet after t refl e
 from_within count s (Ok (nexts.NoPacket after, t)) others f fails one two e = two after t refl e
 
-within_all : (bound : ℕ) (format : Format) (count : ℕ) (s : Source) (f : Fault) → (packets_within bound format count s).refusal ≡ Some f → Within s f
+within_all : (bound : ℕ) (format : Format) (count : ℕ) (s : Source) (f : Fault) → (packets_within bound format count s).end ≡ Some f → Within s f
 within_all zero format count s f e = absurd cc
 within_all (suc bound) format count s f e =
     let bounds = limited (Some most_captured) in
@@ -279,12 +280,10 @@ within_all (suc bound) format count s f e =
     (λ after t is found. later s t f (step_advances format count bounds s (nexts.NoPacket after) t is).same (within_all bound after count t f found))
     e
 
-pub refusal_in_file : (file : List ℕ) (f : Fault) → (packets file).refusal ≡ Some f → f.place ≤ length file
+pub refusal_in_file : (file : List ℕ) (f : Fault) → (packets file).end ≡ Some f → f.place ≤ length file
 refusal_in_file file f e = let within = within_all (suc (length file)) formats.Unknown 0 (source_of file) f e in omega (arith, within)
 
 -- of what a call returned
 pub given_in_file : (file : List ℕ) (count : ℕ) (given : Result (Option Packet) FileFault) (model : PacketsModel) → ReturnsNext file count given model → IfErr given (IsStreamFaultIn file)
 given_in_file file count (Ok packet) model returns = tt
-given_in_file file count (Err (faults.Refused fault)) model ends = refusal_in_file file fault ends.is
-given_in_file file count (Err faults.Read) model ends = tt
-given_in_file file count (Err faults.Memory) model ends = tt
+given_in_file file count (Err fault) model ends = fault_in_file (λ f. Some f) (packets file) count file fault (refusal_in_file file) ends

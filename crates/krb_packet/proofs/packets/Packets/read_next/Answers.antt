@@ -24,7 +24,7 @@ steps-preserved g c =
     let read = rw c.in-Ok-NoPacket.field-0-is at c.in-Ok-NoPacket.ensures.read in
     let goes = passed_goes c.steps.format s.count c.in-Ok-NoPacket.passed s.reader c.next_step.new.reader read in
     record {
-      reads = λ file given reads. passed_read file given s.count c.steps.format c.in-Ok-NoPacket.passed s.reader c.next_step.new.reader (c.steps.invariant.reads file given reads) read;
+      reads = λ file given reads. passed_read file given s.count c.steps.format s.reader (c.steps.invariant.reads file given reads) c.in-Ok-NoPacket.passed c.next_step.new.reader read;
       stays = Stays-then c.steps.invariant.stays c.in-Ok-NoPacket.ensures.stays;
       given = omega (arith, c.steps.invariant.given, goes.0);
       read = omega (arith, c.steps.invariant.read, goes.0, goes.1);
@@ -43,7 +43,7 @@ pub returns-in-Ok-Packet-clause-next : goal.returns-in-Ok-Packet-clause-next
 returns-in-Ok-Packet-clause-next g c =
     let s = c.steps.self-inside in
     rw (sym c.self.view_is)
-    (λ file given reads. packet_given file given s.count (s.count + 1) c.steps.format c.in-Ok-Packet.after c.in-Ok-Packet.packet s.reader c.next_step.new.reader refl (c.steps.invariant.reads file given reads)
+    (λ file given reads. packet_given file given s.count c.steps.format s.reader (c.steps.invariant.reads file given reads) c.in-Ok-Packet.after c.in-Ok-Packet.packet c.next_step.new.reader
     (rw c.in-Ok-Packet.field-0-is at c.in-Ok-Packet.ensures.read))
 
 pub returns-in-Ok-Packet-clause-stays : goal.returns-in-Ok-Packet-clause-stays
@@ -56,7 +56,7 @@ pub returns-in-Ok-End-clause-next : goal.returns-in-Ok-End-clause-next
 returns-in-Ok-End-clause-next g c =
     let s = c.steps.self-inside in
     rw (sym c.self.view_is)
-    (λ file given reads. end_given file given s.count c.steps.format s.reader c.next_step.new.reader (c.steps.invariant.reads file given reads) (rw c.in-Ok-End.field-0-is at c.in-Ok-End.ensures.read))
+    (λ file given reads. end_given file given s.count c.steps.format s.reader (c.steps.invariant.reads file given reads) c.next_step.new.reader (rw c.in-Ok-End.field-0-is at c.in-Ok-End.ensures.read))
 
 pub returns-in-Ok-End-clause-stays : goal.returns-in-Ok-End-clause-stays
 returns-in-Ok-End-clause-stays g c = rw (sym c.self.view_is) (Stays-then c.steps.invariant.stays c.in-Ok-End.ensures.stays)
@@ -68,7 +68,7 @@ pub returns-in-Err-clause-next : goal.returns-in-Err-clause-next
 returns-in-Err-clause-next g c =
     let s = c.steps.self-inside in
     rw (sym c.self.view_is)
-    (λ file given reads. fault_given file given s.count c.steps.format c.in-Err.fault _ s.reader (c.steps.invariant.reads file given reads) c.in-Err.ensures.read)
+    (λ file given reads. fault_given file given s.count c.steps.format s.reader (c.steps.invariant.reads file given reads) c.in-Err.fault _ c.in-Err.ensures.read)
 
 pub next_step-requires-clause-packets : goal.next_step-requires-clause-packets
 next_step-requires-clause-packets g c = c.steps.invariant.given
