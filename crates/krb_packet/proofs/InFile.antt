@@ -37,7 +37,7 @@ use Rattle.krb_packet.specs.Pcaps.{magic_of, magic_at, version, header_at, captu
 use Rattle.krb_packet.specs.Bodies.{byte_order, body_size, after_byte_order, section_head_at, head_of, head_at, same_length, next_kind_at, content_at, in_body, block_kind}
 use Rattle.krb_packet.specs.Blocks.{skipped_body, content_in_file, read_body, body_in, end_in, block_in, whole_block_in, after_content, block_after, after_kind}
 use Rattle.krb_packet.specs.Captures.{packet_in, after_magic, after_packet, next_in, Packets, packets_from, packets_within, packets}
-use Rattle.krb_packet.specs.Streaming.{PacketsModel, FailsAfter, ReturnsNext}
+use Rattle.krb_packet.specs.Streaming.{PacketsModel, ReturnsNext}
 use Rattle.krb_packet.proofs.Reaching.{Passes, Passes-then, Passes-fewer, Passes-made, Passes-piece, Passes-called, Passes-checked_at, Passes-check, Passes-from_here, Stops, Stops-succeed, Stops-then, Stops-piece, Stops-octets, Stops-called, Stops-part, Stops-field, Stops-checked_at, moved-ok, moved-err, checked_at-err}
 use Rattle.krb_packet.proofs.Bodies.{Stops-content, value-err}
 use Rattle.krb_packet.proofs.Steps.{Passes-head, Passes-read, Passes-block, step_advances}

@@ -1,5 +1,5 @@
 -- A capture file that is read one packet at a time: how each call changes the packets that are left.
-use Rattle.std.proofs.Common.{◌≡◌, ℕ, suc, ◌+◌, Option, Some, Result, Ok, Err, List, [], refl, sym, ap, subst}
+use Rattle.std.proofs.Common.{◌≡◌, ℕ, suc, ◌+◌, Option, Some, None, Result, Ok, Err, List, [], refl, sym, ◌∙◌, ap, subst}
 use Rattle.krb_file.specs.Fields.{Source, Fault, limited, and_then, succeed}
 use Rattle.krb_file.specs.FieldReaders.{Cursor, HasRead, FailsBy}
 use Rattle.krb_file.specs.Items.{IsItem, EndsBy, FailsAfter, GaveFirst}
