@@ -1,18 +1,16 @@
 -- The items of a cache that readers of fields read, one after another.
-use Rattle.std.proofs.Common.{◌≡◌, ℕ, ◌+◌, ◌-◌, ◌<◌, ◌≤◌, ◌⊎◌, inl, inr, Bool, true, false, Option, Some, None, Result, Ok, Err, List, [], ◌∷◌, ◌++◌, length, refl, sym, ◌∙◌, ap, subst, arith}
-use Rattle.krb_der.specs.Octets.{when}
-use Rattle.krb_file.specs.Fields.{Source, Fault, Bounds, Reader, and_then, ◌>>=◌, succeed, one_part, in_part, with_part, fails_at, fault_begun, fails_begun, is_empty, within, Fails}
+use Rattle.std.proofs.Common.{◌≡◌, ℕ, ◌+◌, ◌-◌, ◌<◌, ◌≤◌, Some, Result, Ok, Err, List, [], ◌∷◌, ◌++◌, length, refl, sym, ◌∙◌, ap, subst, arith}
+use Rattle.krb_file.specs.Fields.{Source, Fault, Bounds, Reader, and_then, ◌>>=◌, in_part, with_part, fails_at, fails_begun, within, Fails}
 use Rattle.krb_file.specs.FieldReaders.{Cursor, MayRemain, source_at, HasRead, FailsBy, Follows, bounded}
 use Rattle.krb_file.specs.declared.fault.FileFault.{FileFault}
 use Rattle.krb_file.specs.declared.fault.FileFault.TheVariants as faults
 use Rattle.krb_file.specs.declared.field_name.FilePart.{FilePart}
 use Rattle.krb_file.specs.declared.field_name.FilePart.TheVariants as parts
-use Rattle.krb_file.proofs.Fields.{done, ok_is, and_then-ok, and_then-err}
-use Rattle.krb_file.proofs.FieldReaders.{SomeRest, some_rest, follows_in_part, part_fails}
+use Rattle.krb_file.proofs.FieldReaders.{SomeRest, some_rest, follows_in_part}
 use Rattle.krb_file.proofs.Loops.{with_prefix}
 use Rattle.krb_ccache.proofs.Loops.{field-goes_on, field-few, field-less, field-fails, fields-done}
 use Rattle.krb_ccache.specs.declared.reading.Start.{Start}
-use Rattle.krb_ccache.specs.Reading.{credential_at, header_field_at, header_fields_at, next_at, started, credentials_after, read_in}
+use Rattle.krb_ccache.specs.Reading.{header_field_at, header_fields_at, started, credentials_after, read_in}
 use Rattle.krb_ccache.specs.declared.value.HeaderField.{HeaderField}
 use Rattle.krb_ccache.specs.declared.value.Credential.{Credential}
 

@@ -1,12 +1,10 @@
 -- The fields of a header, read one after another by a loop.
-use Rattle.std.proofs.Common.{◌≡◌, ℕ, ◌<◌, ◌≤◌, ◌-◌, ◌+◌, zero, suc, Bool, true, false, leb, le-leb, Option, Some, None, Result, Ok, Err, List, [], ◌∷◌, ◌++◌, length, sym, ◌∙◌, ap, append_assoc, length-append, arith}
+use Rattle.std.proofs.Common.{◌≡◌, ℕ, ◌<◌, ◌≤◌, ◌-◌, ◌+◌, zero, suc, Bool, true, false, leb, le-leb, Option, Some, Result, Ok, Err, List, [], ◌∷◌, ◌++◌, length, sym, ◌∙◌, ap, length-append, arith}
 use Rattle.std.proofs.lemmas.Bool.{lt-leb}
 use Rattle.std.proofs.lemmas.List.{append-nil}
-use Rattle.krb_file.specs.Fields.{Source, Reader, Bounds, Fault, limited, and_then, ◌>>=◌, succeed, in_part, Fails, is_empty}
+use Rattle.krb_file.specs.Fields.{Source, Reader, Bounds, Fault, and_then, ◌>>=◌, succeed, in_part}
 use Rattle.krb_der.specs.Octets.{when}
 use Rattle.krb_file.proofs.Loops.{with_prefix, regroup as fields-regroup}
-use Rattle.krb_file.specs.declared.fault.FileFault.{FileFault}
-use Rattle.krb_file.specs.declared.fault.FileFault.TheVariants as faults
 use Rattle.krb_file.specs.declared.field_name.FilePart.TheVariants as parts
 use Rattle.krb_ccache.specs.Reading.{header_field_at, header_fields_at}
 use Rattle.krb_ccache.specs.declared.value.HeaderField.{HeaderField}

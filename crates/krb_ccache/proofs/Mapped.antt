@@ -1,5 +1,5 @@
 -- Readers that read the same octets and keep different parts of the value.
-use Rattle.std.proofs.Common.{◌≡◌, ℕ, zero, suc, Option, Result, Ok, Err, List, [], ◌∷◌, length, map, refl, ◌∙◌, ap}
+use Rattle.std.proofs.Common.{◌≡◌, ℕ, suc, Option, Result, Ok, Err, List, ◌∷◌, length, map, refl, ◌∙◌, ap}
 use Rattle.std.specs.Int.{w16}
 use Rattle.krb_file.specs.Fields.{Source, Fault, Bounds, limited, Reader, and_then, ◌>>=◌, succeed, called, begun_at, one_part, number_at}
 use Rattle.krb_file.specs.declared.field_name.FieldName.TheVariants as field

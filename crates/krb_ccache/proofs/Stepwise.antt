@@ -1,7 +1,7 @@
 -- The credentials of a file, one at a time: those that follow depend only on what is left of the file.
 use Rattle.std.proofs.Common.{◌≡◌, ℕ, zero, suc, ◌<◌, Option, None, Some, Result, Ok, Err, List, [], ◌∷◌, length, refl, sym, ◌∙◌, ap, subst, arith, length-drop}
 use Rattle.std.specs.Int.{Width, w16, w32, byte_len, from_be_bytes}
-use Rattle.krb_file.specs.Fields.{Source, Fault, Bounds, limited, Reader, and_then, ◌>>=◌, with_name, with_part, called, one_part, in_part, is_empty, signed_at, names_at, number_at, counted_at, next_octets_at}
+use Rattle.krb_file.specs.Fields.{Source, Fault, Bounds, limited, Reader, and_then, ◌>>=◌, succeed, with_name, with_part, called, one_part, in_part, is_empty, signed_at, names_at, number_at, counted_at, next_octets_at}
 use Rattle.krb_file.specs.Items.{no_items, with_first}
 use Rattle.krb_der.specs.Octets.{when}
 use Rattle.krb_file.specs.declared.field_name.FieldName.TheVariants as field
@@ -12,7 +12,7 @@ use Rattle.krb_file.proofs.Fields.{refused_at-ok, begun_at-ok, at_field, at, ok_
 use Rattle.krb_file.proofs.Items.{unrolls}
 use Rattle.krb_file.proofs.Steps.{Steps, Steps-then, Steps-succeed, Steps-called, Steps-names, Steps-counted, Moved-shorter, signed-shorter}
 use Rattle.krb_ccache.specs.declared.value.Credential.{Credential}
-use Rattle.krb_ccache.specs.Reading.{principal_at, principal_in, credential_fields_at, credential_at, header_field_at, next_of, CacheItems, item_and, items_within, items_after}
+use Rattle.krb_ccache.specs.Reading.{principal_at, principal_in, credential_fields_at, credential_at, header_field_at, CacheItems, item_and, items_within, items_after}
 use Rattle.krb_ccache.proofs.Faults.{Steps-from_server}
 
 -- a reader that reads at least one octet
@@ -61,6 +61,10 @@ Shortens-principal =
 
 pub Shortens-credential : {A : Type 0} (kept : Credential → ℕ → A) (version : ℕ) → Shortens (credential_at kept version)
 Shortens-credential kept version = Shortens-one_part (credential_fields_at kept version) (Shortens-then (principal_in parts.Client) _ (Shortens-in_part parts.Client principal_at Shortens-principal) (Steps-from_server kept version))
+
+-- the next item, or none at the end of the file
+abbrev pub next_of : {A : Type 0} → Reader A → Reader (Option A)
+next_of item_at = λ bounds source. when (is_empty source.octets) (λ _. Ok (None, source)) (λ _. (item_at >>= λ item. succeed (Some item)) bounds source)
 
 -- what is left after a step
 abbrev pub after_read : {A : Type 0} → Reader A → Option ℕ → Result (Option A × Source) Fault → CacheItems A

@@ -5,7 +5,7 @@ use Rattle.krb_file.specs.Fields.{Source, source_of, Fault, Reader, limited, IsS
 use Rattle.krb_file.specs.FieldReaders.{Cursor, source_at, HasRead, FailsBy}
 use Rattle.krb_file.specs.declared.fault.FileFault.{FileFault}
 use Rattle.krb_file.specs.declared.fault.FileFault.TheVariants as faults
-use Rattle.krb_file.proofs.Fields.{done, failed, err_is}
+use Rattle.krb_file.proofs.Fields.{failed, err_is}
 use Rattle.krb_file.proofs.FieldReaders.{some_rest}
 use Rattle.krb_file.proofs.Items.{goes_on, item_given, end_given as items-end_given, fault_given as items-fault_given, gave_none, fault_in_file}
 use Rattle.krb_file.specs.Items.{IsItem, EndsBy, FailsAfter}

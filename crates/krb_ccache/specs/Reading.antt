@@ -87,12 +87,9 @@ one_enctype credential again = credential
 abbrev pub both_enctypes : Credential → ℕ → Credential3
 both_enctypes credential again = record { credential = credential; again = again }
 
--- the next item, or none at the end of the file
-abbrev pub next_of : {A : Type 0} → Reader A → Reader (Option A)
-next_of item_at = λ bounds source. when (is_empty source.octets) (λ _. Ok (None, source)) (λ _. (item_at >>= λ item. succeed (Some item)) bounds source)
-
+-- the next credential, or none at the end of the file
 abbrev pub next_at : {A : Type 0} → (Credential → ℕ → A) → ℕ → Reader (Option A)
-next_at kept version = next_of (credential_at kept version)
+next_at kept version = λ bounds source. when (is_empty source.octets) (λ _. Ok (None, source)) (λ _. (credential_at kept version >>= λ item. succeed (Some item)) bounds source)
 
 -- ---- the header
 

@@ -7,7 +7,7 @@ use Rattle.krb_file.specs.Fields.{Source, source_of, Fault, Bounds, limited, ◌
 use Rattle.krb_file.specs.Limits.{number_from, number_before}
 use Rattle.krb_file.specs.declared.fault.FileWhy.TheVariants as why
 use Rattle.krb_file.specs.declared.field_name.FieldName.TheVariants as fields
-use Rattle.krb_file.proofs.Fields.{at, done, failed, ok_is, and_then-ok, refused_at-ok, begun_at-ok, begun_at-err, version-one}
+use Rattle.krb_file.proofs.Fields.{at, done, ok_is, and_then-ok, refused_at-ok, begun_at-ok, begun_at-err, version-one}
 use Rattle.krb_file.proofs.Limits.{IsOf, IsTooLong, IsSameOrTooLong, Limited, either-then, begun-same, Limited-then, Limited-succeed, Limited-called, Limited-piece, Limited-number, Limited-signed, Limited-counted, Limited-rest, Limited-names, Limited-version, signed-is}
 use Rattle.krb_keytab.specs.declared.value.Record.{Record}
 use Rattle.krb_keytab.specs.declared.value.Record.TheVariants as records

@@ -4,7 +4,6 @@ use Rattle.krb_file.specs.Fields.{Source, Fault, Bounds, version_at}
 use Rattle.krb_file.specs.FieldReaders.{Cursor}
 use Rattle.krb_file.specs.Items.{IsItem, EndsBy, FailsAfter, GaveFirst}
 use Rattle.krb_file.specs.declared.fault.FileFault.{FileFault}
-use Rattle.krb_keytab.specs.declared.value.Record.{Record}
 use Rattle.krb_keytab.specs.declared.reading.Next.{Next}
 use Rattle.krb_keytab.specs.declared.reading.Next.TheVariants as nexts
 use Rattle.krb_keytab.specs.declared.records.State.{State}

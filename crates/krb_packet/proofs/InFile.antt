@@ -1,5 +1,5 @@
 -- A refusal of a capture file is at a place of the file or at its end.
-use Rattle.std.proofs.Common.{◌≡◌, ℕ, zero, suc, ◌+◌, ◌-◌, ◌≤◌, inl, inr, Bool, true, false, Option, Some, None, Result, Ok, Err, List, [], ◌∷◌, length, refl, ap, ◌∙◌, subst, arith}
+use Rattle.std.proofs.Common.{◌≡◌, ℕ, zero, suc, ◌+◌, ◌-◌, ◌≤◌, inl, inr, Option, Some, None, Result, Ok, Err, List, [], ◌∷◌, length, refl, ap, ◌∙◌, subst, arith}
 use Rattle.std.specs.Prelude.{◌*◌, ◌%◌, ◌^◌, max, IfErr}
 use Rattle.std.specs.Int.{w32, from_be_bytes}
 use Rattle.std.proofs.lemmas.List.{length-take-le}
@@ -7,7 +7,6 @@ use Rattle.krb_der.specs.Octets.{when}
 use Rattle.krb_file.specs.Fields.{Source, Fault, Bounds, Reader, ◌>>=◌, succeed, called, with_name, in_part, is_empty, source_of, ended, limited, octets_at, next_octets_at, number_at, are_zero, IsStreamFaultIn}
 use Rattle.krb_file.specs.declared.fault.FileWhy.{FileWhy}
 use Rattle.krb_file.specs.declared.fault.FileFault.{FileFault}
-use Rattle.krb_file.specs.declared.fault.FileFault.TheVariants as faults
 use Rattle.krb_file.specs.declared.field_name.FieldName.{FieldName}
 use Rattle.krb_file.specs.declared.field_name.FieldName.TheVariants as fields
 use Rattle.krb_file.specs.declared.field_name.FilePart.TheVariants as parts
@@ -38,9 +37,9 @@ use Rattle.krb_packet.specs.Bodies.{byte_order, body_size, after_byte_order, sec
 use Rattle.krb_packet.specs.Blocks.{skipped_body, content_in_file, read_body, body_in, end_in, block_in, whole_block_in, after_content, block_after, after_kind}
 use Rattle.krb_packet.specs.Captures.{packet_in, after_magic, after_packet, next_in, Packets, packets_from, packets_within, packets}
 use Rattle.krb_packet.specs.Streaming.{PacketsModel, ReturnsNext}
-use Rattle.krb_packet.proofs.Reaching.{Passes, Passes-then, Passes-fewer, Passes-made, Passes-piece, Passes-called, Passes-checked_at, Passes-check, Passes-from_here, Stops, Stops-succeed, Stops-then, Stops-piece, Stops-octets, Stops-called, Stops-part, Stops-field, Stops-checked_at, moved-ok, moved-err, checked_at-err}
+use Rattle.krb_packet.proofs.Reaching.{Passes, Passes-then, Passes-piece, Passes-called, Passes-checked_at, Passes-check, Passes-from_here, Stops, Stops-succeed, Stops-then, Stops-piece, Stops-octets, Stops-called, Stops-part, Stops-field, Stops-checked_at, moved-ok, moved-err, checked_at-err}
 use Rattle.krb_packet.proofs.Bodies.{Stops-content, value-err}
-use Rattle.krb_packet.proofs.Steps.{Passes-head, Passes-read, Passes-block, step_advances}
+use Rattle.krb_packet.proofs.Steps.{Passes-read, step_advances}
 
 -- within the octets that are left
 abbrev Within : Source → Fault → Type 0

@@ -27,7 +27,7 @@ use Rattle.krb_packet.specs.declared.format.Next.TheVariants as nexts
 use Rattle.krb_packet.specs.Numbers.{in_order, field_in, checked_at, checked_number, refused_at}
 use Rattle.krb_packet.specs.Pcaps.{magic_of, magic_at, version, header_at, captured, packet_head_at, packet_at, next_at}
 use Rattle.krb_packet.specs.Bodies.{byte_order, body_size, after_byte_order, section_head_at, head_of, head_at, same_length, next_kind_at, content_at, in_body, block_kind}
-use Rattle.krb_packet.specs.Blocks.{content_in_file, skipped_body, read_body, body_in, end_in, block_in, whole_block_in, after_content, block_after, after_kind}
+use Rattle.krb_packet.specs.Blocks.{content_in_file, read_body, body_in, end_in, block_in, whole_block_in, after_content, block_after, after_kind}
 use Rattle.krb_packet.specs.Captures.{packet_in, after_magic, after_packet, next_in, blocks_of}
 use Rattle.krb_packet.proofs.Reaching.{Passes, Passes-then, Passes-fewer, Passes-made, Passes-piece, Passes-octets, Passes-skipped, Passes-number_at, Passes-called, Passes-field, Passes-check, Passes-checked_at, Passes-from_here, Passes-refused, Passes-part, Passes-succeed}
 

@@ -1,5 +1,5 @@
 -- The packets of a file, one step at a time: those that follow depend only on what is left of the file.
-use Rattle.std.proofs.Common.{◌≡◌, ℕ, zero, suc, ◌+◌, ◌<◌, Some, None, Result, Ok, Err, length, refl, ◌∙◌, ap, arith}
+use Rattle.std.proofs.Common.{◌≡◌, ℕ, suc, ◌+◌, ◌<◌, Some, Result, Ok, Err, length, refl, ap, arith}
 use Rattle.krb_file.specs.Fields.{Source, Fault, limited}
 use Rattle.krb_file.specs.Items.{with_first}
 use Rattle.krb_file.proofs.Items.{unrolls}

@@ -1,8 +1,8 @@
 -- A capture file that is read one packet at a time: how each call changes the packets that are left.
-use Rattle.std.proofs.Common.{◌≡◌, ℕ, suc, ◌+◌, Option, Some, None, Result, Ok, Err, List, [], refl, sym, ◌∙◌, ap, subst}
+use Rattle.std.proofs.Common.{◌≡◌, ℕ, suc, ◌+◌, Option, Some, None, Result, List, [], refl, sym, ◌∙◌, ap, subst}
 use Rattle.krb_file.specs.Fields.{Source, Fault, limited, and_then, succeed}
 use Rattle.krb_file.specs.FieldReaders.{Cursor, HasRead, FailsBy}
-use Rattle.krb_file.specs.Items.{IsItem, EndsBy, FailsAfter, GaveFirst}
+use Rattle.krb_file.specs.Items.{IsItem, EndsBy, FailsAfter}
 use Rattle.krb_file.specs.declared.fault.FileFault.{FileFault}
 use Rattle.krb_file.proofs.Items.{goes_on, item_given, end_given as items-end_given, fault_given as items-fault_given, gave_none}
 use Rattle.krb_packet.specs.declared.packet.Packet.{Packet}

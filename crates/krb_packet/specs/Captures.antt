@@ -5,7 +5,6 @@ use Rattle.krb_file.specs.Items.{Items, no_items, with_first}
 use Rattle.krb_file.specs.declared.field_name.FilePart.TheVariants as parts
 use Rattle.krb_packet.specs.declared.order.ByteOrder.TheVariants as orders
 use Rattle.krb_packet.specs.declared.packet.Packet.{Packet}
-use Rattle.krb_packet.specs.declared.pcap.Form.{Form}
 use Rattle.krb_packet.specs.declared.pcap.Header.{Header}
 use Rattle.krb_packet.specs.declared.pcap.Magic.{Magic}
 use Rattle.krb_packet.specs.declared.pcap.Magic.TheVariants as magics

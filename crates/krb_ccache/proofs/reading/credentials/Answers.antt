@@ -1,4 +1,5 @@
 use Rattle.std.proofs.Common.{Some, None, Ok, Err, ap, refl, subst}
+use Rattle.std.proofs.lemmas.Result.{err_from_is_err_and}
 use Rattle.krb_file.specs.Fields.{ended}
 use Rattle.krb_file.specs.FieldReaders.{HasRead, of_slice, source_at}
 use Rattle.krb_file.proofs.FieldReaders.{known}
@@ -36,3 +37,11 @@ returns g c =
     rw c.new.ensures
     (ap all_items (end_read (next_at g.K.Kept.kept c.args.version) None (items_after one None) (after_read one None) (after-step one (Shortens-credential g.K.Kept.kept c.args.version) None) _ s c.credentials.credentials.items c.credentials.invariant
     None (λ place. Ok place) t (subst (λ (x : _). HasRead (next_at g.K.Kept.kept c.args.version) x s t) c.in_default.is c.in_ok-item.ensures.read) (λ t. refl)))
+
+pub returns-in_err-item : goal.returns-in_err-item
+returns-in_err-item g c =
+    let one = credential_at g.K.Kept.kept c.args.version in
+    let p = err_from_is_err_and c.from_residual.result c.from_residual.ensures.1 in
+    rw (p.1, p.2)
+    (loop_fails (next_at g.K.Kept.kept c.args.version) None (items_after one None) (after_read one None) (after-step one (Shortens-credential g.K.Kept.kept c.args.version) None) _ (of_slice c.credentials.reader) c.credentials.credentials.items c.credentials.invariant
+    (λ f. Err f) all_items c.in_err-item.field-0.0 c.in_err-item.ensures.read (λ f. refl) (λ f. refl))

@@ -1,4 +1,4 @@
-use Rattle.std.proofs.Common.{ℕ, List, Some, Err, subst}
+use Rattle.std.proofs.Common.{Some, Err, subst}
 use Rattle.krb_keytab.specs.declared.records.State.{State}
 use Rattle.krb_keytab.specs.declared.records.State.TheVariants as states
 use Rattle.krb_keytab.proofs.Streams.{opens, version_refused, refusal_in_file}

@@ -1,4 +1,4 @@
-use Rattle.std.proofs.Common.{◌+◌, sym, refl, arith}
+use Rattle.std.proofs.Common.{sym, refl, arith}
 use Rattle.krb_file.proofs.FieldReaders.{Stays-same, Stays-then}
 use Rattle.krb_packet.proofs.Steps.{packet_goes, passed_goes}
 use Rattle.krb_packet.proofs.Streams.{passed_read, packet_given, end_given, fault_given}
