@@ -1,20 +1,23 @@
 -- A capture file that is read one packet at a time: how each call changes the packets that are left.
-use Rattle.std.proofs.Common.{◌≡◌, ℕ, suc, ◌+◌, Option, Some, None, Result, List, [], refl, sym, ◌∙◌, ap, subst}
-use Rattle.krb_file.specs.Fields.{Source, Fault, limited, and_then, succeed}
+use Rattle.std.proofs.Common.{◌≡◌, ℕ, zero, suc, ◌+◌, ◌≤◌, length, arith, IfErr, Option, Some, None, Result, Ok, Err, List, [], refl, sym, ◌∙◌, ap, subst}
+use Rattle.krb_file.specs.Fields.{Source, Fault, limited, and_then, succeed, source_of, IsStreamFaultIn}
 use Rattle.krb_file.specs.FieldReaders.{Cursor, HasRead, FailsBy}
 use Rattle.krb_file.specs.Items.{IsItem, EndsBy, FailsAfter}
 use Rattle.krb_file.specs.declared.fault.FileFault.{FileFault}
-use Rattle.krb_file.proofs.Items.{goes_on, item_given, end_given as items-end_given, fault_given as items-fault_given, gave_none}
+use Rattle.krb_file.proofs.Items.{goes_on, item_given, end_given as items-end_given, fault_given as items-fault_given, gave_none, fault_in_file}
 use Rattle.krb_packet.specs.declared.packet.Packet.{Packet}
 use Rattle.krb_packet.specs.declared.format.Format.{Format}
 use Rattle.krb_packet.specs.declared.format.Format.TheVariants as formats
+use Rattle.krb_packet.specs.declared.format.Next.{Next}
 use Rattle.krb_packet.specs.declared.format.Next.TheVariants as nexts
 use Rattle.krb_packet.specs.declared.pcap.Header.{Header}
 use Rattle.krb_packet.specs.declared.packets.State.{State}
 use Rattle.krb_packet.specs.declared.packets.State.TheVariants as states
 use Rattle.krb_packet.specs.Pcaps.{most_captured}
-use Rattle.krb_packet.specs.Captures.{packet_in, after_packet, next_in, packets_after, packets}
-use Rattle.krb_packet.specs.Streaming.{PacketsModel, Reads, ReadsFrom}
+use Rattle.krb_packet.specs.Captures.{packet_in, after_packet, next_in, Packets, packets_from, packets_within, packets_after, packets}
+use Rattle.krb_packet.specs.Streaming.{PacketsModel, Reads, ReadsFrom, ReturnsNext}
+use Rattle.krb_packet.proofs.InFile.{Within, later, Stops-step}
+use Rattle.krb_packet.proofs.Steps.{step_advances}
 use Rattle.krb_packet.proofs.Stepwise.{after_read, after-step}
 
 -- nothing was read
@@ -59,3 +62,32 @@ pcap_given file count header old new x is same more reads read =
     let format = formats.Pcap header in
     let given = packet_given file count old.count format old.cursor (pcap_reads file count header old is reads) format x new.cursor (pcap_step header old.count (Some x) old.cursor new.cursor read) in
     (given.0, subst (λ (s : State). ReadsFrom s new file (suc count)) (sym (same ∙ is)) (subst (λ (n : ℕ). Reads (opening new.cursor format n) file (suc count)) (sym more) given.1))
+
+-- ---- a refusal is at a place of the file or at its end
+from_within : (count : ℕ) (s : Source) (read : Result (Next × Source) Fault) (others : Format → ℕ → Source → Packets) (f : Fault)
+    → ((x : Fault) → read ≡ Err x → Within s x)
+    → ((packet : Packet) (after : Format) (t : Source) → read ≡ Ok (nexts.Packet packet after, t) → (others after (count + 1) t).end ≡ Some f → Within s f)
+    → ((after : Format) (t : Source) → read ≡ Ok (nexts.NoPacket after, t) → (others after count t).end ≡ Some f → Within s f)
+    → (packets_from count read others).end ≡ Some f → Within s f
+from_within count s (Err x) others f fails one two e = let same : x ≡ f = cc in subst (Within s) same (fails x refl)
+from_within count s (Ok (nexts.End, t)) others f fails one two e = absurd cc
+from_within count s (Ok (nexts.Packet packet after, t)) others f fails one two e = one packet after t refl e
+from_within count s (Ok (nexts.NoPacket after, t)) others f fails one two e = two after t refl e
+
+within_all : (bound : ℕ) (format : Format) (count : ℕ) (s : Source) (f : Fault) → (packets_within bound format count s).end ≡ Some f → Within s f
+within_all zero format count s f e = absurd cc
+within_all (suc bound) format count s f e =
+    let bounds = limited (Some most_captured) in
+    from_within count s (next_in format count bounds s) (packets_within bound) f
+    (λ x is. (Stops-step format count).upto bounds s x is)
+    (λ packet after t is found. later s t f (step_advances format count bounds s (nexts.Packet packet after) t is).same (within_all bound after (count + 1) t f found))
+    (λ after t is found. later s t f (step_advances format count bounds s (nexts.NoPacket after) t is).same (within_all bound after count t f found))
+    e
+
+pub refusal_in_file : (file : List ℕ) (f : Fault) → (packets file).end ≡ Some f → f.place ≤ length file
+refusal_in_file file f e = let within = within_all (suc (length file)) formats.Unknown 0 (source_of file) f e in omega (arith, within)
+
+-- of what a call returned
+pub given_in_file : (file : List ℕ) (count : ℕ) (given : Result (Option Packet) FileFault) (model : PacketsModel) → ReturnsNext file count given model → IfErr given (IsStreamFaultIn file)
+given_in_file file count (Ok packet) model returns = tt
+given_in_file file count (Err fault) model ends = fault_in_file (λ f. Some f) (packets file) count file fault (refusal_in_file file) ends

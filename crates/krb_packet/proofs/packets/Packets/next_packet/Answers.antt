@@ -2,7 +2,7 @@ use Rattle.std.proofs.Common.{◌≡◌, sym, ◌∙◌, subst}
 use Rattle.krb_packet.specs.declared.packets.State.{State}
 use Rattle.krb_packet.specs.declared.packets.State.TheVariants as states
 use Rattle.krb_packet.specs.Streaming.{ReadsFrom}
-use Rattle.krb_packet.proofs.InFile.{given_in_file}
+use Rattle.krb_packet.proofs.Streams.{given_in_file}
 use Rattle.krb_packet.proofs.packets.Packets.next_packet.Goals as goal
 
 pub returns-in-Done-clause-next : goal.returns-in-Done-clause-next
