@@ -32,7 +32,7 @@ use Rattle.krb_packet.specs.Pcaps.{magic_of, magic_at, version, header_at, captu
 use Rattle.krb_packet.specs.Bodies.{byte_order, body_size, after_byte_order, section_head_at, head_of, head_at, same_length, next_kind_at, content_at, in_body, block_kind}
 use Rattle.krb_packet.specs.Blocks.{skipped_body, content_in_file, read_body, body_in, end_in, block_in, whole_block_in, after_content, block_after, after_kind}
 use Rattle.krb_packet.specs.Captures.{packet_in, after_magic, after_packet, next_in}
-use Rattle.krb_packet.proofs.Reaching.{Passes, Passes-succeed, Passes-then, Passes-fewer, Passes-piece, Passes-octets, Passes-refused, Passes-called, Passes-checked_at, Passes-check, Passes-from_here, Stops, Stops-succeed, Stops-then, Stops-piece, Stops-octets, Stops-called, Stops-part, Stops-field, Stops-checked_at, moved-ok, moved-err, checked_at-err}
+use Rattle.krb_packet.proofs.Reaching.{Passed, Passes, Passes-succeed, Passes-then, Passes-fewer, Passes-piece, Passes-octets, Passes-refused, Passes-called, Passes-checked_at, Passes-check, Passes-from_here, Stops, Stops-succeed, Stops-then, Stops-piece, Stops-octets, Stops-called, Stops-part, Stops-field, Stops-checked_at, moved-ok, moved-err, checked_at-err}
 use Rattle.krb_packet.proofs.Bodies.{Stops-content, value-err}
 
 -- within the octets that are left
@@ -58,9 +58,9 @@ module _ {A B : Type 0} (reader : Reader A) (make : A → B) (end : B) where
     some : Stops made
     some = Stops-then reader (λ value. succeed (make value)) stops (λ value. Stops-succeed (make value))
 
-    moves : (bounds : Bounds) (place : ℕ) (octets : List ℕ) (v : B) (t : Source) → or_end bounds (at place octets) ≡ Ok (v, t) → (place + 0 ≤ t.place) × (t.place + length t.octets ≡ place + length octets)
-    moves bounds place [] v t e = ((Stops-succeed end).passes.on bounds (at place []) v t e, (Stops-succeed end).passes.same bounds (at place []) v t e)
-    moves bounds place (octet ∷ octets) v t e = (some.passes.on bounds (at place (octet ∷ octets)) v t e, some.passes.same bounds (at place (octet ∷ octets)) v t e)
+    moves : (bounds : Bounds) (place : ℕ) (octets : List ℕ) (v : B) (t : Source) → or_end bounds (at place octets) ≡ Ok (v, t) → Passed 0 (at place octets) t
+    moves bounds place [] v t e = (Stops-succeed end).passes.goes bounds (at place []) v t e
+    moves bounds place (octet ∷ octets) v t e = some.passes.goes bounds (at place (octet ∷ octets)) v t e
 
     upto_end : (bounds : Bounds) (place : ℕ) (octets : List ℕ) (f : Fault) → or_end bounds (at place octets) ≡ Err f → f.place ≤ place + length octets
     upto_end bounds place [] f e = absurd cc
@@ -68,7 +68,7 @@ module _ {A B : Type 0} (reader : Reader A) (make : A → B) (end : B) where
 
     Stops-or_end : Stops or_end
     Stops-or_end = record {
-      passes = record { on = λ bounds s v t e. (moves bounds s.place s.octets v t e).0; same = λ bounds s v t e. (moves bounds s.place s.octets v t e).1 };
+      passes = record { goes = λ bounds s v t e. moves bounds s.place s.octets v t e };
       upto = λ bounds s f e. upto_end bounds s.place s.octets f e;
     }
 
@@ -87,7 +87,7 @@ stops_then place reader next first others = record {
       elim (and_then-err (reader bounds s) (λ p. next p.0 bounds p.1) f e) [
         | inl a ↦ first.upto bounds s f near a
         | inr a ↦
-            let same = first.passes.same bounds s a.0.0 a.0.1 a.1 in
+            let same = (first.passes.goes bounds s a.0.0 a.0.1 a.1).same in
             let there = (others a.0.0).upto bounds a.0.1 f (omega (arith, near, same)) a.2 in
             omega (arith, there, same)
       ];
@@ -107,10 +107,9 @@ after_four reader next stops passes others = record {
       elim (and_then-err (reader bounds s) (λ p. next s.place p.0 bounds p.1) f e) [
         | inl a ↦ stops.upto bounds s f a
         | inr a ↦
-            let on = passes.on bounds s a.0.0 a.0.1 a.1 in
-            let same = passes.same bounds s a.0.0 a.0.1 a.1 in
-            let there = (others s.place a.0.0).upto bounds a.0.1 f (omega (arith, on)) a.2 in
-            omega (arith, there, same)
+            let goes = passes.goes bounds s a.0.0 a.0.1 a.1 in
+            let there = (others s.place a.0.0).upto bounds a.0.1 f (omega (arith, goes.on)) a.2 in
+            omega (arith, there, goes.same)
       ];
 }
 
@@ -161,7 +160,7 @@ content_upto begin size (Err g) bounds t f within e =
 
 Passes-content : (begin : ℕ) (r : Result Content Fault) → Passes 0 (content_in_file begin r)
 Passes-content begin (Ok content) = Passes-succeed content
-Passes-content begin (Err fault) = record { on = λ bounds s v t e. absurd cc; same = λ bounds s v t e. absurd cc }
+Passes-content begin (Err fault) = record { goes = λ bounds s v t e. absurd cc }
 
 Passes-read : (kind : BlockKind) (section : Section) (count place : ℕ) (head : Head) → Passes 0 (read_body kind section count place head)
 Passes-read kind section count place head =

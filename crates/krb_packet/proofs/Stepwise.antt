@@ -1,5 +1,5 @@
 -- The packets of a file, one step at a time: those that follow depend only on what is left of the file.
-use Rattle.std.proofs.Common.{◌≡◌, ℕ, suc, ◌+◌, ◌<◌, Some, Result, Ok, Err, length, refl, ap, arith}
+use Rattle.std.proofs.Common.{◌≡◌, ℕ, suc, ◌+◌, Some, Result, Ok, Err, length, refl, ap, arith}
 use Rattle.krb_file.specs.Fields.{Source, Fault, limited}
 use Rattle.krb_file.specs.Items.{with_first}
 use Rattle.krb_file.proofs.Items.{unrolls}
@@ -13,16 +13,6 @@ use Rattle.krb_packet.proofs.Steps.{step_advances}
 
 abbrev step : Format → ℕ → Source → Result (Next × Source) Fault
 step format count source = next_in format count (limited (Some most_captured)) source
-
-packet_shorter : (format : Format) (count : ℕ) (s : Source) (packet : Packet) (after : Format) (t : Source) → step format count s ≡ Ok (nexts.Packet packet after, t) → length t.octets < length s.octets
-packet_shorter format count s packet after t e =
-    let goes = step_advances format count (limited (Some most_captured)) s (nexts.Packet packet after) t e in
-    omega (arith, goes.on, goes.same)
-
-passed_shorter : (format : Format) (count : ℕ) (s : Source) (after : Format) (t : Source) → step format count s ≡ Ok (nexts.NoPacket after, t) → length t.octets < length s.octets
-passed_shorter format count s after t e =
-    let goes = step_advances format count (limited (Some most_captured)) s (nexts.NoPacket after) t e in
-    omega (arith, goes.on, goes.same)
 
 packets_from-same : (count : ℕ) (r : Result (Next × Source) Fault) (f g : Format → ℕ → Source → Packets)
     → ((packet : Packet) (after : Format) (t : Source) → r ≡ Ok (nexts.Packet packet after, t) → f after (count + 1) t ≡ g after (count + 1) t)
@@ -43,6 +33,6 @@ after-step format count s =
     (λ bound p none. absurd (omega (arith, none)))
     (λ p f g same.
     packets_from-same p.1 (step p.0 p.1 p.2) (λ after n t. f (after, n, t)) (λ after n t. g (after, n, t))
-    (λ packet after t e. same (after, p.1 + 1, t) (omega (arith, packet_shorter p.0 p.1 p.2 packet after t e)))
-    (λ after t e. same (after, p.1, t) (omega (arith, passed_shorter p.0 p.1 p.2 after t e))))
+    (λ packet after t e. same (after, p.1 + 1, t) (let goes = step_advances p.0 p.1 (limited (Some most_captured)) p.2 (nexts.Packet packet after) t e in omega (arith, goes.on, goes.same)))
+    (λ after t e. same (after, p.1, t) (let goes = step_advances p.0 p.1 (limited (Some most_captured)) p.2 (nexts.NoPacket after) t e in omega (arith, goes.on, goes.same))))
     (format, count, s)

@@ -4,7 +4,8 @@ use Rattle.krb_packet.specs.declared.packets.State.TheVariants as states
 use Rattle.krb_file.specs.Fields.{succeed}
 use Rattle.krb_packet.specs.Captures.{packet_in, after_packet}
 use Rattle.krb_packet.proofs.Options.{then_fails}
-use Rattle.krb_packet.proofs.Steps.{packet_goes}
+use Rattle.krb_packet.specs.declared.format.Next.TheVariants as nexts
+use Rattle.krb_packet.proofs.Steps.{step_goes}
 use Rattle.krb_packet.proofs.Streams.{pcap_step, pcap_reads, pcap_given, end_given, fault_given}
 use Rattle.krb_packet.proofs.packets.Packets.read_captured.Goals as goal
 
@@ -15,8 +16,8 @@ invariant_of-self g c =
     let begun : s.state ≡ states.Open format = rw (sym c.self.view_is) at c.requires in
     let is : c.in-Ok-Some.field-0 ≡ Some c.in-Ok-Some.field-0-0 = rw c.in-Ok-Some.is at c.in-Ok-Some.field-0-is in
     let read = rw (c.in-Ok-Some.is, is) at c.packet-read.ensures.read in
-    let goes = packet_goes format s.count c.in-Ok-Some.field-0-0 format s.reader c.packet-read.new.reader (pcap_step c.args.header s.count (Some c.in-Ok-Some.field-0-0) s.reader c.packet-read.new.reader read) in
-    (omega (arith, c.self.invariant.0, goes.0), rw begun (omega arith))
+    let goes = step_goes format s.count (nexts.Packet c.in-Ok-Some.field-0-0 format) s.reader c.packet-read.new.reader (pcap_step c.args.header s.count (Some c.in-Ok-Some.field-0-0) s.reader c.packet-read.new.reader read) in
+    (omega (arith, c.self.invariant.0, goes.2.on), rw begun (omega arith))
 
 pub returns-in-Ok-Some-clause-next : goal.returns-in-Ok-Some-clause-next
 returns-in-Ok-Some-clause-next g c =

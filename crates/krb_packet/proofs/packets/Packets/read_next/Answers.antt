@@ -1,6 +1,7 @@
 use Rattle.std.proofs.Common.{sym, refl, arith}
 use Rattle.krb_file.proofs.FieldReaders.{Stays-same, Stays-then}
-use Rattle.krb_packet.proofs.Steps.{packet_goes, passed_goes}
+use Rattle.krb_packet.specs.declared.format.Next.TheVariants as nexts
+use Rattle.krb_packet.proofs.Steps.{step_goes}
 use Rattle.krb_packet.proofs.Streams.{passed_read, packet_given, end_given, fault_given}
 use Rattle.krb_packet.proofs.packets.Packets.read_next.Goals as goal
 
@@ -15,19 +16,19 @@ steps-init g c = record {
 pub steps-smaller : goal.steps-smaller
 steps-smaller g c =
     let s = c.steps.self-inside in
-    let goes = passed_goes c.steps.format s.count c.in-Ok-NoPacket.passed s.reader c.next_step.new.reader (rw c.in-Ok-NoPacket.field-0-is at c.in-Ok-NoPacket.ensures.read) in
-    omega (arith, goes.0, c.next_step.ensures.few)
+    let goes = step_goes c.steps.format s.count (nexts.NoPacket c.in-Ok-NoPacket.passed) s.reader c.next_step.new.reader (rw c.in-Ok-NoPacket.field-0-is at c.in-Ok-NoPacket.ensures.read) in
+    omega (arith, goes.2.on, c.next_step.ensures.few)
 
 pub steps-preserved : goal.steps-preserved
 steps-preserved g c =
     let s = c.steps.self-inside in
     let read = rw c.in-Ok-NoPacket.field-0-is at c.in-Ok-NoPacket.ensures.read in
-    let goes = passed_goes c.steps.format s.count c.in-Ok-NoPacket.passed s.reader c.next_step.new.reader read in
+    let goes = step_goes c.steps.format s.count (nexts.NoPacket c.in-Ok-NoPacket.passed) s.reader c.next_step.new.reader read in
     record {
       reads = λ file given reads. passed_read file given s.count c.steps.format s.reader (c.steps.invariant.reads file given reads) c.in-Ok-NoPacket.passed c.next_step.new.reader read;
       stays = Stays-then c.steps.invariant.stays c.in-Ok-NoPacket.ensures.stays;
-      given = omega (arith, c.steps.invariant.given, goes.0);
-      read = omega (arith, c.steps.invariant.read, goes.0, goes.1);
+      given = omega (arith, c.steps.invariant.given, goes.2.on);
+      read = omega (arith, c.steps.invariant.read, goes.2.on, goes.2.blocks);
     }
 
 pub overflow_add-self : goal.overflow_add-self
@@ -36,8 +37,8 @@ overflow_add-self g c = omega (arith, c.steps.invariant.given, c.next_step.ensur
 pub invariant_of-self : goal.invariant_of-self
 invariant_of-self g c =
     let s = c.steps.self-inside in
-    let goes = packet_goes c.steps.format s.count c.in-Ok-Packet.packet c.in-Ok-Packet.after s.reader c.next_step.new.reader (rw c.in-Ok-Packet.field-0-is at c.in-Ok-Packet.ensures.read) in
-    (omega (arith, c.steps.invariant.given, goes.0), omega (arith, c.steps.invariant.read, goes.0, goes.1))
+    let goes = step_goes c.steps.format s.count (nexts.Packet c.in-Ok-Packet.packet c.in-Ok-Packet.after) s.reader c.next_step.new.reader (rw c.in-Ok-Packet.field-0-is at c.in-Ok-Packet.ensures.read) in
+    (omega (arith, c.steps.invariant.given, goes.2.on), omega (arith, c.steps.invariant.read, goes.2.on, goes.2.blocks))
 
 pub returns-in-Ok-Packet-clause-next : goal.returns-in-Ok-Packet-clause-next
 returns-in-Ok-Packet-clause-next g c =
