@@ -316,14 +316,14 @@ static uint8_t *message(uint8_t *at, struct octets in)
 
 /* Streams */
 
-/* How many octets are read at once, and after how many lines are written. */
+/* How many octets are read at once, and of how many octets the lines are that are written at once, or of some more. */
 enum { PIECE = 1 << 16 };
 
 /* The most octets of a message, and the fewest of a PA-DATA. */
 enum { MOST_OCTETS = 1 << 24, LEAST_PADATA = 11 };
 
-/* A line has at most so many characters for each octet of its message, if that is a KDC-REQ with all but a long realm,
-   which is put three times and escaped; and beside these no more than its labels and its numbers. */
+/* A line has at most so many characters for each octet of its message, since the realm of a KDC-REQ is put three times
+   and an octet that is escaped has four characters; and beside these no more than its labels and numbers. */
 enum { MOST_CHARACTERS = 12, LABELS = 1024 };
 
 /* For the lines of a piece, and one of a message of as many octets as few have, there is room from the beginning. */

@@ -4,9 +4,10 @@
 
 #include "lines.h"
 
-/* Lists a field by LIST, after a label. */
+/* Takes a field and puts it in a line. */
 typedef bool list(struct octets *in, unsigned number, struct line *line);
 
+/* Lists a field by LIST, after a label. */
 INLINE bool list_field(struct line *line, const char *label, list list, struct octets *in, unsigned number)
 {
     put_text(line, label);
