@@ -5,7 +5,7 @@ use Rattle.std.specs.List.{list_any}
 use Rattle.std.specs.Option.{option_map}
 use Rattle.krb_msg.specs.Notes.{Note, HighOctet, FewFlags, Negative, EmptyList, list_has, is_list_that_has, has, option_any, notes_by, either}
 use Rattle.krb_msg.specs.inner.Notes.{empty_list_note, HasNoNotes}
-use Rattle.krb_msg.specs.Term.{Term, Integer, Text, Octets, Time, Bits, Sequence, SequenceOf, Tagged, Application, Value}
+use Rattle.krb_msg.specs.Term.{Term, SequenceOf, Tagged, Value}
 
 -- The notes by two tests are the same if the tests are.
 pub same_notes : {test other : Note → Bool} → ((note : Note) → test note ≡ other note) → notes_by test ≡ notes_by other

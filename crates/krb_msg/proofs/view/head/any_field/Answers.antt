@@ -1,7 +1,7 @@
 use Rattle.std.proofs.Common.{◌<◌, length, rules}
 use Rattle.krb_msg.proofs.Lengths.{no_field, no_item_in, only_none, not_only}
 use Rattle.krb_msg.proofs.FieldViews.{match_none}
-use Rattle.krb_msg.proofs.view.head.find_field.Goals as goal
+use Rattle.krb_msg.proofs.view.head.any_field.Goals as goal
 
 pub returns-in_err-inner : goal.returns-in_err-inner
 returns-in_err-inner c = match_none _ _ _ c.from_residual.ensures (no_field c.args.outer c.args.tag c.args.octets.now c.in_err-inner.ensures)

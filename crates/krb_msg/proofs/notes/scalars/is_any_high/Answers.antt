@@ -1,6 +1,6 @@
 use Rattle.std.proofs.Common.{refl}
 use Rattle.krb_msg.proofs.HighOctets.{next_octet, no_octet_left}
-use Rattle.krb_msg.proofs.notes.scalars.has_high_octet.Goals as goal
+use Rattle.krb_msg.proofs.notes.scalars.is_any_high.Goals as goal
 
 pub octets-init : goal.octets-init
 octets-init c = refl
