@@ -71,7 +71,8 @@ fn make_fit(octets: &mut Vec<u8>, used: usize, more: usize) -> Result<(), AllocE
 #[inline(always)]
 fn overwrite(to: &mut [u8], place: usize, octets: &[u8])
     requires { place + length octets.now ≤ length to.old }
-    ensures { take (place + length octets.now) to.new ≡ take place to.old ++ octets.now }
+    ensures front { take (place + length octets.now) to.new ≡ take place to.old ++ octets.now }
+    ensures all { to.new ≡ take place to.old ++ octets.now ++ drop (place + length octets.now) to.old }
 {
     to[place..place + octets.len()].copy_from_slice(octets);
 }
@@ -115,15 +116,6 @@ fn copy_at(to: &mut [u8], place: usize, octets: &[u8])
     }
 }
 
-/// Writes octets over others, from a place on, and nothing else.
-#[inline(always)]
-fn replace(to: &mut [u8], place: usize, octets: &[u8])
-    requires { place + length octets.now ≤ length to.old }
-    ensures { to.new ≡ take place to.old ++ octets.now ++ drop (place + length octets.now) to.old }
-{
-    to[place..place + octets.len()].copy_from_slice(octets);
-}
-
 /// Puts octets before those that are used from a place on, which are moved.
 fn put_between(to: &mut [u8], used: usize, place: usize, octets: &[u8])
     requires place { place ≤ used }
@@ -131,7 +123,7 @@ fn put_between(to: &mut [u8], used: usize, place: usize, octets: &[u8])
     ensures { take (used + length octets.now) to.new ≡ take place (take used to.old) ++ octets.now ++ drop place (take used to.old) }
 {
     to.copy_within(place..used, place + octets.len());
-    replace(to, place, octets);
+    overwrite(to, place, octets);
 }
 
 /// Puts octets before those that are used from a place on. Out of memory, nothing changes.
