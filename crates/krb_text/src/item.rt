@@ -7,7 +7,7 @@ ghost use Rattle.krb_text.specs.Text.{or_dash};
 ghost use Rattle.krb_text.specs.inner.Items.{number_item, octets_item};
 
 use crate::escape::put_escaped;
-use crate::json::{Escape, put_octets_string, put_quoted, put_string};
+use crate::json::{Escape, put_octets_string, put_plain_string, put_quoted};
 use crate::text_buffer::TextBuffer;
 use krb_registry::{Registry, name_of};
 use std::alloc::AllocError;
@@ -47,7 +47,7 @@ pub(crate) fn put_name_string(
 {
     match name_of(registry, number) {
         None => object.push_str("null"),
-        Some(name) => put_string(object, name.as_bytes()),
+        Some(name) => put_plain_string(object, name),
     }
 }
 

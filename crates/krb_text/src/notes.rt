@@ -40,7 +40,7 @@ fn put_numbers(text: &mut TextBuffer, form: ItemForm, notes: &Notes) -> Result<(
 
 /// Returns whether a note holds. Mostly none does.
 #[inline(always)]
-fn has_any(notes: &Notes) -> bool
+pub(crate) fn has_any(notes: &Notes) -> bool
     ensures { result ≡ list_any (notes_have notes.now) (1 ∷ 2 ∷ 3 ∷ 4 ∷ []) }
 {
     notes.has(1) | notes.has(2) | notes.has(3) | notes.has(4)
