@@ -13,9 +13,8 @@ ghost use Rattle.krb_capture.specs.declared.flow.Service.TheVariants as services
 
 use crate::listing::{Listing, and_more};
 use crate::message::path_of;
-use krb_der::{Memory, Refusal};
+use krb_der::{Memory, Profile, Refusal};
 use krb_frame::{Decoder, Delivered, Limit, Receiver, SkippingDecoder};
-use krb_msg::MessageView;
 use krb_text::{Extent, Form, Origin};
 use std::alloc::Global;
 
@@ -147,10 +146,12 @@ impl<'a> Receiver for FrameLister<'a> {
 
     ghost IsFull = { λ lister. IsFull lister.listing.now.text };
 
-    fn receive_message(&mut self, message: &MessageView<'_>, size: u64) -> Result<(), Memory> {
-        self.listing.put_message(self.origin, message)?;
-        self.offset = and_more(self.offset, size);
-        Ok(())
+    fn receive_contents(&mut self, profile: Profile, contents: &[u8]) -> Result<bool, Memory> {
+        if !self.listing.put_message(self.origin, profile, contents)? {
+            return Ok(false);
+        }
+        self.offset = and_more(self.offset, 4 + contents.len() as u64);
+        Ok(true)
     }
 
     fn receive_refusal(

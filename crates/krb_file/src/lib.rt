@@ -22,6 +22,7 @@
 mod ahead;
 mod fault;
 mod field_name;
+mod field_path;
 mod field_reader;
 mod part;
 mod slice_reader;
@@ -32,6 +33,7 @@ pub use fault::{
     in_part,
 };
 pub use field_name::{FieldName, FileField, FilePart};
+pub use field_path::{FieldPath, FileItem};
 pub use field_reader::{Field, FieldReader, String16, String32, read_many};
 pub use krb_der::Limit;
 pub use part::{

@@ -6,7 +6,6 @@ use Rattle.krb_der.specs.declared.profile.Profile.{Profile}
 use Rattle.krb_der.specs.declared.profile.Profile.TheVariants as profile
 use Rattle.krb_der.specs.declared.verdict.Verdict.TheVariants as verdict
 use Rattle.krb_msg.specs.declared.message.Kind.{Kind}
-use Rattle.krb_msg.specs.declared.message.Kind.TheVariants as kind
 use Rattle.krb_msg.specs.declared.message.Message.{Message}
 use Rattle.krb_msg.specs.Judgement.{judgement, term_judgement}
 use Rattle.krb_msg.specs.Laws.{AreMessage}

@@ -96,7 +96,7 @@ pub use pa_data::{PaData, PaDataView};
 pub use principal_name::{PrincipalName, PrincipalNameView};
 pub use ticket::{Ticket, TicketView};
 pub use view::head::{first_item, first_length};
-pub use view::items::{ItemsView, next_item, view_items};
+pub use view::items::{ItemsView, next_item, next_type, view_items};
 pub use view::scalars::FlagsView;
 pub use view::view_whole;
 pub use viewing::{view_message, view_message_in};

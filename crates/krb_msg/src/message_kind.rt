@@ -6,7 +6,6 @@ ghost use Rattle.krb_msg.specs.ViewValues.{BeginAs, IsMessageView, IsNoMessage, 
 ghost use Rattle.krb_msg.specs.declared.message.Kind.{Kind};
 ghost use Rattle.krb_msg.specs.declared.message_view.MessageView.{MessageView};
 
-use crate::message_view::MessageView;
 use crate::notes::Notes;
 
 /// A kind of message, whose octets are viewed in place (RFC 4120, 5.4 to 5.9).
@@ -30,20 +29,4 @@ pub trait MessageKind<'a> {
     fn notes(view: &Self::View) -> Notes
         requires { IsValidMessage (as_message view.now) }
         ensures { result ≡ notes_of (message_of_view (as_message view.now)) };
-
-    /// Returns the view as that of a message of any kind.
-    fn message(view: Self::View) -> MessageView<'a>
-        ensures { result ≡ as_message view };
-}
-
-/// Returns a view of the message of a kind that octets are, if they are one, as that of a message
-/// of any kind.
-pub(crate) fn view_as<'a, K: MessageKind<'a>>(octets: &'a [u8]) -> Option<MessageView<'a>>
-    requires { BeginAs K.kind octets.now }
-    ensures { MatchOption result (IsNoMessage octets.now) (λ m. IsMessageView octets.now m) }
-{
-    let Some(view) = K::view(octets) else {
-        return None;
-    };
-    Some(K::message(view))
 }

@@ -13,7 +13,6 @@ use crate::krb_error::{KrbError, KrbErrorView};
 use crate::krb_priv::{KrbPriv, KrbPrivView};
 use crate::krb_safe::{KrbSafe, KrbSafeView};
 use crate::message_kind::MessageKind;
-use crate::message_view::MessageView;
 use crate::notes::Notes;
 use crate::view::view_whole;
 
@@ -36,11 +35,6 @@ impl<'a> MessageKind<'a> for AsReqKind {
     fn notes(view: &KdcReqView<'a>) -> Notes {
         view.notes::<10>()
     }
-
-    #[inline(always)]
-    fn message(view: KdcReqView<'a>) -> MessageView<'a> {
-        MessageView::AsReq(view)
-    }
 }
 
 /// AS-REP.
@@ -61,11 +55,6 @@ impl<'a> MessageKind<'a> for AsRepKind {
     #[inline(always)]
     fn notes(view: &KdcRepView<'a>) -> Notes {
         view.notes::<11>()
-    }
-
-    #[inline(always)]
-    fn message(view: KdcRepView<'a>) -> MessageView<'a> {
-        MessageView::AsRep(view)
     }
 }
 
@@ -88,11 +77,6 @@ impl<'a> MessageKind<'a> for TgsReqKind {
     fn notes(view: &KdcReqView<'a>) -> Notes {
         view.notes::<12>()
     }
-
-    #[inline(always)]
-    fn message(view: KdcReqView<'a>) -> MessageView<'a> {
-        MessageView::TgsReq(view)
-    }
 }
 
 /// TGS-REP.
@@ -113,11 +97,6 @@ impl<'a> MessageKind<'a> for TgsRepKind {
     #[inline(always)]
     fn notes(view: &KdcRepView<'a>) -> Notes {
         view.notes::<13>()
-    }
-
-    #[inline(always)]
-    fn message(view: KdcRepView<'a>) -> MessageView<'a> {
-        MessageView::TgsRep(view)
     }
 }
 
@@ -140,11 +119,6 @@ impl<'a> MessageKind<'a> for ApReqKind {
     fn notes(view: &ApReqView<'a>) -> Notes {
         ApReq::notes(view)
     }
-
-    #[inline(always)]
-    fn message(view: ApReqView<'a>) -> MessageView<'a> {
-        MessageView::ApReq(view)
-    }
 }
 
 /// AP-REP.
@@ -165,11 +139,6 @@ impl<'a> MessageKind<'a> for ApRepKind {
     #[inline(always)]
     fn notes(view: &ApRepView<'a>) -> Notes {
         ApRep::notes(view)
-    }
-
-    #[inline(always)]
-    fn message(view: ApRepView<'a>) -> MessageView<'a> {
-        MessageView::ApRep(view)
     }
 }
 
@@ -192,11 +161,6 @@ impl<'a> MessageKind<'a> for KrbSafeKind {
     fn notes(view: &KrbSafeView<'a>) -> Notes {
         KrbSafe::notes(view)
     }
-
-    #[inline(always)]
-    fn message(view: KrbSafeView<'a>) -> MessageView<'a> {
-        MessageView::KrbSafe(view)
-    }
 }
 
 /// KRB-PRIV.
@@ -217,11 +181,6 @@ impl<'a> MessageKind<'a> for KrbPrivKind {
     #[inline(always)]
     fn notes(view: &KrbPrivView<'a>) -> Notes {
         KrbPriv::notes(view)
-    }
-
-    #[inline(always)]
-    fn message(view: KrbPrivView<'a>) -> MessageView<'a> {
-        MessageView::KrbPriv(view)
     }
 }
 
@@ -244,11 +203,6 @@ impl<'a> MessageKind<'a> for KrbCredKind {
     fn notes(view: &KrbCredView<'a>) -> Notes {
         KrbCred::notes(view)
     }
-
-    #[inline(always)]
-    fn message(view: KrbCredView<'a>) -> MessageView<'a> {
-        MessageView::KrbCred(view)
-    }
 }
 
 /// KRB-ERROR.
@@ -269,10 +223,5 @@ impl<'a> MessageKind<'a> for KrbErrorKind {
     #[inline(always)]
     fn notes(view: &KrbErrorView<'a>) -> Notes {
         KrbError::notes(view)
-    }
-
-    #[inline(always)]
-    fn message(view: KrbErrorView<'a>) -> MessageView<'a> {
-        MessageView::KrbError(view)
     }
 }
