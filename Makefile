@@ -117,7 +117,7 @@ fuzz: build
 	tests/run/fuzz 100000 1
 
 # Octets per second: of the listing of streams, of a keytab, of a cache and of captures, of messages as JSON and back, and of
-# messages judged, scanned, parsed and encoded; and memory, of what costs most of it.
+# messages judged, scanned, parsed and encoded; memory, of what costs most of it; and nanoseconds, of what costs most of them.
 bench: build
 	cd crates/krb_damage && rt run -- encode < ../../tests/data/again.stream > /dev/null
 	bench/stream
@@ -126,6 +126,7 @@ bench: build
 	bench/capture
 	bench/decode
 	bench/memory
+	bench/worst
 
 clean:
 	rm -rf bin crates/*/out

@@ -3,6 +3,7 @@
 from kinds import file, messages_of
 from model import back, is_plain, mapped
 from module import Basic, Sequence
+from structs import may_have_notes, noted_in_view, noted_of_value
 from tables import count_of_rows
 from text import BY, brought, fill, path, record
 from values import known, parts_in
@@ -61,6 +62,32 @@ def copy_answer(it):
     return text + record(f"returns {given} = λ i.", rows).replace(". = record", ". record") + "\n"
 
 
+def noted_part(field, seen, noted):
+    """That the notes on a field are these, by the call that returns them."""
+    if field.is_list and not field.optional and not seen and not mapped(field.type):
+        return f"{noted} ∙ same_list {field.part.term} c.args.self.now.{field.rust}"
+    is_same = field.type.form in ("number", "micros") if seen and isinstance(field.type, Basic) else not seen and not mapped(field.type)
+    if field.optional and is_same:
+        return f"{noted} ∙ same_option {field.type.term} c.args.{'seen' if seen else 'self'}.now.{field.rust}"
+    return noted
+
+
+def notes_answer(it, impl, call, value):
+    """That the notes are those of the fields, each by a call."""
+    fields = [field for field in it.kept if may_have_notes(field)]
+    calls = [call(field, f"{value}.").partition("(")[0].partition("::")[0] for field in fields]
+    names = ["or"] * len(calls) + ["notes" if name.startswith(("<", value)) else name for name in calls]
+    numbered = [f"c.{name}-{names[:at].count(name) + 1}.ensures".replace("-1.", ".") for at, name in enumerate(names)]
+    notes = [noted_part(field, value == "seen", noted) for field, noted in zip(fields, numbered[len(calls) :])]
+    body = f"returns c = rw ({', '.join([*reversed(numbered[: len(calls)]), 'c.none.ensures', *notes])}) refl\n"
+    homes = [
+        ("Rattle.std.proofs.Common", ["refl", "◌∙◌"]),
+        ("Rattle.krb_msg.specs.Grammar", sorted({field.part.term for field in fields if isinstance(field.part, Basic)})),
+        ("Rattle.krb_msg.proofs.Noted", ["same_list", "same_option"]),
+    ]
+    return f"{brought(body, homes)}use Rattle.krb_msg.proofs.{it.term}.{it.rust}{impl}.notes.Goals as goal\n\npub returns : goal.returns\n{body}"
+
+
 def type_answers(it):
     """The answers of a type, by their paths below its name."""
     names = {}
@@ -70,10 +97,12 @@ def type_answers(it):
         names = {f"{it.rust}ViewImpl/view": "view", f"{it.rust}Der/size": "size"}
         names[f"{it.rust}Der/put"] = "put" if it.application is None else "put_tagged"
     if it.cut:
-        names |= {"CutRestOwnedViewFields/view_fields": "cut_view", f"{it.rust}NotedView/notes": "noted_view"}
+        names["CutRestOwnedViewFields/view_fields"] = "cut_view"
     made = {name: fill(f"answers/{template}.antt", type=it.term, Type=it.rust) for name, template in names.items()}
     if it.cut:
         made[f"{it.rust}View/of_fields"] = lists_answer(it)
+        made[f"{it.rust}Noted/notes"] = notes_answer(it, "Noted", noted_of_value, "self")
+        made[f"{it.rust}NotedView/notes"] = notes_answer(it, "NotedView", noted_in_view, "seen")
     if any(field.is_list for field in it.kept):
         made[f"{it.rust}/copy" if it.is_parametric else f"{it.rust}FromView/from_view"] = copy_answer(it)
     return {f"{it.term}/{name}": text for name, text in made.items()}
@@ -99,7 +128,8 @@ def answers(module):
     """All answers, by their paths in krb_msg/proofs."""
     made = {name: text for it in module.types for name, text in type_answers(it).items()}
     for words in messages_of(module):
-        made[f"message_view/view_{words['kind']}"] = fill("answers/view_message.antt", **words)
+        for name in ("view", "notes"):
+            made[f"message_kinds/{words['Kind']}KindMessageKind/{name}"] = fill(f"answers/kind_{name}.antt", **words)
     for list_of in module.lists:
         item = list_of.item
         made[f"{item.term}/Many{item.rust}FromView/from_view"] = fill("answers/copy_list.antt", type=item.term, Type=item.rust)

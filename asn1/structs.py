@@ -4,7 +4,7 @@ from model import is_plain, option, owned, viewed
 from module import Basic, Sequence
 from text import an, brought, doc, fill, nested, pairs, path
 
-FIELDS = "Application Borrowed Cut Encode EncodeFields End FieldOf Fixed Noted NotedFields NotedLayout NotedView NotedViewFields Optional Owned Required Sequence View ViewFields"
+FIELDS = "Application Borrowed Cut Encode EncodeFields End FieldOf Fixed Noted NotedView Optional Owned Required Sequence View ViewFields optional_notes optional_view_notes"
 BASIC = "Der Flags Int32 KString KerberosTime Many Memory Micros Octets Wide32"
 
 
@@ -15,7 +15,7 @@ def uses(module, it, body):
         ("crate::copying", ["FromView", "copy_item_option", "copy_items", "copy_option"]),
         ("crate::fields", FIELDS.split()),
         ("crate::item", ["Item"]),
-        ("crate::notes", ["Notes"]),
+        ("crate::notes", ["Notes", "any_of"]),
         ("crate::view::items", ["ItemsView"]),
         ("crate::view::scalars", ["FlagsView"]),
         ("crate::view", ["view_whole"]),
@@ -135,10 +135,10 @@ def seen_type(name, text, fields, end="()"):
     return f"/// {text}\ntype {name}<'a> = {pairs([option(it, viewed(it.type)) for it in fields], end)};\n"
 
 
-def of_fields(view, seen, clauses, made, fields, number="", first="", others=""):
-    """The view by the views of the fields, and back: `clauses` are those of both ways, `fields` what the way back gives."""
+def of_fields(view, seen, clauses, made, number="", first="", others=""):
+    """The view by the views of the fields."""
     words = {f"clause_{at}": clause for at, clause in enumerate(clauses)}
-    return fill("of_fields.rt", View=view, Seen=seen, made=", ".join(made), fields=fields, number=number, first=first, others=others, **words)
+    return fill("of_fields.rt", View=view, Seen=seen, made=", ".join(made), number=number, first=first, others=others, **words)
 
 
 def cut_views(it):
@@ -147,8 +147,6 @@ def cut_views(it):
     clauses = (
         f"values {{ {kept}.values result ≡ {fields}.values seen.now }}",
         f"lists {{ {fields}.IsValid seen.now → {kept}.IsValid result }}",
-        f"values {{ {fields}.values result ≡ {kept}.values self.now }}",
-        f"lists {{ {kept}.IsValid self.now → {fields}.IsValid result }}",
     )
     made = [f"{field.rust}: {path('seen', at)}" for at, field in enumerate(after)]
     return fill(
@@ -156,7 +154,7 @@ def cut_views(it):
         views=rows(after, viewed, ""),
         rest_seen=seen_type("RestSeen", "The views of these fields.", after),
         seen=seen_type("Seen", "The views of all fields.", it.kept[: it.cut], "RestView<'a>"),
-        of_fields=of_fields("RestView", "RestSeen", clauses, made, pairs([f"self.{field.rust}" for field in after], "()")),
+        of_fields=of_fields("RestView", "RestSeen", clauses, made),
         those=pairs([f"seen.{field.rust}" for field in after], "tt"),
     )
 
@@ -167,18 +165,14 @@ def view_of_fields(it):
     clauses = (
         f"value {{ {it.term}_view_value{argument} result ≡ {layout}.value seen.now }}",
         f"lists {{ {layout}.IsValid seen.now → IsValid{it.rust} result }}",
-        f"value {{ {layout}.value result ≡ {it.term}_view_value{argument} self.now }}",
-        f"lists {{ IsValid{it.rust} self.now → {layout}.IsValid result }}",
     )
     first = f"let rest = &seen{'.1' * it.cut};\n" if it.cut else ""
     kept = it.kept[: it.cut] if it.cut else it.kept
     after = it.kept[len(kept) :]
     made = [f"{field.rust}: {path('seen', at)}" for at, field in enumerate(kept)]
     made += [f"{field.rust}: rest.{field.rust}" for field in after]
-    fields = pairs([f"self.{field.rust}" for field in kept], "rest" if after else "()")
-    if after:
-        fields = f"let rest = RestView {{ {', '.join(f'{field.rust}: self.{field.rust}' for field in after)} }};\n{fields}"
-    return of_fields(f"{it.rust}View", "Seen", clauses, made, fields, number, first, fill("two_view.rt", type=it.term, Type=it.rust) if it.is_parametric else "")
+    others = fill("two_view.rt", type=it.term, Type=it.rust, noted=noted(it, noted_in_view, "self")) if it.is_parametric else ""
+    return of_fields(f"{it.rust}View", "Seen", clauses, made, number, first, others)
 
 
 def view_impl(it, layout, seen, made):
@@ -197,12 +191,31 @@ def in_one_step(it):
 
 def view_impls(it):
     """The impls of the view: how it is made, noted and copied."""
-    seen, made, fields = "seen", f"{it.rust}View::of_fields(&seen)", "seen.fields()"
-    if is_plain(it):
-        seen, made = in_one_step(it)
-        fields = pairs([f"seen.{field.rust}" for field in it.kept], "()")
-    uses = fill("view_uses.rt", type=it.term, Type=it.rust, fields=fields, copy=copy(it))
+    seen, made = in_one_step(it) if is_plain(it) else ("seen", f"{it.rust}View::of_fields(&seen)")
+    notes = noted(it, noted_in_view, "seen")
+    uses = fill("view_uses.rt", type=it.term, Type=it.rust, seen="seen" if "seen" in notes else "_seen", noted=notes, copy=copy(it))
     return f"{view_impl(it, 'Layout::<Owned>', seen, made)}\n{uses}"
+
+
+def noted_of_value(field, value):
+    """The notes on a field of a value."""
+    return f"optional_notes(&{value})" if field.optional else f"{value}.notes()"
+
+
+def noted_in_view(field, value):
+    """The notes on a field of a view."""
+    return f"optional_view_notes::<{owned(field.type)}>(&{value})" if field.optional else f"<{owned(field.type)} as NotedView<'_>>::notes(&{value})"
+
+
+def may_have_notes(field):
+    """Whether there may be notes on a field, of which it is no matter whether it is there."""
+    return field.optional or field.is_list or has_notes(field.part)
+
+
+def noted(it, call, value):
+    """The notes on a value or on a view, field by field."""
+    calls = [call(field, f"{value}.{field.rust}") for field in it.kept if may_have_notes(field)]
+    return f"any_of!({', '.join(calls)})" if calls else "Notes::none()"
 
 
 def copied(field):
@@ -218,18 +231,18 @@ def copy(it):
 def struct_file(module, it):
     parts = [structs(it), layouts(it)]
     if it.is_parametric:
-        parts.append(fill("two.rt", type=it.term, Type=it.rust, layout=layout_function(it), copy=copy(it)))
+        parts.append(fill("two.rt", type=it.term, Type=it.rust, layout=layout_function(it), noted=noted(it, noted_of_value, "self"), copy=copy(it)))
     else:
         parts.append(f"impl {it.rust} {{\n{layout_function(it)}}}\n")
     parts += [fill("cut.rt")] if it.cut else []
-    parts += [] if it.is_parametric else [fill("der.rt", type=it.term, Type=it.rust, term=term_name(it))]
+    parts += [] if it.is_parametric else [fill("der.rt", type=it.term, Type=it.rust, term=term_name(it), noted=noted(it, noted_of_value, "self"))]
     parts += [cut_views(it)] if it.cut else [] if is_plain(it) else [seen_type("Seen", "The views of its fields.", it.kept)]
     parts += [] if is_plain(it) else [view_of_fields(it)]
     parts += [] if it.is_parametric else [view_impls(it)]
     parts += [fill("list_copy.rt", about=doc(made.about), type=it.term, Type=it.rust, term=term_name(it)) for made in module.lists if made.item is it]
     body = "\n".join(parts)
     # traits are brought in where their methods are called
-    code = "FromView\n" * ("::from_view" in body) + "NotedLayout NotedView\n"
+    code = "FromView\n" * ("::from_view" in body) + "Noted NotedView\n"
     code += "\n".join(line for line in body.splitlines() if not line.lstrip().startswith("//"))
     return f"//! {it.name}. `asn1/generate` wrote this from `asn1/krb5.asn1`.\n\n{ghost_uses(module, it, code)}\n{uses(module, it, code)}\n{body}"
 

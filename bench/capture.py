@@ -18,7 +18,7 @@ TSHARK = ["tshark", "-n", "-r", "-", "-Y", "kerberos"]
 
 MIB = 1 << 20
 TCP, UDP = 6, 17
-FIN, SYN, ACK = 0x01, 0x02, 0x10
+FIN, SYN, RST, ACK = 0x01, 0x02, 0x04, 0x10
 ETHERNET = 1
 KERBEROS = 88
 FIRST_PORT, PORTS = 1024, 60000

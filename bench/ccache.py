@@ -7,6 +7,8 @@ import struct
 import sys
 import tempfile
 
+import items
+from items import STRING, encrypted, integer, item, ticket
 from timing import print_costs
 
 KRBLS = ["bin/krbls", "ccache"]
@@ -21,31 +23,14 @@ def data(octets):
     return number(len(octets)) + octets
 
 
-def item(tag, contents):
-    """DER of fewer than 65536 octets."""
-    size = len(contents)
-    if size < 0x80:
-        return bytes([tag, size]) + contents
-    if size < 0x100:
-        return bytes([tag, 0x81, size]) + contents
-    return bytes([tag, 0x82]) + struct.pack(">H", size) + contents
-
-
-def integer(value):
-    return item(0x02, bytes([value]))
-
-
 def principal(realm, *components):
     return number(1) + number(len(components)) + data(realm) + b"".join(map(data, components))
 
 
-def ticket(realm, *components):
-    names = item(0x30, b"".join(item(0x1B, component) for component in components))
-    name = item(0x30, item(0xA0, integer(1)) + item(0xA1, names))
-    encrypted = integer(18), integer(1), item(0x04, bytes(range(CIPHER_OCTETS)))
-    encrypted = item(0x30, b"".join(item(0xA0 + place, part) for place, part in enumerate(encrypted)))
-    fields = integer(5), item(0x1B, realm), name, encrypted
-    return item(0x61, item(0x30, b"".join(item(0xA0 + place, part) for place, part in enumerate(fields))))
+def ticket_of(realm, *components):
+    """The ticket for a service, which is encrypted."""
+    strings = b"".join(item(STRING, component) for component in components)
+    return ticket(realm, items.principal(strings), encrypted(bytes(range(CIPHER_OCTETS)), integer(1)))
 
 
 def credential(each):
@@ -60,7 +45,7 @@ def credential(each):
         + struct.pack(">IIIIBI", 1700000000, start, start + 36000, start + 604800, 0, 0x50E10000)
         + number(0)
         + number(0)
-        + data(ticket(realm, b"host", host))
+        + data(ticket_of(realm, b"host", host))
         + data(b"")
     )
 
@@ -87,4 +72,5 @@ def main():
             print_costs(commands, file.name, size)
 
 
-main()
+if __name__ == "__main__":
+    main()

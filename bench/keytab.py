@@ -53,4 +53,5 @@ def main():
             print_costs(commands, file.name, size)
 
 
-main()
+if __name__ == "__main__":
+    main()

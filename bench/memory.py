@@ -32,11 +32,11 @@ def names(size):
     return octets
 
 
-def capture(packets):
+def capture(packets, link=ETHERNET, seconds=0):
     """A capture of packets, part by part."""
-    yield struct.pack("<IHHIIII", 0xA1B2C3D4, 2, 4, 0, 0, 262144, ETHERNET)
+    yield struct.pack("<IHHIIII", 0xA1B2C3D4, 2, 4, 0, 0, 262144, link)
     for packet in packets:
-        yield struct.pack("<IIII", 0, 0, len(packet), len(packet)) + packet
+        yield struct.pack("<IIII", seconds, 0, len(packet), len(packet)) + packet
 
 
 def open_frames(size):
@@ -74,8 +74,13 @@ def print_memory(name, command, parts):
     print(f"{name}, {size} octets: {most / MIB:.1f} MiB of memory, {most / size:.2f} times as many octets", flush=True)
 
 
-for size in PRESENT:
-    print_memory(f"{DIRECTIONS} directions, each with {size} octets of a frame", CAPTURE, capture(open_frames(size)))
-print_memory("a frame of strings without octets", STREAM, whole_frame())
-for form in ([], ["--json"]):
-    print_memory(" ".join(["a packet of frames without octets", *form]), [*CAPTURE, *form], capture(empty_frames()))
+def main():
+    for size in PRESENT:
+        print_memory(f"{DIRECTIONS} directions, each with {size} octets of a frame", CAPTURE, capture(open_frames(size)))
+    print_memory("a frame of strings without octets", STREAM, whole_frame())
+    for form in ([], ["--json"]):
+        print_memory(" ".join(["a packet of frames without octets", *form]), [*CAPTURE, *form], capture(empty_frames()))
+
+
+if __name__ == "__main__":
+    main()

@@ -55,16 +55,33 @@ def peak_octets(command, path):
     return most
 
 
-def most_octets(command, path):
-    """The most memory that a run of a command had on a file, in octets, whatever it returned. It is not less than what
-    this program has when it begins the run."""
+def usage_of(command, path):
+    """What a run of a command used on a file, whatever it returned."""
     with open(path, "rb") as octets, open(os.devnull, "wb") as null:
         run = subprocess.Popen(command, stdin=octets, stdout=null)
         _, status, usage = os.wait4(run.pid, 0)
         run.returncode = os.waitstatus_to_exitcode(status)
     if run.returncode < 0:
         raise subprocess.CalledProcessError(run.returncode, command)
-    return usage.ru_maxrss * 1024
+    return usage
+
+
+def most_octets(command, path):
+    """The most memory that a run of a command had on a file, in octets, whatever it returned. It is not less than what
+    this program has when it begins the run."""
+    return usage_of(command, path).ru_maxrss * 1024
+
+
+def processor_seconds(command, path):
+    """The least of the seconds that runs of a command had a processor, whatever they returned."""
+    usages = [usage_of(command, path) for _ in range(3)]
+    return min(usage.ru_utime + usage.ru_stime for usage in usages)
+
+
+def written(command, path):
+    """How many octets a command prints of a file, whatever it returns."""
+    with open(path, "rb") as octets, subprocess.Popen(command, stdin=octets, stdout=subprocess.PIPE) as run:
+        return sum(map(len, iter(lambda: run.stdout.read(1 << 20), b"")))
 
 
 def rate(size, seconds):

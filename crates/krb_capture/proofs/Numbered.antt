@@ -171,16 +171,16 @@ module _ (count : ℕ) where
   any-next (formats.Pcapng section) bounds source = pcapng-next section bounds source
 
 -- ---- all packets
-numbered : (bound : ℕ) (format : Format) (count : ℕ) (source : Source) → AreNumbered count (packets_within bound format count source).packets
+numbered : (bound : ℕ) (format : Format) (count : ℕ) (source : Source) → AreNumbered count (packets_within bound format count source).items
 numbered zero format count source = tt
 numbered (suc bound) format count source = by (next_in format count (limited (Some most_captured)) source) (any-next count format (limited (Some most_captured)) source) (λ format count left. numbered bound format count left)
   where
-    after : (next : Next) (left : Source) → IfNext count next → ((format : Format) (n : ℕ) (left : Source) → AreNumbered n (packets_within bound format n left).packets) → AreNumbered count (with_others count next left (packets_within bound)).packets
-    after (nexts.Packet packet format) left is rest = (omega (arith, is), subst (λ n. AreNumbered n (packets_within bound format (count + 1) left).packets) (sym is) (rest format (count + 1) left))
+    after : (next : Next) (left : Source) → IfNext count next → ((format : Format) (n : ℕ) (left : Source) → AreNumbered n (packets_within bound format n left).items) → AreNumbered count (with_others count next left (packets_within bound)).items
+    after (nexts.Packet packet format) left is rest = (omega (arith, is), subst (λ n. AreNumbered n (packets_within bound format (count + 1) left).items) (sym is) (rest format (count + 1) left))
     after (nexts.NoPacket format) left is rest = rest format count left
     after nexts.End left is rest = tt
 
-    by : (r : Result (Next × Source) Fault) → OnRead (IfNext count) r → ((format : Format) (n : ℕ) (left : Source) → AreNumbered n (packets_within bound format n left).packets) → AreNumbered count (packets_from count r (packets_within bound)).packets
+    by : (r : Result (Next × Source) Fault) → OnRead (IfNext count) r → ((format : Format) (n : ℕ) (left : Source) → AreNumbered n (packets_within bound format n left).items) → AreNumbered count (packets_from count r (packets_within bound)).items
     by (Ok read) p rest = after read.0 read.1 p.is rest
     by (Err fault) p rest = tt
 

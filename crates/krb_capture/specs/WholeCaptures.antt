@@ -101,7 +101,7 @@ AreNumbered last [] = Unit {0}
 AreNumbered last (packet ∷ packets) = (last < packet.number) × AreNumbered packet.number packets
 
 abbrev pub PacketsAreNumbered : Type 0
-PacketsAreNumbered = (file : List ℕ) → AreNumbered 0 (packets file).packets
+PacketsAreNumbered = (file : List ℕ) → AreNumbered 0 (packets file).items
 
 -- the flow of each segment between ports of Kerberos
 abbrev pub flows_in : ℕ → List Contents → List Flow

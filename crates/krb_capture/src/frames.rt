@@ -52,7 +52,7 @@ impl Frames {
         ensures took { IfOk result (λ count. (limit : ℕ) (stream : List ℕ) → Took self.old limit stream → Took self.new limit (stream ++ take count octets.now)) }
         ensures listed { IfOk result (λ count. (limit : ℕ) (stream : List ℕ) → Took self.old limit stream → listing.new ≡ with_all origin.now (found_with (service_of self.old) limit stream (take count octets.now)) listing.old) }
     {
-        if octets.is_empty() {
+        if octets.is_empty() || listing.is_full() {
             return Ok(0);
         }
         match self {
@@ -80,8 +80,8 @@ impl Frames {
         ensures { result ≡ over_in self.now }
     {
         match self {
-            Frames::Messages(frames) => frames.is_over(),
-            Frames::Passwords(frames) => frames.is_over(),
+            Frames::Messages(frames) => frames.is_over,
+            Frames::Passwords(frames) => frames.is_over,
         }
     }
 

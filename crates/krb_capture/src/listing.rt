@@ -1,15 +1,14 @@
 //! What is listed of a capture.
 
-ghost use Rattle.std.specs.Prelude.{◌≡◌, ◌↔◌, ◌++◌, IsTrue, OnOk, string_bytes};
+ghost use Rattle.std.specs.Prelude.{◌≡◌, ◌↔◌, ◌++◌, ◌<◌, ◌^◌, IfOk, IsTrue, OnOk, length, string_bytes};
 ghost use Rattle.std.specs.Option.{option_copied};
-ghost use Rattle.krb_msg.specs.ViewValues.{IsValidMessage, message_of_view};
 ghost use Rattle.krb_text.specs.Captures.{capture_end_line, capture_refused_line};
-ghost use Rattle.krb_capture.specs.Found.{IsFull, Whole, Faulty, Joined, Missing, Password, and_more, nothing_written, totals, with_found};
+ghost use Rattle.krb_capture.specs.Found.{IsFull, Faulty, Joined, Missing, Password, and_more, nothing_written, totals, with_found};
+ghost use Rattle.krb_capture.specs.Listed.{IsListed};
 
-use krb_der::{Memory, Refusal};
+use krb_der::{Memory, Profile, Refusal};
 use krb_file::FileWhy;
 use krb_flow::Lost;
-use krb_msg::MessageView;
 use krb_text::{
     CaptureCounts, Extent, Form, Origin, TextBuffer, put_capture_end, put_capture_refusal,
     put_captured_message, put_captured_refusal, put_joined, put_lost, put_password,
@@ -93,18 +92,21 @@ impl Listing {
         swap(&mut self.text, text);
     }
 
-    /// Adds a message.
+    /// Adds a message, if octets are one of a profile, and returns whether they are.
     pub(crate) fn put_message(
         &mut self,
         origin: &Origin,
-        view: &MessageView<'_>,
-    ) -> Result<(), Memory>
-        requires { IsValidMessage view.now }
-        ensures { OnOk result (self.new ≡ with_found origin.now (Whole (message_of_view view.now)) self.old) }
+        profile: Profile,
+        octets: &[u8],
+    ) -> Result<bool, Memory>
+        requires { length octets.now < 2 ^ 31 }
+        ensures { IfOk result (IsListed profile octets.now origin.now self.old self.new) }
     {
-        put_captured_message(&mut self.text, self.form, origin, view)?;
+        if !put_captured_message(&mut self.text, self.form, origin, profile, octets)? {
+            return Ok(false);
+        }
         self.counts.messages = and_more(self.counts.messages, 1);
-        Ok(())
+        Ok(true)
     }
 
     /// Adds a refusal, the path of the field at fault, and where the frame or datagram is and its

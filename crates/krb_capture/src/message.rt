@@ -76,20 +76,14 @@ pub(crate) fn list_message(
     requires { before < 2 ^ 31 }
     ensures { OnOk result (listing.new ≡ with_found origin.now (message_found extent before octets.now) listing.old) }
 {
-    match read_message(octets) {
-        Ok(message) => listing.put_message(origin, &message),
-        Err(refusal) => {
-            list_refused(
-                octets,
-                octets.len() as u64,
-                before,
-                extent,
-                refusal,
-                origin,
-                listing,
-            )
-        }
+    let size = octets.len() as u64;
+    if size <= MOST_OCTETS && listing.put_message(origin, Profile::Lenient, octets)? {
+        return Ok(());
     }
+    let Err(refusal) = read_message(octets) else {
+        unreachable!()
+    };
+    list_refused(octets, size, before, extent, refusal, origin, listing)
 }
 
 /// Returns why the first octets of a message of `size` octets are refused, if they are.

@@ -3,7 +3,6 @@
 ghost use Rattle.std.specs.Prelude.{◌≡◌, ◌+◌, ◌<◌, ◌≤◌, ℕ, true, false, List, [], ◌++◌, length, take, IfOk, OnOk, string_bytes};
 ghost use Rattle.std.specs.Option.{option_map};
 ghost use Rattle.krb_text.specs.Refusals.{path_in};
-ghost use Rattle.krb_frame.specs.Deliveries.{DeliversPiece};
 ghost use Rattle.krb_frame.specs.GoingOn.{Fault};
 ghost use Rattle.krb_capture.specs.Found.{IsFull, with_all, with_found};
 ghost use Rattle.krb_capture.specs.Listed.{ListsEntry};
@@ -13,9 +12,8 @@ ghost use Rattle.krb_capture.specs.declared.flow.Service.TheVariants as services
 
 use crate::listing::{Listing, and_more};
 use crate::message::path_of;
-use krb_der::{Memory, Refusal};
+use krb_der::{Memory, Profile, Refusal};
 use krb_frame::{Decoder, Delivered, Limit, Receiver, SkippingDecoder};
-use krb_msg::MessageView;
 use krb_text::{Extent, Form, Origin};
 use std::alloc::Global;
 
@@ -27,7 +25,7 @@ pub(crate) struct MessageFrames {
     /// Where in the direction the current frame begins.
     offset: u64,
     /// The length of the last frame is not known, and all that follows is passed over.
-    is_over: bool,
+    pub(crate) is_over: bool,
 }
 
 impl MessageFrames {
@@ -64,7 +62,7 @@ impl MessageFrames {
             origin,
             listing,
         };
-        let delivered = lister.take(&mut self.decoder, octets)?;
+        let delivered = self.decoder.deliver(octets, true, &mut lister)?;
         self.offset = lister.offset;
         match delivered {
             Delivered::UpTo(rest) => Ok(octets.len() - rest.len()),
@@ -91,13 +89,6 @@ impl MessageFrames {
         extent_of(self.offset, self.decoder.decoder().announced())
     }
 
-    /// Returns whether all that follows is passed over.
-    pub(crate) fn is_over(&self) -> bool
-        ensures { result ≡ self.now.is_over }
-    {
-        self.is_over
-    }
-
     /// Returns why a frame is refused that is not whole at the end, if there is one.
     pub(crate) fn finish(&self) -> Option<Refusal>
         ensures { (limit : ℕ) (stream : List ℕ) → TookMessages self.now limit stream → self.now.is_over ≡ false → result ≡ cut_refusal self.now.decoder.current.octets }
@@ -116,19 +107,6 @@ struct FrameLister<'a> {
 }
 
 impl<'a> FrameLister<'a> {
-    /// Lists the frames that are whole with the next octets of a decoder or refused, until the
-    /// listing is full.
-    fn take<'p>(
-        &mut self,
-        decoder: &mut SkippingDecoder,
-        octets: &'p [u8],
-    ) -> Result<Delivered<'p>, Memory>
-        ensures same { IfOk result (λ delivered. self.new.listing.ghost_name ≡ self.old.listing.ghost_name) }
-        ensures delivered { IfOk result (DeliversPiece ListsEntry (λ lister. IsFull lister.listing.now.text) true decoder.old octets.now decoder.new self.old self.new) }
-    {
-        decoder.deliver(octets, true, self)
-    }
-
     /// Lists the refusal of the current frame of a decoder.
     fn put_refusal(&mut self, refusal: Refusal, decoder: &Decoder) -> Result<(), Memory>
         ensures same { OnOk result (self.new.listing.ghost_name ≡ self.old.listing.ghost_name) }
@@ -147,10 +125,12 @@ impl<'a> Receiver for FrameLister<'a> {
 
     ghost IsFull = { λ lister. IsFull lister.listing.now.text };
 
-    fn receive_message(&mut self, message: &MessageView<'_>, size: u64) -> Result<(), Memory> {
-        self.listing.put_message(self.origin, message)?;
-        self.offset = and_more(self.offset, size);
-        Ok(())
+    fn receive_contents(&mut self, profile: Profile, contents: &[u8]) -> Result<bool, Memory> {
+        if !self.listing.put_message(self.origin, profile, contents)? {
+            return Ok(false);
+        }
+        self.offset = and_more(self.offset, 4 + contents.len() as u64);
+        Ok(true)
     }
 
     fn receive_refusal(

@@ -14,7 +14,7 @@ use Rattle.krb_ccache.specs.declared.value.Credential.{Credential}
 use Rattle.krb_ccache.specs.declared.value.FilePrincipal.{FilePrincipal}
 use Rattle.krb_ccache.specs.declared.reading.Start.{Start}
 use Rattle.krb_ccache.specs.Spelling.{no_header}
-use Rattle.krb_ccache.specs.Reading.{principal_at, principal_in, typed_at, typed_list_at, credential_from, again_at, credential_fields_at, credential_at, header_field_at, header_fields_at, header_at, header_in, start_at, started, Items, items_after, all_items, credentials_after, read_in}
+use Rattle.krb_ccache.specs.Reading.{principal_at, principal_in, typed_at, typed_list_at, credential_from, again_at, credential_fields_at, credential_at, header_field_at, header_fields_at, header_at, header_in, start_at, started, CacheItems, items_after, all_items, credentials_after, read_in}
 use Rattle.krb_ccache.proofs.Items.{items_after-fault}
 
 pub Steps-principal : Steps principal_at
@@ -106,7 +106,7 @@ Steps-start versions =
     Steps-then (principal_in parts.Principal) _ (Steps-principal_in parts.Principal) (λ principal. Steps-succeed (record { version = version; header = header; principal = principal }))))
 
 -- ---- whole files
-all_items-err : {A : Type 0} (found : Items A) (f : Fault) → all_items found ≡ Err f → found.end ≡ Err f
+all_items-err : {A : Type 0} (found : CacheItems A) (f : Fault) → all_items found ≡ Err f → found.end ≡ Err f
 all_items-err {A} found f e =
     elim (and_then-err found.end (λ k. done found.items) f e) [
       | inl a ↦ a

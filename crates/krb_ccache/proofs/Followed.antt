@@ -1,93 +1,18 @@
 -- The items of a cache that readers of fields read, one after another.
-use Rattle.std.proofs.Common.{◌≡◌, ℕ, ◌+◌, ◌-◌, ◌<◌, ◌≤◌, ◌⊎◌, inl, inr, Bool, true, false, Option, Some, None, Result, Ok, Err, List, [], ◌∷◌, ◌++◌, length, refl, sym, ◌∙◌, ap, subst, arith}
-use Rattle.krb_der.specs.Octets.{when}
-use Rattle.krb_file.specs.Fields.{Source, Fault, Bounds, Reader, and_then, ◌>>=◌, succeed, one_part, in_part, with_part, fails_at, fault_begun, fails_begun, is_empty, within, Fails}
+use Rattle.std.proofs.Common.{◌≡◌, ℕ, ◌+◌, ◌-◌, ◌<◌, ◌≤◌, Some, Result, Ok, Err, List, [], ◌∷◌, ◌++◌, length, refl, sym, ◌∙◌, ap, subst, arith}
+use Rattle.krb_file.specs.Fields.{Source, Fault, Bounds, Reader, and_then, ◌>>=◌, in_part, with_part, fails_at, fails_begun, within, Fails}
 use Rattle.krb_file.specs.FieldReaders.{Cursor, MayRemain, source_at, HasRead, FailsBy, Follows, bounded}
 use Rattle.krb_file.specs.declared.fault.FileFault.{FileFault}
 use Rattle.krb_file.specs.declared.fault.FileFault.TheVariants as faults
 use Rattle.krb_file.specs.declared.field_name.FilePart.{FilePart}
 use Rattle.krb_file.specs.declared.field_name.FilePart.TheVariants as parts
-use Rattle.krb_file.proofs.Fields.{done, ok_is, and_then-ok, and_then-err}
-use Rattle.krb_file.proofs.FieldReaders.{SomeRest, some_rest, follows_in_part, part_fails}
+use Rattle.krb_file.proofs.FieldReaders.{SomeRest, some_rest, follows_in_part}
 use Rattle.krb_file.proofs.Loops.{with_prefix}
 use Rattle.krb_ccache.proofs.Loops.{field-goes_on, field-few, field-less, field-fails, fields-done}
 use Rattle.krb_ccache.specs.declared.reading.Start.{Start}
-use Rattle.krb_ccache.specs.Reading.{credential_at, header_field_at, header_fields_at, next_at, started, credentials_after, read_in}
+use Rattle.krb_ccache.specs.Reading.{header_field_at, header_fields_at, started, credentials_after, read_in}
 use Rattle.krb_ccache.specs.declared.value.HeaderField.{HeaderField}
 use Rattle.krb_ccache.specs.declared.value.Credential.{Credential}
-
--- ---- the next credential
-module _ {A : Type 0} (kept : Credential → ℕ → A) (version : ℕ) where
-  abbrev one : Reader A
-  one = credential_at kept version
-
-  abbrev more : Reader (Option A)
-  more = one >>= λ item. succeed (Some item)
-
-  abbrev choice : Bounds → Source → Bool → Result (Option A × Source) Fault
-  choice b s none = when none (λ _. Ok (None, s)) (λ _. more b s)
-
-  abbrev found : Option A → Source → Option A × Source
-  found item s = (item, s)
-
-  differ : (x : A) (s t : Source) → found (Some x) s ≡ found None t → ⊥
-  differ x s t e =
-      let first : Some x ≡ None = ap (λ (p : Option A × Source). p.0) e in
-      cc
-
-  not_err : (read : Option A × Source) (f : Fault) → done read ≡ Err f → ⊥
-  not_err read f e = cc
-
-  -- ---- what the next credential of known octets was
-  pub record IsNext (b : Bounds) (s t : Source) (c : A) : Type 0 where
-    pub some : is_empty s.octets ≡ false
-    pub read : one b s ≡ Ok (c, t)
-
-  pub is_next : (b : Bounds) (s t : Source) (c : A) → next_at kept version b s ≡ Ok (Some c, t) → IsNext b s t c
-  is_next b s t c = go (is_empty s.octets) refl
-    where
-      only : (x : A) (u : Source) → found (Some x) u ≡ found (Some c) t → one b s ≡ Ok (x, u) → one b s ≡ Ok (c, t)
-      only x u same e =
-          let first : Some x ≡ Some c = ap (λ (p : Option A × Source). p.0) same in
-          let rest : u ≡ t = ap (λ (p : Option A × Source). p.1) same in
-          let whose : x ≡ c = cc in
-          rw (← whose, ← rest) e
-
-      go : (none : Bool) → is_empty s.octets ≡ none → choice b s none ≡ Ok (Some c, t) → IsNext b s t c
-      go true test e = absurd (differ c t s (sym (ok_is (found None s) (found (Some c) t) e)))
-      go false test e =
-          let a = and_then-ok (one b s) (λ p. Ok (Some p.0, p.1)) (Some c, t) e in
-          record { some = test; read = only a.0.0 a.0.1 (ok_is (found (Some a.0.0) a.0.1) (found (Some c) t) a.2) a.1 }
-
-  pub is_end : (b : Bounds) (s t : Source) → next_at kept version b s ≡ Ok (None, t) → is_empty s.octets ≡ true
-  is_end b s t = go (is_empty s.octets) refl
-    where
-      go : (none : Bool) → is_empty s.octets ≡ none → choice b s none ≡ Ok (None, t) → is_empty s.octets ≡ true
-      go true test e = test
-      go false test e =
-          let a = and_then-ok (one b s) (λ p. Ok (Some p.0, p.1)) (None, t) e in
-          absurd (differ a.0.0 a.0.1 t (ok_is (found (Some a.0.0) a.0.1) (found None t) a.2))
-
-  -- nothing is read at the end
-  pub end_stays : (b : Bounds) (s t : Source) → next_at kept version b s ≡ Ok (None, t) → s ≡ t
-  end_stays b s t = go (is_empty s.octets)
-    where
-      go : (none : Bool) → choice b s none ≡ Ok (None, t) → s ≡ t
-      go true e = ap (λ (p : Option A × Source). p.1) (ok_is (found None s) (found None t) e)
-      go false e =
-          let a = and_then-ok (one b s) (λ p. Ok (Some p.0, p.1)) (None, t) e in
-          absurd (differ a.0.0 a.0.1 t (ok_is (found (Some a.0.0) a.0.1) (found None t) a.2))
-
-  pub is_fault : (b : Bounds) (s : Source) (f : Fault) → next_at kept version b s ≡ Err f → (is_empty s.octets ≡ false) × (one b s ≡ Err f)
-  is_fault b s f = go (is_empty s.octets) refl
-    where
-      refused : (one b s ≡ Err f) ⊎ ((read : A × Source) × (one b s ≡ Ok read) × (Ok (found (Some read.0) read.1) ≡ Err f)) → one b s ≡ Err f
-      refused (inl e) = e
-      refused (inr e) = absurd (not_err (found (Some e.0.0) e.0.1) f e.2)
-
-      go : (none : Bool) → is_empty s.octets ≡ none → choice b s none ≡ Err f → (is_empty s.octets ≡ false) × (one b s ≡ Err f)
-      go true test e = absurd (not_err (found None s) f e)
-      go false test e = (test, refused (and_then-err (one b s) (λ p. Ok (Some p.0, p.1)) f e))
 
 -- ---- what was read of a part, which begins at a place
 pub follows_part : {A B : Type 0} (part : FilePart) (reader : Reader A) (view : B → A) (read result : Result B FileFault) (begin : ℕ) (MayFail : Type 0) (old new : Cursor) → begin ≡ old.place → result ≡ fails_begun begin (fails_at (with_part part) read)
@@ -95,12 +20,6 @@ pub follows_part : {A B : Type 0} (part : FilePart) (reader : Reader A) (view : 
 follows_part {A} {B} part reader view read result begin MayFail old new here is follows =
     let same : fails_begun old.place (fails_at (with_part part) read) ≡ result = ap (λ (place : ℕ). fails_begun place (fails_at (with_part part) read)) (sym here) ∙ sym is in
     subst (λ (r : Result B FileFault). Follows view r (in_part part reader) MayFail old new) same (follows_in_part part reader view read MayFail old new follows)
-
--- the fault of a part that begins at a place
-pub fails_part : {A : Type 0} (reader : Reader A) (e told : FileFault) (begin : ℕ) (MayFail : Type 0) (old : Cursor) → begin ≡ old.place → told ≡ fault_begun begin e → FailsBy e reader MayFail old → FailsBy told (one_part reader) MayFail old
-fails_part reader e told begin MayFail old here is fails =
-    let same : fault_begun old.place e ≡ told = ap (λ (place : ℕ). fault_begun place e) (sym here) ∙ sym is in
-    subst (λ (f : FileFault). FailsBy f (one_part reader) MayFail old) same (part_fails reader e MayFail old fails)
 
 -- ---- a value was read, and then a fault was met
 pub then-fails : {A B : Type 0} (first : Reader A) (next : A → Reader B) (v : A) (old mid : Cursor) (e : FileFault) (MayFail : Type 0) → HasRead first v old mid → FailsBy e (next v) MayFail mid → FailsBy e (first >>= next) MayFail old

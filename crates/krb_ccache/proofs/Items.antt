@@ -7,12 +7,13 @@ use Rattle.krb_der.specs.Octets.{when, AreOctets}
 use Rattle.krb_file.specs.Fields.{Source, Fault, limited, Reader, is_empty}
 use Rattle.krb_file.proofs.Fields.{at, done, ok_is, err_is, and_then-ok, Took, Reads}
 use Rattle.krb_file.proofs.Steps.{IsFault, IsFault-then, Moved, Steps}
-use Rattle.krb_ccache.specs.Reading.{Items, no_items, item_and, items_within, items_after, all_items}
+use Rattle.krb_file.specs.Items.{no_items}
+use Rattle.krb_ccache.specs.Reading.{CacheItems, item_and, items_within, items_after, all_items}
 use Rattle.krb_ccache.proofs.Headers.{inside_file}
 use Rattle.krb_ccache.proofs.Local.{IsReadAgain}
 
 module _ {A : Type 0} (item_at : Reader A) where
-  items-fault-step : (others : Source → Items A) (limit : Option ℕ) (s : Source) (f : Fault) → ((t : Source) → (others t).end ≡ Err f → IsFault (limited limit) t f)
+  items-fault-step : (others : Source → CacheItems A) (limit : Option ℕ) (s : Source) (f : Fault) → ((t : Source) → (others t).end ≡ Err f → IsFault (limited limit) t f)
       → (r : Result (A × Source) Fault) → ((x : A) (t : Source) → r ≡ Ok (x, t) → Moved s t) → ((g : Fault) → r ≡ Err g → IsFault (limited limit) s g) → (item_and r others).end ≡ Err f → IsFault (limited limit) s f
   items-fault-step others limit s f rest (Err g) moves faults e = subst (IsFault (limited limit) s) (err_is ℕ g f e) (faults g refl)
   items-fault-step others limit s f rest (Ok (x, t)) moves faults e = IsFault-then (limited limit) s t f (moves x t refl) (rest t e)
@@ -28,7 +29,7 @@ module _ {A : Type 0} (item_at : Reader A) where
 
 -- ---- items that are read from their spellings, under a limit
 module _ {A : Type 0} (item_at : Reader A) (spell : A → List ℕ) (some : (v : A) → 0 < length (spell v)) (limit : Option ℕ) where
-  abbrev pub ended : List A → ℕ → Items A
+  abbrev pub ended : List A → ℕ → CacheItems A
   ended found k = record { items = found; end = Ok k }
 
   not_empty : (v : A) (rest : List ℕ) → is_empty (spell v ++ rest) ≡ false
@@ -51,7 +52,7 @@ module _ {A : Type 0} (item_at : Reader A) (spell : A → List ℕ) (some : (v :
       ap (λ (x : List ℕ). items_within (suc bound) item_at limit (at place x)) (flat_map-cons spell v vs)
       ∙ ap (λ (b : Bool). when b (λ _. no_items (Ok place)) (λ _. item_and (item_at (limited limit) (at place (spell v ++ suffix))) next)) (not_empty v suffix)
       ∙ ap (λ (r : Result (A × Source) Fault). item_and r next) first
-      ∙ ap (λ (i : Items A). let it : Items A = record { items = v ∷ i.items; end = i.end } in it) others
+      ∙ ap (λ (i : CacheItems A). let it : CacheItems A = record { items = v ∷ i.items; end = i.end } in it) others
       ∙ ap (ended (v ∷ vs)) (omega (arith, size))
 
   pub items_after-again : (vs : List A) (place : ℕ) → AllByRecursion (IsReadAgain item_at spell limit) vs → items_after item_at limit (at place (flat_map spell vs)) ≡ ended vs (place + length (flat_map spell vs))
@@ -63,7 +64,7 @@ module _ {A : Type 0} (item_at : Reader A) (spell : A → List ℕ) (Fits : A �
     pub fits : AllByRecursion Fits found
     pub place : k ≡ s.place + length s.octets
 
-  items-step : (others : Source → Items A) (limit : Option ℕ) (s : Source) (bound k : ℕ) → ((t : Source) → AreOctets t.octets → length t.octets ≤ bound → (others t).end ≡ Ok k → Found t (others t).items k)
+  items-step : (others : Source → CacheItems A) (limit : Option ℕ) (s : Source) (bound k : ℕ) → ((t : Source) → AreOctets t.octets → length t.octets ≤ bound → (others t).end ≡ Ok k → Found t (others t).items k)
       → (r : Result (A × Source) Fault) → ((x : A) (t : Source) → r ≡ Ok (x, t) → Took (limited limit) (spell x) s t × Fits x) → length s.octets ≤ suc bound → (item_and r others).end ≡ Ok k → Found s (item_and r others).items k
   items-step others limit s bound k rest (Err f) sound len e = absurd cc
   items-step others limit s bound k rest (Ok (x, t)) sound len e =
@@ -88,7 +89,7 @@ module _ {A : Type 0} (item_at : Reader A) (spell : A → List ℕ) (Fits : A �
       let s = at place (octet ∷ octets) in
       items-step (items_within bound item_at limit) limit s bound k (λ t. items-sound bound limit t.place t.octets k) (item_at (limited limit) s) (λ x t h. laws.sound (limited limit) s t x fits (inside_file limit place) h) len e
 
-  all_items-ok : (found : Items A) (vs : List A) → all_items found ≡ Ok vs → (k : ℕ) × (found.end ≡ Ok k) × (found.items ≡ vs)
+  all_items-ok : (found : CacheItems A) (vs : List A) → all_items found ≡ Ok vs → (k : ℕ) × (found.end ≡ Ok k) × (found.items ≡ vs)
   all_items-ok found vs e =
       let a = and_then-ok found.end (λ k. done found.items) vs e in
       (a.0, a.1, ok_is found.items vs a.2)

@@ -15,7 +15,8 @@ use Rattle.krb_ccache.specs.declared.value.Credential.{Credential}
 use Rattle.krb_ccache.specs.declared.value.FilePrincipal.{FilePrincipal}
 use Rattle.krb_ccache.specs.declared.reading.Start.{Start}
 use Rattle.krb_ccache.specs.Spelling.{no_header, masked_credential}
-use Rattle.krb_ccache.specs.Reading.{principal_at, principal_in, typed_at, typed_list_at, credential_from, again_at, credential_fields_at, credential_at, one_enctype, header_field_at, header_fields_at, header_at, header_in, start_at, Items, no_items, with_first, item_and, items_within}
+use Rattle.krb_file.specs.Items.{no_items, with_first}
+use Rattle.krb_ccache.specs.Reading.{principal_at, principal_in, typed_at, typed_list_at, credential_from, again_at, credential_fields_at, credential_at, one_enctype, header_field_at, header_fields_at, header_at, header_in, start_at, CacheItems, item_and, items_within}
 use Rattle.krb_ccache.specs.Streaming.{file_start, credentials_of}
 use Rattle.krb_ccache.specs.Laws.{key_size_at, IsUpToKey, masked_items, start_alone, AreAlike}
 use Rattle.krb_ccache.proofs.Faults.{Steps-principal_in, Steps-again}
@@ -173,11 +174,11 @@ credential-alike version place octets size t key other after e none le len =
 
 -- ---- credentials
 -- what is made of the next credential, its key masked
-abbrev masked_and : Result (Credential × Source) Fault → (Source → Items Credential) → Items Credential
+abbrev masked_and : Result (Credential × Source) Fault → (Source → CacheItems Credential) → CacheItems Credential
 masked_and (Err f) others = no_items (Err f)
 masked_and (Ok read) others = with_first read.0 (masked_items (others read.1))
 
-item_and-masked : (r : Result (Credential × Source) Fault) (others : Source → Items Credential) → masked_items (item_and r others) ≡ masked_and (masked_read masked_credential r) others
+item_and-masked : (r : Result (Credential × Source) Fault) (others : Source → CacheItems Credential) → masked_items (item_and r others) ≡ masked_and (masked_read masked_credential r) others
 item_and-masked (Err f) others = refl
 item_and-masked (Ok p) others = refl
 

@@ -14,7 +14,8 @@ use Rattle.krb_ccache.specs.declared.value.Credential.{Credential}
 use Rattle.krb_ccache.specs.declared.value.FilePrincipal.{FilePrincipal}
 use Rattle.krb_ccache.specs.declared.reading.Start.{Start}
 use Rattle.krb_ccache.specs.Spelling.{no_header}
-use Rattle.krb_ccache.specs.Reading.{principal_at, principal_in, typed_at, typed_list_at, credential_from, again_at, credential_fields_at, credential_at, one_enctype, header_field_at, header_fields_at, header_at, header_in, start_at, Items, with_first, item_and, items_within}
+use Rattle.krb_file.specs.Items.{with_first}
+use Rattle.krb_ccache.specs.Reading.{principal_at, principal_in, typed_at, typed_list_at, credential_from, again_at, credential_fields_at, credential_at, one_enctype, header_field_at, header_fields_at, header_at, header_in, start_at, CacheItems, item_and, items_within}
 use Rattle.krb_ccache.specs.Streaming.{file_start, credentials_of, credentials}
 use Rattle.krb_ccache.specs.Laws.{IsLongStart, StartIsTooLong, AreCut}
 
@@ -154,21 +155,21 @@ module _ (most : ℕ) (file : List ℕ) (version : ℕ) where
   each : Limited file most Long None item_at
   each = Limited-credential file most Long None (λ place lt. (lt, refl)) version
 
-  cut-here : (r : Result (Credential × Source) Fault) (others : Source → Items Credential) (whole : Items Credential) → IsTooLong Long r → AreCut most file (item_and r others) whole
+  cut-here : (r : Result (Credential × Source) Fault) (others : Source → CacheItems Credential) (whole : CacheItems Credential) → IsTooLong Long r → AreCut most file (item_and r others) whole
   cut-here r others whole l =
       subst (λ (x : Result (Credential × Source) Fault). AreCut most file (item_and x others) whole) (sym l.is)
       (record { others = whole.items; items = refl; fault = l.fault; end = refl; octets = l.size; reason = l.reason; long = l.long })
 
-  cut-after : (c : Credential) (under whole : Items Credential) → (under ≡ whole) ⊎ AreCut most file under whole → (with_first c under ≡ with_first c whole) ⊎ AreCut most file (with_first c under) (with_first c whole)
+  cut-after : (c : Credential) (under whole : CacheItems Credential) → (under ≡ whole) ⊎ AreCut most file under whole → (with_first c under ≡ with_first c whole) ⊎ AreCut most file (with_first c under) (with_first c whole)
   cut-after c under whole (inl e) = inl (ap (with_first c) e)
   cut-after c under whole (inr cut) = inr (record { others = cut.others; items = ap (λ (cs : List Credential). c ∷ cs) cut.items; fault = cut.fault; end = cut.end; octets = cut.octets; reason = cut.reason; long = cut.long })
 
-  cut-step : (under whole : Source → Items Credential) → ((t : Source) → IsOf file t → (under t ≡ whole t) ⊎ AreCut most file (under t) (whole t))
+  cut-step : (under whole : Source → CacheItems Credential) → ((t : Source) → IsOf file t → (under t ≡ whole t) ⊎ AreCut most file (under t) (whole t))
       → (r : Result (Credential × Source) Fault) → ((c : Credential) (t : Source) → r ≡ Ok (c, t) → IsOf file t) → (item_and r under ≡ item_and r whole) ⊎ AreCut most file (item_and r under) (item_and r whole)
   cut-step under whole rest (Err f) stays = inl refl
   cut-step under whole rest (Ok (c, t)) stays = cut-after c (under t) (whole t) (rest t (stays c t refl))
 
-  cut-either : (under whole : Source → Items Credential) (r w : Result (Credential × Source) Fault) → IsSameOrTooLong Long r w → (item_and w under ≡ item_and w whole) ⊎ AreCut most file (item_and w under) (item_and w whole)
+  cut-either : (under whole : Source → CacheItems Credential) (r w : Result (Credential × Source) Fault) → IsSameOrTooLong Long r w → (item_and w under ≡ item_and w whole) ⊎ AreCut most file (item_and w under) (item_and w whole)
       → (item_and r under ≡ item_and w whole) ⊎ AreCut most file (item_and r under) (item_and w whole)
   cut-either under whole r w (inl e) step = subst (λ (x : Result (Credential × Source) Fault). (item_and x under ≡ item_and w whole) ⊎ AreCut most file (item_and x under) (item_and w whole)) (sym e) step
   cut-either under whole r w (inr l) step = inr (cut-here r under (item_and w whole) l)

@@ -1,43 +1,16 @@
--- Items up to the end of a file, read one after another by a loop.
-use Rattle.std.proofs.Common.{◌≡◌, ℕ, ◌<◌, ◌≤◌, ◌-◌, ◌+◌, zero, suc, Bool, true, false, leb, le-leb, Option, Some, None, Result, Ok, Err, List, [], ◌∷◌, ◌++◌, length, sym, ◌∙◌, ap, append_assoc, length-append, arith}
+-- The fields of a header, read one after another by a loop.
+use Rattle.std.proofs.Common.{◌≡◌, ℕ, ◌<◌, ◌≤◌, ◌-◌, ◌+◌, zero, suc, Bool, true, false, leb, le-leb, Option, Some, Result, Ok, Err, List, [], ◌∷◌, ◌++◌, length, sym, ◌∙◌, ap, length-append, arith}
 use Rattle.std.proofs.lemmas.Bool.{lt-leb}
 use Rattle.std.proofs.lemmas.List.{append-nil}
-use Rattle.krb_file.specs.Fields.{Source, Reader, Bounds, Fault, limited, and_then, ◌>>=◌, succeed, in_part, Fails, is_empty}
+use Rattle.krb_file.specs.Fields.{Source, Reader, Bounds, Fault, and_then, ◌>>=◌, succeed, in_part}
 use Rattle.krb_der.specs.Octets.{when}
 use Rattle.krb_file.proofs.Loops.{with_prefix, regroup as fields-regroup}
-use Rattle.krb_file.specs.declared.fault.FileFault.{FileFault}
-use Rattle.krb_file.specs.declared.fault.FileFault.TheVariants as faults
 use Rattle.krb_file.specs.declared.field_name.FilePart.TheVariants as parts
-use Rattle.krb_ccache.specs.Reading.{Items, with_first, items_after, all_items, header_field_at, header_fields_at}
-use Rattle.krb_ccache.specs.Streaming.{before}
+use Rattle.krb_ccache.specs.Reading.{header_field_at, header_fields_at}
 use Rattle.krb_ccache.specs.declared.value.HeaderField.{HeaderField}
 use Rattle.krb_ccache.proofs.Faults.{Steps-header_field_in}
-use Rattle.krb_ccache.proofs.Stepwise.{Shortens, Shortens-header_field_in, after-item, after-fault, after-end}
+use Rattle.krb_ccache.proofs.Stepwise.{Shortens-header_field_in}
 
-module _ {A : Type 0} where
-  pub regroup : (prefix : List A) (x : A) (found : Items A) → before prefix (with_first x found) ≡ before (prefix ++ x ∷ []) found
-  regroup prefix x found = ap (λ (xs : List A). let it : Items A = record { items = xs; end = found.end } in it) (sym (append_assoc prefix (x ∷ []) found.items))
-
-  abbrev ended : ℕ → List A → Result (List A) Fault
-  ended k items = Ok items
-
-module _ {A : Type 0} (item_at : Reader A) (shortens : Shortens item_at) where
-  pub goes_on : (prefix : List A) (s t : Source) (x : A) (total : Items A) → is_empty s.octets ≡ false → item_at (limited None) s ≡ Ok (x, t) → before prefix (items_after item_at None s) ≡ total → before (prefix ++ x ∷ []) (items_after item_at None t) ≡ total
-  goes_on prefix s t x total some e so_far =
-      sym (ap (before prefix) (after-item item_at shortens None s x t some e) ∙ regroup prefix x (items_after item_at None t)) ∙ so_far
-
-  pub is_done : (prefix : List A) (s : Source) (total : Items A) → is_empty s.octets ≡ true → before prefix (items_after item_at None s) ≡ total → all_items total ≡ Ok prefix
-  is_done prefix s total none so_far =
-      ap all_items (sym so_far ∙ ap (before prefix) (after-end item_at shortens None s none))
-      ∙ ap (ended s.place) (append-nil prefix)
-
-  pub ends : (e : FileFault) (prefix : List A) (s : Source) (total : Items A) → is_empty s.octets ≡ false → Fails e (item_at (limited None) s) → before prefix (items_after item_at None s) ≡ total → Fails e (all_items total)
-  ends faults.Memory prefix s total some h so_far = tt
-  ends faults.Read prefix s total some h so_far = absurd h
-  ends (faults.Refused fault) prefix s total some h so_far =
-      ap all_items (sym so_far ∙ ap (before prefix) (after-fault item_at shortens None s fault some h))
-
--- ---- the fields of a header
 abbrev field_at : ℕ → Reader HeaderField
 field_at index = in_part (parts.Header index) header_field_at
 

@@ -1,5 +1,5 @@
 -- Readers that read the same octets and keep different parts of the value.
-use Rattle.std.proofs.Common.{◌≡◌, ℕ, zero, suc, Option, Result, Ok, Err, List, [], ◌∷◌, length, map, refl, ◌∙◌, ap}
+use Rattle.std.proofs.Common.{◌≡◌, ℕ, suc, Option, Result, Ok, Err, List, ◌∷◌, length, map, refl, ◌∙◌, ap}
 use Rattle.std.specs.Int.{w16}
 use Rattle.krb_file.specs.Fields.{Source, Fault, Bounds, limited, Reader, and_then, ◌>>=◌, succeed, called, begun_at, one_part, number_at}
 use Rattle.krb_file.specs.declared.field_name.FieldName.TheVariants as field
@@ -7,7 +7,7 @@ use Rattle.krb_file.specs.declared.field_name.FilePart.TheVariants as parts
 use Rattle.krb_file.proofs.Fields.{at}
 use Rattle.krb_ccache.specs.declared.value.Credential.{Credential}
 use Rattle.krb_ccache.specs.declared.value.Credential3.{Credential3}
-use Rattle.krb_ccache.specs.Reading.{principal_in, credential_from, again_at, credential_fields_at, credential_at, one_enctype, both_enctypes, Items, item_and, items_within, items_after}
+use Rattle.krb_ccache.specs.Reading.{principal_in, credential_from, again_at, credential_fields_at, credential_at, one_enctype, both_enctypes, CacheItems, item_and, items_within, items_after}
 
 module _ {A B : Type 0} (part : A → B) where
   abbrev of_read : Result (A × Source) Fault → Result (B × Source) Fault
@@ -31,12 +31,12 @@ module _ {A B : Type 0} (part : A → B) where
   Mapped-one_part : (reader : Reader A) (other : Reader B) → Mapped reader other → Mapped (one_part reader) (one_part other)
   Mapped-one_part reader other same bounds s = begun-mapped s.place (reader bounds s) ∙ ap (begun_at s.place) (same bounds s)
 
-  abbrev of_items : Items A → Items B
+  abbrev of_items : CacheItems A → CacheItems B
   of_items found = record { items = map part found.items; end = found.end }
 
-  and-mapped : (r : Result (A × Source) Fault) (next : Source → Items A) (others : Source → Items B) → ((t : Source) → of_items (next t) ≡ others t) → of_items (item_and r next) ≡ item_and (of_read r) others
+  and-mapped : (r : Result (A × Source) Fault) (next : Source → CacheItems A) (others : Source → CacheItems B) → ((t : Source) → of_items (next t) ≡ others t) → of_items (item_and r next) ≡ item_and (of_read r) others
   and-mapped (Err f) next others same = refl
-  and-mapped (Ok p) next others same = ap (λ (i : Items B). let it : Items B = record { items = part p.0 ∷ i.items; end = i.end } in it) (same p.1)
+  and-mapped (Ok p) next others same = ap (λ (i : CacheItems B). let it : CacheItems B = record { items = part p.0 ∷ i.items; end = i.end } in it) (same p.1)
 
   module _ (item_at : Reader A) (other_at : Reader B) (mapped : Mapped item_at other_at) (limit : Option ℕ) where
     within-mapped : (bound place : ℕ) (octets : List ℕ) → of_items (items_within bound item_at limit (at place octets)) ≡ items_within bound other_at limit (at place octets)

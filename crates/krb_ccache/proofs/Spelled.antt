@@ -15,7 +15,7 @@ use Rattle.krb_ccache.specs.declared.value.Credential.{Credential}
 use Rattle.krb_ccache.specs.declared.value.Credential3.{Credential3}
 use Rattle.krb_ccache.specs.declared.reading.Start.{Start}
 use Rattle.krb_ccache.specs.Spelling.{header, HeaderFits, principal, PrincipalFits, credential, CredentialFits, CcacheSpells, credential3, Credential3Fits, Spells3, no_header, upgraded}
-use Rattle.krb_ccache.specs.Reading.{principal_in, credential_fields_at, credential_at, one_enctype, both_enctypes, header_in, Items, item_and, items_within, items_after}
+use Rattle.krb_ccache.specs.Reading.{principal_in, credential_fields_at, credential_at, one_enctype, both_enctypes, header_in, CacheItems, item_and, items_within, items_after}
 use Rattle.krb_ccache.specs.Streaming.{file_start, credentials_of, credentials}
 use Rattle.krb_ccache.specs.Laws.{contents, AreFirst, AreBefore}
 use Rattle.krb_ccache.proofs.Parts.{Reads-principal_in, Reads-credential, Reads-credential3}
@@ -48,7 +48,7 @@ module _ {A : Type 0} (item_at : Reader A) (spell : A → List ℕ) (Fits : A �
         before = subst (λ (k : ℕ). AreBefore k end) place others.before;
       }
 
-  step-begins : (others : Source → Items A) (s : Source) → ((t : Source) → AreOctets t.octets → Begins t (others t).items (others t).end)
+  step-begins : (others : Source → CacheItems A) (s : Source) → ((t : Source) → AreOctets t.octets → Begins t (others t).items (others t).end)
       → (r : Result (A × Source) Fault) → ((v : A) (t : Source) → r ≡ Ok (v, t) → Took (limited limit) (spell v) s t × Fits v) → ((f : Fault) → r ≡ Err f → (s.place ≡ f.begin) × (s.place ≤ f.place)) → Begins s (item_and r others).items (item_and r others).end
   step-begins others s rest (Err f) sound faults = none-begins s (Err f) (faults f refl)
   step-begins others s rest (Ok (v, t)) sound faults =
@@ -137,7 +137,7 @@ prefix-is file before after rest t limit took parts =
       ends = omega (arith, took.place, length-append before after);
     }
 
-spelled4 : (limit : Option ℕ) (file : List ℕ) (st : Start) (t : Source) (found : Items Credential) → Begins4 limit file st t → Begins (credential_at one_enctype 4) credential CredentialFits Reads-credential (Steps-credential one_enctype 4) (credential-begin one_enctype 4) limit t found.items found.end
+spelled4 : (limit : Option ℕ) (file : List ℕ) (st : Start) (t : Source) (found : CacheItems Credential) → Begins4 limit file st t → Begins (credential_at one_enctype 4) credential CredentialFits Reads-credential (Steps-credential one_enctype 4) (credential-begin one_enctype 4) limit t found.items found.end
     → (size : ℕ) × AreFirst file st found.items size × AreBefore size found.end
 spelled4 limit file st t found start b =
     let text : List ℕ = (5 ∷ 4 ∷ header st.header ++ principal st.principal) ++ flat_map credential found.items in
@@ -145,7 +145,7 @@ spelled4 limit file st t found start b =
     let spelled : CcacheSpells (contents st found.items) (take (length text) file) = record { fits = record { header = start.header; principal = start.principal; credentials = b.fits }; octets = p.taken } in
     (length text, record { there = ap length p.taken; spelled = inl (start.version, spelled) }, subst (λ (k : ℕ). AreBefore k found.end) p.ends b.before)
 
-spelled3 : (limit : Option ℕ) (file : List ℕ) (st : Start) (t : Source) (found : Items Credential3) → Begins3 limit file st t → Begins (credential_at both_enctypes 3) credential3 Credential3Fits Reads-credential3 (Steps-credential both_enctypes 3) (credential-begin both_enctypes 3) limit t found.items found.end
+spelled3 : (limit : Option ℕ) (file : List ℕ) (st : Start) (t : Source) (found : CacheItems Credential3) → Begins3 limit file st t → Begins (credential_at both_enctypes 3) credential3 Credential3Fits Reads-credential3 (Steps-credential both_enctypes 3) (credential-begin both_enctypes 3) limit t found.items found.end
     → (size : ℕ) × AreFirst file st (map credential_part found.items) size × AreBefore size found.end
 spelled3 limit file st t found start b =
     let v : Cache3 = record { principal = st.principal; credentials = found.items } in
@@ -159,7 +159,7 @@ pub credentials-spelled : (limit : Option ℕ) (file : List ℕ) (start : Start)
 credentials-spelled limit file st t fits e =
     subst (λ (r : Result (Start × Source) Fault). (size : ℕ) × AreFirst file st (credentials_of limit r).items size × AreBefore size (credentials_of limit r).end) (sym e) (by_version (start-begins limit file st t fits e))
   where
-    Spelled : Items Credential → Type 0
+    Spelled : CacheItems Credential → Type 0
     Spelled found = (size : ℕ) × AreFirst file st found.items size × AreBefore size found.end
 
     by_version : Begins3 limit file st t ⊎ Begins4 limit file st t → Spelled (items_after (credential_at one_enctype st.version) limit t)

@@ -1,15 +1,18 @@
 -- The credentials of a file, one at a time: those that follow depend only on what is left of the file.
-use Rattle.std.proofs.Common.{◌≡◌, ℕ, zero, suc, ◌<◌, ◌≤◌, true, false, Option, None, Result, Ok, Err, List, [], ◌∷◌, length, refl, sym, ◌∙◌, ap, subst, arith, length-drop}
+use Rattle.std.proofs.Common.{◌≡◌, ℕ, zero, suc, ◌<◌, Option, None, Some, Result, Ok, Err, List, [], ◌∷◌, length, refl, sym, ◌∙◌, ap, subst, arith, length-drop}
 use Rattle.std.specs.Int.{Width, w16, w32, byte_len, from_be_bytes}
-use Rattle.krb_file.specs.Fields.{Source, Fault, Bounds, limited, Reader, ◌>>=◌, with_name, with_part, called, one_part, in_part, is_empty, signed_at, names_at, number_at, counted_at, next_octets_at}
+use Rattle.krb_file.specs.Fields.{Source, Fault, Bounds, limited, Reader, and_then, ◌>>=◌, succeed, with_name, with_part, called, one_part, in_part, is_empty, signed_at, names_at, number_at, counted_at, next_octets_at}
+use Rattle.krb_file.specs.Items.{no_items, with_first}
+use Rattle.krb_der.specs.Octets.{when}
 use Rattle.krb_file.specs.declared.field_name.FieldName.TheVariants as field
 use Rattle.krb_file.specs.declared.field_name.FilePart.{FilePart}
 use Rattle.krb_file.specs.declared.field_name.FilePart.TheVariants as parts
 use Rattle.krb_file.specs.declared.field_name.FileField.{FileField}
 use Rattle.krb_file.proofs.Fields.{refused_at-ok, begun_at-ok, at_field, at, ok_is, and_then-ok, piece-ok}
+use Rattle.krb_file.proofs.Items.{unrolls}
 use Rattle.krb_file.proofs.Steps.{Steps, Steps-then, Steps-succeed, Steps-called, Steps-names, Steps-counted, Moved-shorter, signed-shorter}
 use Rattle.krb_ccache.specs.declared.value.Credential.{Credential}
-use Rattle.krb_ccache.specs.Reading.{principal_at, principal_in, credential_fields_at, credential_at, header_field_at, Items, no_items, with_first, item_and, items_within, items_after}
+use Rattle.krb_ccache.specs.Reading.{principal_at, principal_in, credential_fields_at, credential_at, header_field_at, CacheItems, item_and, items_within, items_after}
 use Rattle.krb_ccache.proofs.Faults.{Steps-from_server}
 
 -- a reader that reads at least one octet
@@ -59,44 +62,55 @@ Shortens-principal =
 pub Shortens-credential : {A : Type 0} (kept : Credential → ℕ → A) (version : ℕ) → Shortens (credential_at kept version)
 Shortens-credential kept version = Shortens-one_part (credential_fields_at kept version) (Shortens-then (principal_in parts.Client) _ (Shortens-in_part parts.Client principal_at Shortens-principal) (Steps-from_server kept version))
 
+-- the next item, or none at the end of the file
+abbrev pub next_of : {A : Type 0} → Reader A → Reader (Option A)
+next_of item_at = λ bounds source. when (is_empty source.octets) (λ _. Ok (None, source)) (λ _. (item_at >>= λ item. succeed (Some item)) bounds source)
+
+-- what is left after a step
+abbrev pub after_read : {A : Type 0} → Reader A → Option ℕ → Result (Option A × Source) Fault → CacheItems A
+after_read item_at limit (Err fault) = no_items (Err fault)
+after_read item_at limit (Ok (None, t)) = no_items (Ok t.place)
+after_read item_at limit (Ok (Some x, t)) = with_first x (items_after item_at limit t)
+
 module _ {A : Type 0} (item_at : Reader A) (shortens : Shortens item_at) where
-  item_and-same : (r : Result (A × Source) Fault) (f g : Source → Items A) → ((x : A) (t : Source) → r ≡ Ok (x, t) → f t ≡ g t) → item_and r f ≡ item_and r g
-  item_and-same (Err e) f g same = refl
-  item_and-same (Ok (x, t)) f g same = ap (with_first x) (same x t refl)
-
-  -- any bound that is large enough
-  pub items_within-same : (b c : ℕ) (limit : Option ℕ) (place : ℕ) (octets : List ℕ) → length octets ≤ b → length octets ≤ c → items_within b item_at limit (at place octets) ≡ items_within c item_at limit (at place octets)
-  items_within-same zero (suc c) limit place (octet ∷ octets) p q = absurd (omega arith)
-  items_within-same (suc b) zero limit place (octet ∷ octets) p q = absurd (omega arith)
-  items_within-same (suc b) (suc c) limit place (octet ∷ octets) p q =
+  pub next-shorter : (bounds : Bounds) (place : ℕ) (octets : List ℕ) (x : A) (t : Source) → next_of item_at bounds (at place octets) ≡ Ok (Some x, t) → length t.octets < length octets
+  next-shorter bounds place [] x t e =
+      let same : ◌≡◌ {A = Option A} None (Some x) = ap (λ (p : Option A × Source). p.0) (ok_is (None, at place []) (Some x, t) e) in
+      absurd cc
+  next-shorter bounds place (octet ∷ octets) x t e =
       let s = at place (octet ∷ octets) in
-      item_and-same (item_at (limited limit) s) (items_within b item_at limit) (items_within c item_at limit) (λ x t e. items_within-same b c limit t.place t.octets (omega (arith, shortens.shorter (limited limit) s x t e)) (omega (arith, shortens.shorter (limited limit) s x t e)))
-  items_within-same other another limit place third p q = refl
+      let a = and_then-ok (item_at bounds s) (λ p. Ok (Some p.0, p.1)) (Some x, t) e in
+      subst (λ (u : Source). length u.octets < length s.octets) (ap (λ (p : Option A × Source). p.1) (ok_is (Some a.0.0, a.0.1) (Some x, t) a.2)) (shortens.shorter bounds s a.0.0 a.0.1 a.1)
 
-  after-step : (limit : Option ℕ) (place octet : ℕ) (octets : List ℕ) → items_after item_at limit (at place (octet ∷ octets)) ≡ item_and (item_at (limited limit) (at place (octet ∷ octets))) (items_after item_at limit)
-  after-step limit place octet octets =
-      let s = at place (octet ∷ octets) in
-      items_within-same (length s.octets) (suc (length s.octets)) limit place s.octets (omega arith) (omega arith)
-      ∙ item_and-same (item_at (limited limit) s) (items_within (length s.octets) item_at limit) (items_after item_at limit)
-      (λ x t e. items_within-same (length s.octets) (length t.octets) limit t.place t.octets (omega (arith, shortens.shorter (limited limit) s x t e)) (omega arith))
+  module _ (limit : Option ℕ) where
+    abbrev one_step : Source → (Source → CacheItems A) → CacheItems A
+    one_step s others = when (is_empty s.octets) (λ _. no_items (Ok s.place)) (λ _. item_and (item_at (limited limit) s) others)
 
-  -- the end of the file, an item, or the fault
-  pub after-end : (limit : Option ℕ) (s : Source) → is_empty s.octets ≡ true → items_after item_at limit s ≡ no_items (Ok s.place)
-  after-end limit s none = go s.place s.octets none
-    where
-      go : (place : ℕ) (octets : List ℕ) → is_empty octets ≡ true → items_after item_at limit (at place octets) ≡ no_items (Ok place)
-      go place [] none = refl
-      go place (octet ∷ octets) none = absurd cc
+    item_and-same : (r : Result (A × Source) Fault) (f g : Source → CacheItems A) → ((x : A) (t : Source) → r ≡ Ok (x, t) → f t ≡ g t) → item_and r f ≡ item_and r g
+    item_and-same (Err e) f g same = refl
+    item_and-same (Ok (x, t)) f g same = ap (with_first x) (same x t refl)
 
-  after-some : (limit : Option ℕ) (s : Source) → is_empty s.octets ≡ false → items_after item_at limit s ≡ item_and (item_at (limited limit) s) (items_after item_at limit)
-  after-some limit s some = go s.place s.octets some
-    where
-      go : (place : ℕ) (octets : List ℕ) → is_empty octets ≡ false → items_after item_at limit (at place octets) ≡ item_and (item_at (limited limit) (at place octets)) (items_after item_at limit)
-      go place [] some = absurd cc
-      go place (octet ∷ octets) some = after-step limit place octet octets
+    step-same : (place : ℕ) (octets : List ℕ) (f g : Source → CacheItems A) → ((t : Source) → length t.octets < length octets → f t ≡ g t) → one_step (at place octets) f ≡ one_step (at place octets) g
+    step-same place [] f g same = refl
+    step-same place (octet ∷ octets) f g same =
+        let s = at place (octet ∷ octets) in
+        item_and-same (item_at (limited limit) s) f g (λ x t e. same t (shortens.shorter (limited limit) s x t e))
 
-  pub after-item : (limit : Option ℕ) (s : Source) (x : A) (t : Source) → is_empty s.octets ≡ false → item_at (limited limit) s ≡ Ok (x, t) → items_after item_at limit s ≡ with_first x (items_after item_at limit t)
-  after-item limit s x t some e = after-some limit s some ∙ ap (λ (r : Result (A × Source) Fault). item_and r (items_after item_at limit)) e
+    none_within : (bound place : ℕ) (octets : List ℕ) → length octets ≡ 0 → items_within bound item_at limit (at place octets) ≡ items_within zero item_at limit (at place octets)
+    none_within zero place octets none = refl
+    none_within (suc bound) place [] none = refl
+    none_within (suc bound) place (octet ∷ octets) none = absurd (omega (arith, none))
 
-  pub after-fault : (limit : Option ℕ) (s : Source) (f : Fault) → is_empty s.octets ≡ false → item_at (limited limit) s ≡ Err f → items_after item_at limit s ≡ no_items (Err f)
-  after-fault limit s f some e = after-some limit s some ∙ ap (λ (r : Result (A × Source) Fault). item_and r (items_after item_at limit)) e
+    by_item : (r : Result (A × Source) Fault) → item_and r (items_after item_at limit) ≡ after_read item_at limit (and_then r (λ p. Ok (Some p.0, p.1)))
+    by_item (Err f) = refl
+    by_item (Ok p) = refl
+
+    by_next : (place : ℕ) (octets : List ℕ) → one_step (at place octets) (items_after item_at limit) ≡ after_read item_at limit (next_of item_at (limited limit) (at place octets))
+    by_next place [] = refl
+    by_next place (octet ∷ octets) = by_item (item_at (limited limit) (at place (octet ∷ octets)))
+
+    -- the law of steps
+    pub after-step : (s : Source) → items_after item_at limit s ≡ after_read item_at limit (next_of item_at (limited limit) s)
+    after-step s =
+        unrolls (λ bound s. items_within bound item_at limit s) one_step (λ s. length s.octets) (λ bound s. refl) (λ bound s none. none_within bound s.place s.octets none) (λ s f g same. step-same s.place s.octets f g same) s
+        ∙ by_next s.place s.octets

@@ -1,5 +1,5 @@
 -- A cache of version 3 and its upgrade are read alike, under any limit.
-use Rattle.std.proofs.Common.{◌≡◌, ℕ, zero, suc, ◌+◌, ◌<◌, false, ltb, le-ltb, Option, Result, Ok, Err, List, [], ◌∷◌, ◌++◌, length, map, refl, sym, ◌∙◌, ap, subst, arith, append_assoc, length-append}
+use Rattle.std.proofs.Common.{◌≡◌, ℕ, suc, ◌+◌, ◌<◌, false, ltb, le-ltb, Option, Result, Ok, Err, List, [], ◌∷◌, ◌++◌, length, map, refl, sym, ◌∙◌, ap, subst, arith, append_assoc, length-append}
 use Rattle.std.specs.List.{flat_map, AllByRecursion}
 use Rattle.std.specs.Int.{w16, to_be_bytes}
 use Rattle.krb_der.specs.Octets.{AreOctets}
@@ -14,7 +14,7 @@ use Rattle.krb_ccache.specs.declared.value.FilePrincipal.{FilePrincipal}
 use Rattle.krb_ccache.specs.declared.value.Header.{Header}
 use Rattle.krb_ccache.specs.declared.reading.Start.{Start}
 use Rattle.krb_ccache.specs.Spelling.{principal, PrincipalFits, credential_from_key, credential, ccache, credential3, Credential3Fits, Spells3, no_header, upgraded}
-use Rattle.krb_ccache.specs.Reading.{principal_in, again_at, credential_from, credential_fields_at, credential_at, one_enctype, both_enctypes, header_at, header_in, Items, item_and, items_within, items_after}
+use Rattle.krb_ccache.specs.Reading.{principal_in, again_at, credential_from, credential_fields_at, credential_at, one_enctype, both_enctypes, header_at, header_in, CacheItems, item_and, items_within, items_after}
 use Rattle.krb_ccache.specs.Streaming.{file_start, credentials_of, credentials, Holds}
 use Rattle.krb_ccache.proofs.Parts.{Reads-principal_in, Reads-credential3, Reads-from_key, from_key, leading_fields, leading_parts, BackFits}
 use Rattle.krb_ccache.proofs.Headers.{inside_file}
@@ -101,7 +101,7 @@ module _ (limit : Option ℕ) where
       ∙ ap (λ (k : ℕ). done (c, at k rest)) (omega (arith, length-append (x ++ y ++ z) w, length-append (x ++ y) z, length-append x y))
 
   -- each of the items
-  each-step : (P : Credential → Type 0) (r : Result (Credential × Source) Fault) (others : Source → Items Credential) → ((c : Credential) (t : Source) → r ≡ Ok (c, t) → P c × AllByRecursion P (others t).items) → AllByRecursion P (item_and r others).items
+  each-step : (P : Credential → Type 0) (r : Result (Credential × Source) Fault) (others : Source → CacheItems Credential) → ((c : Credential) (t : Source) → r ≡ Ok (c, t) → P c × AllByRecursion P (others t).items) → AllByRecursion P (item_and r others).items
   each-step P (Err f) others each = tt
   each-step P (Ok (c, t)) others each = each c t refl
 
@@ -170,7 +170,7 @@ module _ (limit : Option ℕ) where
 
   -- a file of version 3 with a principal and these credentials
   module _ (who : FilePrincipal) (who_fits : PrincipalFits who) (who_again : IsReadAgain (principal_in whose.Principal) principal limit who) (after : Source) (fits : AreOctets after.octets) (size : ℕ) (ends : (items_after (credential_at one_enctype 3) limit after).end ≡ Ok size) where
-    abbrev found : Items Credential3
+    abbrev found : CacheItems Credential3
     found = items_after (credential_at both_enctypes 3) limit after
 
     abbrev cache : Cache3
@@ -180,7 +180,7 @@ module _ (limit : Option ℕ) where
     mapped = items-mapped credential_part (credential_at both_enctypes 3) (credential_at one_enctype 3) (Mapped-one_enctype 3) limit after
 
     found-ends : found.end ≡ Ok size
-    found-ends = ap (λ (i : Items Credential). i.end) mapped ∙ ends
+    found-ends = ap (λ (i : CacheItems Credential). i.end) mapped ∙ ends
 
     spelled : (after.octets ≡ flat_map credential3 found.items) × AllByRecursion Credential3Fits found.items
     spelled = all-sound (credential_at both_enctypes 3) credential3 Credential3Fits Reads-credential3 credential3-some limit after found.items fits (ap (λ (r : Result ℕ Fault). and_then r (λ k. done found.items)) found-ends)
@@ -192,7 +192,7 @@ module _ (limit : Option ℕ) where
     }
 
     each : AllByRecursion (IsReadAgain (credential_at one_enctype 4) credential limit) (map credential_part found.items)
-    each = subst (λ (i : Items Credential). AllByRecursion (IsReadAgain (credential_at one_enctype 4) credential limit) i.items) (sym mapped) (each-again after fits)
+    each = subst (λ (i : CacheItems Credential). AllByRecursion (IsReadAgain (credential_at one_enctype 4) credential limit) i.items) (sym mapped) (each-again after fits)
 
     holds3 : (b : List ℕ) → file_start limit b ≡ Ok (start_of 3 no_header who, after) → Holds limit b (upgraded cache)
     holds3 b begins = record {
@@ -202,7 +202,7 @@ module _ (limit : Option ℕ) where
       header = refl;
       principal = refl;
       size = size;
-      all = ap (credentials_of limit) begins ∙ sym mapped ∙ ap (λ (r : Result ℕ Fault). let it : Items Credential = record { items = map credential_part found.items; end = r } in it) found-ends;
+      all = ap (credentials_of limit) begins ∙ sym mapped ∙ ap (λ (r : Result ℕ Fault). let it : CacheItems Credential = record { items = map credential_part found.items; end = r } in it) found-ends;
     }
 
     holds4 : Holds limit (ccache (upgraded cache)) (upgraded cache)

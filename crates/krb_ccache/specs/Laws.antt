@@ -12,7 +12,7 @@ use Rattle.krb_ccache.specs.declared.value.Ccache.{Ccache}
 use Rattle.krb_ccache.specs.declared.value.Credential.{Credential}
 use Rattle.krb_ccache.specs.declared.reading.Start.{Start}
 use Rattle.krb_ccache.specs.Spelling.{CcacheSpells, ccache, Spells3, upgraded, masked_credential}
-use Rattle.krb_ccache.specs.Reading.{principal_in, again_at, Items}
+use Rattle.krb_ccache.specs.Reading.{principal_in, again_at, CacheItems}
 use Rattle.krb_ccache.specs.Streaming.{file_start, credentials, Holds}
 
 -- Octets spell at most one cache.
@@ -64,7 +64,7 @@ pub record StartIsTooLong (most : ℕ) (file : List ℕ) : Type 0 where
   pub long : IsLongStart most file fault.place octets
 
 -- What a limit leaves of the credentials of a file: those before a longer field, and its fault, with the number of its octets.
-pub record AreCut (most : ℕ) (file : List ℕ) (under whole : Items Credential) : Type 0 where
+pub record AreCut (most : ℕ) (file : List ℕ) (under whole : CacheItems Credential) : Type 0 where
   pub others : List Credential
   pub items : whole.items ≡ under.items ++ others
   pub fault : Fault
@@ -100,7 +100,7 @@ pub record IsUpToKey (octets : List ℕ) (size : ℕ) : Type 0 where
   pub all : end.octets ≡ []
 
 -- the credentials with each octet of each key 00, and the end or the fault
-abbrev pub masked_items : Items Credential → Items Credential
+abbrev pub masked_items : CacheItems Credential → CacheItems Credential
 masked_items found = record { items = map masked_credential found.items; end = found.end }
 
 -- what is before the credentials, or the fault there

@@ -3,6 +3,5 @@ pub mod Reading
 pub mod Writing
 pub mod Tickets
 pub mod Streaming
-pub mod Paths
 pub mod Laws
 pub mod Examples

@@ -3,6 +3,7 @@ use Rattle.std.specs.Prelude.{ℕ, zero, suc, ◌==◌, List, [], ◌∷◌, len
 use Rattle.std.specs.Int.{w8, w16, w32}
 use Rattle.krb_der.specs.Octets.{when}
 use Rattle.krb_file.specs.Fields.{Source, source_of, Fault, limited, Reader, and_then, ◌>>=◌, succeed, called, one_part, in_part, is_empty, number_at, signed_at, counted_at, times, names_at, within, is_at_end, version_at}
+use Rattle.krb_file.specs.Items.{Items, no_items, with_first}
 use Rattle.krb_file.specs.declared.field_name.FieldName.{FieldName}
 use Rattle.krb_file.specs.declared.field_name.FieldName.TheVariants as field
 use Rattle.krb_file.specs.declared.field_name.FilePart.{FilePart}
@@ -130,32 +131,25 @@ start_at versions = do
 -- ---- items up to the end of the file
 
 -- The items before the first fault, and the fault or the number of octets read.
-pub record Items (A : Type 0) : Type 0 where
-  pub items : List A
-  pub end : Result ℕ Fault
+abbrev pub CacheItems : Type 0 → Type 0
+CacheItems A = Items A (Result ℕ Fault)
 
-abbrev pub no_items : {A : Type 0} → Result ℕ Fault → Items A
-no_items end = record { items = []; end = end }
-
-abbrev pub with_first : {A : Type 0} → A → Items A → Items A
-with_first first others = record { items = first ∷ others.items; end = others.end }
-
-abbrev pub item_and : {A : Type 0} → Result (A × Source) Fault → (Source → Items A) → Items A
+abbrev pub item_and : {A : Type 0} → Result (A × Source) Fault → (Source → CacheItems A) → CacheItems A
 item_and (Err fault) others = no_items (Err fault)
 item_and (Ok read) others = with_first read.0 (others read.1)
 
 -- at most as many items as the number
-abbrev pub items_within : {A : Type 0} → ℕ → Reader A → Option ℕ → Source → Items A
+abbrev pub items_within : {A : Type 0} → ℕ → Reader A → Option ℕ → Source → CacheItems A
 items_within zero item_at limit source = no_items (Ok source.place)
 items_within (suc bound) item_at limit source =
     when (is_empty source.octets) (λ _. no_items (Ok source.place)) (λ _. item_and (item_at (limited limit) source) (items_within bound item_at limit))
 
 -- the items of what is left of a file, of which any number of items was read
-abbrev pub items_after : {A : Type 0} → Reader A → Option ℕ → Source → Items A
+abbrev pub items_after : {A : Type 0} → Reader A → Option ℕ → Source → CacheItems A
 items_after item_at limit source = items_within (length source.octets) item_at limit source
 
 -- all items, if none is at fault
-abbrev pub all_items : {A : Type 0} → Items A → Result (List A) Fault
+abbrev pub all_items : {A : Type 0} → CacheItems A → Result (List A) Fault
 all_items found = and_then found.end (λ size. Ok found.items)
 
 -- ---- a file of a version

@@ -23,7 +23,6 @@
 
 mod credentials;
 pub mod law;
-mod path;
 mod reading;
 mod ticket;
 mod upgrading;
@@ -31,7 +30,6 @@ mod value;
 mod writing;
 
 pub use credentials::Credentials;
-pub use path::CredentialPath;
 pub use reading::{read, read3};
 pub use ticket::{TicketState, TicketStateView, ticket_of, ticket_view_of};
 pub use upgrading::upgrade;

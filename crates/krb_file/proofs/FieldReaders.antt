@@ -98,6 +98,12 @@ module _ {A : Type 0} (reader : Reader A) where
   part_follows view (Ok value) MayFail old new read = part_read read
   part_follows view (Err fault) MayFail old new fails = part_fails fault MayFail old fails
 
+-- the fault of a part that begins at a place
+pub fails_part : {A : Type 0} (reader : Reader A) (e told : FileFault) (begin : ℕ) (MayFail : Type 0) (old : Cursor) → begin ≡ old.place → told ≡ fault_begun begin e → FailsBy e reader MayFail old → FailsBy told (one_part reader) MayFail old
+fails_part reader e told begin MayFail old here is fails =
+    let same : fault_begun old.place e ≡ told = ap (λ (place : ℕ). fault_begun place e) (sym here) ∙ sym is in
+    subst (λ (f : FileFault). FailsBy f (one_part reader) MayFail old) same (part_fails reader e MayFail old fails)
+
 -- in a part
 pub follows_in_part : {A B : Type 0} (part : FilePart) (reader : Reader A) (view : B → A) (result : Result B FileFault) (MayFail : Type 0) (old new : Cursor) → Follows view result reader MayFail old new → Follows view (fails_begun old.place (fails_at (with_part part) result)) (in_part part reader) MayFail old new
 follows_in_part part reader view result MayFail old new follows =

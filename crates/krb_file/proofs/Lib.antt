@@ -2,6 +2,7 @@ pub mod Fields
 pub mod Steps
 pub mod Loops
 pub mod FieldReaders
+pub mod Items
 pub mod Taken
 pub mod Reaching
 pub mod Limits

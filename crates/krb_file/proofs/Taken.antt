@@ -11,8 +11,6 @@ use Rattle.krb_file.specs.FieldReaders.{Cursor, BeginsWith, MayRemain, left_of, 
 use Rattle.krb_file.specs.inner.Takes.{Takes, FallsShort, FailsTaking, AreNear}
 use Rattle.krb_file.specs.declared.fault.FileFault.{FileFault}
 use Rattle.krb_file.specs.declared.fault.FileFault.TheVariants as faults
-use Rattle.krb_file.specs.declared.field_name.FileField.{FileField}
-use Rattle.krb_file.specs.declared.fault.FileWhy.{FileWhy}
 use Rattle.krb_file.specs.declared.fault.FileWhy.TheVariants as why
 use Rattle.krb_file.proofs.FieldReaders.{some_rest, skipped}
 

@@ -2,6 +2,7 @@ pub mod Faults
 pub mod Fields
 pub mod Names
 pub mod FieldReaders
+pub mod Items
 pub mod Parts
 pub mod Limits
 pub mod inner

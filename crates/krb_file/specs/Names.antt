@@ -1,11 +1,14 @@
 -- The names of fields as text.
-use Rattle.std.specs.Prelude.{ℕ, List, ◌++◌, codes, Option, Some, None}
+use Rattle.std.specs.Prelude.{ℕ, List, [], ◌++◌, codes, Option, Some, None}
 use Rattle.std.specs.Fmt.{decimal}
 use Rattle.krb_file.specs.declared.field_name.FieldName.{FieldName}
 use Rattle.krb_file.specs.declared.field_name.FieldName.TheVariants as fields
 use Rattle.krb_file.specs.declared.field_name.FilePart.{FilePart}
 use Rattle.krb_file.specs.declared.field_name.FilePart.TheVariants as parts
 use Rattle.krb_file.specs.declared.field_name.FileField.{FileField}
+use Rattle.krb_file.specs.declared.field_path.FieldPath.{FieldPath}
+use Rattle.krb_file.specs.declared.field_path.FileItem.{FileItem}
+use Rattle.krb_file.specs.declared.field_path.FileItem.TheVariants as items
 
 -- a word, and an index from 0 in brackets
 abbrev pub numbered : List ℕ → ℕ → List ℕ
@@ -74,3 +77,18 @@ in_part_text (Some part) name = part_text part ++ codes "." ++ name
 -- the name of a field, after its part if it is in one
 abbrev pub field_text : FileField → List ℕ
 field_text field = in_part_text field.part (name_text field.name)
+
+-- the record of a field, by its index from 0; the first two fields of a file are in no record
+abbrev pub record_text : ℕ → FieldName → List ℕ
+record_text index fields.Magic = []
+record_text index fields.Version = []
+record_text index other = numbered (codes "record") index ++ codes "."
+
+-- the item of a field
+abbrev pub item_text : FileItem → FieldName → List ℕ
+item_text items.File name = []
+item_text (items.Record index) name = record_text index name
+item_text (items.Credential index) name = numbered (codes "credential") index ++ codes "."
+
+abbrev pub path_text : FieldPath → List ℕ
+path_text path = item_text path.item path.field.name ++ field_text path.field

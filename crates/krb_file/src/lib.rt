@@ -10,18 +10,20 @@
 //! - [`Part::put`] appends the octets of a part of a file, and [`Part::size`] returns their number.
 //!
 //! A [`FileFault`] is a refusal at the first octet of a field, a read that failed, or out of
-//! memory.
+//! memory. A [`FieldPath`] shows which field of a file that is.
 //!
 //! Of these files it knows the names of their fields; `krb_keytab`, `krb_ccache` and `krb_packet`
 //! know the formats.
 //! Nothing opens a file: the caller passes a reader.
 //!
-//! `specs/Fields` says how fields are spelled, and `specs/FieldReaders` what a reader returns.
+//! `specs/Fields` says how fields are spelled, `specs/FieldReaders` what a reader returns, and
+//! `specs/Items` what a reader of items, one after another, returns.
 #![tactic(auto)]
 
 mod ahead;
 mod fault;
 mod field_name;
+mod field_path;
 mod field_reader;
 mod part;
 mod slice_reader;
@@ -32,6 +34,7 @@ pub use fault::{
     in_part,
 };
 pub use field_name::{FieldName, FileField, FilePart};
+pub use field_path::{FieldPath, FileItem};
 pub use field_reader::{Field, FieldReader, String16, String32, read_many};
 pub use krb_der::Limit;
 pub use part::{

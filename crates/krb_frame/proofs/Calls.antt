@@ -1,8 +1,8 @@
--- Frames that are passed among others that are fed and cleared.
+-- Frames that are fed and cleared.
 use Rattle.std.proofs.Common.{ℕ, List, [], ◌∷◌, ◌++◌, sym, subst, append_assoc, append-nil}
 use Rattle.std.specs.List.{flat_map}
 use Rattle.krb_msg.specs.Term.{Term}
-use Rattle.krb_frame.specs.Calls.{Call, Feed, Next, Pass, used, delivered, IsCall, AreCalls, CallsDeliverFrames}
+use Rattle.krb_frame.specs.Calls.{Call, Feed, Next, used, delivered, IsCall, AreCalls, CallsDeliverFrames}
 use Rattle.krb_frame.specs.Decoding.{Decoding}
 use Rattle.krb_frame.specs.Decoded.{HasDecoded}
 use Rattle.krb_frame.proofs.Ends.{found_of}
@@ -18,8 +18,6 @@ module _ (messages : List Term) where
   HasDecoded-call : (old new : Decoding) (call : Call) (stream : List ℕ) (cleared : List (List ℕ)) → IsCall messages old call new → HasDecoded messages old stream cleared → HasDecoded messages new (stream ++ used call) (cleared ++ delivered call)
   HasDecoded-call old new (Feed piece fed) stream cleared c s = same_cleared new (stream ++ used (Feed piece fed)) cleared (c.decoded stream cleared s)
   HasDecoded-call old new (Next contents) stream cleared c s = same_stream new stream (cleared ++ contents ∷ []) (c.1.decoded stream contents cleared s c.0)
-  HasDecoded-call old new (Pass piece passed) stream cleared c s =
-      subst (λ d. HasDecoded messages d (stream ++ used (Pass piece passed)) (cleared ++ delivered (Pass piece passed))) (sym c.1) (c.0.decoded stream cleared s)
 
   HasDecoded-calls : (old new : Decoding) (calls : List Call) (stream : List ℕ) (cleared : List (List ℕ)) → AreCalls messages old calls new → HasDecoded messages old stream cleared → HasDecoded messages new (stream ++ flat_map used calls) (cleared ++ flat_map delivered calls)
   HasDecoded-calls old new [] stream cleared e s = subst (λ d. HasDecoded messages d (stream ++ []) (cleared ++ [])) (sym e) (same_cleared old (stream ++ []) cleared (same_stream old stream cleared s))

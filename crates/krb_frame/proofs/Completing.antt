@@ -5,8 +5,9 @@ use Rattle.krb_der.specs.declared.verdict.Verdict.TheVariants as verdict
 use Rattle.krb_msg.specs.Grammar.{messages}
 use Rattle.krb_msg.specs.Judgement.{judgement_by}
 use Rattle.krb_frame.specs.Decoding.{Decoding, decoding_of}
+use Rattle.krb_frame.specs.Deliveries.{IsReceived}
 use Rattle.krb_frame.specs.GoingOn.{Entry}
-use Rattle.krb_frame.specs.inner.Deliveries.{CompletesWith, DeliversContents}
+use Rattle.krb_frame.specs.inner.Deliveries.{CompletesWith}
 use Rattle.krb_frame.specs.inner.Phases.{HasPart, IsFedContents, IsPhaseOf}
 use Rattle.krb_frame.specs.declared.decoder.Fed.{Fed}
 use Rattle.krb_frame.specs.declared.decoder.Phase.TheVariants as phase
@@ -18,7 +19,7 @@ open_whole : verdict.Open ≡ verdict.Whole → ⊥
 open_whole e = cc
 
 module _ {R : Type 0} (receives : R → Entry → R → Type 0) (profile : Profile) (limit looks space : ℕ) (announced before piece after : List ℕ) (size used : ℕ) (new : Decoding) where
-  pub completes : {start end : R} → HasPart (messages profile) limit announced before size → length before + used ≡ size → used ≤ length piece → after ≡ before ++ take used piece → DeliversContents receives profile after start end true → new ≡ record { profile = profile; limit = limit; octets = []; looks = looks; capacity = new.capacity } → (limit ≤ space → limit ≤ new.capacity) → CompletesWith receives (messages profile) (decoding_of profile limit looks space announced before (phase.Contents size)) piece used new start end
+  pub completes : {start end : R} → HasPart (messages profile) limit announced before size → length before + used ≡ size → used ≤ length piece → after ≡ before ++ take used piece → IsReceived receives profile after start end true → new ≡ record { profile = profile; limit = limit; octets = []; looks = looks; capacity = new.capacity } → (limit ≤ space → limit ≤ new.capacity) → CompletesWith receives (messages profile) (decoding_of profile limit looks space announced before (phase.Contents size)) piece used new start end
   completes h all within is delivered left capacity =
       let fed : Fed = record { used = used; status = status.Ready } in
       let long : length after ≡ size = omega (arith, ap length is, length-append before (take used piece), length-take used piece, all, within) in

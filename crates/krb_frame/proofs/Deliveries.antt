@@ -6,25 +6,24 @@ use Rattle.std.proofs.lemmas.List.{drop_all}
 use Rattle.krb_der.specs.declared.profile.Profile.{Profile}
 use Rattle.krb_der.specs.declared.verdict.Refusal.{Refusal}
 use Rattle.krb_msg.specs.Grammar.{messages}
-use Rattle.krb_msg.specs.ViewValues.{message_of_view}
-use Rattle.krb_msg.specs.Views.{message_der}
 use Rattle.krb_frame.specs.Decoding.{Decoding, borrowed, found, status_of}
 use Rattle.krb_frame.specs.Decoded.{HasDecoded}
-use Rattle.krb_frame.specs.Deliveries.{Received, IsMessage, contents_in, IsFollowed, status_in, due, AreUsed, Delivers, DeliversBefore, DeliversPrefix, DeliversUpTo}
+use Rattle.krb_frame.specs.Deliveries.{Received, IsReceived, IsMessage, contents_in, IsFollowed, status_in, due, AreUsed, Delivers, DeliversBefore, DeliversPrefix, DeliversUpTo}
 use Rattle.krb_frame.specs.Feeds.{Clears}
-use Rattle.krb_frame.specs.Frame.{framed}
-use Rattle.krb_frame.specs.GoingOn.{Entry, Contents, Fault, Skipping, GoesOn, FeedsAfter, PassesEntry, ClearsEntry, GivesUp, Skips, entries_size, passed_by, rest_to_come, unless_skipping}
-use Rattle.krb_frame.specs.Passes.{contents_of, passed_after}
+use Rattle.krb_frame.specs.Frame.{framed, frame_length}
+use Rattle.krb_frame.specs.GoingOn.{Entry, Contents, Fault, Skipping, GoesOn, FeedsAfter, IsClear, ClearsEntry, GivesUp, Skips, entries_size, rest_to_come}
 use Rattle.krb_frame.specs.inner.Deliveries.{Completes, CompletesEntry, CompletesWith, DeliversFrame, DeliversNext, DeliversOne}
+use Rattle.krb_frame.specs.inner.Phases.{HasFrame}
+use Rattle.krb_frame.specs.inner.Wholes.{BeginWith}
 use Rattle.krb_frame.specs.declared.delivery.Next.{Next}
 use Rattle.krb_frame.specs.declared.delivery.Next.TheVariants as next
 use Rattle.krb_frame.specs.declared.decoder.Fed.{Fed}
 use Rattle.krb_frame.specs.declared.decoder.Status.{Status}
 use Rattle.krb_frame.specs.declared.decoder.Status.TheVariants as status
-use Rattle.krb_frame.specs.declared.pass.Passed.{Passed}
 use Rattle.krb_frame.proofs.Announced.{ready-size}
 use Rattle.krb_frame.proofs.DecoderFrames.{more-nothing, same-status}
 use Rattle.krb_frame.proofs.Skips.{HoldsRefused, holds-refused, feeds-after_count, clears-entry}
+use Rattle.krb_frame.proofs.Wholes.{GoesOn-frame, HasDecoded-frame, begin-frame}
 
 -- ---- what a decoder answers
 pub memory_more : status.Memory ≡ status.More → ⊥
@@ -35,12 +34,6 @@ memory_ready e = cc
 
 pub memory_refused : (refusal : Refusal) → status.Memory ≡ status.Refused refusal → ⊥
 memory_refused refusal e = cc
-
-due_one : (s : Status) → due s ≤ 1
-due_one status.More = omega arith
-due_one status.Ready = omega arith
-due_one status.Memory = omega arith
-due_one (status.Refused refusal) = omega arith
 
 waits_or : (s : Status) → (s ≡ status.More) ⊎ (due s ≡ 1)
 waits_or status.More = inl refl
@@ -194,36 +187,29 @@ module _ {R : Type 0} (receives : R → Entry → R → Type 0) where
   }
 
   -- ---- one frame
-  pub delivers-passed : (s : Skipping) (piece : List ℕ) (passed : Passed) (before after : R) → PassesEntry (messages s.current.profile) s piece passed → receives before (Contents (contents_of passed)) after → Delivers receives s (framed (contents_of passed)) s before after
-  delivers-passed s piece passed before after p r = record {
-    frames = Contents (contents_of passed) ∷ [];
-    received = (after, r, refl);
-    same_profile = refl;
-    same_limit = refl;
-    few = omega arith;
-    followed = λ stream first g. (tt, tt);
-    used = λ stream first g. record { size = omega arith; short = λ h. h };
-    goes_on = p.goes_on;
-    decoded = λ m z stream cleared h. (z, p.passes.decoded stream cleared h);
-  }
-
-  clear_of : (skipped : ℕ) (octets : List ℕ) (first : Option (List ℕ)) (contents : List ℕ) → Some contents ≡ unless_skipping skipped (passed_after octets first) → octets ≡ []
-  clear_of zero [] first contents e = refl
-  clear_of zero (octet ∷ octets) first contents e = absurd cc
-  clear_of (suc n) octets first contents e = absurd cc
-
-  pub passed-frame : (keeps_going : Bool) (s : Skipping) (piece : List ℕ) (passed : Passed) (before after : R) → Some (contents_of passed) ≡ passed_by s piece → PassesEntry (messages s.current.profile) s piece passed → receives before (Contents (message_der (message_of_view passed.message))) after → DeliversFrame receives keeps_going s piece passed.rest.now s before after
-  unfolding contents_of delivers-passed
-  passed-frame keeps_going s piece passed before after clear p r = record {
-    used = framed (contents_of passed);
-    parts = p.passes.parts;
-    one = record {
-      delivers = delivers-passed s piece passed before after p r;
-      stops = λ e. (tt, tt);
-      some = omega arith;
-      waits = left_waits s (clear_of s.skipped s.current.octets _ (contents_of passed) clear);
-    };
-  }
+  pub delivers-whole : (keeps_going : Bool) (s : Skipping) (piece contents rest : List ℕ) (before after : R) → IsClear s → BeginWith s.current.limit piece contents rest → IsReceived receives s.current.profile contents before after true → DeliversFrame receives keeps_going s piece rest s before after
+  delivers-whole keeps_going s piece contents rest before after clear b r =
+      let h : HasFrame (messages s.current.profile) s.current.limit (frame_length (length contents)) contents = begin-frame (messages s.current.profile) s.current.limit piece contents rest b r.0 in
+      record {
+        used = framed contents;
+        parts = b.parts;
+        one = record {
+          delivers = record {
+            frames = Contents contents ∷ [];
+            received = (after, r.1, refl);
+            same_profile = refl;
+            same_limit = refl;
+            few = omega arith;
+            followed = λ stream first g. (tt, tt);
+            used = λ stream first g. record { size = omega arith; short = λ h. h };
+            goes_on = GoesOn-frame (messages s.current.profile) s contents clear h;
+            decoded = λ m z stream cleared d. (z, HasDecoded-frame (messages s.current.profile) s.current contents clear.nothing h stream cleared d);
+          };
+          stops = λ e. (tt, tt);
+          some = omega arith;
+          waits = left_waits s clear.nothing;
+        };
+      }
 
   cleared_is : (old new : Skipping) (answer : Bool) (contents : List ℕ) → ClearsEntry (messages old.current.profile) old new answer → borrowed (messages old.current.profile) old.current ≡ Some contents → new.current ≡ record old.current { octets = []; capacity = new.current.capacity }
   cleared_is old new answer contents c e = c.clears.left ∙ ap (λ (o : Option (List ℕ)). if is_some o then record old.current { octets = []; capacity = new.current.capacity } else old.current) e

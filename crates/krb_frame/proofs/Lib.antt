@@ -8,7 +8,7 @@ pub mod GoingOn
 pub mod Skips
 pub mod Deliveries
 mod Completing
-pub mod Passing
+mod Wholes
 pub mod Calls
 pub mod Partials
 pub mod Announced

@@ -1,7 +1,6 @@
 -- The stream that a decoder that skips has decoded when it is fed, and when a frame is cleared or skipped.
 use Rattle.std.proofs.Common.{◌≡◌, ℕ, zero, suc, ◌+◌, ◌-◌, ◌^◌, ◌<◌, ◌≤◌, ◌⊎◌, inl, inr, min, List, [], ◌∷◌, ◌++◌, length, map, take, drop, true, Bool, Some, None, refl, sym, ◌∙◌, ap, ap₂, subst, arith, append_assoc, append-nil, length-take, drop_at}
-use Rattle.std.specs.Prelude.{Option, IfSome, is_some, if◌then◌else◌}
-use Rattle.std.specs.Option.{option_map}
+use Rattle.std.specs.Prelude.{Option, is_some, if◌then◌else◌}
 use Rattle.std.proofs.lemmas.Bool.{cases_lt, lt-leb, le-leb}
 use Rattle.std.proofs.lemmas.List.{drop_all, take_all}
 use Rattle.std.proofs.Math.Seq.{take-add, drop-append-add}
@@ -14,11 +13,8 @@ use Rattle.krb_msg.specs.Stream.{Frames, End, Boundary, Within, Refused, ends, w
 use Rattle.krb_frame.specs.Decoding.{Decoding, found, status_at, status_of, borrowed, AreOfOne, IsOfOneFrame}
 use Rattle.krb_frame.specs.Decoded.{HasDecoded, frames_size}
 use Rattle.krb_frame.specs.Feeds.{Feeds, Clears}
-use Rattle.krb_frame.specs.GoingOn.{Entry, Contents, Fault, last_entry, entries, rest_of, rest_at, rest_to_come, GivesUp, Skipping, GoesOn, without, FeedsAfter, PassesEntry, ClearsEntry, Skips}
-use Rattle.krb_frame.specs.Frame.{framed}
-use Rattle.krb_frame.specs.Passes.{Passes, contents_of, passed_after, passed}
+use Rattle.krb_frame.specs.GoingOn.{Entry, Contents, Fault, last_entry, entries, rest_of, rest_at, rest_to_come, GivesUp, Skipping, GoesOn, without, FeedsAfter, ClearsEntry, Skips}
 use Rattle.krb_frame.specs.declared.decoder.Fed.{Fed}
-use Rattle.krb_frame.specs.declared.pass.Passed.{Passed}
 use Rattle.krb_frame.specs.declared.decoder.Status.TheVariants as status
 use Rattle.krb_frame.proofs.Announced.{ready-size, refused-four}
 use Rattle.krb_frame.proofs.DecoderFrames.{one-nothing}
@@ -172,39 +168,6 @@ module _ (messages : List Term) where
           alone = inr none;
         };
   }
-
-  -- ---- a frame that is passed
-  -- a decoder that passes a frame has no octets
-  holds_none : (octets : List ℕ) (first : Option (List ℕ)) (contents : List ℕ) → Some contents ≡ passed_after octets first → octets ≡ []
-  holds_none [] first contents e = refl
-  holds_none (octet ∷ octets) first contents e = absurd cc
-
-  passes-one : (s : Skipping) (piece : List ℕ) (one : Passed) → s.skipped ≡ 0 → s.current.octets ≡ [] → Passes messages s.current piece one → PassesEntry messages s piece one
-  passes-one s piece one skips none p = record {
-    passes = p;
-    goes_on = λ stream before g.
-        let d : Decoding = s.current in
-        let contents : List ℕ = contents_of one in
-        let after : HasDecoded messages d (d.octets ++ framed contents) (contents ∷ []) = p.decoded d.octets [] (decoded-self d g.one) in
-        let first : (more : List ℕ) → frames messages d.limit (framed contents ++ more) ≡ with_first contents (frames messages d.limit more) =
-        λ more. subst (λ l. frames messages d.limit ((l ++ framed contents) ++ more) ≡ with_first contents (frames messages d.limit (l ++ more))) none (after.goes_on more) in
-        let long : length (framed contents) ≡ 4 + length contents = omega arith in
-        record {
-          goes_on = λ more.
-              ap (entries messages d.limit) (append_assoc stream (framed contents) more)
-              ∙ g.goes_on (framed contents ++ more)
-              ∙ ap₂ (λ l n. before ++ entries messages d.limit (l ++ drop n (framed contents ++ more))) none skips
-              ∙ ap (λ l. before ++ l) (entries-frame messages d.limit (framed contents) contents more long (first more))
-              ∙ sym (append_assoc before (Contents contents ∷ []) (entries messages d.limit more))
-              ∙ ap₂ (λ l n. (before ++ Contents contents ∷ []) ++ entries messages d.limit (l ++ drop n more)) (sym none) (sym skips);
-          one = g.one;
-          alone = inl skips;
-        };
-  }
-
-  pub passes-entry : (s : Skipping) (piece : List ℕ) (result : Option Passed) → s.skipped ≡ 0 → option_map contents_of result ≡ passed s.current piece → IfSome result (Passes messages s.current piece) → IfSome result (PassesEntry messages s piece)
-  passes-entry s piece None skips frame p = p
-  passes-entry s piece (Some one) skips frame p = passes-one s piece one skips (holds_none s.current.octets _ (contents_of one) frame) p
 
   -- ---- a frame that is skipped
   no_rest : (rest : ℕ) → Some rest ≡ None → ⊥

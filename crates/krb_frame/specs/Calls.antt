@@ -5,35 +5,28 @@ use Rattle.krb_msg.specs.Term.{Term}
 use Rattle.krb_msg.specs.Stream.{frames}
 use Rattle.krb_frame.specs.Decoding.{Decoding, found, borrowed}
 use Rattle.krb_frame.specs.Feeds.{Feeds, Clears}
-use Rattle.krb_frame.specs.Frame.{framed}
-use Rattle.krb_frame.specs.Passes.{Passes, contents_of}
 use Rattle.krb_frame.specs.Decoded.{HasDecoded, after_frames}
 use Rattle.krb_frame.specs.declared.decoder.Fed.{Fed}
-use Rattle.krb_frame.specs.declared.pass.Passed.{Passed}
 
--- a feed of a piece, a clearing of the frame with these contents, or a pass of the frame with which a piece begins
+-- a feed of a piece, or a clearing of the frame with these contents
 pub data Call : Type 0 where
   Feed : (piece : List ℕ) → (fed : Fed) → Call
   Next : (contents : List ℕ) → Call
-  Pass : (piece : List ℕ) → (passed : Passed) → Call
 
 -- the octets of the stream that a call used
 abbrev pub used : Call → List ℕ
 used (Feed piece fed) = take fed.used piece
 used (Next contents) = []
-used (Pass piece passed) = framed (contents_of passed)
 
 -- the contents of the frames that a call delivered
 abbrev pub delivered : Call → List (List ℕ)
 delivered (Feed piece fed) = []
 delivered (Next contents) = contents ∷ []
-delivered (Pass piece passed) = contents_of passed ∷ []
 
 -- a call led from one decoder by any messages to another
 abbrev pub IsCall : List Term → Decoding → Call → Decoding → Type 0
 IsCall messages old (Feed piece fed) new = Feeds messages old piece new fed
 IsCall messages old (Next contents) new = (borrowed messages old ≡ Some contents) × Clears messages old new true
-IsCall messages old (Pass piece passed) new = Passes messages old piece passed × (new ≡ old)
 
 -- several calls did, one after another
 abbrev pub AreCalls : List Term → Decoding → List Call → Decoding → Type 0
@@ -45,6 +38,6 @@ pub record DeliverFrames (messages : List Term) (new : Decoding) (stream : List 
   pub decoded : HasDecoded messages new (stream ++ flat_map used calls) (cleared ++ flat_map delivered calls)
   pub frames_are : frames messages new.limit (stream ++ flat_map used calls) ≡ after_frames (cleared ++ flat_map delivered calls) (found messages new)
 
--- Calls deliver the frames of a stream, whichever frames are passed, and whichever are fed and cleared.
+-- Calls deliver the frames of a stream, in order.
 abbrev pub CallsDeliverFrames : Type 0
 CallsDeliverFrames = (messages : List Term) (old new : Decoding) (calls : List Call) (stream : List ℕ) (cleared : List (List ℕ)) → AreCalls messages old calls new → HasDecoded messages old stream cleared → DeliverFrames messages new stream cleared calls

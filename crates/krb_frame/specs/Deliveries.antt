@@ -2,8 +2,11 @@
 use Rattle.std.specs.Prelude.{ℕ, ◌≡◌, ◌+◌, ◌^◌, ◌<◌, ◌≤◌, Bool, true, false, None, List, [], ◌∷◌, ◌++◌, length, take}
 use Rattle.std.specs.List.{AllByRecursion}
 use Rattle.krb_der.specs.Octets.{number}
+use Rattle.krb_der.specs.declared.profile.Profile.{Profile}
 use Rattle.krb_der.specs.declared.verdict.Refusal.{Refusal}
+use Rattle.krb_der.specs.declared.verdict.Verdict.TheVariants.{Whole}
 use Rattle.krb_msg.specs.Grammar.{messages}
+use Rattle.krb_msg.specs.Judgement.{judgement}
 use Rattle.krb_frame.specs.Decoding.{status_of}
 use Rattle.krb_frame.specs.Decoded.{HasDecoded}
 use Rattle.krb_frame.specs.GoingOn.{Entry, Contents, Fault, Skipping, GoesOn, entries_size, rest_to_come}
@@ -17,6 +20,11 @@ use Rattle.krb_frame.specs.declared.delivery.Delivered.TheVariants as delivered
 abbrev pub Received : {R : Type 0} → (R → Entry → R → Type 0) → R → List Entry → R → Type 0
 Received receives old [] new = new ≡ old
 Received {R} receives old (entry ∷ entries) new = (between : R) × receives old entry between × Received receives between entries new
+
+-- Contents were received, if they are a message of a profile, and else nothing.
+abbrev pub IsReceived : {R : Type 0} → (R → Entry → R → Type 0) → Profile → List ℕ → R → R → Bool → Type 0
+IsReceived receives profile contents old new true = (judgement profile (length contents) contents ≡ Whole) × receives old (Contents contents) new
+IsReceived receives profile contents old new false = (judgement profile (length contents) contents ≡ Whole → ⊥) × (new ≡ old)
 
 -- a frame is a message
 abbrev pub IsMessage : Entry → Type 0

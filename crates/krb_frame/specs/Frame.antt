@@ -1,15 +1,7 @@
 -- The contents of a frame, its length, and a frame as octets.
-use Rattle.std.specs.Prelude.{ℕ, ◌≡◌, ◌<◌, ◌^◌, ◌/◌, ◌%◌, ◌==◌, nat_le, nat_lt, if◌then◌else◌, List, [], ◌∷◌, ◌++◌, length, Option, Some, None}
-use Rattle.krb_der.specs.declared.verdict.Verdict.TheVariants.{Whole}
+use Rattle.std.specs.Prelude.{ℕ, ◌^◌, ◌/◌, ◌%◌, ◌==◌, nat_le, nat_lt, if◌then◌else◌, List, [], ◌∷◌, ◌++◌, length, Option, Some, None}
 use Rattle.krb_der.specs.declared.why.Why.{Why}
 use Rattle.krb_der.specs.declared.why.Why.TheVariants as why
-use Rattle.krb_msg.specs.Term.{Term}
-use Rattle.krb_msg.specs.Judgement.{judgement_by}
-
--- the octets are judged to be one of some messages
-pub record IsWholeFrame (messages : List Term) (octets : List ℕ) : Type 0 where
-  pub short : length octets < 2 ^ 31
-  pub whole : judgement_by messages (length octets) octets ≡ Whole
 
 -- why a length is refused, if it is (RFC 4120, 7.2.2)
 abbrev pub length_fault : ℕ → ℕ → Option Why

@@ -7,13 +7,10 @@ use Rattle.krb_msg.specs.Term.{Term}
 use Rattle.krb_msg.specs.Stream.{Frames, End, Boundary, Within, Refused, frames}
 use Rattle.krb_frame.specs.Decoding.{Decoding, IsAmple, status_of, borrowed, IsOfOneFrame}
 use Rattle.krb_frame.specs.Feeds.{Feeds, Clears}
-use Rattle.krb_frame.specs.Frame.{framed}
-use Rattle.krb_frame.specs.Passes.{Passes, contents_of, passed}
 use Rattle.krb_frame.specs.Decoded.{frames_size}
 use Rattle.krb_frame.specs.declared.decoder.Fed.{Fed}
 use Rattle.krb_frame.specs.declared.decoder.Status.{Status}
 use Rattle.krb_frame.specs.declared.decoder.Status.TheVariants as status
-use Rattle.krb_frame.specs.declared.pass.Passed.{Passed}
 
 -- ---- the frames
 -- A frame of a stream: its contents, which are a message; or the reason why it is refused, at a place in it, with its octets up to that place, or all that are present of one that is cut.
@@ -113,20 +110,6 @@ pub record FeedsAfter (messages : List Term) (old : Skipping) (piece : List ℕ)
   pub first : min old.skipped (length piece) ≤ fed.used
   pub others : Feeds messages old.current (drop old.skipped piece) new.current (without (min old.skipped (length piece)) fed)
   pub goes_on : (stream : List ℕ) (before : List Entry) → GoesOn messages old stream before → GoesOn messages new (stream ++ take fed.used piece) before
-
--- no frame is passed while octets of a skipped one are to come
-abbrev pub unless_skipping : ℕ → Option (List ℕ) → Option (List ℕ)
-unless_skipping zero frame = frame
-unless_skipping (suc skipped) frame = None
-
--- the contents of the frame that is passed of a piece
-abbrev pub passed_by : Skipping → List ℕ → Option (List ℕ)
-passed_by s piece = unless_skipping s.skipped (passed s.current piece)
-
--- The frame with which a piece begins was passed.
-pub record PassesEntry (messages : List Term) (s : Skipping) (piece : List ℕ) (passed : Passed) : Type 0 where
-  pub passes : Passes messages s.current piece passed
-  pub goes_on : (stream : List ℕ) (before : List Entry) → GoesOn messages s stream before → GoesOn messages s (stream ++ framed (contents_of passed)) (before ++ Contents (contents_of passed) ∷ [])
 
 -- The frame that is ready was cleared, if one is.
 pub record ClearsEntry (messages : List Term) (old new : Skipping) (answer : Bool) : Type 0 where

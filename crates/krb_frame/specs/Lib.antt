@@ -3,7 +3,6 @@ pub mod Decoded
 pub mod Feeds
 pub mod Frame
 pub mod GoingOn
-pub mod Passes
 pub mod Deliveries
 pub mod Calls
 pub mod Laws

@@ -1,3 +1,3 @@
 pub mod Phases
-pub mod Passing
+pub mod Wholes
 pub mod Deliveries

@@ -5,14 +5,13 @@ ghost use Rattle.krb_der.specs.declared.verdict.Verdict.TheVariants.{Open};
 ghost use Rattle.krb_msg.specs.Grammar.{messages};
 ghost use Rattle.krb_msg.specs.Judgement.{judgement};
 ghost use Rattle.krb_scan.specs.Machine.{HasScanned, ledger_of, profile_of};
-ghost use Rattle.krb_frame.specs.inner.Deliveries.{DeliversContents};
+ghost use Rattle.krb_frame.specs.Deliveries.{IsReceived};
 ghost use Rattle.krb_frame.specs.inner.Phases.{IsFedContents, IsEarly, status_by};
 ghost use Rattle.krb_frame.specs.declared.decoder.Status.TheVariants as status;
 
 use crate::decoder::{Fed, LENGTH_OCTETS, Status};
 use crate::receiver::Receiver;
 use krb_der::{Memory, Profile, Refusal, Verdict};
-use krb_msg::view_message_in;
 use krb_scan::Machine;
 use std::alloc::Global;
 
@@ -68,30 +67,13 @@ pub(crate) fn deliver_contents<R: Receiver>(
     requires { length contents.old.items + length octets.now < 2 ^ 31 }
     ensures same { contents.new.items ≡ contents.old.items }
     ensures capacity { vec_capacity contents.old ≤ vec_capacity contents.new }
-    ensures delivered { IfOk result (DeliversContents R.Receives profile (contents.old.items ++ octets.now) receiver.old receiver.new) }
+    ensures delivered { IfOk result (IsReceived R.Receives profile (contents.old.items ++ octets.now) receiver.old receiver.new) }
 {
     let before = contents.len();
     contents.extend_from_slice(octets)?;
-    let delivered = deliver_viewed(profile, contents.as_slice(), receiver);
+    let received = receiver.receive_contents(profile, contents.as_slice());
     contents.truncate(before);
-    delivered
-}
-
-/// Delivers the message whose octets these are, and returns whether they are one.
-fn deliver_viewed<R: Receiver>(
-    profile: Profile,
-    octets: &[u8],
-    receiver: &mut R,
-) -> Result<bool, Memory>
-    requires { length octets.now < 2 ^ 31 }
-    ensures { IfOk result (DeliversContents R.Receives profile octets.now receiver.old receiver.new) }
-{
-    let Some(message) = view_message_in(profile, octets) else {
-        return Ok(false);
-    };
-    let size = LENGTH_OCTETS + octets.len();
-    receiver.receive_message(&message, size as u64)?;
-    Ok(true)
+    received
 }
 
 /// Returns what is answered if a machine decides so.

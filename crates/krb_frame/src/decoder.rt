@@ -2,11 +2,9 @@
 
 use crate::contents::{CONTENTS_KEPT, clear_contents, deliver_contents, take_contents};
 use crate::framed::Framed;
-use crate::length::{HIGH_BIT, accepted_size};
-use crate::pass::{Passed, first_contents};
+use crate::length::{HIGH_BIT, length_fault};
 use crate::receiver::Receiver;
 use krb_der::{Limit, Memory, Profile, Refusal, Why};
-use krb_msg::view_message_in;
 use krb_scan::Machine;
 use std::alloc::Global;
 use std::marker::Model;
@@ -88,15 +86,15 @@ impl Model for Decoder {
 }
 
 ghost use Rattle.std.specs.Prelude.{◌≡◌, ◌≤◌, ◌<◌, ◌⊎◌, ◌^◌, ◌↔◌, true, [], length, vec_capacity, IfOk, IfSome, IsTrue, MatchOption};
-ghost use Rattle.std.specs.Option.{option_map};
+ghost use Rattle.krb_der.specs.declared.verdict.Verdict.TheVariants.{Whole};
 ghost use Rattle.krb_msg.specs.Grammar.{messages};
+ghost use Rattle.krb_msg.specs.Judgement.{judgement};
 ghost use Rattle.krb_scan.specs.Machine.{ledger_of, profile_of};
 ghost use Rattle.krb_frame.specs.Decoding.{IsAmple, announced, borrowed, finish_at, finish_of, kept_contents, IsPartial, open_lengths_of, decoding_of};
 ghost use Rattle.krb_frame.specs.Decoded.{HasDecoded};
 ghost use Rattle.krb_frame.specs.Feeds.{Feeds, Clears};
 ghost use Rattle.krb_frame.specs.GoingOn.{GivesUp, rest_to_come};
 ghost use Rattle.krb_frame.specs.inner.Deliveries.{Completes};
-ghost use Rattle.krb_frame.specs.Passes.{Passes, contents_of, passed};
 ghost use Rattle.krb_frame.specs.inner.Phases.{end_after, phase_of, IsLengthJudged, IsPut, IsScanned, FeedsLength};
 ghost use Rattle.krb_frame.specs.declared.decoder.Phase.TheVariants as phase;
 
@@ -200,26 +198,12 @@ impl Decoder {
         }
     }
 
-    /// Passes the frame with which a piece begins, if it is all there and its contents are a
-    /// message, and returns that message as a view of the piece, and what follows the frame. It is
-    /// as if the frame had been fed and cleared, but nothing is kept of it and the machine looks at
-    /// none of its octets. Returns `None` of any other piece, and if a part of a frame was fed
-    /// before or one is ready or refused: then the piece is to be fed. It allocates nothing.
+    /// Returns the greatest length of a frame.
     #[inline(always)]
-    pub fn pass<'p>(&self, piece: &'p [u8]) -> Option<Passed<'p>>
-        ensures frame { option_map contents_of result ≡ passed self.now piece.now }
-        ensures passes { IfSome result (Passes (messages self.now.profile) self.now piece.now) }
+    pub(crate) fn limit(&self) -> Limit
+        ensures { result ≡ self.now.limit }
     {
-        let Phase::Length(0) = self.phase else {
-            return None;
-        };
-        let (contents, rest) = first_contents(self.limit, piece)?;
-        // With `?` the view would be moved more often, which takes longer than what else is done
-        // here.
-        let Some(message) = view_message_in(self.machine.profile(), contents) else {
-            return None;
-        };
-        Some(Passed { message, rest })
+        self.limit
     }
 
     /// Uses octets of the length, as many as are missing and come, and judges it with its last one.
@@ -256,7 +240,8 @@ impl Decoder {
 
     /// Returns the frame that is ready, borrowed.
     pub fn ready(&self) -> Option<Framed<'_>>
-        ensures { result ≡ borrowed (messages self.now.profile) self.now }
+        ensures frame { result ≡ borrowed (messages self.now.profile) self.now }
+        ensures whole { IfSome result (λ contents. judgement self.now.profile (length contents) contents ≡ Whole) }
     {
         match self.phase {
             Phase::Ready => Some(Framed::new(self.contents.as_slice())),
@@ -488,11 +473,12 @@ fn judge_length(machine: &mut Machine, limit: Limit, announced: [u8; LENGTH_OCTE
     ensures profile { profile_of machine.new ≡ profile_of machine.old }
     ensures looks { ledger_of machine.new ≡ ledger_of machine.old }
 {
-    match accepted_size(limit, announced) {
-        Ok(size) => {
+    let size = u32::from_be_bytes(announced);
+    match length_fault(limit, size) {
+        Some(why) => Phase::Refused(Refusal { place: 3, why }),
+        None => {
             machine.clear(size);
             Phase::Contents(size)
         }
-        Err(why) => Phase::Refused(Refusal { place: 3, why }),
     }
 }

@@ -36,9 +36,8 @@ impl SkippingDecoder {
     /// length is known; else nothing after it is looked at, and the decoder stays refused. Out of
     /// memory, nothing is known of the decoder.
     ///
-    /// A message whose octets lie together in the piece, or of which earlier pieces have some and
-    /// this one all others, is viewed and not looked at by the machine, as by
-    /// [`pass`](SkippingDecoder::pass).
+    /// The machine looks at no octet of a message that lies in the piece, or of which earlier pieces
+    /// have some octets and this one all others: the receiver gets its contents as they are.
     pub fn deliver<'p, R: Receiver>(
         &mut self,
         piece: &'p [u8],
@@ -71,18 +70,18 @@ impl SkippingDecoder {
     ) -> Result<Next<'p>, Memory>
         ensures { IfOk result (DeliversNext R.Receives keeps_going self.old piece.now self.new receiver.old receiver.new) }
     {
-        match self.pass(piece) {
-            None => self.deliver_cut(piece, keeps_going, receiver),
-            Some(passed) => {
-                let size = (piece.len() - passed.rest.len()) as u64;
-                receiver.receive_message(&passed.message, size)?;
-                Ok(Next::Frame(passed.rest))
-            }
+        let Some(frame) = self.whole(piece) else {
+            return self.deliver_cut(piece, keeps_going, receiver);
+        };
+        let profile = self.decoder().profile();
+        if !receiver.receive_contents(profile, frame.contents)? {
+            return self.deliver_cut(piece, keeps_going, receiver);
         }
+        Ok(Next::Frame(frame.rest))
     }
 
     /// Delivers the first frame of a piece, as [`deliver_next`](SkippingDecoder::deliver_next)
-    /// does, where it does not lie there whole.
+    /// does, where it does not lie there whole or is no message.
     fn deliver_cut<'p, R: Receiver>(
         &mut self,
         piece: &'p [u8],
@@ -132,8 +131,10 @@ impl SkippingDecoder {
         let Some(framed) = self.ready() else {
             unreachable!()
         };
-        let size = LENGTH_OCTETS + framed.octets().len();
-        receiver.receive_message(&framed.view(), size as u64)?;
+        let profile = self.decoder().profile();
+        if !receiver.receive_contents(profile, framed.octets())? {
+            unreachable!()
+        }
         self.next();
         Ok(Next::Frame(rest))
     }

@@ -41,8 +41,7 @@ pub fn going_on_changes_nothing_before()
     ensures { GoingOnChangesNothingBefore }
 {}
 
-/// Whichever frames of a stream are passed, and whichever are fed and cleared, all are delivered,
-/// in order.
+/// Whatever pieces of a stream are fed, and whenever frames are cleared, all are delivered, in order.
 pub fn calls_deliver_frames()
     ensures { CallsDeliverFrames }
 {}

@@ -4,12 +4,11 @@
 //!
 //! - [`Decoder::feed`] uses the octets of a piece, up to the last one of a frame or a refused one.
 //! - [`Decoder::ready`] returns the frame that is ready, borrowed ([`Framed`]), and
-//!   [`Decoder::next`] goes on to the next one. [`Decoder::pass`] returns a frame that lies whole
-//!   in a piece without copying it.
+//!   [`Decoder::next`] goes on to the next one.
 //! - [`SkippingDecoder::skip`] goes on with the next frame after one that is refused;
 //!   [`SkippingDecoder`] has the calls above, too.
 //! - [`SkippingDecoder::deliver`] delivers the frames of a piece to a [`Receiver`], one after
-//!   another, with or without going on after a refusal: the loop over the calls above.
+//!   another, with or without going on after a refusal, and copies none that lies in the piece.
 //! - [`frame`] returns a message as a frame; [`length_fault`] says why a length is refused.
 //!
 //! Nothing here reads or writes: the caller has the pieces. A decoder keeps at most the octets of
@@ -28,9 +27,9 @@ mod framed;
 mod framing;
 pub mod law;
 mod length;
-mod pass;
 mod receiver;
 mod skipping;
+mod whole;
 
 pub use decoder::{Decoder, Fed, Partial, Status};
 pub use delivery::Delivered;
@@ -38,6 +37,5 @@ pub use framed::Framed;
 pub use framing::frame;
 pub use krb_der::Limit;
 pub use length::length_fault;
-pub use pass::Passed;
 pub use receiver::Receiver;
 pub use skipping::SkippingDecoder;

@@ -1,17 +1,15 @@
 //! What the frames of a stream are delivered to.
 
-ghost use Rattle.std.specs.Prelude.{◌≡◌, ◌+◌, ◌↔◌, length, take, IsTrue, OnOk};
+ghost use Rattle.std.specs.Prelude.{◌≡◌, ◌+◌, ◌<◌, ◌^◌, ◌↔◌, length, take, IfOk, IsTrue, OnOk};
 ghost use Rattle.krb_der.specs.Octets.{number};
 ghost use Rattle.krb_msg.specs.Grammar.{messages};
-ghost use Rattle.krb_msg.specs.Views.{message_der};
-ghost use Rattle.krb_msg.specs.ViewValues.{IsMessageView, message_of_view};
 ghost use Rattle.krb_frame.specs.Decoding.{status_of};
-ghost use Rattle.krb_frame.specs.GoingOn.{Entry, Contents, Fault};
+ghost use Rattle.krb_frame.specs.Deliveries.{IsReceived};
+ghost use Rattle.krb_frame.specs.GoingOn.{Entry, Fault};
 ghost use Rattle.krb_frame.specs.declared.decoder.Status.TheVariants as status;
 
 use crate::decoder::Decoder;
-use krb_der::{Memory, Refusal};
-use krb_msg::MessageView;
+use krb_der::{Memory, Profile, Refusal};
 
 /// What the frames of a stream are delivered to, one after another.
 pub trait Receiver {
@@ -21,11 +19,11 @@ pub trait Receiver {
     /// It is to receive no frame more for now.
     ghost IsFull: { Self → Type 0 };
 
-    /// Receives a message, whose frame has `size` octets.
-    fn receive_message(&mut self, message: &MessageView<'_>, size: u64) -> Result<(), Memory>
-        requires view { IsMessageView (message_der (message_of_view message.now)) message.now }
-        requires size { size ≡ 4 + length (message_der (message_of_view message.now)) }
-        ensures { OnOk result (Receives self.old (Contents (message_der (message_of_view message.now))) self.new) };
+    /// Receives the contents of a frame, if they are a message of a profile, and returns whether
+    /// they are; else nothing changes.
+    fn receive_contents(&mut self, profile: Profile, contents: &[u8]) -> Result<bool, Memory>
+        requires short { length contents.now < 2 ^ 31 }
+        ensures { IfOk result (IsReceived Receives profile contents.now self.old self.new) };
 
     /// Receives the refusal of the current frame of a decoder, which has `size` octets and is
     /// skipped after that.

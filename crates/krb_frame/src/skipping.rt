@@ -2,8 +2,8 @@
 
 use crate::decoder::{Decoder, Fed};
 use crate::framed::Framed;
-use crate::pass::Passed;
 use crate::receiver::Receiver;
+use crate::whole::{WholeFrame, first_frame};
 use krb_der::{Memory, Refusal};
 use std::marker::Model;
 
@@ -24,14 +24,15 @@ impl Model for SkippingDecoder {
     ghost view = { λ s. record { current = s.decoder; skipped = s.skipped } };
 }
 
-ghost use Rattle.std.specs.Prelude.{◌≡◌, ◌↔◌, ℕ, List, map, IfOk, IfSome, IsTrue};
-ghost use Rattle.std.specs.Option.{option_map};
+ghost use Rattle.std.specs.Prelude.{◌≡◌, ◌↔◌, ℕ, List, length, map, IfOk, IfSome, IsTrue, MatchOption};
+ghost use Rattle.krb_der.specs.declared.verdict.Verdict.TheVariants.{Whole};
 ghost use Rattle.krb_msg.specs.Grammar.{messages};
+ghost use Rattle.krb_msg.specs.Judgement.{judgement};
 ghost use Rattle.krb_frame.specs.Decoded.{HasDecoded};
 ghost use Rattle.krb_frame.specs.Decoding.{borrowed, finish_of};
-ghost use Rattle.krb_frame.specs.GoingOn.{Contents, GoesOn, FeedsAfter, IsClear, PassesEntry, ClearsEntry, Skips, passed_by};
-ghost use Rattle.krb_frame.specs.Passes.{contents_of};
+ghost use Rattle.krb_frame.specs.GoingOn.{Contents, GoesOn, FeedsAfter, IsClear, ClearsEntry, Skips};
 ghost use Rattle.krb_frame.specs.inner.Deliveries.{CompletesEntry};
+ghost use Rattle.krb_frame.specs.inner.Wholes.{BeginWith, HaveNoFrame};
 
 impl SkippingDecoder {
     /// Goes on with the stream that a decoder has decoded.
@@ -69,17 +70,16 @@ impl SkippingDecoder {
         self.skipped == 0 && self.decoder.is_clear()
     }
 
-    /// Passes the frame with which a piece begins, as [`Decoder::pass`] does. Returns `None`, too,
-    /// while octets of a skipped frame are to come: then the piece is to be fed.
+    /// Returns the frame with which a piece begins, if it is all there and its length is accepted,
+    /// no octets of a frame were used, and none of a skipped one are to come.
     #[inline(always)]
-    pub fn pass<'p>(&self, piece: &'p [u8]) -> Option<Passed<'p>>
-        ensures frame { option_map contents_of result ≡ passed_by self.now piece.now }
-        ensures passes { IfSome result (PassesEntry (messages self.now.current.profile) self.now piece.now) }
+    pub(crate) fn whole<'p>(&self, piece: &'p [u8]) -> Option<WholeFrame<'p>>
+        ensures { MatchOption result (IsClear self.now → HaveNoFrame self.now.current.limit piece.now) (λ frame. IsClear self.now × BeginWith self.now.current.limit piece.now frame.contents.now frame.rest.now) }
     {
-        if self.skipped > 0 {
+        if !self.is_clear() {
             return None;
         }
-        self.decoder.pass(piece)
+        first_frame(self.decoder.limit(), piece)
     }
 
     /// Delivers the frame that ends with the first octets of a piece, as [`Decoder::complete`] does.
@@ -99,7 +99,8 @@ impl SkippingDecoder {
 
     /// Returns the frame that is ready, borrowed.
     pub fn ready(&self) -> Option<Framed<'_>>
-        ensures { result ≡ borrowed (messages self.now.current.profile) self.now.current }
+        ensures frame { result ≡ borrowed (messages self.now.current.profile) self.now.current }
+        ensures whole { IfSome result (λ contents. judgement self.now.current.profile (length contents) contents ≡ Whole) }
     {
         self.decoder.ready()
     }

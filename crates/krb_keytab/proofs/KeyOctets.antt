@@ -15,7 +15,8 @@ use Rattle.krb_keytab.specs.declared.reading.Next.TheVariants as nexts
 use Rattle.krb_keytab.specs.declared.value.Stop.TheVariants as stops
 use Rattle.krb_keytab.specs.declared.value.Entry.{Entry}
 use Rattle.krb_keytab.specs.Spelling.{RecordsSpell, masked_record}
-use Rattle.krb_keytab.specs.Reading.{entry_at, record_of, record_at, Items, no_items, with_first, items_from, items_within, items_after, after_version, items}
+use Rattle.krb_file.specs.Items.{no_items, with_first}
+use Rattle.krb_keytab.specs.Reading.{entry_at, record_of, record_at, Records, items_from, items_within, items_after, after_version, items}
 use Rattle.krb_keytab.specs.Laws.{key_size_at, IsUpToKey, masked_items}
 use Rattle.krb_keytab.proofs.RecordSpellings.{record-again, spelled-some}
 
@@ -71,12 +72,12 @@ within-alike content u size t key other after e none le len = record {
 
 -- ---- records
 -- what is made of the next record, its key masked
-abbrev masked_from : Result (Next × Source) Fault → (Source → Items) → Items
+abbrev masked_from : Result (Next × Source) Fault → (Source → Records) → Records
 masked_from (Err f) others = no_items (Err f)
 masked_from (Ok (nexts.Done stop, t)) others = no_items (Ok (stop, t.place))
 masked_from (Ok (nexts.Item r, t)) others = with_first r (masked_items (others t))
 
-items_from-masked : (r : Result (Next × Source) Fault) (others : Source → Items) → masked_items (items_from r others) ≡ masked_from (masked_read masked_next r) others
+items_from-masked : (r : Result (Next × Source) Fault) (others : Source → Records) → masked_items (items_from r others) ≡ masked_from (masked_read masked_next r) others
 items_from-masked (Err f) others = refl
 items_from-masked (Ok (nexts.Done stop, t)) others = refl
 items_from-masked (Ok (nexts.Item r, t)) others = refl

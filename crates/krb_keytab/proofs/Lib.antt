@@ -3,7 +3,6 @@ pub mod RecordSpellings
 pub mod Keytabs
 pub mod Faults
 pub mod Stepwise
-pub mod Loops
 pub mod Written
 pub mod Sizes
 pub mod Layouts

@@ -7,7 +7,7 @@ use Rattle.krb_file.specs.Fields.{Source, source_of, Fault, Bounds, limited, ◌
 use Rattle.krb_file.specs.Limits.{number_from, number_before}
 use Rattle.krb_file.specs.declared.fault.FileWhy.TheVariants as why
 use Rattle.krb_file.specs.declared.field_name.FieldName.TheVariants as fields
-use Rattle.krb_file.proofs.Fields.{at, done, failed, ok_is, and_then-ok, refused_at-ok, begun_at-ok, begun_at-err, version-one}
+use Rattle.krb_file.proofs.Fields.{at, done, ok_is, and_then-ok, refused_at-ok, begun_at-ok, begun_at-err, version-one}
 use Rattle.krb_file.proofs.Limits.{IsOf, IsTooLong, IsSameOrTooLong, Limited, either-then, begun-same, Limited-then, Limited-succeed, Limited-called, Limited-piece, Limited-number, Limited-signed, Limited-counted, Limited-rest, Limited-names, Limited-version, signed-is}
 use Rattle.krb_keytab.specs.declared.value.Record.{Record}
 use Rattle.krb_keytab.specs.declared.value.Record.TheVariants as records
@@ -16,7 +16,8 @@ use Rattle.krb_keytab.specs.declared.reading.Next.TheVariants as nexts
 use Rattle.krb_keytab.specs.declared.value.Stop.{Stop}
 use Rattle.krb_keytab.specs.declared.value.Stop.TheVariants as stops
 use Rattle.krb_keytab.specs.Spelling.{RecordsSpell}
-use Rattle.krb_keytab.specs.Reading.{entry_at, record_of, record_at, content_size, Items, with_first, items_from, items_within, items_after, after_version, items}
+use Rattle.krb_file.specs.Items.{with_first}
+use Rattle.krb_keytab.specs.Reading.{entry_at, record_of, record_at, content_size, Records, items_from, items_within, items_after, after_version, items}
 use Rattle.krb_keytab.specs.Laws.{AreFirst, AreBefore, IsLong, AreCut}
 use Rattle.krb_keytab.proofs.Faults.{Steps-record}
 use Rattle.krb_keytab.proofs.RecordSpellings.{RecordRead, record-sound, inside_file}
@@ -54,15 +55,15 @@ record-begin bounds place (octet ∷ octets) f e =
     let a = begun_at-err place ((called fields.Length (signed_at w32) >>= record_of) bounds (at place (octet ∷ octets))) f e in
     sym (ap (λ (x : Fault). x.begin) a.2)
 
-begins-step : (others : Source → Items) (limit : Option ℕ) (s : Source) → ((t : Source) → AreOctets t.octets → Begins t (others t).records (others t).end)
-    → (r : Result (Next × Source) Fault) → ((x : Next) (t : Source) → r ≡ Ok (x, t) → RecordRead limit s t x) → ((f : Fault) → r ≡ Err f → (s.place ≡ f.begin) × (s.place ≤ f.place)) → Begins s (items_from r others).records (items_from r others).end
+begins-step : (others : Source → Records) (limit : Option ℕ) (s : Source) → ((t : Source) → AreOctets t.octets → Begins t (others t).items (others t).end)
+    → (r : Result (Next × Source) Fault) → ((x : Next) (t : Source) → r ≡ Ok (x, t) → RecordRead limit s t x) → ((f : Fault) → r ≡ Err f → (s.place ≡ f.begin) × (s.place ≤ f.place)) → Begins s (items_from r others).items (items_from r others).end
 begins-step others limit s rest (Err f) sound faults = Begins-none s (Err f) (faults f refl)
 begins-step others limit s rest (Ok (nexts.Done stop, t)) sound faults = let first = sound (nexts.Done stop) t refl in Begins-none s (Ok (stop, t.place)) (omega (arith, first.0.place))
 begins-step others limit s rest (Ok (nexts.Item r, t)) sound faults =
     let first = sound (nexts.Item r) t refl in
-    Begins-item limit s t r (others t).records (others t).end first (rest t first.2.fits)
+    Begins-item limit s t r (others t).items (others t).end first (rest t first.2.fits)
 
-items-begin : (bound : ℕ) (limit : Option ℕ) (s : Source) → AreOctets s.octets → Begins s (items_within bound limit s).records (items_within bound limit s).end
+items-begin : (bound : ℕ) (limit : Option ℕ) (s : Source) → AreOctets s.octets → Begins s (items_within bound limit s).items (items_within bound limit s).end
 items-begin zero limit s fits = Begins-none s (Ok (stops.File, s.place)) (omega arith)
 items-begin (suc bound) limit s fits =
     begins-step (items_within bound limit) limit s (items-begin bound limit) (record_at (limited limit) s)
@@ -78,16 +79,16 @@ first-of file t found body rest opening spelled parts =
       spelled = (body, spelled, taken ∙ ap (λ (x : List ℕ). 5 ∷ 2 ∷ x) (sym (append-nil body)));
     }
 
-pub records-spelled : (limit : Option ℕ) (file : List ℕ) → AreOctets file → ((items limit file).records ≡ []) ⊎ ((size : ℕ) × AreFirst file (items limit file).records size × AreBefore size (items limit file).end)
+pub records-spelled : (limit : Option ℕ) (file : List ℕ) → AreOctets file → ((items limit file).items ≡ []) ⊎ ((size : ℕ) × AreFirst file (items limit file).items size × AreBefore size (items limit file).end)
 records-spelled limit file fits = go (version_at (2 ∷ []) (limited limit) (source_of file)) refl
   where
     go : (r : Result (ℕ × Source) Fault) → version_at (2 ∷ []) (limited limit) (source_of file) ≡ r
-        → ((after_version r (items_after limit)).records ≡ []) ⊎ ((size : ℕ) × AreFirst file (after_version r (items_after limit)).records size × AreBefore size (after_version r (items_after limit)).end)
+        → ((after_version r (items_after limit)).items ≡ []) ⊎ ((size : ℕ) × AreFirst file (after_version r (items_after limit)).items size × AreBefore size (after_version r (items_after limit)).end)
     go (Err f) e = inl refl
     go (Ok (v, t)) e =
         let opening = version-one 2 (limited limit) (source_of file) t v fits (inside_file limit 0) e in
         let b = items-begin (length t.octets) limit t opening.0.fits in
-        inr (2 + length b.body, first-of file t (items_after limit t).records b.body b.rest opening.0.parts b.spelled b.parts, subst (λ (k : ℕ). AreBefore (k + length b.body) (items_after limit t).end) opening.0.place b.before)
+        inr (2 + length b.body, first-of file t (items_after limit t).items b.body b.rest opening.0.parts b.spelled b.parts, subst (λ (k : ℕ). AreBefore (k + length b.body) (items_after limit t).end) opening.0.place b.before)
 
 -- ---- what a limit changes
 
@@ -147,13 +148,13 @@ next-stays file place (octet ∷ octets) t x is e =
     record-stays a.0.0 file a.0.1 t x (size.stays s a.0.0 a.0.1 is a.1) a.2
 
 -- what a limit leaves of the records of a source
-record Cuts (most : ℕ) (file : List ℕ) (s : Source) (under whole : Items) : Type 0 where
+record Cuts (most : ℕ) (file : List ℕ) (s : Source) (under whole : Records) : Type 0 where
   body : List ℕ
   rest : List ℕ
-  spelled : RecordsSpell under.records body
+  spelled : RecordsSpell under.items body
   parts : s.octets ≡ body ++ rest
   others : List Record
-  records : whole.records ≡ under.records ++ others
+  records : whole.items ≡ under.items ++ others
   fault : Fault
   end : under.end ≡ Err fault
   long_by : ℕ
@@ -161,7 +162,7 @@ record Cuts (most : ℕ) (file : List ℕ) (s : Source) (under whole : Items) : 
   begin : fault.begin ≡ s.place + length body
   long : IsLong most file (s.place + length body) fault.place long_by
 
-Cuts-here : (most : ℕ) (file : List ℕ) (s : Source) (others : Source → Items) (whole : Items) (r : Result (Next × Source) Fault) → IsTooLong (IsLong most file s.place) r → ((f : Fault) → r ≡ Err f → f.begin ≡ s.place) → Cuts most file s (items_from r others) whole
+Cuts-here : (most : ℕ) (file : List ℕ) (s : Source) (others : Source → Records) (whole : Records) (r : Result (Next × Source) Fault) → IsTooLong (IsLong most file s.place) r → ((f : Fault) → r ≡ Err f → f.begin ≡ s.place) → Cuts most file s (items_from r others) whole
 Cuts-here most file s others whole r l begins =
     let none : List ℕ = [] in
     let start : s.place ≡ s.place + length none = omega arith in
@@ -170,7 +171,7 @@ Cuts-here most file s others whole r l begins =
       rest = s.octets;
       spelled = refl;
       parts = refl;
-      others = whole.records;
+      others = whole.items;
       records = refl;
       fault = l.fault;
       end = refl;
@@ -180,7 +181,7 @@ Cuts-here most file s others whole r l begins =
       long = subst (λ (k : ℕ). IsLong most file k l.fault.place l.size) start l.long;
     })
 
-Cuts-item : (most : ℕ) (file : List ℕ) (limit : Option ℕ) (s t : Source) (r : Record) (under whole : Items) → RecordRead limit s t (nexts.Item r) → Cuts most file t under whole → Cuts most file s (with_first r under) (with_first r whole)
+Cuts-item : (most : ℕ) (file : List ℕ) (limit : Option ℕ) (s t : Source) (r : Record) (under whole : Records) → RecordRead limit s t (nexts.Item r) → Cuts most file t under whole → Cuts most file s (with_first r under) (with_first r whole)
 Cuts-item most file limit s t r under whole first cut =
     let place : t.place + length cut.body ≡ s.place + length (first.0 ++ cut.body) = omega (arith, first.2.place, length-append first.0 cut.body) in
     record {
@@ -198,7 +199,7 @@ Cuts-item most file limit s t r under whole first cut =
       long = subst (λ (k : ℕ). IsLong most file k cut.fault.place cut.long_by) place cut.long;
     }
 
-cuts-step : (most : ℕ) (file : List ℕ) (s : Source) (under whole : Source → Items) → ((t : Source) → AreOctets t.octets → IsOf file t → (under t ≡ whole t) ⊎ Cuts most file t (under t) (whole t))
+cuts-step : (most : ℕ) (file : List ℕ) (s : Source) (under whole : Source → Records) → ((t : Source) → AreOctets t.octets → IsOf file t → (under t ≡ whole t) ⊎ Cuts most file t (under t) (whole t))
     → (r : Result (Next × Source) Fault) → ((x : Next) (t : Source) → r ≡ Ok (x, t) → RecordRead None s t x × IsOf file t) → (items_from r under ≡ items_from r whole) ⊎ Cuts most file s (items_from r under) (items_from r whole)
 cuts-step most file s under whole rest (Err f) sound = inl refl
 cuts-step most file s under whole rest (Ok (nexts.Done stop, t)) sound = inl refl
@@ -211,7 +212,7 @@ cuts-step most file s under whole rest (Ok (nexts.Item r, t)) sound = either (re
     either (inl e) = inl (ap (with_first r) e)
     either (inr cut) = inr (Cuts-item most file None s t r (under t) (whole t) first.0 cut)
 
-cuts-either : (most : ℕ) (file : List ℕ) (s : Source) (under whole : Source → Items) (r w : Result (Next × Source) Fault) → IsSameOrTooLong (IsLong most file s.place) r w → ((f : Fault) → r ≡ Err f → f.begin ≡ s.place) → (items_from w under ≡ items_from w whole) ⊎ Cuts most file s (items_from w under) (items_from w whole)
+cuts-either : (most : ℕ) (file : List ℕ) (s : Source) (under whole : Source → Records) (r w : Result (Next × Source) Fault) → IsSameOrTooLong (IsLong most file s.place) r w → ((f : Fault) → r ≡ Err f → f.begin ≡ s.place) → (items_from w under ≡ items_from w whole) ⊎ Cuts most file s (items_from w under) (items_from w whole)
     → (items_from r under ≡ items_from w whole) ⊎ Cuts most file s (items_from r under) (items_from w whole)
 cuts-either most file s under whole r w (inl e) begins step = subst (λ (x : Result (Next × Source) Fault). (items_from x under ≡ items_from w whole) ⊎ Cuts most file s (items_from x under) (items_from w whole)) (sym e) step
 cuts-either most file s under whole r w (inr l) begins step = inr (Cuts-here most file s under (items_from w whole) r l begins)
@@ -223,12 +224,12 @@ items-cut (suc bound) most file s fits is =
     (λ f h. record-begin (limited (Some most)) s.place s.octets f h)
     (cuts-step most file s (items_within bound (Some most)) (items_within bound None) (items-cut bound most file) (record_at (limited None) s) (λ x t h. (record-sound None s.place s.octets t x fits h, next-stays file s.place s.octets t x is h)))
 
-after-version : (most : ℕ) (file : List ℕ) (t : Source) (under whole : Items) → file ≡ 5 ∷ 2 ∷ t.octets → t.place ≡ 2 → (under ≡ whole) ⊎ Cuts most file t under whole → (under ≡ whole) ⊎ AreCut most file under whole
+after-version : (most : ℕ) (file : List ℕ) (t : Source) (under whole : Records) → file ≡ 5 ∷ 2 ∷ t.octets → t.place ≡ 2 → (under ≡ whole) ⊎ Cuts most file t under whole → (under ≡ whole) ⊎ AreCut most file under whole
 after-version most file t under whole parts place (inl e) = inl e
 after-version most file t under whole parts place (inr cut) =
     inr (record {
       size = 2 + length cut.body;
-      first = first-of file t under.records cut.body cut.rest parts cut.spelled cut.parts;
+      first = first-of file t under.items cut.body cut.rest parts cut.spelled cut.parts;
       others = cut.others;
       records = cut.records;
       fault = cut.fault;

@@ -16,7 +16,7 @@ use Rattle.krb_keytab.specs.declared.value.Stop.TheVariants as stops
 use Rattle.krb_keytab.specs.declared.value.Entry.{Entry}
 use Rattle.krb_keytab.specs.Holes.{HoleModel}
 use Rattle.krb_keytab.specs.Spelling.{entry, negated, IsHole, RecordSpells, RecordsSpell, stop_octets}
-use Rattle.krb_keytab.specs.Reading.{entry_at, record_of, record_at, Items, items_from, items_within}
+use Rattle.krb_keytab.specs.Reading.{entry_at, record_of, record_at, Records, items_from, items_within}
 use Rattle.krb_keytab.proofs.Entries.{entry-sound, entry-again}
 
 -- without an end, fields may reach the end of the file
@@ -114,26 +114,26 @@ Found-item limit s t r found stop k first others = record {
   whole = others.whole;
 }
 
-items-step : (others : Source → Items) (limit : Option ℕ) (s : Source) (bound : ℕ) (stop : Stop) (k : ℕ)
-    → ((t : Source) → AreOctets t.octets → length t.octets ≤ bound → (others t).end ≡ Ok (stop, k) → Found t (others t).records stop k)
-    → (r : Result (Next × Source) Fault) → ((x : Next) (t : Source) → r ≡ Ok (x, t) → RecordRead limit s t x) → length s.octets ≤ suc bound → (items_from r others).end ≡ Ok (stop, k) → Found s (items_from r others).records stop k
+items-step : (others : Source → Records) (limit : Option ℕ) (s : Source) (bound : ℕ) (stop : Stop) (k : ℕ)
+    → ((t : Source) → AreOctets t.octets → length t.octets ≤ bound → (others t).end ≡ Ok (stop, k) → Found t (others t).items stop k)
+    → (r : Result (Next × Source) Fault) → ((x : Next) (t : Source) → r ≡ Ok (x, t) → RecordRead limit s t x) → length s.octets ≤ suc bound → (items_from r others).end ≡ Ok (stop, k) → Found s (items_from r others).items stop k
 items-step others limit s bound stop k rest (Err f) sound len e = absurd cc
 items-step others limit s bound stop k rest (Ok (nexts.Done z, t)) sound len e =
     subst (λ (p : Stop × ℕ). Found s [] p.0 p.1) (ok_is (z, t.place) (stop, k) e) (Found-stop limit s t z (sound (nexts.Done z) t refl))
 items-step others limit s bound stop k rest (Ok (nexts.Item r, t)) sound len e =
     let first = sound (nexts.Item r) t refl in
     let shorter : length t.octets ≤ bound = omega (arith, first.3, ap length first.2.parts, length-append first.0 t.octets) in
-    Found-item limit s t r (others t).records stop k first (rest t first.2.fits shorter e)
+    Found-item limit s t r (others t).items stop k first (rest t first.2.fits shorter e)
 
-pub items-sound : (bound : ℕ) (limit : Option ℕ) (s : Source) (stop : Stop) (k : ℕ) → AreOctets s.octets → length s.octets ≤ bound → (items_within bound limit s).end ≡ Ok (stop, k) → Found s (items_within bound limit s).records stop k
+pub items-sound : (bound : ℕ) (limit : Option ℕ) (s : Source) (stop : Stop) (k : ℕ) → AreOctets s.octets → length s.octets ≤ bound → (items_within bound limit s).end ≡ Ok (stop, k) → Found s (items_within bound limit s).items stop k
 items-sound zero limit s stop k fits len e =
     let nothing : s.octets ≡ [] = nil_from_length s.octets (omega arith) in
     subst (λ (p : Stop × ℕ). Found s [] p.0 p.1) (ok_is (stops.File, s.place) (stop, k) e) (record { body = []; rest = []; spelled = refl; parts = nothing; place = omega arith; whole = λ h. refl })
 items-sound (suc bound) limit s stop k fits len e =
     items-step (items_within bound limit) limit s bound stop k (λ t. items-sound bound limit t stop k) (record_at (limited limit) s) (λ x t h. record-sound limit s.place s.octets t x fits h) len e
 
-abbrev pub ended : List Record → Stop → ℕ → Items
-ended found stop k = record { records = found; end = Ok (stop, k) }
+abbrev pub ended : List Record → Stop → ℕ → Records
+ended found stop k = record { items = found; end = Ok (stop, k) }
 
 nothing-again : (bound place : ℕ) (stop : Stop) (rest : List ℕ) → length (stop_octets stop ++ rest) ≤ bound → (stop ≡ stops.File → rest ≡ []) → items_within bound None (at place (stop_octets stop ++ rest)) ≡ ended [] stop (place + length (stop_octets stop))
 nothing-again zero place stops.File rest len whole = ap (λ (k : ℕ). ended [] stops.File k) (omega arith)
@@ -163,5 +163,5 @@ items-again (r ∷ found) (suc bound) place body stop rest spelled len whole =
     let others = items-again found bound (place + length prefix) suffix stop rest spelled.4 shorter whole in
     ap (λ (x : List ℕ). items_within (suc bound) None (at place x)) regrouped
     ∙ ap (λ (q : Result (Next × Source) Fault). items_from q (items_within bound None)) (record-again r prefix place ((suffix ++ stop_octets stop) ++ rest) spelled.3)
-    ∙ ap (λ (i : Items). let it : Items = record { records = r ∷ i.records; end = i.end } in it) others
+    ∙ ap (λ (i : Records). let it : Records = record { items = r ∷ i.items; end = i.end } in it) others
     ∙ ap (λ (k : ℕ). ended (r ∷ found) stop k) (omega (arith, counted))

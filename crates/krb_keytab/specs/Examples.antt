@@ -119,22 +119,22 @@ hole_cut : read (hex (codes "0502 80000000")) ≡ Err (fault 2 6 why.Truncated f
 hole_cut = refl
 
 -- ---- a limit on fields of octets
-limit_1 : items (Some 1) keytab_octets ≡ record { records = []; end = Err (long 2 27 2 fields.Key) }
+limit_1 : items (Some 1) keytab_octets ≡ record { items = []; end = Err (long 2 27 2 fields.Key) }
 limit_1 = refl
 
-limit_2 : items (Some 2) keytab_octets ≡ record { records = []; end = Err (long 2 29 4 fields.Rest) }
+limit_2 : items (Some 2) keytab_octets ≡ record { items = []; end = Err (long 2 29 4 fields.Rest) }
 limit_2 = refl
 
-limit_4 : items (Some 4) keytab_octets ≡ record { records = keytab.records; end = Ok (stops.Zero, 49) }
+limit_4 : items (Some 4) keytab_octets ≡ record { items = keytab.records; end = Ok (stops.Zero, 49) }
 limit_4 = refl
 
-too_long_before_truncated : items (Some 1) (hex (codes "0502 0000001B 0001 0003 41")) ≡ record { records = []; end = Err (long 2 10 3 fields.Realm) }
+too_long_before_truncated : items (Some 1) (hex (codes "0502 0000001B 0001 0003 41")) ≡ record { items = []; end = Err (long 2 10 3 fields.Realm) }
 too_long_before_truncated = refl
 
-overrun_before_too_long : items (Some 1) (hex (codes "0502 00000005 0001 0003 41")) ≡ record { records = []; end = Err (fault 2 10 why.Overrun fields.Realm) }
+overrun_before_too_long : items (Some 1) (hex (codes "0502 00000005 0001 0003 41")) ≡ record { items = []; end = Err (fault 2 10 why.Overrun fields.Realm) }
 overrun_before_too_long = refl
 
-cut_in_a_hole : items (Some 16777216) (take 40 keytab_octets) ≡ record { records = records.Entry entry ∷ []; end = Err (fault 33 37 why.Truncated fields.Hole) }
+cut_in_a_hole : items (Some 16777216) (take 40 keytab_octets) ≡ record { items = records.Entry entry ∷ []; end = Err (fault 33 37 why.Truncated fields.Hole) }
 cut_in_a_hole = refl
 
 -- ---- the octets before a key

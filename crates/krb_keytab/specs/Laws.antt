@@ -11,7 +11,7 @@ use Rattle.krb_keytab.specs.declared.value.Record.{Record}
 use Rattle.krb_keytab.specs.declared.value.Stop.{Stop}
 use Rattle.krb_keytab.specs.declared.value.Stop.TheVariants as stops
 use Rattle.krb_keytab.specs.Spelling.{KeytabSpells, ReadAs, masked_record}
-use Rattle.krb_keytab.specs.Reading.{content_size, Items, items}
+use Rattle.krb_keytab.specs.Reading.{content_size, Records, items}
 
 -- A file is read as at most one keytab, and as at most one number of its octets.
 abbrev pub ReadAsOne : Type 0
@@ -35,18 +35,18 @@ AreBefore size (Err fault) = (size ≡ fault.begin) × (size ≤ fault.place)
 
 -- The records that are read of a file, if there are any, are spelled by its octets before the record at fault or up to the end.
 abbrev pub RecordsAreSpelled : Type 0
-RecordsAreSpelled = (limit : Option ℕ) (file : List ℕ) → AreOctets file → ((items limit file).records ≡ []) ⊎ ((size : ℕ) × AreFirst file (items limit file).records size × AreBefore size (items limit file).end)
+RecordsAreSpelled = (limit : Option ℕ) (file : List ℕ) → AreOctets file → ((items limit file).items ≡ []) ⊎ ((size : ℕ) × AreFirst file (items limit file).items size × AreBefore size (items limit file).end)
 
 -- The field at a place has so many octets, more than a limit, as the two octets before it say; or, after the key of an entry, as the length of the record says, which begins at `start`.
 abbrev pub IsLong : (most : ℕ) (file : List ℕ) (start place size : ℕ) → Type 0
 IsLong most file start place size = (most < size) × ((size ≡ number_before w16 file place) ⊎ (place + size ≡ start + 4 + content_size (cast_signed w32 (number_from w32 file start))))
 
 -- What a limit leaves of the records of a file: those before a longer field, and its fault, which tells how many octets the field has and where its record begins.
-pub record AreCut (most : ℕ) (file : List ℕ) (under whole : Items) : Type 0 where
+pub record AreCut (most : ℕ) (file : List ℕ) (under whole : Records) : Type 0 where
   pub size : ℕ
-  pub first : AreFirst file under.records size
+  pub first : AreFirst file under.items size
   pub others : List Record
-  pub records : whole.records ≡ under.records ++ others
+  pub records : whole.items ≡ under.items ++ others
   pub fault : Fault
   pub end : under.end ≡ Err fault
   pub octets : ℕ
@@ -83,8 +83,8 @@ pub record IsUpToKey (octets : List ℕ) (size : ℕ) : Type 0 where
   pub all : end.octets ≡ []
 
 -- the records with each octet of each key 00, and the end or the fault
-abbrev pub masked_items : Items → Items
-masked_items found = record { records = map masked_record found.records; end = found.end }
+abbrev pub masked_items : Records → Records
+masked_items found = record { items = map masked_record found.items; end = found.end }
 
 -- If octets of a key are others, a file is read as the same but for these, up to the same end or the same fault.
 abbrev pub KeysChangeNothingElse : Type 0

@@ -3,6 +3,5 @@ pub mod Spelling
 pub mod Reading
 pub mod Writing
 pub mod Laws
-pub mod Paths
 pub mod Streaming
 pub mod Examples

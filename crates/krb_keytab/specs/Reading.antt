@@ -3,6 +3,7 @@ use Rattle.std.specs.Prelude.{ℕ, zero, suc, ◌+◌, ℤ, pos, negsuc, List, [
 use Rattle.std.specs.Int.{w8, w16, w32}
 use Rattle.krb_der.specs.Octets.{when}
 use Rattle.krb_file.specs.Fields.{Source, source_of, Fault, Bounds, limited, Reader, ◌>>=◌, succeed, called, one_part, next_octets_at, rest_at, is_empty, number_at, signed_at, counted_at, names_at, within, version_at, are_zero}
+use Rattle.krb_file.specs.Items.{Items, no_items, with_first}
 use Rattle.krb_file.specs.declared.field_name.FieldName.TheVariants as fields
 use Rattle.krb_keytab.specs.declared.value.Keytab.{Keytab}
 use Rattle.krb_keytab.specs.declared.value.Record.{Record}
@@ -63,50 +64,47 @@ announced bounds source = announced_by (signed_at w32 bounds source)
 -- ---- records up to their end
 
 -- The records before the first fault or the end of the records; and the fault, or how the records end and the number of octets read.
-pub record Items : Type 0 where
-  pub records : List Record
-  pub end : Result (Stop × ℕ) Fault
+abbrev pub Records : Type 0
+Records = Items Record (Result (Stop × ℕ) Fault)
 
-abbrev pub no_items : Result (Stop × ℕ) Fault → Items
-no_items end = record { records = []; end = end }
-
-abbrev pub with_first : Record → Items → Items
-with_first first others = record { records = first ∷ others.records; end = others.end }
-
-abbrev pub after : Next → Source → (Source → Items) → Items
+abbrev pub after : Next → Source → (Source → Records) → Records
 after (nexts.Done stop) source others = no_items (Ok (stop, source.place))
 after (nexts.Item first) source others = with_first first (others source)
 
-abbrev pub items_from : Result (Next × Source) Fault → (Source → Items) → Items
+abbrev pub items_from : Result (Next × Source) Fault → (Source → Records) → Records
 items_from (Err fault) others = no_items (Err fault)
 items_from (Ok read) others = after read.0 read.1 others
 
 -- at most as many records as the first number
-abbrev pub items_within : ℕ → Option ℕ → Source → Items
+abbrev pub items_within : ℕ → Option ℕ → Source → Records
 items_within zero limit source = no_items (Ok (stops.File, source.place))
 items_within (suc bound) limit source = items_from (record_at (limited limit) source) (items_within bound limit)
 
 -- the records of what is left of a file, of which any number of records was read
-abbrev pub items_after : Option ℕ → Source → Items
+abbrev pub items_after : Option ℕ → Source → Records
 items_after limit source = items_within (length source.octets) limit source
 
 -- ---- a file: the version, and the records
 
-abbrev pub after_version : Result (ℕ × Source) Fault → (Source → Items) → Items
+abbrev pub after_version : Result (ℕ × Source) Fault → (Source → Records) → Records
 after_version (Err fault) others = no_items (Err fault)
 after_version (Ok read) others = others read.1
 
--- the records of a file, under a field limit
-abbrev pub items : Option ℕ → List ℕ → Items
-items limit file = after_version (version_at (2 ∷ []) (limited limit) (source_of file)) (items_after limit)
+-- those of a source that begins with the version, under a field limit
+abbrev pub all_after : Option ℕ → Source → Records
+all_after limit source = after_version (version_at (2 ∷ []) (limited limit) source) (items_after limit)
+
+-- the records of a file
+abbrev pub items : Option ℕ → List ℕ → Records
+items limit file = all_after limit (source_of file)
 
 -- a keytab, and the number of its octets
 abbrev pub keytab_of : List Record → Result (Stop × ℕ) Fault → Result (Keytab × ℕ) Fault
 keytab_of records (Err fault) = Err fault
 keytab_of records (Ok end) = Ok (record { records = records; stop = end.0 }, end.1)
 
-abbrev pub keytab_of_items : Items → Result (Keytab × ℕ) Fault
-keytab_of_items items = keytab_of items.records items.end
+abbrev pub keytab_of_items : Records → Result (Keytab × ℕ) Fault
+keytab_of_items items = keytab_of items.items items.end
 
 -- the keytab in a file, or the first fault
 abbrev pub read : List ℕ → Result (Keytab × ℕ) Fault

@@ -19,13 +19,11 @@
 #![tactic(auto)]
 
 pub mod law;
-mod path;
 mod reading;
 mod records;
 mod value;
 mod writing;
 
-pub use path::KeytabPath;
 pub use reading::{Next, read};
 pub use records::Records;
 pub use value::{Entry, Hole, Keytab, Record, Stop};

@@ -110,7 +110,6 @@ impl<R: Read> Records<R> {
     /// Returns the next record after the version.
     fn read_next(&mut self, alloc: Global) -> Result<Next, FileFault>
         ensures next { (file : List ℕ) (limit : ℕ) (given : ℕ) → Reads (Some limit) self.old.reader states.Open file given → ReturnsNext (Some limit) file given result self.new.reader self.new.state }
-        ensures refused { (file : List ℕ) (limit : ℕ) (given : ℕ) → Reads (Some limit) self.old.reader states.Open file given → IfErr result (IsStreamFaultIn file) }
         ensures stays { OnOk result (Stays self.old.reader self.new.reader) }
         ensures announced { OnErr result (FetchesToAnnounced announced self.old.reader self.new.reader) }
         ensures ends { (stop : StopValue) → result ≡ Ok (nexts.Done stop) → self.new.state ≡ states.Done stop }

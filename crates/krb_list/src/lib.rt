@@ -4,7 +4,7 @@
 //! `krb_text`, which has the forms, too; all are public here. Each function appends to one text,
 //! and its contract says what was appended.
 //!
-//! The main calls are [`put_message_view`] and [`message_line`] for messages, [`put_record`] for
+//! The main calls are [`put_message_in`] and [`message_line`] for messages, [`put_record`] for
 //! keytabs, [`put_credential`] for caches, and [`put_captured_message`] for captures. Nothing here
 //! reads or writes a file, and no octet of a key is shown ([`keys_are_not_shown`],
 //! [`session_keys_are_not_shown`]).
@@ -28,7 +28,7 @@ pub use krb_text::{
     principal_text, principal_text_is_injective, put_capture_end, put_capture_refusal,
     put_captured_message, put_captured_refusal, put_counted_stream_end, put_escaped, put_file,
     put_file_refusal, put_input_refusal, put_joined, put_lost, put_message, put_message_from,
-    put_message_refusal, put_message_view, put_password, put_principal, put_stream_end,
+    put_message_in, put_message_refusal, put_password, put_principal, put_stream_end,
     put_stream_refusal, put_ticket, put_time, put_untold_message_refusal,
     put_untold_stream_refusal, time_text,
 };

@@ -3,11 +3,11 @@ use Rattle.std.proofs.Common.{◌≡◌, ℕ, ◌^◌, ◌<◌, ◌≤◌, ◌==
 use Rattle.std.specs.List.{flat_map, AllByRecursion}
 use Rattle.krb_der.specs.Octets.{item}
 use Rattle.krb_der.specs.inner.Items.{same_from_item, length-item}
-use Rattle.krb_msg.specs.Term.{Term, SequenceOf, tag_of, Value, der, Fits}
+use Rattle.krb_msg.specs.Term.{Term, Fields, Required, Sequence, SequenceOf, tag_of, Value, Values, der, der_of_fields, Fits}
 use Rattle.krb_msg.specs.Shape.{is_unambiguous}
-use Rattle.krb_msg.specs.inner.Values.{contents, der_is}
+use Rattle.krb_msg.specs.inner.Values.{contents, der_is, same_from_der}
 use Rattle.krb_msg.proofs.ValueOfDer.{contents-read}
-use Rattle.krb_msg.specs.Viewed.{HasNoItem, AreContents, AreNoContents, AreItems, AreViewed, IsFirstItem, items_of}
+use Rattle.krb_msg.specs.Viewed.{HasNoItem, AreContents, AreNoContents, BeginsWithNoValue, BeginsWithValue, AreItems, AreViewed, IsFirstItem, items_of}
 use Rattle.krb_msg.specs.Notes.{EmptyList, list_has}
 use Rattle.krb_msg.proofs.FieldViews.{same_contents}
 
@@ -102,6 +102,23 @@ is_first term tag octets own rest value u t v e c =
       viewed = many_some term rest u (omega (arith, small, shorter)) left;
       shorter = shorter;
     }
+
+-- ---- the first field of the first of some items
+first_fields : (term : Term) (fields : Fields) (octets own rest : List ℕ) → AreViewed (Sequence (Required term fields)) octets → octets ≡ item 0x30 own ++ rest → (f : FirstOf (Sequence (Required term fields)) octets) × (own ≡ der term f.value.0 ++ der_of_fields fields f.value.1)
+first_fields term fields octets own rest v e =
+    let f = first_of (Sequence (Required term fields)) octets (omega (arith, some_item 0x30 octets own rest e)) (are_items (Sequence (Required term fields)) octets v) in
+    (f, (same_first (Sequence (Required term fields)) 0x30 octets own rest refl e f).0)
+
+pub first_field_none : (term : Term) (fields : Fields) (octets own rest : List ℕ) → AreViewed (Sequence (Required term fields)) octets → octets ≡ item 0x30 own ++ rest → BeginsWithNoValue term own → ⊥
+first_field_none term fields octets own rest v e none =
+    let s = first_fields term fields octets own rest v e in
+    none s.0.value.0 (der_of_fields fields s.0.value.1) (record { fits = s.0.fits.0; form = s.1 })
+
+pub first_field_some : (term : Term) (fields : Fields) (octets own rest other : List ℕ) (first : Value term) → is_unambiguous (Sequence (Required term fields)) ≡ true → is_unambiguous term ≡ true → AreViewed (Sequence (Required term fields)) octets → octets ≡ item 0x30 own ++ rest → BeginsWithValue term own first other → (value : Values (Required term fields)) × IsFirstItem (Sequence (Required term fields)) octets value rest × (first ≡ value.0)
+first_field_some term fields octets own rest other first u t v e b =
+    let s = first_fields term fields octets own rest v e in
+    let c : AreContents (Sequence (Required term fields)) own s.0.value = record { fits = s.0.fits; form = ap (item 0x30) s.1 } in
+    (s.0.value, is_first (Sequence (Required term fields)) 0x30 octets own rest s.0.value u refl v e c, (same_from_der term t first s.0.value.0 other (der_of_fields fields s.0.value.1) (sym b.form ∙ s.1)).0)
 
 some_items : (term : Term) (octet : ℕ) (octets : List ℕ) (values : List (Value term)) → octet ∷ octets ≡ flat_map (der term) values → false ≡ list_has EmptyList values
 some_items term octet octets [] e = absurd (omega (arith, ap length e))

@@ -1,13 +1,13 @@
 -- Lengths of several octets, and the first of several items.
-use Rattle.std.proofs.Common.{◌≡◌, ℕ, suc, ◌+◌, ◌-◌, ◌*◌, ◌^◌, ◌<◌, ◌≤◌, ◌⊎◌, inl, inr, List, [], ◌∷◌, ◌++◌, length, take, drop, get_or, refl, sym, ◌∙◌, ap, arith, append-nil, length-append, ◌≢◌}
+use Rattle.std.proofs.Common.{◌≡◌, ℕ, suc, ◌+◌, ◌-◌, ◌*◌, ◌^◌, ◌<◌, ◌≤◌, ◌⊎◌, inl, inr, List, [], ◌∷◌, ◌++◌, length, take, drop, get_or, refl, sym, ◌∙◌, ap, arith, append-nil, append_assoc, length-append, ◌≢◌}
 use Rattle.std.proofs.lemmas.Bool.{cases_lt}
-use Rattle.std.proofs.lemmas.List.{take_at}
+use Rattle.std.proofs.lemmas.List.{take_at, drop_at}
 use Rattle.krb_der.specs.Octets.{AreOctets, number, length_octets, item}
 use Rattle.krb_der.specs.inner.Numbers.{spelled, IsShortest, IsShortest-spelled, number-fewest, AreOctets-spelled, length-spelled-le, spelled-number}
 use Rattle.std.proofs.lemmas.List.{take_all}
 use Rattle.krb_der.specs.inner.Items.{same_from_length_octets, length_octets-short, length_octets-long, length-item, item-append, same_from_cons, same_from_item}
 use Rattle.krb_msg.proofs.Heads.{some_from_shortest}
-use Rattle.krb_msg.specs.inner.Fields.{HasNoField}
+use Rattle.krb_msg.specs.inner.Fields.{HasNoField, IsHead}
 use Rattle.krb_msg.specs.Viewed.{HasNoItem, IsNoItem}
 
 -- ---- a long length that is present
@@ -121,3 +121,21 @@ long_not tag first octet octets others contents size e f short inner rest i =
 pub long_is : (tag first octet : ℕ) (octets others contents : List ℕ) (size : ℕ) → octets ≡ first ∷ octet ∷ others → first ≡ tag → octet ∷ others ≡ length_octets size ++ contents → (prefix suffix : List ℕ) → length prefix ≡ size → contents ≡ prefix ++ suffix → octets ≡ item tag prefix ++ suffix
 long_is tag first octet octets others contents size e t f prefix suffix n c =
     e ∙ ap (λ o. o ∷ octet ∷ others) t ∙ is_item tag octet size others prefix suffix contents f c n
+
+-- ---- where contents are, by what is before them
+is_head : (form_of : List ℕ → List ℕ) (octets prefix contents rest : List ℕ) (before size : ℕ) → form_of contents ≡ prefix ++ contents → octets ≡ form_of contents ++ rest → before + length contents + length rest ≡ length octets → size ≡ length contents → IsHead form_of octets before size
+is_head form_of octets prefix contents rest before size p e n s =
+    let whole : octets ≡ prefix ++ (contents ++ rest) = e ∙ ap (λ l. l ++ rest) p ∙ append_assoc prefix contents rest in
+    let b : length prefix ≡ before = omega (arith, n, ap length whole, length-append prefix (contents ++ rest), length-append contents rest) in
+    let after : drop before octets ≡ contents ++ rest = ap (drop before) whole ∙ drop_at prefix (contents ++ rest) before b in
+    let front : take size (drop before octets) ≡ contents = ap (take size) after ∙ take_at contents rest size (sym s) in
+    let back : drop size (drop before octets) ≡ rest = ap (drop size) after ∙ drop_at contents rest size (sym s) in
+    record { within = omega (arith, n, s); form = e ∙ (λ i. form_of (sym front i) ++ sym back i) }
+
+pub is_item_head : (tag : ℕ) (octets contents rest : List ℕ) (before size : ℕ) → octets ≡ item tag contents ++ rest → before + length contents + length rest ≡ length octets → size ≡ length contents → IsHead (item tag) octets before size
+is_item_head tag octets contents rest before size = is_head (item tag) octets (tag ∷ length_octets (length contents)) contents rest before size refl
+
+pub is_field_head : (outer tag : ℕ) (octets contents rest : List ℕ) (before size : ℕ) → octets ≡ item outer (item tag contents) ++ rest → before + length contents + length rest ≡ length octets → size ≡ length contents → IsHead (λ those. item outer (item tag those)) octets before size
+is_field_head outer tag octets contents rest before size =
+    is_head (λ those. item outer (item tag those)) octets (outer ∷ (length_octets (length (item tag contents)) ++ (tag ∷ length_octets (length contents)))) contents rest before size
+    (ap (λ l. outer ∷ l) (sym (append_assoc (length_octets (length (item tag contents))) (tag ∷ length_octets (length contents)) contents)))

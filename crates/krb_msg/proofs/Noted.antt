@@ -1,9 +1,11 @@
 -- The notes on values of terms, part by part.
-use Rattle.std.proofs.Common.{◌≡◌, Bool, false, ◌||◌, List, [], ◌∷◌, map, refl, sym, ap}
+use Rattle.std.proofs.Common.{◌≡◌, Bool, false, ◌||◌, Option, None, Some, List, [], ◌∷◌, map, refl, sym, ap}
+use Rattle.std.proofs.lemmas.List.{map-id}
 use Rattle.std.specs.List.{list_any}
-use Rattle.krb_msg.specs.Notes.{Note, HighOctet, FewFlags, Negative, EmptyList, list_has, is_list_that_has, has, notes_by, either}
+use Rattle.std.specs.Option.{option_map}
+use Rattle.krb_msg.specs.Notes.{Note, HighOctet, FewFlags, Negative, EmptyList, list_has, is_list_that_has, has, option_any, notes_by, either}
 use Rattle.krb_msg.specs.inner.Notes.{empty_list_note, HasNoNotes}
-use Rattle.krb_msg.specs.Term.{Term, Integer, Text, Octets, Time, Bits, Sequence, SequenceOf, Tagged, Application, Value}
+use Rattle.krb_msg.specs.Term.{Term, SequenceOf, Tagged, Value}
 
 -- The notes by two tests are the same if the tests are.
 pub same_notes : {test other : Note → Bool} → ((note : Note) → test note ≡ other note) → notes_by test ≡ notes_by other
@@ -26,6 +28,15 @@ list_notes other value = refl
 -- the notes on a value of a field that may be left out
 pub optional-has : (term : Term) (value : Value term) → either (empty_list_note (is_list_that_has EmptyList term value)) (notes_by (λ note. has note term value)) ≡ notes_by (λ note. is_list_that_has note term value || has note term value)
 optional-has term value = ap (λ notes. either notes (notes_by (λ note. has note term value))) (list_notes term value)
+
+-- the notes on a field that may be left out, of which a value is itself
+pub same_option : (term : Term) (value : Option (Value term)) → notes_by (λ note. option_any (λ value. is_list_that_has note term value || has note term value) (option_map (λ v. v) value)) ≡ notes_by (λ note. option_any (λ value. is_list_that_has note term value || has note term value) value)
+same_option term None = refl
+same_option term (Some value) = refl
+
+-- the notes on a list of which an item is itself
+pub same_list : (term : Term) (values : List (Value term)) → notes_by (λ note. list_any (has note term) (map (λ v. v) values)) ≡ notes_by (λ note. list_any (has note term) values)
+same_list term values = ap (λ vs. notes_by (λ note. list_any (has note term) vs)) (map-id values)
 
 -- ---- the items of a list, one after another
 pub no_items-have : (term : Term) → HasNoNotes term → (values : List (Value term)) (note : Note) → list_any (has note term) values ≡ false

@@ -2,7 +2,7 @@
 use Rattle.std.proofs.Common.{◌≡◌, ℕ, Bool, true, false, List, refl, sym, ◌∙◌, ap, ap₂, subst}
 use Rattle.krb_der.specs.declared.profile.Profile.{Profile}
 use Rattle.krb_der.specs.declared.profile.Profile.TheVariants as profiles
-use Rattle.krb_msg.specs.Term.{Term, Fields, Integer, Text, Octets, Time, Bits, Sequence, SequenceOf, Tagged, Application, End, Required, Optional, Value, Values, der, Fits}
+use Rattle.krb_msg.specs.Term.{Term, Fields, Sequence, SequenceOf, Tagged, Application, End, Required, Optional, Value, Values, der, Fits}
 use Rattle.krb_msg.specs.Profiles.{narrowed, narrowed_value, narrowed_values, profile_term, profile_value}
 use Rattle.krb_msg.specs.Der.{IsDer}
 use Rattle.krb_msg.proofs.Profiles.{maps_back, option_back, widened_value, widened_values, narrowed_widened, der_narrowed, fits_narrowed}

@@ -1,5 +1,5 @@
 -- Views of the messages that the strict profile judges whole.
-use Rattle.std.proofs.Common.{◌≡◌, ℕ, ◌<◌, ◌^◌, true, List, [], ◌++◌, length, sym, ap, ◌∙◌, subst, arith}
+use Rattle.std.proofs.Common.{◌≡◌, ◌↔◌, ℕ, ◌<◌, ◌^◌, true, List, [], ◌++◌, length, sym, ap, ◌∙◌, subst, arith}
 use Rattle.krb_der.specs.Octets.{AreOctets}
 use Rattle.krb_der.specs.declared.profile.Profile.TheVariants.{Strict}
 use Rattle.krb_der.specs.declared.verdict.Verdict.TheVariants.{Whole}
@@ -21,3 +21,7 @@ strict_kept octets m short are v whole =
     let s = whole_is_message Strict (length octets) octets short are (omega arith) whole in
     let same : s.message ≡ message_of_view m = (der_is_prefix_free s.message (message_of_view m) [] [] (ap (λ l. l ++ []) (s.form ∙ sym v.form))).0 in
     subst (λ (n : Message). is_strict n ≡ true) same ((strict_is_narrower s.message).0 s.in_profile).1
+
+-- so it is judged whole exactly if it keeps them
+pub strict_exactly : (octets : List ℕ) (m : MessageView) → length octets < 2 ^ 31 → AreOctets octets → IsMessageView octets m → (judgement Strict (length octets) octets ≡ Whole) ↔ (is_strict (message_of_view m) ≡ true)
+strict_exactly octets m short a v = (strict_kept octets m short a v, strict_whole octets m v)

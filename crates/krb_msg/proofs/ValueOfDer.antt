@@ -7,7 +7,7 @@ use Rattle.krb_der.specs.Octets.{item, length_octets}
 use Rattle.krb_der.specs.inner.Numbers.{integer_value-integer_octets, when-true, when-false}
 use Rattle.krb_der.specs.inner.Items.{item-append}
 use Rattle.krb_der.specs.inner.PrefixFree.{same_pair}
-use Rattle.krb_msg.specs.Term.{Term, Fields, Integer, Text, Octets, Time, Bits, Sequence, SequenceOf, Tagged, Application, End, Required, Optional, tag_of, Value, Values, der, der_of_fields, octets_of_option}
+use Rattle.krb_msg.specs.Term.{Term, Fields, Integer, Sequence, SequenceOf, Tagged, Application, End, Required, Optional, tag_of, Value, Values, der, der_of_fields, octets_of_option}
 use Rattle.krb_msg.specs.ValueOfDer.{SplitItem, split_at_head, split_item, split_items, begins_with, value_of, values_of, value_of_der}
 use Rattle.krb_msg.specs.Shape.{may_begin, is_unambiguous, are_unambiguous}
 use Rattle.krb_msg.specs.inner.Values.{contents, der_is, may_begin_from_der}

@@ -1,5 +1,5 @@
 -- The rows of the table of the grammar, each as that of a term. The terms of a table are a list, in the order of its rows.
-use Rattle.std.specs.Prelude.{ℕ, ◌≡◌, ◌<◌, ◌≤◌, true, List, [], ◌∷◌, length, max}
+use Rattle.std.specs.Prelude.{ℕ, ◌≡◌, ◌<◌, ◌≤◌, List, [], ◌∷◌, length, max}
 use Rattle.std.specs.List.{AllByRecursion}
 use Rattle.krb_der.specs.Octets.{integer_octets}
 use Rattle.krb_msg.specs.Term.{Term, Fields, Integer, Text, Octets, Time, Bits, Sequence, SequenceOf, Tagged, Application, End, Required, Optional, tag_of}

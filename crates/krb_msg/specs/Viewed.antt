@@ -3,7 +3,7 @@ use Rattle.std.specs.Prelude.{Bool, ℕ, ℤ, ◌^◌, ◌<◌, ◌≡◌, ◌�
 use Rattle.std.specs.List.{AllByRecursion, flat_map}
 use Rattle.krb_der.specs.Octets.{item, length_octets, integer_octets}
 use Rattle.krb_msg.specs.Term.{Term, Fields, tag_of, Value, Values, der, der_of_fields, Fits, AllFit}
-use Rattle.krb_msg.specs.Grammar.{sequence_of}
+use Rattle.krb_msg.specs.Grammar.{pa_data, sequence_of}
 use Rattle.krb_msg.specs.ValueOfDer.{begins_with, value_of, value_of_der}
 use Rattle.krb_msg.specs.Judgement.{term_judgement}
 use Rattle.krb_der.specs.declared.verdict.Verdict.TheVariants as verdict
@@ -89,6 +89,12 @@ pub record IsFirstItem (term : Term) (octets : List ℕ) (value : Value term) (r
   pub items : items_of term octets ≡ value ∷ items_of term rest
   pub viewed : AreViewed term rest
   pub shorter : length rest < length octets
+
+-- the type of the first PA-DATA, and those after it
+pub record IsFirstType (octets : List ℕ) (number : ℤ) (rest : List ℕ) : Type 0 where
+  pub value : Value pa_data
+  pub first : IsFirstItem pa_data octets value rest
+  pub same : number ≡ value.0
 
 -- one fact if a test passes, and another one if it does not
 abbrev pub IfElse : Bool → Type 0 → Type 0 → Type 0

@@ -11,11 +11,11 @@ ghost use Rattle.krb_msg.specs.inner.RoundTrips.{ap_rep-back};
 use crate::copying::FromView;
 use crate::encrypted_data::{EncryptedData, EncryptedDataView};
 use crate::fields::{
-    Application, Borrowed, Encode, End, FieldOf, Fixed, Noted, NotedLayout, NotedView, Owned,
-    Required, Sequence, View,
+    Application, Borrowed, Encode, End, FieldOf, Fixed, Noted, NotedView, Owned, Required,
+    Sequence, View,
 };
 use crate::item::Item;
-use crate::notes::Notes;
+use crate::notes::{Notes, any_of};
 use krb_der::{Der, Memory};
 use std::alloc::Global;
 
@@ -84,7 +84,7 @@ impl Noted for ApRep {
     }
 
     fn notes(&self) -> Notes {
-        self.layout().notes()
+        any_of!(self.enc_part.notes())
     }
 }
 
@@ -99,15 +99,6 @@ impl<'a> ApRepView<'a> {
         ensures lists { ⟦<Layout<Owned> as View<'static>>⟧.IsValid seen.now → IsValidApRep result }
     {
         ApRepView { enc_part: seen.0 }
-    }
-
-    /// Returns the views of the fields.
-    #[inline(always)]
-    fn fields(&self) -> Seen<'a>
-        ensures value { ⟦<Layout<Owned> as View<'static>>⟧.value result ≡ ap_rep_view_value self.now }
-        ensures lists { IsValidApRep self.now → ⟦<Layout<Owned> as View<'static>>⟧.IsValid result }
-    {
-        (self.enc_part, ())
     }
 }
 
@@ -144,7 +135,7 @@ impl<'a> NotedView<'a> for ApRep {
 
     #[inline(always)]
     fn notes(seen: &ApRepView<'a>) -> Notes {
-        Layout::<Owned>::notes(&seen.fields())
+        any_of!(<EncryptedData as NotedView<'_>>::notes(&seen.enc_part))
     }
 }
 

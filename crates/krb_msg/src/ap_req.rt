@@ -11,11 +11,11 @@ ghost use Rattle.krb_msg.specs.inner.RoundTrips.{ap_req-back};
 use crate::copying::FromView;
 use crate::encrypted_data::{EncryptedData, EncryptedDataView};
 use crate::fields::{
-    Application, Borrowed, Encode, End, FieldOf, Fixed, Noted, NotedLayout, NotedView, Owned,
-    Required, Sequence, View,
+    Application, Borrowed, Encode, End, FieldOf, Fixed, Noted, NotedView, Owned, Required,
+    Sequence, View,
 };
 use crate::item::Item;
-use crate::notes::Notes;
+use crate::notes::{Notes, any_of};
 use crate::ticket::{Ticket, TicketView};
 use crate::view::scalars::FlagsView;
 use krb_der::{Der, Flags, Memory};
@@ -111,7 +111,11 @@ impl Noted for ApReq {
     }
 
     fn notes(&self) -> Notes {
-        self.layout().notes()
+        any_of!(
+            self.ap_options.notes(),
+            self.ticket.notes(),
+            self.authenticator.notes()
+        )
     }
 }
 
@@ -130,15 +134,6 @@ impl<'a> ApReqView<'a> {
             ticket: seen.1.0,
             authenticator: seen.1.1.0,
         }
-    }
-
-    /// Returns the views of the fields.
-    #[inline(always)]
-    fn fields(&self) -> Seen<'a>
-        ensures value { ⟦<Layout<Owned> as View<'static>>⟧.value result ≡ ap_req_view_value self.now }
-        ensures lists { IsValidApReq self.now → ⟦<Layout<Owned> as View<'static>>⟧.IsValid result }
-    {
-        (self.ap_options, (self.ticket, (self.authenticator, ())))
     }
 }
 
@@ -175,7 +170,11 @@ impl<'a> NotedView<'a> for ApReq {
 
     #[inline(always)]
     fn notes(seen: &ApReqView<'a>) -> Notes {
-        Layout::<Owned>::notes(&seen.fields())
+        any_of!(
+            <Flags as NotedView<'_>>::notes(&seen.ap_options),
+            <Ticket as NotedView<'_>>::notes(&seen.ticket),
+            <EncryptedData as NotedView<'_>>::notes(&seen.authenticator)
+        )
     }
 }
 

@@ -10,7 +10,7 @@ ghost use Rattle.krb_msg.specs.inner.RoundTrips.{checksum-back};
 
 use crate::copying::FromView;
 use crate::fields::{
-    Borrowed, Encode, End, FieldOf, Noted, NotedLayout, NotedView, Owned, Required, Sequence, View,
+    Borrowed, Encode, End, FieldOf, Noted, NotedView, Owned, Required, Sequence, View,
 };
 use crate::item::Item;
 use crate::notes::Notes;
@@ -82,7 +82,7 @@ impl Noted for Checksum {
     }
 
     fn notes(&self) -> Notes {
-        self.layout().notes()
+        Notes::none()
     }
 }
 
@@ -121,8 +121,8 @@ impl<'a> NotedView<'a> for Checksum {
     }
 
     #[inline(always)]
-    fn notes(seen: &ChecksumView<'a>) -> Notes {
-        Layout::<Owned>::notes(&(seen.cksumtype, (seen.checksum, ())))
+    fn notes(_seen: &ChecksumView<'a>) -> Notes {
+        Notes::none()
     }
 }
 

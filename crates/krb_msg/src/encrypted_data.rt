@@ -10,11 +10,11 @@ ghost use Rattle.krb_msg.specs.inner.RoundTrips.{encrypted_data-back};
 
 use crate::copying::{FromView, copy_option};
 use crate::fields::{
-    Borrowed, Encode, End, FieldOf, Noted, NotedLayout, NotedView, Optional, Owned, Required,
-    Sequence, View,
+    Borrowed, Encode, End, FieldOf, Noted, NotedView, Optional, Owned, Required, Sequence, View,
+    optional_notes, optional_view_notes,
 };
 use crate::item::Item;
-use crate::notes::Notes;
+use crate::notes::{Notes, any_of};
 use krb_der::{Der, Int32, Memory, Octets, Wide32};
 use std::alloc::Global;
 
@@ -96,7 +96,7 @@ impl Noted for EncryptedData {
     }
 
     fn notes(&self) -> Notes {
-        self.layout().notes()
+        any_of!(optional_notes(&self.kvno))
     }
 }
 
@@ -137,7 +137,7 @@ impl<'a> NotedView<'a> for EncryptedData {
 
     #[inline(always)]
     fn notes(seen: &EncryptedDataView<'a>) -> Notes {
-        Layout::<Owned>::notes(&(seen.etype, (seen.kvno, (seen.cipher, ()))))
+        any_of!(optional_view_notes::<Wide32>(&seen.kvno))
     }
 }
 

@@ -1,6 +1,6 @@
 //! The fields of a type, said once as a type like
-//! `Sequence<Required<0, Int32, Optional<1, Wide32, End>>>`, by which its values are encoded,
-//! viewed (X.690, 8.9 and 8.14) and noted.
+//! `Sequence<Required<0, Int32, Optional<1, Wide32, End>>>`, by which its values are encoded
+//! and viewed (X.690, 8.9 and 8.14); and the notes on them, field by field.
 
 mod encode;
 mod notes;
@@ -8,10 +8,11 @@ mod view;
 mod view_notes;
 
 pub use encode::{Encode, EncodeFields};
-pub use notes::{Noted, NotedFields, NotedLayout};
+pub use notes::{Noted, optional_notes};
 use std::marker::PhantomData;
+pub(crate) use view::view_field;
 pub use view::{View, ViewFields};
-pub use view_notes::{NotedView, NotedViewFields};
+pub use view_notes::{NotedView, optional_view_notes};
 
 /// The end of a list of fields.
 #[derive(Drop)]

@@ -10,7 +10,7 @@ ghost use Rattle.krb_msg.specs.inner.RoundTrips.{host_address-back};
 
 use crate::copying::FromView;
 use crate::fields::{
-    Borrowed, Encode, End, FieldOf, Noted, NotedLayout, NotedView, Owned, Required, Sequence, View,
+    Borrowed, Encode, End, FieldOf, Noted, NotedView, Owned, Required, Sequence, View,
 };
 use crate::item::Item;
 use crate::notes::Notes;
@@ -82,7 +82,7 @@ impl Noted for HostAddress {
     }
 
     fn notes(&self) -> Notes {
-        self.layout().notes()
+        Notes::none()
     }
 }
 
@@ -118,8 +118,8 @@ impl<'a> NotedView<'a> for HostAddress {
     }
 
     #[inline(always)]
-    fn notes(seen: &HostAddressView<'a>) -> Notes {
-        Layout::<Owned>::notes(&(seen.addr_type, (seen.address, ())))
+    fn notes(_seen: &HostAddressView<'a>) -> Notes {
+        Notes::none()
     }
 }
 

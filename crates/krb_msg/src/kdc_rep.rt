@@ -14,10 +14,10 @@ ghost use Rattle.krb_msg.specs.inner.Fitting.{IsSized};
 use crate::copying::{FromView, copy_item_option};
 use crate::encrypted_data::{EncryptedData, EncryptedDataView};
 use crate::fields::{
-    Application, Borrowed, Encode, End, FieldOf, Fixed, NotedLayout, NotedView, Optional, Owned,
-    Required, Sequence, View,
+    Application, Borrowed, Encode, End, FieldOf, Fixed, Noted, NotedView, Optional, Owned,
+    Required, Sequence, View, optional_notes, optional_view_notes,
 };
-use crate::notes::Notes;
+use crate::notes::{Notes, any_of};
 use crate::pa_data::PaData;
 use crate::principal_name::{PrincipalName, PrincipalNameView};
 use crate::ticket::{Ticket, TicketView};
@@ -129,7 +129,13 @@ impl KdcRep {
     pub(crate) fn notes<const N: u8>(&self) -> Notes
         ensures { result ≡ notes_by (λ note. has note (ApplicationTerm N (kdc_rep N)) (kdc_rep_value N self.now)) }
     {
-        self.layout::<N>().notes()
+        any_of!(
+            optional_notes(&self.padata),
+            self.crealm.notes(),
+            self.cname.notes(),
+            self.ticket.notes(),
+            self.enc_part.notes()
+        )
     }
 
     /// Returns a view of the message of a number and a message type that octets are, if they are
@@ -191,26 +197,17 @@ impl<'a> KdcRepView<'a> {
         }
     }
 
-    /// Returns the views of the fields.
-    #[inline(always)]
-    fn fields<const N: u8>(&self) -> Seen<'a>
-        ensures value { ⟦<Layout<Owned, N> as View<'static>>⟧.value result ≡ kdc_rep_view_value N self.now }
-        ensures lists { IsValidKdcRep self.now → ⟦<Layout<Owned, N> as View<'static>>⟧.IsValid result }
-    {
-        (
-            self.padata,
-            (
-                self.crealm,
-                (self.cname, (self.ticket, (self.enc_part, ()))),
-            ),
-        )
-    }
-
     /// Returns the notes that hold in a message.
     pub(crate) fn notes<const N: u8>(&self) -> Notes
         requires { IsValidKdcRep self.now }
         ensures { result ≡ notes_by (λ note. has note (ApplicationTerm N (kdc_rep N)) (kdc_rep_view_value N self.now)) }
     {
-        Layout::<Owned, N>::notes(&self.fields::<N>())
+        any_of!(
+            optional_view_notes::<Many<PaData>>(&self.padata),
+            <KString as NotedView<'_>>::notes(&self.crealm),
+            <PrincipalName as NotedView<'_>>::notes(&self.cname),
+            <Ticket as NotedView<'_>>::notes(&self.ticket),
+            <EncryptedData as NotedView<'_>>::notes(&self.enc_part)
+        )
     }
 }

@@ -13,11 +13,11 @@ ghost use Rattle.krb_msg.specs.inner.Fitting.{IsSized};
 
 use crate::copying::{FromView, copy_item_option};
 use crate::fields::{
-    Application, Borrowed, Encode, End, FieldOf, Fixed, NotedLayout, NotedView, Optional, Owned,
-    Required, Sequence, View,
+    Application, Borrowed, Encode, End, FieldOf, Fixed, Noted, NotedView, Optional, Owned,
+    Required, Sequence, View, optional_notes, optional_view_notes,
 };
 use crate::kdc_req_body::{KdcReqBody, KdcReqBodyView};
-use crate::notes::Notes;
+use crate::notes::{Notes, any_of};
 use crate::pa_data::PaData;
 use crate::view::items::ItemsView;
 use crate::view::view_whole;
@@ -94,7 +94,7 @@ impl KdcReq {
     pub(crate) fn notes<const N: u8>(&self) -> Notes
         ensures { result ≡ notes_by (λ note. has note (ApplicationTerm N (kdc_req N)) (kdc_req_value N self.now)) }
     {
-        self.layout::<N>().notes()
+        any_of!(optional_notes(&self.padata), self.body.notes())
     }
 
     /// Returns a view of the message of a number and a message type that octets are, if they are
@@ -141,20 +141,14 @@ impl<'a> KdcReqView<'a> {
         }
     }
 
-    /// Returns the views of the fields.
-    #[inline(always)]
-    fn fields<const N: u8>(&self) -> Seen<'a>
-        ensures value { ⟦<Layout<Owned, N> as View<'static>>⟧.value result ≡ kdc_req_view_value N self.now }
-        ensures lists { IsValidKdcReq self.now → ⟦<Layout<Owned, N> as View<'static>>⟧.IsValid result }
-    {
-        (self.padata, (self.body, ()))
-    }
-
     /// Returns the notes that hold in a message.
     pub(crate) fn notes<const N: u8>(&self) -> Notes
         requires { IsValidKdcReq self.now }
         ensures { result ≡ notes_by (λ note. has note (ApplicationTerm N (kdc_req N)) (kdc_req_view_value N self.now)) }
     {
-        Layout::<Owned, N>::notes(&self.fields::<N>())
+        any_of!(
+            optional_view_notes::<Many<PaData>>(&self.padata),
+            <KdcReqBody as NotedView<'_>>::notes(&self.body)
+        )
     }
 }

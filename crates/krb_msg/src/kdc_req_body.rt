@@ -11,12 +11,12 @@ ghost use Rattle.krb_msg.specs.inner.RoundTrips.{kdc_req_body-back};
 use crate::copying::{FromView, copy_item_option, copy_items, copy_option};
 use crate::encrypted_data::{EncryptedData, EncryptedDataView};
 use crate::fields::{
-    Borrowed, Cut, Encode, EncodeFields, End, FieldOf, Noted, NotedFields, NotedLayout, NotedView,
-    NotedViewFields, Optional, Owned, Required, Sequence, View, ViewFields,
+    Borrowed, Cut, Encode, EncodeFields, End, FieldOf, Noted, NotedView, Optional, Owned, Required,
+    Sequence, View, ViewFields, optional_notes, optional_view_notes,
 };
 use crate::host_address::HostAddress;
 use crate::item::Item;
-use crate::notes::Notes;
+use crate::notes::{Notes, any_of};
 use crate::principal_name::{PrincipalName, PrincipalNameView};
 use crate::ticket::Ticket;
 use crate::view::items::ItemsView;
@@ -181,12 +181,6 @@ impl<'a> EncodeFields for Cut<Rest<Borrowed<'a>>> {
     }
 }
 
-impl<'a> NotedFields for Cut<Rest<Borrowed<'a>>> {
-    fn notes(&self) -> Notes {
-        self.0.notes()
-    }
-}
-
 impl Der for KdcReqBody {
     ghost der = { λ it. der kdc_req_body (kdc_req_body_value it) };
 
@@ -222,7 +216,19 @@ impl Noted for KdcReqBody {
     }
 
     fn notes(&self) -> Notes {
-        self.layout().notes()
+        any_of!(
+            self.kdc_options.notes(),
+            optional_notes(&self.cname),
+            self.realm.notes(),
+            optional_notes(&self.sname),
+            optional_notes(&self.from),
+            optional_notes(&self.rtime),
+            self.nonce.notes(),
+            self.etype.notes(),
+            optional_notes(&self.addresses),
+            optional_notes(&self.enc_authorization_data),
+            optional_notes(&self.additional_tickets)
+        )
     }
 }
 
@@ -289,27 +295,6 @@ impl<'a> RestView<'a> {
             additional_tickets: seen.1.1.1.1.1.0,
         }
     }
-
-    /// Returns the views of the fields.
-    #[inline(always)]
-    fn fields(&self) -> RestSeen<'a>
-        ensures values { ⟦<Rest<Owned> as ViewFields<'static>>⟧.values result ≡ ⟦<Cut<Rest<Owned>> as ViewFields<'static>>⟧.values self.now }
-        ensures lists { ⟦<Cut<Rest<Owned>> as ViewFields<'static>>⟧.IsValid self.now → ⟦<Rest<Owned> as ViewFields<'static>>⟧.IsValid result }
-    {
-        (
-            self.rtime,
-            (
-                self.nonce,
-                (
-                    self.etype,
-                    (
-                        self.addresses,
-                        (self.enc_authorization_data, (self.additional_tickets, ())),
-                    ),
-                ),
-            ),
-        )
-    }
 }
 
 impl<'a> ViewFields<'a> for Cut<Rest<Owned>> {
@@ -327,13 +312,6 @@ impl<'a> ViewFields<'a> for Cut<Rest<Owned>> {
             return None;
         };
         Some(RestView::of_fields(&seen))
-    }
-}
-
-impl<'a> NotedViewFields<'a> for Cut<Rest<Owned>> {
-    #[inline(always)]
-    fn notes(seen: &RestView<'a>) -> Notes {
-        Rest::<Owned>::notes(&seen.fields())
     }
 }
 
@@ -359,29 +337,6 @@ impl<'a> KdcReqBodyView<'a> {
             enc_authorization_data: rest.enc_authorization_data,
             additional_tickets: rest.additional_tickets,
         }
-    }
-
-    /// Returns the views of the fields.
-    #[inline(always)]
-    fn fields(&self) -> Seen<'a>
-        ensures value { ⟦<Layout<Owned> as View<'static>>⟧.value result ≡ kdc_req_body_view_value self.now }
-        ensures lists { IsValidKdcReqBody self.now → ⟦<Layout<Owned> as View<'static>>⟧.IsValid result }
-    {
-        let rest = RestView {
-            rtime: self.rtime,
-            nonce: self.nonce,
-            etype: self.etype,
-            addresses: self.addresses,
-            enc_authorization_data: self.enc_authorization_data,
-            additional_tickets: self.additional_tickets,
-        };
-        (
-            self.kdc_options,
-            (
-                self.cname,
-                (self.realm, (self.sname, (self.from, (self.till, rest)))),
-            ),
-        )
     }
 }
 
@@ -418,7 +373,19 @@ impl<'a> NotedView<'a> for KdcReqBody {
 
     #[inline(always)]
     fn notes(seen: &KdcReqBodyView<'a>) -> Notes {
-        Layout::<Owned>::notes(&seen.fields())
+        any_of!(
+            <Flags as NotedView<'_>>::notes(&seen.kdc_options),
+            optional_view_notes::<PrincipalName>(&seen.cname),
+            <KString as NotedView<'_>>::notes(&seen.realm),
+            optional_view_notes::<PrincipalName>(&seen.sname),
+            optional_view_notes::<KerberosTime>(&seen.from),
+            optional_view_notes::<KerberosTime>(&seen.rtime),
+            <Wide32 as NotedView<'_>>::notes(&seen.nonce),
+            <Many<Int32> as NotedView<'_>>::notes(&seen.etype),
+            optional_view_notes::<Many<HostAddress>>(&seen.addresses),
+            optional_view_notes::<EncryptedData>(&seen.enc_authorization_data),
+            optional_view_notes::<Many<Ticket>>(&seen.additional_tickets)
+        )
     }
 }
 

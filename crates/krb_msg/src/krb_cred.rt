@@ -11,11 +11,11 @@ ghost use Rattle.krb_msg.specs.inner.RoundTrips.{krb_cred-back};
 use crate::copying::{FromView, copy_items};
 use crate::encrypted_data::{EncryptedData, EncryptedDataView};
 use crate::fields::{
-    Application, Borrowed, Encode, End, FieldOf, Fixed, Noted, NotedLayout, NotedView, Owned,
-    Required, Sequence, View,
+    Application, Borrowed, Encode, End, FieldOf, Fixed, Noted, NotedView, Owned, Required,
+    Sequence, View,
 };
 use crate::item::Item;
-use crate::notes::Notes;
+use crate::notes::{Notes, any_of};
 use crate::ticket::Ticket;
 use crate::view::items::ItemsView;
 use krb_der::{Der, Many, Memory};
@@ -100,7 +100,7 @@ impl Noted for KrbCred {
     }
 
     fn notes(&self) -> Notes {
-        self.layout().notes()
+        any_of!(self.tickets.notes(), self.enc_part.notes())
     }
 }
 
@@ -118,15 +118,6 @@ impl<'a> KrbCredView<'a> {
             tickets: seen.0,
             enc_part: seen.1.0,
         }
-    }
-
-    /// Returns the views of the fields.
-    #[inline(always)]
-    fn fields(&self) -> Seen<'a>
-        ensures value { ⟦<Layout<Owned> as View<'static>>⟧.value result ≡ krb_cred_view_value self.now }
-        ensures lists { IsValidKrbCred self.now → ⟦<Layout<Owned> as View<'static>>⟧.IsValid result }
-    {
-        (self.tickets, (self.enc_part, ()))
     }
 }
 
@@ -163,7 +154,10 @@ impl<'a> NotedView<'a> for KrbCred {
 
     #[inline(always)]
     fn notes(seen: &KrbCredView<'a>) -> Notes {
-        Layout::<Owned>::notes(&seen.fields())
+        any_of!(
+            <Many<Ticket> as NotedView<'_>>::notes(&seen.tickets),
+            <EncryptedData as NotedView<'_>>::notes(&seen.enc_part)
+        )
     }
 }
 

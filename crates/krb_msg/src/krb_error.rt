@@ -10,11 +10,11 @@ ghost use Rattle.krb_msg.specs.inner.RoundTrips.{krb_error-back};
 
 use crate::copying::{FromView, copy_option};
 use crate::fields::{
-    Application, Borrowed, Cut, Encode, EncodeFields, End, FieldOf, Fixed, Noted, NotedFields,
-    NotedLayout, NotedView, NotedViewFields, Optional, Owned, Required, Sequence, View, ViewFields,
+    Application, Borrowed, Cut, Encode, EncodeFields, End, FieldOf, Fixed, Noted, NotedView,
+    Optional, Owned, Required, Sequence, View, ViewFields, optional_notes, optional_view_notes,
 };
 use crate::item::Item;
-use crate::notes::Notes;
+use crate::notes::{Notes, any_of};
 use crate::principal_name::{PrincipalName, PrincipalNameView};
 use krb_der::{Der, Int32, KString, KerberosTime, Memory, Micros, Octets};
 use std::alloc::Global;
@@ -170,12 +170,6 @@ impl<'a> EncodeFields for Cut<Rest<Borrowed<'a>>> {
     }
 }
 
-impl<'a> NotedFields for Cut<Rest<Borrowed<'a>>> {
-    fn notes(&self) -> Notes {
-        self.0.notes()
-    }
-}
-
 impl Der for KrbError {
     ghost der = { λ it. der krb_error (krb_error_value it) };
 
@@ -211,7 +205,16 @@ impl Noted for KrbError {
     }
 
     fn notes(&self) -> Notes {
-        self.layout().notes()
+        any_of!(
+            optional_notes(&self.ctime),
+            optional_notes(&self.cusec),
+            optional_notes(&self.crealm),
+            optional_notes(&self.cname),
+            self.realm.notes(),
+            self.sname.notes(),
+            optional_notes(&self.e_text),
+            optional_notes(&self.e_data)
+        )
     }
 }
 
@@ -269,21 +272,6 @@ impl<'a> RestView<'a> {
             e_data: seen.1.1.1.1.1.0,
         }
     }
-
-    /// Returns the views of the fields.
-    #[inline(always)]
-    fn fields(&self) -> RestSeen<'a>
-        ensures values { ⟦<Rest<Owned> as ViewFields<'static>>⟧.values result ≡ ⟦<Cut<Rest<Owned>> as ViewFields<'static>>⟧.values self.now }
-        ensures lists { ⟦<Cut<Rest<Owned>> as ViewFields<'static>>⟧.IsValid self.now → ⟦<Rest<Owned> as ViewFields<'static>>⟧.IsValid result }
-    {
-        (
-            self.crealm,
-            (
-                self.cname,
-                (self.realm, (self.sname, (self.e_text, (self.e_data, ())))),
-            ),
-        )
-    }
 }
 
 impl<'a> ViewFields<'a> for Cut<Rest<Owned>> {
@@ -301,13 +289,6 @@ impl<'a> ViewFields<'a> for Cut<Rest<Owned>> {
             return None;
         };
         Some(RestView::of_fields(&seen))
-    }
-}
-
-impl<'a> NotedViewFields<'a> for Cut<Rest<Owned>> {
-    #[inline(always)]
-    fn notes(seen: &RestView<'a>) -> Notes {
-        Rest::<Owned>::notes(&seen.fields())
     }
 }
 
@@ -332,29 +313,6 @@ impl<'a> KrbErrorView<'a> {
             e_text: rest.e_text,
             e_data: rest.e_data,
         }
-    }
-
-    /// Returns the views of the fields.
-    #[inline(always)]
-    fn fields(&self) -> Seen<'a>
-        ensures value { ⟦<Layout<Owned> as View<'static>>⟧.value result ≡ krb_error_view_value self.now }
-        ensures lists { IsValidKrbError self.now → ⟦<Layout<Owned> as View<'static>>⟧.IsValid result }
-    {
-        let rest = RestView {
-            crealm: self.crealm,
-            cname: self.cname,
-            realm: self.realm,
-            sname: self.sname,
-            e_text: self.e_text,
-            e_data: self.e_data,
-        };
-        (
-            self.ctime,
-            (
-                self.cusec,
-                (self.stime, (self.susec, (self.error_code, rest))),
-            ),
-        )
     }
 }
 
@@ -391,7 +349,16 @@ impl<'a> NotedView<'a> for KrbError {
 
     #[inline(always)]
     fn notes(seen: &KrbErrorView<'a>) -> Notes {
-        Layout::<Owned>::notes(&seen.fields())
+        any_of!(
+            optional_view_notes::<KerberosTime>(&seen.ctime),
+            optional_view_notes::<Micros>(&seen.cusec),
+            optional_view_notes::<KString>(&seen.crealm),
+            optional_view_notes::<PrincipalName>(&seen.cname),
+            <KString as NotedView<'_>>::notes(&seen.realm),
+            <PrincipalName as NotedView<'_>>::notes(&seen.sname),
+            optional_view_notes::<KString>(&seen.e_text),
+            optional_view_notes::<Octets>(&seen.e_data)
+        )
     }
 }
 

@@ -11,11 +11,11 @@ ghost use Rattle.krb_msg.specs.inner.RoundTrips.{krb_priv-back};
 use crate::copying::FromView;
 use crate::encrypted_data::{EncryptedData, EncryptedDataView};
 use crate::fields::{
-    Application, Borrowed, Encode, End, FieldOf, Fixed, Noted, NotedLayout, NotedView, Owned,
-    Required, Sequence, View,
+    Application, Borrowed, Encode, End, FieldOf, Fixed, Noted, NotedView, Owned, Required,
+    Sequence, View,
 };
 use crate::item::Item;
-use crate::notes::Notes;
+use crate::notes::{Notes, any_of};
 use krb_der::{Der, Memory};
 use std::alloc::Global;
 
@@ -84,7 +84,7 @@ impl Noted for KrbPriv {
     }
 
     fn notes(&self) -> Notes {
-        self.layout().notes()
+        any_of!(self.enc_part.notes())
     }
 }
 
@@ -99,15 +99,6 @@ impl<'a> KrbPrivView<'a> {
         ensures lists { ⟦<Layout<Owned> as View<'static>>⟧.IsValid seen.now → IsValidKrbPriv result }
     {
         KrbPrivView { enc_part: seen.0 }
-    }
-
-    /// Returns the views of the fields.
-    #[inline(always)]
-    fn fields(&self) -> Seen<'a>
-        ensures value { ⟦<Layout<Owned> as View<'static>>⟧.value result ≡ krb_priv_view_value self.now }
-        ensures lists { IsValidKrbPriv self.now → ⟦<Layout<Owned> as View<'static>>⟧.IsValid result }
-    {
-        (self.enc_part, ())
     }
 }
 
@@ -144,7 +135,7 @@ impl<'a> NotedView<'a> for KrbPriv {
 
     #[inline(always)]
     fn notes(seen: &KrbPrivView<'a>) -> Notes {
-        Layout::<Owned>::notes(&seen.fields())
+        any_of!(<EncryptedData as NotedView<'_>>::notes(&seen.enc_part))
     }
 }
 

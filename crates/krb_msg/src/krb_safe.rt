@@ -11,12 +11,12 @@ ghost use Rattle.krb_msg.specs.inner.RoundTrips.{krb_safe-back};
 use crate::checksum::{Checksum, ChecksumView};
 use crate::copying::FromView;
 use crate::fields::{
-    Application, Borrowed, Encode, End, FieldOf, Fixed, Noted, NotedLayout, NotedView, Owned,
-    Required, Sequence, View,
+    Application, Borrowed, Encode, End, FieldOf, Fixed, Noted, NotedView, Owned, Required,
+    Sequence, View,
 };
 use crate::item::Item;
 use crate::krb_safe_body::{KrbSafeBody, KrbSafeBodyView};
-use crate::notes::Notes;
+use crate::notes::{Notes, any_of};
 use krb_der::{Der, Memory};
 use std::alloc::Global;
 
@@ -99,7 +99,7 @@ impl Noted for KrbSafe {
     }
 
     fn notes(&self) -> Notes {
-        self.layout().notes()
+        any_of!(self.body.notes())
     }
 }
 
@@ -117,15 +117,6 @@ impl<'a> KrbSafeView<'a> {
             body: seen.0,
             cksum: seen.1.0,
         }
-    }
-
-    /// Returns the views of the fields.
-    #[inline(always)]
-    fn fields(&self) -> Seen<'a>
-        ensures value { ⟦<Layout<Owned> as View<'static>>⟧.value result ≡ krb_safe_view_value self.now }
-        ensures lists { IsValidKrbSafe self.now → ⟦<Layout<Owned> as View<'static>>⟧.IsValid result }
-    {
-        (self.body, (self.cksum, ()))
     }
 }
 
@@ -162,7 +153,7 @@ impl<'a> NotedView<'a> for KrbSafe {
 
     #[inline(always)]
     fn notes(seen: &KrbSafeView<'a>) -> Notes {
-        Layout::<Owned>::notes(&seen.fields())
+        any_of!(<KrbSafeBody as NotedView<'_>>::notes(&seen.body))
     }
 }
 

@@ -10,12 +10,12 @@ ghost use Rattle.krb_msg.specs.inner.RoundTrips.{krb_safe_body-back};
 
 use crate::copying::{FromView, copy_option};
 use crate::fields::{
-    Borrowed, Encode, End, FieldOf, Noted, NotedLayout, NotedView, Optional, Owned, Required,
-    Sequence, View,
+    Borrowed, Encode, End, FieldOf, Noted, NotedView, Optional, Owned, Required, Sequence, View,
+    optional_notes, optional_view_notes,
 };
 use crate::host_address::{HostAddress, HostAddressView};
 use crate::item::Item;
-use crate::notes::Notes;
+use crate::notes::{Notes, any_of};
 use krb_der::{Der, KerberosTime, Memory, Micros, Octets, Wide32};
 use std::alloc::Global;
 
@@ -130,7 +130,12 @@ impl Noted for KrbSafeBody {
     }
 
     fn notes(&self) -> Notes {
-        self.layout().notes()
+        any_of!(
+            optional_notes(&self.timestamp),
+            optional_notes(&self.usec),
+            optional_notes(&self.seq_number),
+            optional_notes(&self.r_address)
+        )
     }
 }
 
@@ -164,24 +169,6 @@ impl<'a> KrbSafeBodyView<'a> {
             s_address: seen.1.1.1.1.0,
             r_address: seen.1.1.1.1.1.0,
         }
-    }
-
-    /// Returns the views of the fields.
-    #[inline(always)]
-    fn fields(&self) -> Seen<'a>
-        ensures value { ⟦<Layout<Owned> as View<'static>>⟧.value result ≡ krb_safe_body_view_value self.now }
-        ensures lists { IsValidKrbSafeBody self.now → ⟦<Layout<Owned> as View<'static>>⟧.IsValid result }
-    {
-        (
-            self.user_data,
-            (
-                self.timestamp,
-                (
-                    self.usec,
-                    (self.seq_number, (self.s_address, (self.r_address, ()))),
-                ),
-            ),
-        )
     }
 }
 
@@ -218,7 +205,12 @@ impl<'a> NotedView<'a> for KrbSafeBody {
 
     #[inline(always)]
     fn notes(seen: &KrbSafeBodyView<'a>) -> Notes {
-        Layout::<Owned>::notes(&seen.fields())
+        any_of!(
+            optional_view_notes::<KerberosTime>(&seen.timestamp),
+            optional_view_notes::<Micros>(&seen.usec),
+            optional_view_notes::<Wide32>(&seen.seq_number),
+            optional_view_notes::<HostAddress>(&seen.r_address)
+        )
     }
 }
 

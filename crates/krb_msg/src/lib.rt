@@ -8,8 +8,10 @@
 //!
 //! [`view_message`] judges and views a message in place, in one pass without allocating
 //! ([`view_message_in`] by a profile): a [`MessageView`] has the same fields as plain numbers,
-//! borrowed octets and lists ([`ItemsView`], walked by [`next_item`]). [`MessageView::to_message`]
-//! copies it out as a `Message`. [`view_whole`] views an item of any type alone (the trait
+//! borrowed octets and lists ([`ItemsView`], walked by [`next_item`], and by [`next_type`] for the
+//! types of PA-DATA alone). [`MessageView::to_message`] copies it out as a `Message`. Code that is
+//! generic over the kind has a [`MessageKind`], one of [`message_kinds`], and views a message as the
+//! view of its kind, with no `MessageView` made. [`view_whole`] views an item of any type alone (the trait
 //! [`View`]), such as a [`Ticket`], and [`FromView`] copies it. [`first_item`] finds an item in
 //! octets that were judged.
 //!
@@ -58,6 +60,8 @@ mod krb_safe;
 mod krb_safe_body;
 pub mod law;
 mod message;
+mod message_kind;
+pub mod message_kinds;
 mod message_view;
 mod notes;
 mod pa_data;
@@ -87,13 +91,14 @@ pub use krb_priv::{KrbPriv, KrbPrivView};
 pub use krb_safe::{KrbSafe, KrbSafeView};
 pub use krb_safe_body::{KrbSafeBody, KrbSafeBodyView};
 pub use message::{Kind, Message, notes_of, put};
+pub use message_kind::MessageKind;
 pub use message_view::{MessageView, notes_of_view};
 pub use notes::{Notes, is_strict, is_strict_view, notes_of_ticket};
 pub use pa_data::{PaData, PaDataView};
 pub use principal_name::{PrincipalName, PrincipalNameView};
 pub use ticket::{Ticket, TicketView};
 pub use view::head::{first_item, first_length};
-pub use view::items::{ItemsView, next_item, view_items};
+pub use view::items::{ItemsView, next_item, next_type, view_items};
 pub use view::scalars::FlagsView;
 pub use view::view_whole;
 pub use viewing::{view_message, view_message_in};

@@ -6,13 +6,12 @@ ghost use Rattle.krb_der.specs.declared.profile.Profile.TheVariants.{Lenient};
 ghost use Rattle.krb_msg.specs.Notes.{notes_of};
 ghost use Rattle.krb_msg.specs.Realm.{realm_of};
 ghost use Rattle.krb_msg.specs.Views.{IsInProfile, kind_of};
-ghost use Rattle.krb_msg.specs.ViewValues.{BeginAs, IsMessageView, IsNoMessage, IsValidMessage, message_of_view};
 ghost use Rattle.krb_msg.specs.declared.message.Kind.TheVariants as kind;
+ghost use Rattle.krb_msg.specs.ViewValues.{BeginAs, IsMessageView, IsNoMessage, IsValidMessage, message_of_view};
 
 use crate::ap_rep::{ApRep, ApRepView};
 use crate::ap_req::{ApReq, ApReqView};
 use crate::copying::FromView;
-use crate::fields::NotedView;
 use crate::kdc_rep::{KdcRep, KdcRepView};
 use crate::kdc_req::{KdcReq, KdcReqView};
 use crate::krb_cred::{KrbCred, KrbCredView};
@@ -20,8 +19,12 @@ use crate::krb_error::{KrbError, KrbErrorView};
 use crate::krb_priv::{KrbPriv, KrbPrivView};
 use crate::krb_safe::{KrbSafe, KrbSafeView};
 use crate::message::{Kind, Message};
+use crate::message_kind::MessageKind;
+use crate::message_kinds::{
+    ApRepKind, ApReqKind, AsRepKind, AsReqKind, KrbCredKind, KrbErrorKind, KrbPrivKind,
+    KrbSafeKind, TgsRepKind, TgsReqKind,
+};
 use crate::notes::Notes;
-use crate::view::view_whole;
 use krb_der::Memory;
 use std::alloc::Global;
 
@@ -121,16 +124,16 @@ pub fn notes_of_view(view: &MessageView<'_>) -> Notes
     ensures { result ≡ notes_of (message_of_view view.now) }
 {
     match view {
-        MessageView::AsReq(req) => req.notes::<10>(),
-        MessageView::AsRep(rep) => rep.notes::<11>(),
-        MessageView::TgsReq(req) => req.notes::<12>(),
-        MessageView::TgsRep(rep) => rep.notes::<13>(),
-        MessageView::ApReq(req) => ApReq::notes(req),
-        MessageView::ApRep(rep) => ApRep::notes(rep),
-        MessageView::KrbSafe(safe) => KrbSafe::notes(safe),
-        MessageView::KrbPriv(private) => KrbPriv::notes(private),
-        MessageView::KrbCred(cred) => KrbCred::notes(cred),
-        MessageView::KrbError(error) => KrbError::notes(error),
+        MessageView::AsReq(m) => AsReqKind::notes(m),
+        MessageView::AsRep(m) => AsRepKind::notes(m),
+        MessageView::TgsReq(m) => TgsReqKind::notes(m),
+        MessageView::TgsRep(m) => TgsRepKind::notes(m),
+        MessageView::ApReq(m) => ApReqKind::notes(m),
+        MessageView::ApRep(m) => ApRepKind::notes(m),
+        MessageView::KrbSafe(m) => KrbSafeKind::notes(m),
+        MessageView::KrbPriv(m) => KrbPrivKind::notes(m),
+        MessageView::KrbCred(m) => KrbCredKind::notes(m),
+        MessageView::KrbError(m) => KrbErrorKind::notes(m),
     }
 }
 
@@ -159,7 +162,7 @@ fn view_as_req(octets: &[u8]) -> Option<MessageView<'_>>
     requires { BeginAs kind.AsReq octets.now }
     ensures { MatchOption result (IsNoMessage octets.now) (λ m. IsMessageView octets.now m) }
 {
-    let Some(m) = KdcReq::view::<10>(octets) else {
+    let Some(m) = AsReqKind::view(octets) else {
         return None;
     };
     Some(MessageView::AsReq(m))
@@ -170,7 +173,7 @@ fn view_as_rep(octets: &[u8]) -> Option<MessageView<'_>>
     requires { BeginAs kind.AsRep octets.now }
     ensures { MatchOption result (IsNoMessage octets.now) (λ m. IsMessageView octets.now m) }
 {
-    let Some(m) = KdcRep::view::<11>(octets) else {
+    let Some(m) = AsRepKind::view(octets) else {
         return None;
     };
     Some(MessageView::AsRep(m))
@@ -181,7 +184,7 @@ fn view_tgs_req(octets: &[u8]) -> Option<MessageView<'_>>
     requires { BeginAs kind.TgsReq octets.now }
     ensures { MatchOption result (IsNoMessage octets.now) (λ m. IsMessageView octets.now m) }
 {
-    let Some(m) = KdcReq::view::<12>(octets) else {
+    let Some(m) = TgsReqKind::view(octets) else {
         return None;
     };
     Some(MessageView::TgsReq(m))
@@ -192,7 +195,7 @@ fn view_tgs_rep(octets: &[u8]) -> Option<MessageView<'_>>
     requires { BeginAs kind.TgsRep octets.now }
     ensures { MatchOption result (IsNoMessage octets.now) (λ m. IsMessageView octets.now m) }
 {
-    let Some(m) = KdcRep::view::<13>(octets) else {
+    let Some(m) = TgsRepKind::view(octets) else {
         return None;
     };
     Some(MessageView::TgsRep(m))
@@ -203,7 +206,7 @@ fn view_ap_req(octets: &[u8]) -> Option<MessageView<'_>>
     requires { BeginAs kind.ApReq octets.now }
     ensures { MatchOption result (IsNoMessage octets.now) (λ m. IsMessageView octets.now m) }
 {
-    let Some(m) = view_whole::<ApReq>(octets) else {
+    let Some(m) = ApReqKind::view(octets) else {
         return None;
     };
     Some(MessageView::ApReq(m))
@@ -214,7 +217,7 @@ fn view_ap_rep(octets: &[u8]) -> Option<MessageView<'_>>
     requires { BeginAs kind.ApRep octets.now }
     ensures { MatchOption result (IsNoMessage octets.now) (λ m. IsMessageView octets.now m) }
 {
-    let Some(m) = view_whole::<ApRep>(octets) else {
+    let Some(m) = ApRepKind::view(octets) else {
         return None;
     };
     Some(MessageView::ApRep(m))
@@ -225,7 +228,7 @@ fn view_krb_safe(octets: &[u8]) -> Option<MessageView<'_>>
     requires { BeginAs kind.KrbSafe octets.now }
     ensures { MatchOption result (IsNoMessage octets.now) (λ m. IsMessageView octets.now m) }
 {
-    let Some(m) = view_whole::<KrbSafe>(octets) else {
+    let Some(m) = KrbSafeKind::view(octets) else {
         return None;
     };
     Some(MessageView::KrbSafe(m))
@@ -236,7 +239,7 @@ fn view_krb_priv(octets: &[u8]) -> Option<MessageView<'_>>
     requires { BeginAs kind.KrbPriv octets.now }
     ensures { MatchOption result (IsNoMessage octets.now) (λ m. IsMessageView octets.now m) }
 {
-    let Some(m) = view_whole::<KrbPriv>(octets) else {
+    let Some(m) = KrbPrivKind::view(octets) else {
         return None;
     };
     Some(MessageView::KrbPriv(m))
@@ -247,7 +250,7 @@ fn view_krb_cred(octets: &[u8]) -> Option<MessageView<'_>>
     requires { BeginAs kind.KrbCred octets.now }
     ensures { MatchOption result (IsNoMessage octets.now) (λ m. IsMessageView octets.now m) }
 {
-    let Some(m) = view_whole::<KrbCred>(octets) else {
+    let Some(m) = KrbCredKind::view(octets) else {
         return None;
     };
     Some(MessageView::KrbCred(m))
@@ -258,7 +261,7 @@ fn view_krb_error(octets: &[u8]) -> Option<MessageView<'_>>
     requires { BeginAs kind.KrbError octets.now }
     ensures { MatchOption result (IsNoMessage octets.now) (λ m. IsMessageView octets.now m) }
 {
-    let Some(m) = view_whole::<KrbError>(octets) else {
+    let Some(m) = KrbErrorKind::view(octets) else {
         return None;
     };
     Some(MessageView::KrbError(m))

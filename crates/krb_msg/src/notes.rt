@@ -77,6 +77,18 @@ impl Notes {
     }
 }
 
+/// The notes that hold in one of several.
+macro_rules! any_of {
+    () => {
+        $crate::notes::Notes::none()
+    };
+    ($first:expr $(, $others:expr)* $(,)?) => {
+        $first.or(any_of!($($others),*))
+    };
+}
+
+pub(crate) use any_of;
+
 /// Returns whether a message keeps the strict rules (`Profile::Strict`): none of the notes 1 to 4
 /// holds in it. It allocates nothing.
 pub fn is_strict(message: &Message) -> bool

@@ -10,7 +10,7 @@ ghost use Rattle.krb_msg.specs.inner.RoundTrips.{pa_data-back};
 
 use crate::copying::{FromView, copy_items};
 use crate::fields::{
-    Borrowed, Encode, End, FieldOf, Noted, NotedLayout, NotedView, Owned, Required, Sequence, View,
+    Borrowed, Encode, End, FieldOf, Noted, NotedView, Owned, Required, Sequence, View,
 };
 use crate::item::Item;
 use crate::notes::Notes;
@@ -83,7 +83,7 @@ impl Noted for PaData {
     }
 
     fn notes(&self) -> Notes {
-        self.layout().notes()
+        Notes::none()
     }
 }
 
@@ -122,8 +122,8 @@ impl<'a> NotedView<'a> for PaData {
     }
 
     #[inline(always)]
-    fn notes(seen: &PaDataView<'a>) -> Notes {
-        Layout::<Owned>::notes(&(seen.padata_type, (seen.padata_value, ())))
+    fn notes(_seen: &PaDataView<'a>) -> Notes {
+        Notes::none()
     }
 }
 

@@ -10,10 +10,10 @@ ghost use Rattle.krb_msg.specs.inner.RoundTrips.{principal_name-back};
 
 use crate::copying::{FromView, copy_items};
 use crate::fields::{
-    Borrowed, Encode, End, FieldOf, Noted, NotedLayout, NotedView, Owned, Required, Sequence, View,
+    Borrowed, Encode, End, FieldOf, Noted, NotedView, Owned, Required, Sequence, View,
 };
 use crate::item::Item;
-use crate::notes::Notes;
+use crate::notes::{Notes, any_of};
 use crate::view::items::ItemsView;
 use krb_der::{Der, Int32, KString, Many, Memory};
 use std::alloc::Global;
@@ -85,7 +85,7 @@ impl Noted for PrincipalName {
     }
 
     fn notes(&self) -> Notes {
-        self.layout().notes()
+        any_of!(self.name.notes())
     }
 }
 
@@ -122,7 +122,7 @@ impl<'a> NotedView<'a> for PrincipalName {
 
     #[inline(always)]
     fn notes(seen: &PrincipalNameView<'a>) -> Notes {
-        Layout::<Owned>::notes(&(seen.name_type, (seen.name, ())))
+        any_of!(<Many<KString> as NotedView<'_>>::notes(&seen.name))
     }
 }
 

@@ -11,11 +11,11 @@ ghost use Rattle.krb_msg.specs.inner.RoundTrips.{ticket-back};
 use crate::copying::FromView;
 use crate::encrypted_data::{EncryptedData, EncryptedDataView};
 use crate::fields::{
-    Application, Borrowed, Encode, End, FieldOf, Fixed, Noted, NotedLayout, NotedView, Owned,
-    Required, Sequence, View,
+    Application, Borrowed, Encode, End, FieldOf, Fixed, Noted, NotedView, Owned, Required,
+    Sequence, View,
 };
 use crate::item::Item;
-use crate::notes::Notes;
+use crate::notes::{Notes, any_of};
 use crate::principal_name::{PrincipalName, PrincipalNameView};
 use krb_der::{Der, KString, Memory};
 use std::alloc::Global;
@@ -105,7 +105,11 @@ impl Noted for Ticket {
     }
 
     fn notes(&self) -> Notes {
-        self.layout().notes()
+        any_of!(
+            self.realm.notes(),
+            self.sname.notes(),
+            self.enc_part.notes()
+        )
     }
 }
 
@@ -127,15 +131,6 @@ impl<'a> TicketView<'a> {
             sname: seen.1.0,
             enc_part: seen.1.1.0,
         }
-    }
-
-    /// Returns the views of the fields.
-    #[inline(always)]
-    fn fields(&self) -> Seen<'a>
-        ensures value { ⟦<Layout<Owned> as View<'static>>⟧.value result ≡ ticket_view_value self.now }
-        ensures lists { IsValidTicket self.now → ⟦<Layout<Owned> as View<'static>>⟧.IsValid result }
-    {
-        (self.realm, (self.sname, (self.enc_part, ())))
     }
 }
 
@@ -172,7 +167,11 @@ impl<'a> NotedView<'a> for Ticket {
 
     #[inline(always)]
     fn notes(seen: &TicketView<'a>) -> Notes {
-        Layout::<Owned>::notes(&seen.fields())
+        any_of!(
+            <KString as NotedView<'_>>::notes(&seen.realm),
+            <PrincipalName as NotedView<'_>>::notes(&seen.sname),
+            <EncryptedData as NotedView<'_>>::notes(&seen.enc_part)
+        )
     }
 }
 

@@ -46,7 +46,7 @@ stops_setting found others each (Some setting) = each (with_setting setting foun
 
 at_place : {A : Type 0} (reader : Bounds → ℕ → Reader A) → ((bounds : Bounds) (place : ℕ) → Stops (reader bounds place)) → Stops (λ bounds source. reader bounds source.place bounds source)
 at_place reader each = record {
-  passes = record { on = λ bounds s v t e. (each bounds s.place).passes.on bounds s v t e; same = λ bounds s v t e. (each bounds s.place).passes.same bounds s v t e };
+  passes = record { goes = λ bounds s v t e. (each bounds s.place).passes.goes bounds s v t e };
   upto = λ bounds s f e. (each bounds s.place).upto bounds s f e;
 }
 

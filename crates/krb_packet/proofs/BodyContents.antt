@@ -1,5 +1,5 @@
 -- A body that was read: its content, or the field of it that is refused.
-use Rattle.std.proofs.Common.{◌≡◌, ℕ, ◌+◌, Result, Ok, Err, List, refl, ap, subst}
+use Rattle.std.proofs.Common.{◌≡◌, ℕ, ◌+◌, Result, Ok, List, refl, ap, subst}
 use Rattle.krb_file.specs.Fields.{Fault, Reader, ◌>>=◌, succeed, called, octets_at, Fails}
 use Rattle.krb_file.specs.FieldReaders.{Cursor, HasRead, FailsBy, source_at}
 use Rattle.krb_file.specs.declared.fault.FileFault.{FileFault}

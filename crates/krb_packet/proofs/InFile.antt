@@ -1,13 +1,11 @@
 -- A refusal of a capture file is at a place of the file or at its end.
-use Rattle.std.proofs.Common.{◌≡◌, ℕ, zero, suc, ◌+◌, ◌-◌, ◌≤◌, inl, inr, Bool, true, false, Option, Some, None, Result, Ok, Err, List, [], ◌∷◌, length, refl, ap, ◌∙◌, subst, arith}
-use Rattle.std.specs.Prelude.{◌*◌, ◌%◌, ◌^◌, max, IfErr}
+use Rattle.std.proofs.Common.{◌≡◌, ℕ, ◌+◌, ◌-◌, ◌≤◌, inl, inr, Option, Some, None, Result, Ok, Err, List, [], ◌∷◌, length, refl, ap, ◌∙◌, arith}
+use Rattle.std.specs.Prelude.{◌*◌, ◌%◌, ◌^◌, max}
 use Rattle.std.specs.Int.{w32, from_be_bytes}
 use Rattle.std.proofs.lemmas.List.{length-take-le}
 use Rattle.krb_der.specs.Octets.{when}
-use Rattle.krb_file.specs.Fields.{Source, Fault, Bounds, Reader, ◌>>=◌, succeed, called, with_name, in_part, is_empty, source_of, ended, limited, octets_at, next_octets_at, number_at, are_zero, IsStreamFaultIn}
+use Rattle.krb_file.specs.Fields.{Source, Fault, Bounds, Reader, ◌>>=◌, succeed, called, with_name, in_part, is_empty, source_of, ended, octets_at, next_octets_at, number_at, are_zero}
 use Rattle.krb_file.specs.declared.fault.FileWhy.{FileWhy}
-use Rattle.krb_file.specs.declared.fault.FileFault.{FileFault}
-use Rattle.krb_file.specs.declared.fault.FileFault.TheVariants as faults
 use Rattle.krb_file.specs.declared.field_name.FieldName.{FieldName}
 use Rattle.krb_file.specs.declared.field_name.FieldName.TheVariants as fields
 use Rattle.krb_file.specs.declared.field_name.FilePart.TheVariants as parts
@@ -21,61 +19,58 @@ use Rattle.krb_packet.specs.declared.block.Head.{Head}
 use Rattle.krb_packet.specs.declared.block.Section.{Section}
 use Rattle.krb_packet.specs.declared.body.Content.{Content}
 use Rattle.krb_packet.specs.declared.body.Content.TheVariants as contents
-use Rattle.krb_packet.specs.declared.packet.Packet.{Packet}
 use Rattle.krb_packet.specs.declared.pcap.Form.{Form}
 use Rattle.krb_packet.specs.declared.pcap.Header.{Header}
 use Rattle.krb_packet.specs.declared.pcap.Magic.{Magic}
 use Rattle.krb_packet.specs.declared.pcap.Magic.TheVariants as magics
 use Rattle.krb_packet.specs.declared.format.Format.{Format}
 use Rattle.krb_packet.specs.declared.format.Format.TheVariants as formats
-use Rattle.krb_packet.specs.declared.format.Next.{Next}
 use Rattle.krb_packet.specs.declared.format.Next.TheVariants as nexts
 use Rattle.krb_packet.specs.Numbers.{in_order, field_in, checked_at, from_here, checked_number, refused_at}
 use Rattle.krb_packet.specs.Values.{link_type, time_of}
-use Rattle.krb_packet.specs.Pcaps.{magic_of, magic_at, version, header_at, captured, packet_head_at, packet_at, next_at, unit, most_captured}
+use Rattle.krb_packet.specs.Pcaps.{magic_of, magic_at, version, header_at, captured, packet_head_at, packet_at, next_at, unit}
 use Rattle.krb_packet.specs.Bodies.{byte_order, body_size, after_byte_order, section_head_at, head_of, head_at, same_length, next_kind_at, content_at, in_body, block_kind}
 use Rattle.krb_packet.specs.Blocks.{skipped_body, content_in_file, read_body, body_in, end_in, block_in, whole_block_in, after_content, block_after, after_kind}
-use Rattle.krb_packet.specs.Captures.{packet_in, after_magic, after_packet, next_in, Packets, packets_from, packets_within, packets}
-use Rattle.krb_packet.specs.Streaming.{PacketsModel, FailsAfter, ReturnsNext}
-use Rattle.krb_packet.proofs.Reaching.{Passes, Passes-then, Passes-fewer, Passes-made, Passes-piece, Passes-called, Passes-checked_at, Passes-check, Passes-from_here, Stops, Stops-succeed, Stops-then, Stops-piece, Stops-octets, Stops-called, Stops-part, Stops-field, Stops-checked_at, moved-ok, moved-err, checked_at-err}
+use Rattle.krb_packet.specs.Captures.{packet_in, after_magic, after_packet, next_in}
+use Rattle.krb_packet.proofs.Reaching.{Passed, Passes, Passes-succeed, Passes-then, Passes-fewer, Passes-piece, Passes-octets, Passes-refused, Passes-called, Passes-checked_at, Passes-check, Passes-from_here, Stops, Stops-succeed, Stops-then, Stops-piece, Stops-octets, Stops-called, Stops-part, Stops-field, Stops-checked_at, moved-ok, moved-err, checked_at-err}
 use Rattle.krb_packet.proofs.Bodies.{Stops-content, value-err}
-use Rattle.krb_packet.proofs.Steps.{Passes-head, Passes-read, Passes-block, step_advances}
 
 -- within the octets that are left
-abbrev Within : Source → Fault → Type 0
+abbrev pub Within : Source → Fault → Type 0
 Within s f = f.place ≤ s.place + length s.octets
 
 -- what is within the octets that are left later is within those of before
-later : (s t : Source) (f : Fault) → t.place + length t.octets ≡ s.place + length s.octets → Within t f → Within s f
+pub later : (s t : Source) (f : Fault) → t.place + length t.octets ≡ s.place + length s.octets → Within t f → Within s f
 later s t f same within = omega (arith, same, within)
 
 Stops-plain : (name : FieldName) → Stops (called name (number_at w32))
 Stops-plain name = Stops-called name (number_at w32) (Stops-then (next_octets_at None 4) _ (Stops-piece 4) (λ octets. Stops-succeed (from_be_bytes w32 octets)))
 
 -- a reader that reads nothing at the end of the file
-module _ {A B : Type 0} (reader : Reader A) (make : A → B) (end : B) (stops : Stops reader) where
+module _ {A B : Type 0} (reader : Reader A) (make : A → B) (end : B) where
   abbrev made : Reader B
   made = reader >>= λ value. succeed (make value)
 
-  abbrev or_end : Reader B
+  abbrev pub or_end : Reader B
   or_end = λ bounds source. when (is_empty source.octets) (λ _. Ok (end, source)) (λ _. made bounds source)
 
-  some : Stops made
-  some = Stops-then reader (λ value. succeed (make value)) stops (λ value. Stops-succeed (make value))
+  module _ (stops : Stops reader) where
+    some : Stops made
+    some = Stops-then reader (λ value. succeed (make value)) stops (λ value. Stops-succeed (make value))
 
-  moves : (bounds : Bounds) (place : ℕ) (octets : List ℕ) (v : B) (t : Source) → or_end bounds (at place octets) ≡ Ok (v, t) → (place + 0 ≤ t.place) × (t.place + length t.octets ≡ place + length octets)
-  moves bounds place [] v t e = ((Stops-succeed end).passes.on bounds (at place []) v t e, (Stops-succeed end).passes.same bounds (at place []) v t e)
-  moves bounds place (octet ∷ octets) v t e = (some.passes.on bounds (at place (octet ∷ octets)) v t e, some.passes.same bounds (at place (octet ∷ octets)) v t e)
+    moves : (bounds : Bounds) (place : ℕ) (octets : List ℕ) (v : B) (t : Source) → or_end bounds (at place octets) ≡ Ok (v, t) → Passed 0 (at place octets) t
+    moves bounds place [] v t e = (Stops-succeed end).passes.goes bounds (at place []) v t e
+    moves bounds place (octet ∷ octets) v t e = some.passes.goes bounds (at place (octet ∷ octets)) v t e
 
-  upto_end : (bounds : Bounds) (place : ℕ) (octets : List ℕ) (f : Fault) → or_end bounds (at place octets) ≡ Err f → f.place ≤ place + length octets
-  upto_end bounds place [] f e = absurd cc
-  upto_end bounds place (octet ∷ octets) f e = some.upto bounds (at place (octet ∷ octets)) f e
+    upto_end : (bounds : Bounds) (place : ℕ) (octets : List ℕ) (f : Fault) → or_end bounds (at place octets) ≡ Err f → f.place ≤ place + length octets
+    upto_end bounds place [] f e = absurd cc
+    upto_end bounds place (octet ∷ octets) f e = some.upto bounds (at place (octet ∷ octets)) f e
 
-  Stops-or_end : Stops or_end
-  Stops-or_end = record {
-    passes = record { on = λ bounds s v t e. (moves bounds s.place s.octets v t e).0; same = λ bounds s v t e. (moves bounds s.place s.octets v t e).1 };
-    upto = λ bounds s f e. upto_end bounds s.place s.octets f e;
-  }
+    Stops-or_end : Stops or_end
+    Stops-or_end = record {
+      passes = record { goes = λ bounds s v t e. moves bounds s.place s.octets v t e };
+      upto = λ bounds s f e. upto_end bounds s.place s.octets f e;
+    }
 
 -- ---- readers whose faults are at a place that was read before, or at one of the octets that are left, or at their end
 record StopsFrom {A : Type 0} (place : ℕ) (reader : Reader A) : Type 0 where
@@ -92,7 +87,7 @@ stops_then place reader next first others = record {
       elim (and_then-err (reader bounds s) (λ p. next p.0 bounds p.1) f e) [
         | inl a ↦ first.upto bounds s f near a
         | inr a ↦
-            let same = first.passes.same bounds s a.0.0 a.0.1 a.1 in
+            let same = (first.passes.goes bounds s a.0.0 a.0.1 a.1).same in
             let there = (others a.0.0).upto bounds a.0.1 f (omega (arith, near, same)) a.2 in
             omega (arith, there, same)
       ];
@@ -112,10 +107,9 @@ after_four reader next stops passes others = record {
       elim (and_then-err (reader bounds s) (λ p. next s.place p.0 bounds p.1) f e) [
         | inl a ↦ stops.upto bounds s f a
         | inr a ↦
-            let on = passes.on bounds s a.0.0 a.0.1 a.1 in
-            let same = passes.same bounds s a.0.0 a.0.1 a.1 in
-            let there = (others s.place a.0.0).upto bounds a.0.1 f (omega (arith, on)) a.2 in
-            omega (arith, there, same)
+            let goes = passes.goes bounds s a.0.0 a.0.1 a.1 in
+            let there = (others s.place a.0.0).upto bounds a.0.1 f (omega (arith, goes.on)) a.2 in
+            omega (arith, there, goes.same)
       ];
 }
 
@@ -164,6 +158,16 @@ content_upto begin size (Err g) bounds t f within e =
     let few : g.place ≤ size = within g refl in
     omega (arith, there, few)
 
+Passes-content : (begin : ℕ) (r : Result Content Fault) → Passes 0 (content_in_file begin r)
+Passes-content begin (Ok content) = Passes-succeed content
+Passes-content begin (Err fault) = record { goes = λ bounds s v t e. absurd cc }
+
+Passes-read : (kind : BlockKind) (section : Section) (count place : ℕ) (head : Head) → Passes 0 (read_body kind section count place head)
+Passes-read kind section count place head =
+    Passes-from_here 0 _ (λ begin.
+    Passes-then 0 0 (refused_at place (called fields.Body (octets_at head.left))) _ (Passes-refused 0 place _ (Passes-called 0 fields.Body (octets_at head.left) (Passes-fewer head.left _ (Passes-octets head.left)))) (λ octets.
+    Passes-content begin (in_body (content_at kind head.order count section.interfaces) octets)))
+
 read_upto : (kind : BlockKind) (section : Section) (count place : ℕ) (head : Head) (bounds : Bounds) (s : Source) (f : Fault) → place ≤ s.place + length s.octets → read_body kind section count place head bounds s ≡ Err f → f.place ≤ s.place + length s.octets
 read_upto kind section count place head bounds s f near e =
     let reader = called fields.Body (octets_at head.left) in
@@ -211,9 +215,12 @@ Stops-block : (kind : BlockKind) (section : Section) (count : ℕ) → Stops (bl
 Stops-block kind section count =
     after_four (head_at kind section.order) (after_head kind section count) (each_head (λ (reader : Reader Head). Stops reader) Stops-section Stops-block_head kind section.order) (each_head (λ (reader : Reader Head). Passes 4 reader) Passes-section_4 Passes-block_4 kind section.order) (after_head_stops kind section count)
 
+pub Stops-whole_block : (kind : BlockKind) (section : Section) (count : ℕ) → Stops (whole_block_in kind section count)
+Stops-whole_block kind section count = Stops-part (parts.Block section.blocks) (λ start. start - 4) (block_in kind section count) (Stops-block kind section count)
+
 Stops-after : (kind : BlockKind) (section : Section) (count : ℕ) → Stops (block_after kind section count)
 Stops-after kind section count =
-    Stops-then (whole_block_in kind section count) _ (Stops-part (parts.Block section.blocks) (λ start. start - 4) (block_in kind section count) (Stops-block kind section count)) (λ content. Stops-succeed (after_content section content))
+    Stops-then (whole_block_in kind section count) _ (Stops-whole_block kind section count) (λ content. Stops-succeed (after_content section content))
 
 -- ---- the next block
 Stops-kind : (section : Section) (count : ℕ) (kind : Option BlockKind) → Stops (after_kind section count kind)
@@ -224,7 +231,7 @@ Stops-next_kind : (order : ByteOrder) → Stops (next_kind_at order)
 Stops-next_kind order = Stops-or_end (field_in fields.Type w32 order) (λ number. Some (block_kind number)) None (Stops-field fields.Type w32 order)
 
 -- ---- a pcap
-Stops-header : (form : Form) → Stops (header_at form)
+pub Stops-header : (form : Form) → Stops (header_at form)
 Stops-header form =
     Stops-then (checked_number fields.Version w32 form.order (version form.order)) _ (Stops-checked_at fields.Version w32 form.order (version form.order)) (λ version.
     Stops-then (called fields.ThisZone (number_at w32)) _ (Stops-plain fields.ThisZone) (λ thiszone.
@@ -251,40 +258,9 @@ Stops-magic : (count : ℕ) (magic : Magic) → Stops (after_magic count magic)
 Stops-magic count (magics.Pcap form) = Stops-then (header_at form) _ (Stops-header form) (λ header. Stops-succeed (nexts.NoPacket (formats.Pcap header)))
 Stops-magic count magics.Pcapng = Stops-after kinds.Section (record { order = orders.BigEndian; interfaces = []; blocks = 0 }) count
 
-Stops-step : (format : Format) (count : ℕ) → Stops (next_in format count)
+pub Stops-step : (format : Format) (count : ℕ) → Stops (next_in format count)
 Stops-step formats.Unknown count = Stops-then magic_at _ (Stops-checked_at fields.Magic w32 orders.BigEndian magic_of) (Stops-magic count)
 Stops-step (formats.Pcap header) count =
     Stops-then (packet_in header count) _ (Stops-part (parts.Packet count) (λ start. start) (next_at header count) (Stops-or_end (packet_at header count) Some None (Stops-packet header count))) (λ packet. Stops-succeed (after_packet header packet))
 Stops-step (formats.Pcapng section) count =
     Stops-then (in_part (parts.Block section.blocks) (next_kind_at section.order)) _ (Stops-part (parts.Block section.blocks) (λ start. start) (next_kind_at section.order) (Stops-next_kind section.order)) (Stops-kind section count)
-
--- ---- all steps
-from_within : (count : ℕ) (s : Source) (read : Result (Next × Source) Fault) (others : Format → ℕ → Source → Packets) (f : Fault)
-    → ((x : Fault) → read ≡ Err x → Within s x)
-    → ((packet : Packet) (after : Format) (t : Source) → read ≡ Ok (nexts.Packet packet after, t) → (others after (count + 1) t).refusal ≡ Some f → Within s f)
-    → ((after : Format) (t : Source) → read ≡ Ok (nexts.NoPacket after, t) → (others after count t).refusal ≡ Some f → Within s f)
-    → (packets_from count read others).refusal ≡ Some f → Within s f
-from_within count s (Err x) others f fails one two e = let same : x ≡ f = cc in subst (Within s) same (fails x refl)
-from_within count s (Ok (nexts.End, t)) others f fails one two e = absurd cc
-from_within count s (Ok (nexts.Packet packet after, t)) others f fails one two e = one packet after t refl e
-from_within count s (Ok (nexts.NoPacket after, t)) others f fails one two e = two after t refl e
-
-within_all : (bound : ℕ) (format : Format) (count : ℕ) (s : Source) (f : Fault) → (packets_within bound format count s).refusal ≡ Some f → Within s f
-within_all zero format count s f e = absurd cc
-within_all (suc bound) format count s f e =
-    let bounds = limited (Some most_captured) in
-    from_within count s (next_in format count bounds s) (packets_within bound) f
-    (λ x is. (Stops-step format count).upto bounds s x is)
-    (λ packet after t is found. later s t f (step_advances format count bounds s (nexts.Packet packet after) t is).same (within_all bound after (count + 1) t f found))
-    (λ after t is found. later s t f (step_advances format count bounds s (nexts.NoPacket after) t is).same (within_all bound after count t f found))
-    e
-
-pub refusal_in_file : (file : List ℕ) (f : Fault) → (packets file).refusal ≡ Some f → f.place ≤ length file
-refusal_in_file file f e = let within = within_all (suc (length file)) formats.Unknown 0 (source_of file) f e in omega (arith, within)
-
--- of what a call returned
-pub given_in_file : (file : List ℕ) (count : ℕ) (given : Result (Option Packet) FileFault) (model : PacketsModel) → ReturnsNext file count given model → IfErr given (IsStreamFaultIn file)
-given_in_file file count (Ok packet) model returns = tt
-given_in_file file count (Err (faults.Refused fault)) model ends = refusal_in_file file fault ends.is
-given_in_file file count (Err faults.Read) model ends = tt
-given_in_file file count (Err faults.Memory) model ends = tt

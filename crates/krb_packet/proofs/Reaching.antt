@@ -2,7 +2,7 @@
 use Rattle.std.proofs.Common.{◌≡◌, ℕ, ◌+◌, ◌≤◌, inl, inr, Bool, true, false, Option, Some, None, Result, Ok, Err, length, refl, ap, ◌∙◌, subst, arith, length-drop}
 use Rattle.std.specs.Int.{Width, byte_len, from_be_bytes}
 use Rattle.krb_der.specs.Octets.{when}
-use Rattle.krb_file.specs.Fields.{Source, Fault, fault_of, Bounds, Reader, ◌>>=◌, succeed, with_name, with_part, called, begun_at, are_zero, next_octets_at, octets_at, number_at}
+use Rattle.krb_file.specs.Fields.{Source, Fault, fault_of, Bounds, Reader, ◌>>=◌, succeed, with_name, with_part, called, are_zero, next_octets_at, octets_at, number_at}
 use Rattle.krb_file.specs.FieldReaders.{Cursor, HasRead, source_at, skipped_at}
 use Rattle.krb_file.specs.declared.fault.FileWhy.{FileWhy}
 use Rattle.krb_file.specs.declared.field_name.FieldName.{FieldName}
@@ -16,50 +16,43 @@ use Rattle.krb_packet.specs.Blocks.{part_from}
 use Rattle.krb_packet.specs.Numbers.{in_order, number_in, field_in, checked_at, from_here, checked_number, moved_to, refused_at}
 
 -- ---- n octets at least are read, and no more than there are
+pub record Passed (n : ℕ) (s t : Source) : Type 0 where
+  pub on : s.place + n ≤ t.place
+  pub same : t.place + length t.octets ≡ s.place + length s.octets
+
 pub record Passes {A : Type 0} (n : ℕ) (reader : Reader A) : Type 0 where
-  pub on : (bounds : Bounds) (s : Source) (v : A) (t : Source) → reader bounds s ≡ Ok (v, t) → s.place + n ≤ t.place
-  pub same : (bounds : Bounds) (s : Source) (v : A) (t : Source) → reader bounds s ≡ Ok (v, t) → t.place + length t.octets ≡ s.place + length s.octets
+  pub goes : (bounds : Bounds) (s : Source) (v : A) (t : Source) → reader bounds s ≡ Ok (v, t) → Passed n s t
 
 pub Passes-succeed : {A : Type 0} (value : A) → Passes 0 (succeed value)
-Passes-succeed {A} value = record {
-  on = λ bounds s v t e. subst (λ (p : A × Source). s.place + 0 ≤ p.1.place) (ok_is (value, s) (v, t) e) (omega arith);
-  same = λ bounds s v t e. subst (λ (p : A × Source). p.1.place + length p.1.octets ≡ s.place + length s.octets) (ok_is (value, s) (v, t) e) refl;
-}
+Passes-succeed {A} value = record { goes = λ bounds s v t e. subst (λ (p : A × Source). Passed 0 s p.1) (ok_is (value, s) (v, t) e) (record { on = omega arith; same = refl }) }
 
 pub Passes-then : {A B : Type 0} (m n : ℕ) (reader : Reader A) (next : A → Reader B) → Passes m reader → ((value : A) → Passes n (next value)) → Passes (m + n) (reader >>= next)
 Passes-then m n reader next first others = record {
-  on = λ bounds s v t e.
+  goes = λ bounds s v t e.
       let a = and_then-ok (reader bounds s) (λ p. next p.0 bounds p.1) (v, t) e in
-      let one = first.on bounds s a.0.0 a.0.1 a.1 in
-      let two = (others a.0.0).on bounds a.0.1 v t a.2 in
-      omega (arith, one, two);
-  same = λ bounds s v t e.
-      let a = and_then-ok (reader bounds s) (λ p. next p.0 bounds p.1) (v, t) e in
-      (others a.0.0).same bounds a.0.1 v t a.2 ∙ first.same bounds s a.0.0 a.0.1 a.1;
+      let one = first.goes bounds s a.0.0 a.0.1 a.1 in
+      let two = (others a.0.0).goes bounds a.0.1 v t a.2 in
+      record { on = omega (arith, one.on, two.on); same = two.same ∙ one.same };
 }
 
 pub Passes-fewer : {A : Type 0} (n : ℕ) (reader : Reader A) → Passes n reader → Passes 0 reader
-Passes-fewer n reader p = record { on = λ bounds s v t e. let q = p.on bounds s v t e in omega (arith, q); same = p.same }
+Passes-fewer n reader p = record { goes = λ bounds s v t e. let q = p.goes bounds s v t e in record { on = omega (arith, q.on); same = q.same } }
 
 piece_passes : (limit : Option ℕ) (size : ℕ) → Passes size (next_octets_at limit size)
 piece_passes limit size = record {
-  on = λ bounds s v t e. let p = piece-ok limit size bounds s t v e in rw p.source (omega arith);
-  same = λ bounds s v t e. let p = piece-ok limit size bounds s t v e in rw p.source (omega (arith, length-drop size s.octets, p.long));
+  goes = λ bounds s v t e. let p = piece-ok limit size bounds s t v e in rw p.source (record { on = omega arith; same = omega (arith, length-drop size s.octets, p.long) });
 }
 
 pub Passes-piece : (size : ℕ) → Passes size (next_octets_at None size)
 Passes-piece size = piece_passes None size
 
 pub Passes-octets : (size : ℕ) → Passes size (octets_at size)
-Passes-octets size = record {
-  on = λ bounds s v t e. (piece_passes bounds.limit size).on bounds s v t e;
-  same = λ bounds s v t e. (piece_passes bounds.limit size).same bounds s v t e;
-}
+Passes-octets size = record { goes = λ bounds s v t e. (piece_passes bounds.limit size).goes bounds s v t e }
 
 pub Passes-made : {A B : Type 0} (n : ℕ) (reader : Reader A) (make : A → B) → Passes n reader → Passes n (reader >>= λ x. succeed (make x))
 Passes-made n reader make first =
     let p = Passes-then n 0 reader (λ x. succeed (make x)) first (λ x. Passes-succeed (make x)) in
-    record { on = λ bounds s v t e. let q = p.on bounds s v t e in omega (arith, q); same = p.same }
+    record { goes = λ bounds s v t e. let q = p.goes bounds s v t e in record { on = omega (arith, q.on); same = q.same } }
 
 pub Passes-skipped : (size : ℕ) → Passes size (skipped_at size)
 Passes-skipped size = Passes-made size (next_octets_at None size) are_zero (Passes-piece size)
@@ -72,10 +65,7 @@ Passes-number w order = Passes-made (byte_len w) (next_octets_at None (byte_len 
 
 -- the same reader, whose faults are of another field
 Passes-at : {A : Type 0} (n : ℕ) (field : Option FileField → Option FileField) (reader : Reader A) → Passes n reader → Passes n (at_field field reader)
-Passes-at n field reader p = record {
-  on = λ bounds s v t e. p.on bounds s v t (refused_at-ok field (reader bounds s) (v, t) e);
-  same = λ bounds s v t e. p.same bounds s v t (refused_at-ok field (reader bounds s) (v, t) e);
-}
+Passes-at n field reader p = record { goes = λ bounds s v t e. p.goes bounds s v t (refused_at-ok field (reader bounds s) (v, t) e) }
 
 pub Passes-called : {A : Type 0} (n : ℕ) (name : FieldName) (reader : Reader A) → Passes n reader → Passes n (called name reader)
 Passes-called n name reader p = Passes-at n (with_name name) reader p
@@ -85,10 +75,10 @@ Passes-field name w order = Passes-called (byte_len w) name (number_in w order) 
 
 pub Passes-check : {A : Type 0} (name : FieldName) (place : ℕ) (check : Result A FileWhy) → Passes 0 (checked_at name place check)
 Passes-check name place (Ok value) = Passes-succeed value
-Passes-check name place (Err why) = record { on = λ bounds s v t e. absurd cc; same = λ bounds s v t e. absurd cc }
+Passes-check name place (Err why) = record { goes = λ bounds s v t e. absurd cc }
 
 pub Passes-from_here : {A : Type 0} (n : ℕ) (reader : ℕ → Reader A) → ((place : ℕ) → Passes n (reader place)) → Passes n (from_here reader)
-Passes-from_here n reader each = record { on = λ bounds s v t e. (each s.place).on bounds s v t e; same = λ bounds s v t e. (each s.place).same bounds s v t e }
+Passes-from_here n reader each = record { goes = λ bounds s v t e. (each s.place).goes bounds s v t e }
 
 pub Passes-checked_at : {A : Type 0} (name : FieldName) (w : Width) (order : ByteOrder) (check : ℕ → Result A FileWhy) → Passes (byte_len w + 0) (checked_number name w order check)
 Passes-checked_at name w order check = Passes-from_here (byte_len w + 0) _ (λ place. Passes-then (byte_len w) 0 (field_in name w order) _ (Passes-field name w order) (λ number. Passes-check name place (check number)))
@@ -98,10 +88,7 @@ moved-ok place (Ok read) v e = e
 moved-ok place (Err fault) v e = absurd cc
 
 pub Passes-refused : {A : Type 0} (n place : ℕ) (reader : Reader A) → Passes n reader → Passes n (refused_at place reader)
-Passes-refused n place reader p = record {
-  on = λ bounds s v t e. p.on bounds s v t (moved-ok place (reader bounds s) (v, t) e);
-  same = λ bounds s v t e. p.same bounds s v t (moved-ok place (reader bounds s) (v, t) e);
-}
+Passes-refused n place reader p = record { goes = λ bounds s v t e. p.goes bounds s v t (moved-ok place (reader bounds s) (v, t) e) }
 
 pub Passes-when : {A : Type 0} (n : ℕ) (test : Bool) (one two : Unit {0} → Reader A) → Passes n (one tt) → Passes n (two tt) → Passes n (when test one two)
 Passes-when n true one two p q = p
@@ -112,7 +99,7 @@ pub read_goes : {A : Type 0} (n : ℕ) (reader : Reader A) (value : A) (old new 
 read_goes n reader value old new passes read =
     let now = some_rest new in
     let a = read.from now.rest now.there in
-    passes.on old.bounds (source_at old.place a.0) value (source_at new.place now.rest) a.2
+    (passes.goes old.bounds (source_at old.place a.0) value (source_at new.place now.rest) a.2).on
 
 -- ---- a fault is at the place of an octet or at the end
 pub record Stops {A : Type 0} (reader : Reader A) : Type 0 where
@@ -130,7 +117,7 @@ Stops-then reader next first others = record {
         | inl a ↦ first.upto bounds s f a
         | inr a ↦
             let there = (others a.0.0).upto bounds a.0.1 f a.2 in
-            let same = first.passes.same bounds s a.0.0 a.0.1 a.1 in
+            let same = (first.passes.goes bounds s a.0.0 a.0.1 a.1).same in
             omega (arith, there, same)
       ];
 }
@@ -156,10 +143,7 @@ Stops-called name reader stops = Stops-at (with_name name) reader stops
 
 -- the same reader, of a part that begins at a place
 pub Passes-part : {A : Type 0} (part : FilePart) (start : ℕ → ℕ) (reader : Reader A) → Passes 0 reader → Passes 0 (from_here (λ place. part_from part (start place) reader))
-Passes-part part start reader p = record {
-  on = λ bounds s v t e. (Passes-at 0 (with_part part) reader p).on bounds s v t (begun_at-ok (start s.place) (at_field (with_part part) reader bounds s) (v, t) e);
-  same = λ bounds s v t e. (Passes-at 0 (with_part part) reader p).same bounds s v t (begun_at-ok (start s.place) (at_field (with_part part) reader bounds s) (v, t) e);
-}
+Passes-part part start reader p = record { goes = λ bounds s v t e. (Passes-at 0 (with_part part) reader p).goes bounds s v t (begun_at-ok (start s.place) (at_field (with_part part) reader bounds s) (v, t) e) }
 
 pub Stops-part : {A : Type 0} (part : FilePart) (start : ℕ → ℕ) (reader : Reader A) → Stops reader → Stops (from_here (λ place. part_from part (start place) reader))
 Stops-part part start reader stops = record {

@@ -1,22 +1,19 @@
 -- How many octets and blocks each step of a file reads.
-use Rattle.std.proofs.Common.{◌≡◌, ℕ, ◌+◌, ◌-◌, ◌≤◌, Option, Some, None, Result, Ok, Err, List, [], ◌∷◌, length, refl, ap, ◌∙◌, subst, arith}
+use Rattle.std.proofs.Common.{◌≡◌, ℕ, ◌+◌, ◌≤◌, Option, Some, None, Ok, List, [], ◌∷◌, length, refl, ap, ◌∙◌, subst, arith}
 use Rattle.std.specs.Int.{w32}
-use Rattle.krb_file.specs.Fields.{Source, Fault, Bounds, with_part, called, in_part, succeed, octets_at, number_at, next_octets_at}
-use Rattle.krb_file.specs.FieldReaders.{Cursor, HasRead, source_at, skipped_at}
+use Rattle.krb_file.specs.Fields.{Source, Bounds, Reader, with_part, called, in_part, succeed, octets_at}
+use Rattle.krb_file.specs.FieldReaders.{Cursor, HasRead, source_at}
 use Rattle.krb_file.specs.declared.field_name.FieldName.TheVariants as fields
 use Rattle.krb_file.specs.declared.field_name.FilePart.TheVariants as parts
 use Rattle.krb_file.proofs.Fields.{at, ok_is, and_then-ok, refused_at-ok, begun_at-ok, at_field}
 use Rattle.krb_file.proofs.FieldReaders.{some_rest}
-use Rattle.krb_packet.specs.declared.order.ByteOrder.{ByteOrder}
 use Rattle.krb_packet.specs.declared.order.ByteOrder.TheVariants as orders
 use Rattle.krb_packet.specs.declared.packet.Packet.{Packet}
-use Rattle.krb_packet.specs.declared.pcap.Form.{Form}
 use Rattle.krb_packet.specs.declared.pcap.Header.{Header}
 use Rattle.krb_packet.specs.declared.pcap.Magic.{Magic}
 use Rattle.krb_packet.specs.declared.pcap.Magic.TheVariants as magics
 use Rattle.krb_packet.specs.declared.block.BlockKind.{BlockKind}
 use Rattle.krb_packet.specs.declared.block.BlockKind.TheVariants as kinds
-use Rattle.krb_packet.specs.declared.block.Head.{Head}
 use Rattle.krb_packet.specs.declared.block.Section.{Section}
 use Rattle.krb_packet.specs.declared.body.Content.{Content}
 use Rattle.krb_packet.specs.declared.body.Content.TheVariants as contents
@@ -24,22 +21,15 @@ use Rattle.krb_packet.specs.declared.format.Format.{Format}
 use Rattle.krb_packet.specs.declared.format.Format.TheVariants as formats
 use Rattle.krb_packet.specs.declared.format.Next.{Next}
 use Rattle.krb_packet.specs.declared.format.Next.TheVariants as nexts
-use Rattle.krb_packet.specs.Numbers.{in_order, field_in, checked_at, checked_number, refused_at}
-use Rattle.krb_packet.specs.Pcaps.{magic_of, magic_at, version, header_at, captured, packet_head_at, packet_at, next_at}
-use Rattle.krb_packet.specs.Bodies.{byte_order, body_size, after_byte_order, section_head_at, head_of, head_at, same_length, next_kind_at, content_at, in_body, block_kind}
-use Rattle.krb_packet.specs.Blocks.{content_in_file, skipped_body, read_body, body_in, end_in, block_in, whole_block_in, after_content, block_after, after_kind}
+use Rattle.krb_packet.specs.Numbers.{field_in, checked_number}
+use Rattle.krb_packet.specs.Pcaps.{magic_of, magic_at, header_at, captured, packet_head_at, packet_at, next_at}
+use Rattle.krb_packet.specs.Bodies.{next_kind_at, block_kind}
+use Rattle.krb_packet.specs.Blocks.{whole_block_in, after_content, block_after, after_kind}
 use Rattle.krb_packet.specs.Captures.{packet_in, after_magic, after_packet, next_in, blocks_of}
-use Rattle.krb_packet.proofs.Reaching.{Passes, Passes-then, Passes-fewer, Passes-made, Passes-piece, Passes-octets, Passes-skipped, Passes-number_at, Passes-called, Passes-field, Passes-check, Passes-checked_at, Passes-from_here, Passes-refused, Passes-part, Passes-succeed}
+use Rattle.krb_packet.proofs.InFile.{or_end, Stops-header, Stops-whole_block}
+use Rattle.krb_packet.proofs.Reaching.{Passed, Passes, Passes-then, Passes-fewer, Passes-made, Passes-octets, Passes-called, Passes-field, Passes-checked_at}
 
 -- ---- a pcap
-pub Passes-header : (form : Form) → Passes 0 (header_at form)
-Passes-header form =
-    Passes-then 0 0 (checked_number fields.Version w32 form.order (version form.order)) _ (Passes-fewer 4 _ (Passes-checked_at fields.Version w32 form.order (version form.order))) (λ _.
-    Passes-then 0 0 (called fields.ThisZone (number_at w32)) _ (Passes-fewer 4 _ (Passes-called 4 fields.ThisZone (number_at w32) (Passes-number_at w32))) (λ thiszone.
-    Passes-then 0 0 (called fields.SigFigs (number_at w32)) _ (Passes-fewer 4 _ (Passes-called 4 fields.SigFigs (number_at w32) (Passes-number_at w32))) (λ sigfigs.
-    Passes-then 0 0 (called fields.SnapLen (number_at w32)) _ (Passes-fewer 4 _ (Passes-called 4 fields.SnapLen (number_at w32) (Passes-number_at w32))) (λ snaplen.
-    Passes-fewer 4 _ (Passes-made 4 (field_in fields.LinkType w32 form.order) _ (Passes-field fields.LinkType w32 form.order))))))
-
 pub Passes-packet : (header : Header) (count : ℕ) → Passes 16 (packet_at header count)
 Passes-packet header count =
     let order = header.form.order in
@@ -50,80 +40,15 @@ Passes-packet header count =
     Passes-made 4 (field_in fields.OriginalLength w32 order) _ (Passes-field fields.OriginalLength w32 order))))
     ) (λ head. Passes-fewer head.captured _ (Passes-made head.captured (called fields.Data (octets_at head.captured)) _ (Passes-called head.captured fields.Data (octets_at head.captured) (Passes-octets head.captured))))
 
--- the next packet, if there is one
-pub next_passes : (header : Header) (count : ℕ) (bounds : Bounds) (place : ℕ) (octets : List ℕ) (packet : Packet) (t : Source) → next_at header count bounds (at place octets) ≡ Ok (Some packet, t)
-    → (place + 16 ≤ t.place) × (t.place + length t.octets ≡ place + length octets)
-next_passes header count bounds place [] packet t e =
-    let same : ◌≡◌ {A = Option Packet} None (Some packet) = ap (λ (p : Option Packet × Source). p.0) (ok_is (None, at place []) (Some packet, t) e) in
+-- what is read, if the file has not ended
+some_passes : {A B : Type 0} (n : ℕ) (reader : Reader A) (make : A → B) → Passes n reader → (bounds : Bounds) (place : ℕ) (octets : List ℕ) (v : B) (t : Source) → or_end reader (λ x. Some (make x)) None bounds (at place octets) ≡ Ok (Some v, t) → Passed n (at place octets) t
+some_passes {A} {B} n reader make passes bounds place [] v t e =
+    let same : ◌≡◌ {A = Option B} None (Some v) = ap (λ (p : Option B × Source). p.0) (ok_is (None, at place []) (Some v, t) e) in
     absurd cc
-next_passes header count bounds place (octet ∷ octets) packet t e =
+some_passes {A} {B} n reader make passes bounds place (octet ∷ octets) v t e =
     let s = at place (octet ∷ octets) in
-    let a = and_then-ok (packet_at header count bounds s) (λ p. Ok (Some p.0, p.1)) (Some packet, t) e in
-    let same : a.0.1 ≡ t = ap (λ (p : Option Packet × Source). p.1) (ok_is (Some a.0.0, a.0.1) (Some packet, t) a.2) in
-    let passed = Passes-packet header count in
-    subst (λ (x : Source). (place + 16 ≤ x.place) × (x.place + length x.octets ≡ place + length (octet ∷ octets))) same
-    (passed.on bounds s a.0.0 a.0.1 a.1, passed.same bounds s a.0.0 a.0.1 a.1)
-
--- ---- a block
-pub next_kind_passes : (order : ByteOrder) (bounds : Bounds) (place : ℕ) (octets : List ℕ) (kind : BlockKind) (t : Source) → next_kind_at order bounds (at place octets) ≡ Ok (Some kind, t)
-    → (place + 4 ≤ t.place) × (t.place + length t.octets ≡ place + length octets)
-next_kind_passes order bounds place [] kind t e =
-    let same : ◌≡◌ {A = Option BlockKind} None (Some kind) = ap (λ (p : Option BlockKind × Source). p.0) (ok_is (None, at place []) (Some kind, t) e) in
-    absurd cc
-next_kind_passes order bounds place (octet ∷ octets) kind t e =
-    let s = at place (octet ∷ octets) in
-    let a = and_then-ok (field_in fields.Type w32 order bounds s) (λ p. Ok (Some (block_kind p.0), p.1)) (Some kind, t) e in
-    let same : a.0.1 ≡ t = ap (λ (p : Option BlockKind × Source). p.1) (ok_is (Some (block_kind a.0.0), a.0.1) (Some kind, t) a.2) in
-    let passed = Passes-field fields.Type w32 order in
-    subst (λ (x : Source). (place + 4 ≤ x.place) × (x.place + length x.octets ≡ place + length (octet ∷ octets))) same
-    (passed.on bounds s a.0.0 a.0.1 a.1, passed.same bounds s a.0.0 a.0.1 a.1)
-
-Passes-block_head : (order : ByteOrder) → Passes 0 (checked_number fields.Length w32 order (head_of order))
-Passes-block_head order = Passes-fewer 4 _ (Passes-checked_at fields.Length w32 order (head_of order))
-
-Passes-section_head : Passes 0 section_head_at
-Passes-section_head =
-    Passes-from_here 0 _ (λ place.
-    Passes-then 0 0 (called fields.Length (next_octets_at None 4)) _ (Passes-fewer 4 _ (Passes-called 4 fields.Length (next_octets_at None 4) (Passes-piece 4))) (λ octets.
-    Passes-then 0 0 (checked_number fields.ByteOrder w32 orders.BigEndian byte_order) _ (Passes-fewer 4 _ (Passes-checked_at fields.ByteOrder w32 orders.BigEndian byte_order)) (λ order.
-    Passes-then 0 0 (checked_at fields.Length place (body_size (in_order w32 order octets))) _ (Passes-check fields.Length place (body_size (in_order w32 order octets))) (λ size.
-    Passes-made 0 (checked_at fields.ByteOrder (place + 4) (after_byte_order size)) _ (Passes-check fields.ByteOrder (place + 4) (after_byte_order size))))))
-
-pub Passes-head : (kind : BlockKind) (order : ByteOrder) → Passes 0 (head_at kind order)
-Passes-head kinds.Section order = Passes-section_head
-Passes-head kinds.Interface order = Passes-block_head order
-Passes-head kinds.OldPacket order = Passes-block_head order
-Passes-head kinds.SimplePacket order = Passes-block_head order
-Passes-head kinds.EnhancedPacket order = Passes-block_head order
-Passes-head kinds.Other order = Passes-block_head order
-
-Passes-content : (begin : ℕ) (r : Result Content Fault) → Passes 0 (content_in_file begin r)
-Passes-content begin (Ok content) = Passes-succeed content
-Passes-content begin (Err fault) = record { on = λ bounds s v t e. absurd cc; same = λ bounds s v t e. absurd cc }
-
-pub Passes-read : (kind : BlockKind) (section : Section) (count place : ℕ) (head : Head) → Passes 0 (read_body kind section count place head)
-Passes-read kind section count place head =
-    Passes-from_here 0 _ (λ begin.
-    Passes-then 0 0 (refused_at place (called fields.Body (octets_at head.left))) _ (Passes-refused 0 place _ (Passes-called 0 fields.Body (octets_at head.left) (Passes-fewer head.left _ (Passes-octets head.left)))) (λ octets.
-    Passes-content begin (in_body (content_at kind head.order count section.interfaces) octets)))
-
-pub Passes-body : (kind : BlockKind) (section : Section) (count place : ℕ) (head : Head) → Passes 0 (body_in kind section count place head)
-Passes-body kinds.Section section count place head = Passes-read kinds.Section section count place head
-Passes-body kinds.Interface section count place head = Passes-read kinds.Interface section count place head
-Passes-body kinds.OldPacket section count place head = Passes-read kinds.OldPacket section count place head
-Passes-body kinds.SimplePacket section count place head = Passes-read kinds.SimplePacket section count place head
-Passes-body kinds.EnhancedPacket section count place head = Passes-read kinds.EnhancedPacket section count place head
-Passes-body kinds.Other section count place head = Passes-made 0 (called fields.Body (skipped_at head.left)) (λ zeros. contents.Other) (Passes-called 0 fields.Body (skipped_at head.left) (Passes-fewer head.left _ (Passes-skipped head.left)))
-
-pub Passes-block : (kind : BlockKind) (section : Section) (count : ℕ) → Passes 0 (block_in kind section count)
-Passes-block kind section count =
-    Passes-from_here 0 _ (λ start.
-    Passes-then 0 0 (head_at kind section.order) _ (Passes-head kind section.order) (λ head.
-    Passes-then 0 0 (body_in kind section count (start + 4) head) _ (Passes-body kind section count (start + 4) head) (λ content.
-    Passes-then 0 0 (end_in head) _ (Passes-fewer 4 _ (Passes-checked_at fields.LengthAgain w32 head.order (same_length head.length))) (λ same. Passes-succeed content))))
-
-Passes-whole_block : (kind : BlockKind) (section : Section) (count : ℕ) → Passes 0 (whole_block_in kind section count)
-Passes-whole_block kind section count = Passes-part (parts.Block section.blocks) (λ start. start - 4) (block_in kind section count) (Passes-block kind section count)
+    let a = and_then-ok (reader bounds s) (λ p. Ok (Some (make p.0), p.1)) (Some v, t) e in
+    subst (Passed n s) (ap (λ (p : Option B × Source). p.1) (ok_is (Some (make a.0.0), a.0.1) (Some v, t) a.2)) (passes.goes bounds s a.0.0 a.0.1 a.1)
 
 -- ---- a step: it reads an octet at least, and a block at most
 pub record Goes (before : Format) (after : Format) (s t : Source) : Type 0 where
@@ -136,48 +61,44 @@ Advances before (nexts.Packet packet after) s t = Goes before after s t
 Advances before (nexts.NoPacket after) s t = Goes before after s t
 Advances before nexts.End s t = Unit {0}
 
-content_advances : (before : Format) (section : Section) (content : Content) (s t : Source) → section.blocks ≡ blocks_of before → s.place + 4 ≤ t.place → t.place + length t.octets ≡ s.place + length s.octets → Advances before (after_content section content) s t
-content_advances before section (contents.Section order) s t is on same = record { on = on; same = same; blocks = omega (arith, is) }
-content_advances before section (contents.Interface interface) s t is on same = record { on = on; same = same; blocks = omega (arith, is) }
-content_advances before section (contents.Packet packet) s t is on same = record { on = on; same = same; blocks = omega (arith, is) }
-content_advances before section contents.Other s t is on same = record { on = on; same = same; blocks = omega (arith, is) }
+content_advances : (before : Format) (section : Section) (content : Content) (s t : Source) → section.blocks ≡ blocks_of before → Passed 4 s t → Advances before (after_content section content) s t
+content_advances before section (contents.Section order) s t is p = record { on = p.on; same = p.same; blocks = omega (arith, is) }
+content_advances before section (contents.Interface interface) s t is p = record { on = p.on; same = p.same; blocks = omega (arith, is) }
+content_advances before section (contents.Packet packet) s t is p = record { on = p.on; same = p.same; blocks = omega (arith, is) }
+content_advances before section contents.Other s t is p = record { on = p.on; same = p.same; blocks = omega (arith, is) }
 
 -- of a block after its type, which took four octets
-block_advances : (before : Format) (kind : BlockKind) (section : Section) (count : ℕ) (bounds : Bounds) (s u : Source) (v : Next) (t : Source) → section.blocks ≡ blocks_of before → s.place + 4 ≤ u.place → u.place + length u.octets ≡ s.place + length s.octets
+block_advances : (before : Format) (kind : BlockKind) (section : Section) (count : ℕ) (bounds : Bounds) (s u : Source) (v : Next) (t : Source) → section.blocks ≡ blocks_of before → Passed 4 s u
     → block_after kind section count bounds u ≡ Ok (v, t) → Advances before v s t
-block_advances before kind section count bounds s u v t is on same e =
+block_advances before kind section count bounds s u v t is first e =
     let a = and_then-ok (whole_block_in kind section count bounds u) (λ x. succeed (after_content section x.0) bounds x.1) (v, t) e in
-    let goes = (Passes-whole_block kind section count).on bounds u a.0.0 a.0.1 a.1 in
-    let all = (Passes-whole_block kind section count).same bounds u a.0.0 a.0.1 a.1 in
+    let goes = (Stops-whole_block kind section count).passes.goes bounds u a.0.0 a.0.1 a.1 in
     subst (λ (p : Next × Source). Advances before p.0 s p.1) (ok_is (after_content section a.0.0, a.0.1) (v, t) a.2)
-    (content_advances before section a.0.0 s a.0.1 is (omega (arith, on, goes)) (all ∙ same))
+    (content_advances before section a.0.0 s a.0.1 is (record { on = omega (arith, first.on, goes.on); same = goes.same ∙ first.same }))
 
-pcap_advances : (header : Header) (packet : Option Packet) (s t : Source) → ((p : Packet) → packet ≡ Some p → (s.place + 16 ≤ t.place) × (t.place + length t.octets ≡ s.place + length s.octets)) → Advances (formats.Pcap header) (after_packet header packet) s t
+pcap_advances : (header : Header) (packet : Option Packet) (s t : Source) → ((p : Packet) → packet ≡ Some p → Passed 16 s t) → Advances (formats.Pcap header) (after_packet header packet) s t
 pcap_advances header None s t passed = tt
-pcap_advances header (Some packet) s t passed = let p = passed packet refl in record { on = omega (arith, p.0); same = p.1; blocks = omega arith }
+pcap_advances header (Some packet) s t passed = let p = passed packet refl in record { on = omega (arith, p.on); same = p.same; blocks = omega arith }
 
-kind_advances : (section : Section) (count : ℕ) (kind : Option BlockKind) (bounds : Bounds) (s u : Source) (v : Next) (t : Source) → ((k : BlockKind) → kind ≡ Some k → (s.place + 4 ≤ u.place) × (u.place + length u.octets ≡ s.place + length s.octets))
+kind_advances : (section : Section) (count : ℕ) (kind : Option BlockKind) (bounds : Bounds) (s u : Source) (v : Next) (t : Source) → ((k : BlockKind) → kind ≡ Some k → Passed 4 s u)
     → after_kind section count kind bounds u ≡ Ok (v, t) → Advances (formats.Pcapng section) v s t
 kind_advances section count None bounds s u v t passed e = subst (λ (p : Next × Source). Advances (formats.Pcapng section) p.0 s p.1) (ok_is (nexts.End, u) (v, t) e) tt
-kind_advances section count (Some kind) bounds s u v t passed e =
-    let p = passed kind refl in
-    block_advances (formats.Pcapng section) kind section count bounds s u v t refl p.0 p.1 e
+kind_advances section count (Some kind) bounds s u v t passed e = block_advances (formats.Pcapng section) kind section count bounds s u v t refl (passed kind refl) e
 
-magic_advances : (count : ℕ) (magic : Magic) (bounds : Bounds) (s u : Source) (v : Next) (t : Source) → s.place + 4 ≤ u.place → u.place + length u.octets ≡ s.place + length s.octets → after_magic count magic bounds u ≡ Ok (v, t) → Advances formats.Unknown v s t
-magic_advances count (magics.Pcap form) bounds s u v t on same e =
+magic_advances : (count : ℕ) (magic : Magic) (bounds : Bounds) (s u : Source) (v : Next) (t : Source) → Passed 4 s u → after_magic count magic bounds u ≡ Ok (v, t) → Advances formats.Unknown v s t
+magic_advances count (magics.Pcap form) bounds s u v t first e =
     let a = and_then-ok (header_at form bounds u) (λ x. succeed (nexts.NoPacket (formats.Pcap x.0)) bounds x.1) (v, t) e in
-    let goes = (Passes-header form).on bounds u a.0.0 a.0.1 a.1 in
-    let all = (Passes-header form).same bounds u a.0.0 a.0.1 a.1 in
+    let goes = (Stops-header form).passes.goes bounds u a.0.0 a.0.1 a.1 in
     subst (λ (p : Next × Source). Advances formats.Unknown p.0 s p.1) (ok_is (nexts.NoPacket (formats.Pcap a.0.0), a.0.1) (v, t) a.2)
-    (record { on = omega (arith, on, goes); same = all ∙ same; blocks = omega arith })
-magic_advances count magics.Pcapng bounds s u v t on same e =
-    block_advances formats.Unknown kinds.Section (record { order = orders.BigEndian; interfaces = []; blocks = 0 }) count bounds s u v t refl on same e
+    (record { on = omega (arith, first.on, goes.on); same = goes.same ∙ first.same; blocks = omega arith })
+magic_advances count magics.Pcapng bounds s u v t first e =
+    block_advances formats.Unknown kinds.Section (record { order = orders.BigEndian; interfaces = []; blocks = 0 }) count bounds s u v t refl first e
 
 pub step_advances : (format : Format) (count : ℕ) (bounds : Bounds) (s : Source) (v : Next) (t : Source) → next_in format count bounds s ≡ Ok (v, t) → Advances format v s t
 step_advances formats.Unknown count bounds s v t e =
     let first = Passes-checked_at fields.Magic w32 orders.BigEndian magic_of in
     let a = and_then-ok (magic_at bounds s) (λ x. after_magic count x.0 bounds x.1) (v, t) e in
-    magic_advances count a.0.0 bounds s a.0.1 v t (first.on bounds s a.0.0 a.0.1 a.1) (first.same bounds s a.0.0 a.0.1 a.1) a.2
+    magic_advances count a.0.0 bounds s a.0.1 v t (first.goes bounds s a.0.0 a.0.1 a.1) a.2
 step_advances (formats.Pcap header) count bounds s v t e =
     let reader = next_at header count in
     let part = with_part (parts.Packet count) in
@@ -185,27 +106,19 @@ step_advances (formats.Pcap header) count bounds s v t e =
     let read = refused_at-ok part (reader bounds s) a.0 (begun_at-ok s.place (at_field part reader bounds s) a.0 a.1) in
     subst (λ (p : Next × Source). Advances (formats.Pcap header) p.0 s p.1) (ok_is (after_packet header a.0.0, a.0.1) (v, t) a.2)
     (pcap_advances header a.0.0 s a.0.1 (λ p is.
-    next_passes header count bounds s.place s.octets p a.0.1 (subst (λ (o : Option Packet). next_at header count bounds s ≡ Ok (o, a.0.1)) is read)))
+    some_passes 16 (packet_at header count) (λ x. x) (Passes-packet header count) bounds s.place s.octets p a.0.1 (subst (λ (o : Option Packet). next_at header count bounds s ≡ Ok (o, a.0.1)) is read)))
 step_advances (formats.Pcapng section) count bounds s v t e =
     let reader = next_kind_at section.order in
     let part = with_part (parts.Block section.blocks) in
     let a = and_then-ok (in_part (parts.Block section.blocks) reader bounds s) (λ x. after_kind section count x.0 bounds x.1) (v, t) e in
     let read = refused_at-ok part (reader bounds s) a.0 (begun_at-ok s.place (at_field part reader bounds s) a.0 a.1) in
     kind_advances section count a.0.0 bounds s a.0.1 v t
-    (λ k is. next_kind_passes section.order bounds s.place s.octets k a.0.1 (subst (λ (o : Option BlockKind). next_kind_at section.order bounds s ≡ Ok (o, a.0.1)) is read))
+    (λ k is. some_passes 4 (field_in fields.Type w32 section.order) block_kind (Passes-field fields.Type w32 section.order) bounds s.place s.octets k a.0.1 (subst (λ (o : Option BlockKind). next_kind_at section.order bounds s ≡ Ok (o, a.0.1)) is read))
     a.2
 
 -- the same of a cursor
-pub packet_goes : (format : Format) (count : ℕ) (packet : Packet) (after : Format) (old new : Cursor) → HasRead (next_in format count) (nexts.Packet packet after) old new → (old.place + 4 ≤ new.place) × (blocks_of after ≤ blocks_of format + 1)
-packet_goes format count packet after old new read =
+pub step_goes : (format : Format) (count : ℕ) (v : Next) (old new : Cursor) → HasRead (next_in format count) v old new → (had : List ℕ) × (left : List ℕ) × Advances format v (source_at old.place had) (source_at new.place left)
+step_goes format count v old new read =
     let now = some_rest new in
     let a = read.from now.rest now.there in
-    let goes = step_advances format count old.bounds (source_at old.place a.0) (nexts.Packet packet after) (source_at new.place now.rest) a.2 in
-    (goes.on, goes.blocks)
-
-pub passed_goes : (format : Format) (count : ℕ) (after : Format) (old new : Cursor) → HasRead (next_in format count) (nexts.NoPacket after) old new → (old.place + 4 ≤ new.place) × (blocks_of after ≤ blocks_of format + 1)
-passed_goes format count after old new read =
-    let now = some_rest new in
-    let a = read.from now.rest now.there in
-    let goes = step_advances format count old.bounds (source_at old.place a.0) (nexts.NoPacket after) (source_at new.place now.rest) a.2 in
-    (goes.on, goes.blocks)
+    (a.0, now.rest, step_advances format count old.bounds (source_at old.place a.0) v (source_at new.place now.rest) a.2)

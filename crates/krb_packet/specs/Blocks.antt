@@ -1,5 +1,5 @@
 -- The blocks of a pcapng, and the progress in a file after each.
-use Rattle.std.specs.Prelude.{ℕ, ◌+◌, ◌-◌, Option, Some, None, Result, Ok, Err, List, [], ◌∷◌, ◌++◌}
+use Rattle.std.specs.Prelude.{ℕ, ◌+◌, ◌-◌, Option, Some, None, Result, Ok, Err, [], ◌∷◌, ◌++◌}
 use Rattle.std.specs.Int.{w32}
 use Rattle.krb_file.specs.Fields.{Fault, Reader, ◌>>=◌, succeed, called, begun_at, with_part, in_part, octets_at}
 use Rattle.krb_file.specs.Fields.{refused_at as in_field}

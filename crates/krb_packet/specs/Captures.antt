@@ -1,10 +1,10 @@
 -- Capture files, pcap and pcapng, read from left to right, up to the first fault.
-use Rattle.std.specs.Prelude.{ℕ, zero, suc, ◌+◌, Option, Some, None, Result, Ok, Err, List, [], ◌∷◌, length}
+use Rattle.std.specs.Prelude.{ℕ, zero, suc, ◌+◌, Option, Some, None, Result, Ok, Err, List, [], length}
 use Rattle.krb_file.specs.Fields.{Source, source_of, Fault, limited, Reader, ◌>>=◌, succeed, in_part}
+use Rattle.krb_file.specs.Items.{Items, no_items, with_first}
 use Rattle.krb_file.specs.declared.field_name.FilePart.TheVariants as parts
 use Rattle.krb_packet.specs.declared.order.ByteOrder.TheVariants as orders
 use Rattle.krb_packet.specs.declared.packet.Packet.{Packet}
-use Rattle.krb_packet.specs.declared.pcap.Form.{Form}
 use Rattle.krb_packet.specs.declared.pcap.Header.{Header}
 use Rattle.krb_packet.specs.declared.pcap.Magic.{Magic}
 use Rattle.krb_packet.specs.declared.pcap.Magic.TheVariants as magics
@@ -46,29 +46,22 @@ blocks_of (formats.Pcap header) = 0
 blocks_of (formats.Pcapng section) = section.blocks
 
 -- ---- The packets before the end of the file or the first fault; and that fault.
-pub record Packets : Type 0 where
-  pub packets : List Packet
-  pub refusal : Option Fault
-
-abbrev pub no_packets : Option Fault → Packets
-no_packets refusal = record { packets = []; refusal = refusal }
-
-abbrev pub with_first : Packet → Packets → Packets
-with_first first others = record { packets = first ∷ others.packets; refusal = others.refusal }
+abbrev pub Packets : Type 0
+Packets = Items Packet (Option Fault)
 
 -- the packet of a step, if it has one, and then the others
 abbrev pub with_others : ℕ → Next → Source → (Format → ℕ → Source → Packets) → Packets
 with_others count (nexts.Packet packet format) source others = with_first packet (others format (count + 1) source)
 with_others count (nexts.NoPacket format) source others = others format count source
-with_others count nexts.End source others = no_packets None
+with_others count nexts.End source others = no_items None
 
 abbrev pub packets_from : ℕ → Result (Next × Source) Fault → (Format → ℕ → Source → Packets) → Packets
-packets_from count (Err fault) others = no_packets (Some fault)
+packets_from count (Err fault) others = no_items (Some fault)
 packets_from count (Ok read) others = with_others count read.0 read.1 others
 
 -- at most as many steps as the first number
 abbrev pub packets_within : ℕ → Format → ℕ → Source → Packets
-packets_within zero format count source = no_packets None
+packets_within zero format count source = no_items None
 packets_within (suc bound) format count source = packets_from count (next_in format count (limited (Some most_captured)) source) (packets_within bound)
 
 -- the packets of what is left; each step but the last one reads an octet at least

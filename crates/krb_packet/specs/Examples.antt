@@ -36,7 +36,7 @@ abbrev packet : Packet
 packet = record { number = 1; time = Some (record { seconds = 1795606291; nanoseconds = 120871000 }); link = links.Ethernet; octets = syn; size = 74 }
 
 abbrev only : List Packet → Packets
-only found = record { packets = found; refusal = None }
+only found = record { items = found; end = None }
 
 one_is_read : packets (header ++ captured) ≡ only (packet ∷ [])
 one_is_read = refl
@@ -73,7 +73,7 @@ clock_is_read = refl
 
 -- ---- refusals: the first field at fault, and the packets before it
 abbrev refused : List Packet → Fault → Packets
-refused found fault = record { packets = found; refusal = Some fault }
+refused found fault = record { items = found; end = Some fault }
 
 -- in a packet, in a block, or in a field, which begins at the first number
 abbrev fault : ℕ → ℕ → FileWhy → Option FilePart → FieldName → Fault

@@ -4,7 +4,7 @@
 use krb_der::{Profile, Refusal, Why};
 use krb_file::FileWhy;
 use krb_input::Spelling;
-use krb_judge::{read_message_in, read_ticket_in};
+use krb_judge::read_ticket_in;
 use krb_packet::{Endpoint, Time};
 use krb_text::{
     CaptureCounts, Extent, Form, InputFault, MessageOrigin, Origin, TextBuffer, Transport,
@@ -148,10 +148,9 @@ fn messages_shown(alloc: Global, form: Form) -> Result<String, Fail> {
         return Err(Fail::from("no Ticket"));
     };
     put_ticket(&mut text, form, &ALONE, &ticket)?;
-    let Ok(message) = read_message_in(Profile::Strict, &AP_REP) else {
+    if !put_message_from(&mut text, form, &IN_TOKENS, Profile::Strict, &AP_REP)? {
         return Err(Fail::from("no AP-REP"));
-    };
-    put_message_from(&mut text, form, &IN_TOKENS, &message)?;
+    }
     Ok(text.into_string())
 }
 

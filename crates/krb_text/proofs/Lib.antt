@@ -20,6 +20,7 @@ pub mod Appended
 pub mod Judged
 pub mod Parts
 pub mod Records
+pub mod Recorded
 pub mod EndOneLine
 pub mod FieldsOneLine
 pub mod InsideOneLine

@@ -1,15 +1,19 @@
--- The names of numbers are ASCII.
-use Rattle.std.proofs.Common.{◌≡◌, ℕ, ℤ, List, [], ◌∷◌, Some, arith}
-use Rattle.std.proofs.lemmas.Str.Ascii.{IsAscii-nil, IsAscii-cons}
-use Rattle.std.specs.List.{AllByRecursion}
-use Rattle.std.specs.Str.{IsAscii}
+-- The names of numbers need no escape in a string of JSON.
+use Rattle.std.proofs.Common.{◌≡◌, ℕ, ℤ, true, List, [], ◌∷◌, Some, refl}
+use Rattle.std.proofs.lemmas.Bool.{and_parts}
+use Rattle.std.specs.List.{flat_map, list_all}
 use Rattle.krb_registry.specs.declared.registry.Registry.{Registry}
+use Rattle.krb_registry.specs.Laws.{is_plain}
 use Rattle.krb_registry.specs.Rows.{name_of}
-use Rattle.krb_registry.proofs.Names.{PlainOctet, name_octets}
+use Rattle.krb_registry.proofs.Names.{name_is_plain, plain_octet}
+use Rattle.krb_text.specs.Forms.{json_character}
 
-plain_are_ascii : (name : List ℕ) → AllByRecursion PlainOctet name → IsAscii name
-plain_are_ascii [] plain = IsAscii-nil
-plain_are_ascii (octet ∷ name) plain = IsAscii-cons octet name (omega (arith, plain.0.greatest)) (plain_are_ascii name plain.1)
+pub plain_in_json : (name : List ℕ) → list_all is_plain name ≡ true → flat_map json_character name ≡ name
+plain_in_json [] e = refl
+plain_in_json (octet ∷ name) e =
+    let h = and_parts (is_plain octet) (list_all is_plain name) e in
+    let plain = plain_octet octet h.0 in
+    rw (plain.no_quotation_mark, plain.no_backslash, plain_in_json name h.1) refl
 
-pub name_is_ascii : (registry : Registry) (number : ℤ) (name : List ℕ) → name_of registry number ≡ Some name → IsAscii name
-name_is_ascii registry number name found = plain_are_ascii name (name_octets registry number name found)
+pub name_in_json : (registry : Registry) (number : ℤ) (name : List ℕ) → name_of registry number ≡ Some name → flat_map json_character name ≡ name
+name_in_json registry number name found = plain_in_json name (name_is_plain registry number name found)

@@ -1,17 +1,17 @@
 -- Parts one after another, as they are appended and counted.
-use Rattle.std.proofs.Common.{◌≡◌, ◌+◌, Bool, true, false, ℕ, List, [], ◌∷◌, ◌++◌, length, map, Option, Some, None, refl, sym, ◌∙◌, ap, append_assoc, arith, codes, decimal, length-append}
+use Rattle.std.proofs.Common.{◌≡◌, ◌+◌, ◌-◌, ◌^◌, ◌<◌, ◌≤◌, min, nat_lt, take, drop, subst, ap₂, Bool, true, false, ℕ, List, [], ◌∷◌, ◌++◌, length, Option, Some, None, refl, sym, ◌∙◌, ap, append_assoc, arith, codes, decimal, length-append}
+use Rattle.std.proofs.lemmas.Bool.{lt-ltb}
 use Rattle.std.proofs.lemmas.List.{append-nil}
+use Rattle.std.proofs.Math.Seq.{drop-append_seam, take-append_seam}
 use Rattle.std.specs.List.{flat_map}
-use Rattle.krb_msg.specs.Grammar.{pa_data}
-use Rattle.krb_msg.specs.Term.{Value}
-use Rattle.krb_msg.specs.Types.{pa_data_of}
+use Rattle.std.specs.Str.{IsUtf8}
 use Rattle.krb_text.specs.declared.form.Form.{Form}
 use Rattle.krb_text.specs.declared.form.Form.TheVariants as form
 use Rattle.krb_text.specs.Forms.{inside_text, part_text}
-use Rattle.krb_text.specs.Inside.{item_parts, one_if}
+use Rattle.krb_text.specs.Inside.{one_if}
 use Rattle.krb_text.specs.Text.{joined}
 use Rattle.krb_text.specs.Values.{Part}
-use Rattle.krb_text.specs.inner.Parts.{Tells, parts_after, separator, told_after}
+use Rattle.krb_text.specs.inner.Parts.{Tells, counted, parts_after, separator, told_after}
 
 -- ---- one after another
 pub parts_append : (f : Form) (told : Bool) (ps qs : List Part) → parts_after f told (ps ++ qs) ≡ parts_after f told ps ++ parts_after f (told_after told ps) qs
@@ -21,63 +21,64 @@ parts_append f told (p ∷ next ∷ ps) qs =
     ap (λ rest. (separator f told ++ part_text f p) ++ rest) (parts_append f true (next ∷ ps) qs)
     ∙ sym (append_assoc (separator f told ++ part_text f p) (parts_after f true (next ∷ ps)) (parts_after f true qs))
 
-pub told_append : (told : Bool) (ps qs : List Part) → told_after told (ps ++ qs) ≡ told_after (told_after told ps) qs
-told_append told [] qs = refl
-told_append told (p ∷ ps) [] = refl
-told_append told (p ∷ ps) (q ∷ qs) = refl
+-- how many were told is more than none if any was
+pub any_counted : (told : ℕ) (ps : List Part) → nat_lt 0 (counted told ps) ≡ told_after (nat_lt 0 told) ps
+any_counted told [] = refl
+any_counted told (p ∷ ps) =
+    any_counted (min (told + 1) (2 ^ 64 - 1)) ps ∙ ap (λ told. told_after told ps) (lt-ltb 0 (min (told + 1) (2 ^ 64 - 1)) (omega arith)) ∙ some ps
+  where
+    some : (ps : List Part) → told_after true ps ≡ true
+    some [] = refl
+    some (p ∷ ps) = refl
 
-pub tells_none : (f : Form) (told : Bool) (text : List ℕ) → Tells f [] told text told text
+pub counted_append : (told : ℕ) (ps qs : List Part) → counted told (ps ++ qs) ≡ counted (counted told ps) qs
+counted_append told [] qs = refl
+counted_append told (p ∷ ps) qs = counted_append (min (told + 1) (2 ^ 64 - 1)) ps qs
+
+pub counted_all : (told : ℕ) (ps : List Part) → told + length ps < 2 ^ 64 → counted told ps ≡ told + length ps
+counted_all told [] few = omega arith
+counted_all told (p ∷ ps) few =
+    let more : min (told + 1) (2 ^ 64 - 1) ≡ told + 1 = omega (arith, few) in
+    ap (λ n. counted n ps) more ∙ counted_all (told + 1) ps (omega (arith, few)) ∙ omega arith
+
+pub tells_none : (f : Form) (told : ℕ) (text : List ℕ) → Tells f [] told text told text
 tells_none f told text = record { text = sym (append-nil text); by_now = refl }
 
-pub tells_one : (f : Form) (p : Part) (told : Bool) (old : List ℕ) {new : List ℕ} → new ≡ old ++ separator f told ++ part_text f p → Tells f (p ∷ []) told old true new
-tells_one f p told old put = record { text = rw put (simp (append_assoc, append-nil)); by_now = refl }
+pub tells_one : (f : Form) (p : Part) (told : ℕ) (old : List ℕ) {now : ℕ} {new : List ℕ} → now ≡ min (told + 1) (2 ^ 64 - 1) → new ≡ old ++ separator f (nat_lt 0 told) ++ part_text f p → Tells f (p ∷ []) told old now new
+tells_one f p told old one put = record { text = rw put (simp (append_assoc, append-nil)); by_now = one }
 
-pub tells_both : {f : Form} {told_1 told_2 told_3 : Bool} {text_1 text_2 text_3 : List ℕ} (ps qs : List Part) → Tells f ps told_1 text_1 told_2 text_2 → Tells f qs told_2 text_2 told_3 text_3 → Tells f (ps ++ qs) told_1 text_1 told_3 text_3
+pub tells_both : {f : Form} {told_1 told_2 told_3 : ℕ} {text_1 text_2 text_3 : List ℕ} (ps qs : List Part) → Tells f ps told_1 text_1 told_2 text_2 → Tells f qs told_2 text_2 told_3 text_3 → Tells f (ps ++ qs) told_1 text_1 told_3 text_3
 tells_both {f} {told_1} ps qs first second = record {
-  text = rw (second.text, first.text, first.by_now, parts_append f told_1 ps qs) (simp append_assoc);
-  by_now = second.by_now ∙ ap (λ told. told_after told qs) first.by_now ∙ sym (told_append told_1 ps qs);
+  text = rw (second.text, first.text, first.by_now, any_counted told_1 ps, parts_append f (nat_lt 0 told_1) ps qs) (simp append_assoc);
+  by_now = second.by_now ∙ ap (λ told. counted told qs) first.by_now ∙ sym (counted_append told_1 ps qs);
 }
 
 -- ---- of what may be there
-pub told_none : {A : Type 0} (part : A → Part) (found : Option A) (f : Form) (told : Bool) (text : List ℕ) → found ≡ None → Tells f (one_if part found) told text told text
+pub told_none : {A : Type 0} (part : A → Part) (found : Option A) (f : Form) (told : ℕ) (text : List ℕ) → found ≡ None → Tells f (one_if part found) told text told text
 told_none part found f told text none = rw none (tells_none f told text)
 
-pub told_some : {A : Type 0} (part : A → Part) (found : Option A) (f : Form) (told : Bool) (old : List ℕ) (v : A) {new : List ℕ} → found ≡ Some v → new ≡ old ++ separator f told ++ part_text f (part v) → Tells f (one_if part found) told old true new
-told_some part found f told old v some put = rw some (tells_one f (part v) told old put)
-
-pub counted_none : {A : Type 0} (part : A → Part) (found : Option A) → found ≡ None → 0 ≡ length (one_if part found)
-counted_none part found none = rw none refl
-
-pub counted_some : {A : Type 0} (part : A → Part) (found : Option A) (v : A) → found ≡ Some v → 1 ≡ length (one_if part found)
-counted_some part found v some = rw some refl
+pub told_some : {A : Type 0} (part : A → Part) (found : Option A) (f : Form) (told : ℕ) (old : List ℕ) (v : A) {now : ℕ} {new : List ℕ} → found ≡ Some v → now ≡ min (told + 1) (2 ^ 64 - 1) → new ≡ old ++ separator f (nat_lt 0 told) ++ part_text f (part v) → Tells f (one_if part found) told old now new
+told_some part found f told old v some one put = rw some (tells_one f (part v) told old one put)
 
 -- ---- of items
 -- what is left of the items to be told
-pub record Leaves (f : Form) (parts others : List Part) (old_told : Bool) (old : List ℕ) (told : Bool) (new : List ℕ) : Type 0 where
-  pub text : new ++ parts_after f told others ≡ old ++ parts_after f old_told parts
-  pub by_now : told_after told others ≡ told_after old_told parts
+pub record Leaves (f : Form) (parts others : List Part) (old_told : ℕ) (old : List ℕ) (told : ℕ) (new : List ℕ) : Type 0 where
+  pub text : new ++ parts_after f (nat_lt 0 told) others ≡ old ++ parts_after f (nat_lt 0 old_told) parts
+  pub by_now : counted told others ≡ counted old_told parts
 
 -- parts were told, of those that were left
-pub leaves_more : {f : Form} {parts others : List Part} {old_told told told_now : Bool} {old text new : List ℕ} (some rest : List Part) → Leaves f parts others old_told old told text → others ≡ some ++ rest → Tells f some told text told_now new → Leaves f parts rest old_told old told_now new
+pub leaves_more : {f : Form} {parts others : List Part} {old_told told told_now : ℕ} {old text new : List ℕ} (some rest : List Part) → Leaves f parts others old_told old told text → others ≡ some ++ rest → Tells f some told text told_now new → Leaves f parts rest old_told old told_now new
 leaves_more {f} {parts} {others} {old_told} {told} {told_now} {old} {text} {new} some rest left are tells = record {
-  text = rw (tells.text, tells.by_now) (append_assoc text (parts_after f told some) (parts_after f (told_after told some) rest) ∙ ap (λ more. text ++ more) (sym (parts_append f told some rest)) ∙ ap (λ all. text ++ parts_after f told all) (sym are) ∙ left.text);
-  by_now = ap (λ now. told_after now rest) tells.by_now ∙ sym (told_append told some rest) ∙ ap (told_after told) (sym are) ∙ left.by_now;
+  text = rw (tells.text, tells.by_now, any_counted told some) (append_assoc text (parts_after f (nat_lt 0 told) some) (parts_after f (told_after (nat_lt 0 told) some) rest) ∙ ap (λ more. text ++ more) (sym (parts_append f (nat_lt 0 told) some rest)) ∙ ap (λ all. text ++ parts_after f (nat_lt 0 told) all) (sym are) ∙ left.text);
+  by_now = ap (λ now. counted now rest) tells.by_now ∙ sym (counted_append told some rest) ∙ ap (counted told) (sym are) ∙ left.by_now;
 }
 
 -- none is left
-pub leaves_none : {f : Form} {parts others : List Part} {old_told told : Bool} {old text : List ℕ} → Leaves f parts others old_told old told text → others ≡ [] → Tells f parts old_told old told text
+pub leaves_none : {f : Form} {parts others : List Part} {old_told told : ℕ} {old text : List ℕ} → Leaves f parts others old_told old told text → others ≡ [] → Tells f parts old_told old told text
 leaves_none {f} {parts} {others} {old_told} {told} {old} {text} left none = record {
-  text = sym (append-nil text) ∙ ap (λ all. text ++ parts_after f told all) (sym none) ∙ left.text;
-  by_now = ap (told_after told) (sym none) ∙ left.by_now;
+  text = sym (append-nil text) ∙ ap (λ all. text ++ parts_after f (nat_lt 0 told) all) (sym none) ∙ left.text;
+  by_now = ap (counted told) (sym none) ∙ left.by_now;
 }
-
--- the parts of an item were counted, and those of the others are left
-pub counted_more : (in_request : Bool) (count : ℕ) {more total : ℕ} {items others : List (Value pa_data)} {v : Value pa_data} → items ≡ v ∷ others → count + length (flat_map (item_parts in_request) (map pa_data_of items)) ≡ total → more ≡ length (item_parts in_request (pa_data_of v))
-    → count + more + length (flat_map (item_parts in_request) (map pa_data_of others)) ≡ total
-counted_more in_request count {more} {total} {items} {others} {v} are sum many =
-    let all : length (flat_map (item_parts in_request) (map pa_data_of items)) ≡ length (item_parts in_request (pa_data_of v)) + length (flat_map (item_parts in_request) (map pa_data_of others)) =
-    ap (λ items. length (flat_map (item_parts in_request) (map pa_data_of items))) are ∙ length-append (item_parts in_request (pa_data_of v)) (flat_map (item_parts in_request) (map pa_data_of others)) in
-    omega (arith, all, sum, many)
 
 -- ---- as the text of a record has them
 pub named_parts : (told : Bool) (parts : List Part) → parts_after form.NamedLines told parts ≡ flat_map (λ p. codes " " ++ part_text form.NamedLines p) parts
@@ -95,10 +96,30 @@ unfolding separator
 objects [] = refl
 objects (p ∷ parts) = ap (λ rest. part_text form.Json p ++ rest) (other_objects parts)
 
-pub named_inside : (old : List ℕ) {l₁ l₂ l₃ : List ℕ} (parts : List Part) → l₁ ≡ old ++ codes " inside=" → l₂ ≡ l₁ ++ decimal (length parts) → l₃ ≡ l₂ ++ parts_after form.NamedLines false parts → l₃ ≡ old ++ (inside_text form.NamedLines parts ++ [])
-unfolding inside_text
-named_inside old parts h₁ h₂ h₃ = rw (h₃, h₂, h₁, named_parts false parts) (simp (append_assoc, append-nil))
+-- each has an octet or more
+few_parts : (told : Bool) (parts : List Part) → length parts ≤ length (parts_after form.NamedLines told parts)
+unfolding separator
+few_parts told [] = omega arith
+few_parts told (p ∷ parts) = omega (arith, few_parts true parts, length-append (part_text form.NamedLines p) (parts_after form.NamedLines true parts))
 
-pub object_inside : (old : List ℕ) {l₁ l₂ l₃ : List ℕ} (parts : List Part) → l₁ ≡ old ++ codes ",\"inside\":[" → l₂ ≡ l₁ ++ parts_after form.Json false parts → l₃ ≡ l₂ ++ codes "]}" → l₃ ≡ old ++ (inside_text form.Json parts ++ codes "}")
+-- their number is inserted before them
+pub named_inside : (old : List ℕ) {l₁ l₂ l₃ : List ℕ} {place count : ℕ} (parts : List Part) → l₁ ≡ old ++ codes " inside=" → place ≡ length l₁ → Tells form.NamedLines parts 0 l₁ count l₂ → (l₃ ≡ (take place l₂ ++ decimal count) ++ drop place l₂) × (length l₃ < 2 ^ 64) → l₃ ≡ old ++ (inside_text form.NamedLines parts ++ [])
 unfolding inside_text
-object_inside old parts h₁ h₂ h₃ = rw (h₃, h₂, h₁, objects parts) (simp append_assoc)
+named_inside old {l₁} {l₂} {l₃} {place} {count} parts h₁ at tells h₃ =
+    let rest = parts_after form.NamedLines false parts in
+    let front : take place l₂ ≡ l₁ = rw (at, tells.text) (take-append_seam l₁ rest) in
+    let back : drop place l₂ ≡ rest = rw (at, tells.text) (drop-append_seam l₁ rest) in
+    let all : l₃ ≡ l₁ ++ (decimal count ++ rest) = h₃.0 ∙ append_assoc (take place l₂) (decimal count) (drop place l₂) ∙ ap₂ (λ (front back : List ℕ). front ++ (decimal count ++ back)) front back in
+    let size : length l₃ ≡ length l₁ + (length (decimal count) + length rest) = ap length all ∙ length-append l₁ (decimal count ++ rest) ∙ ap (λ n. length l₁ + n) (length-append (decimal count) rest) in
+    let many : count ≡ length parts = tells.by_now ∙ counted_all 0 parts (omega (arith, few_parts false parts, h₃.1, size)) ∙ omega arith in
+    all ∙ rw (h₁, many, named_parts false parts) (simp (append_assoc, append-nil))
+
+-- the place of the number has text before it
+pub before_parts : {parts : List Part} {place count : ℕ} (l₁ l₂ : List ℕ) → place ≡ length l₁ → IsUtf8 l₁ → Tells form.NamedLines parts 0 l₁ count l₂ → (place ≤ length l₂) × IsUtf8 (take place l₂)
+before_parts {parts} l₁ l₂ at utf8 tells =
+    let rest = parts_after form.NamedLines false parts in
+    (omega (arith, at, ap length tells.text, length-append l₁ rest), subst IsUtf8 (sym (rw (at, tells.text) (take-append_seam l₁ rest))) utf8)
+
+pub object_inside : (old : List ℕ) {l₁ l₂ l₃ : List ℕ} {count : ℕ} (parts : List Part) → l₁ ≡ old ++ codes ",\"inside\":[" → Tells form.Json parts 0 l₁ count l₂ → l₃ ≡ l₂ ++ codes "]}" → l₃ ≡ old ++ (inside_text form.Json parts ++ codes "}")
+unfolding inside_text
+object_inside old parts h₁ tells h₃ = rw (h₃, tells.text, h₁, objects parts) (simp append_assoc)

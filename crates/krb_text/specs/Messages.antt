@@ -1,9 +1,12 @@
 -- What is printed of messages: the name of the message, its fields and its notes, and what is inside of it.
-use Rattle.std.specs.Prelude.{ℕ, pos, List, [], ◌∷◌, ◌++◌, Option, Some, None, codes}
+use Rattle.std.specs.Prelude.{ℕ, ◌≡◌, ◌^◌, ◌<◌, pos, Bool, true, false, List, [], ◌∷◌, ◌++◌, length, Option, Some, None, codes}
+use Rattle.krb_der.specs.declared.profile.Profile.{Profile}
+use Rattle.krb_der.specs.declared.verdict.Verdict.TheVariants.{Whole}
+use Rattle.krb_msg.specs.Judgement.{judgement}
 use Rattle.krb_msg.specs.Notes.{notes_of, notes_of_ticket}
 use Rattle.krb_msg.specs.declared.message.Message.{Message}
 use Rattle.krb_msg.specs.declared.ticket.Ticket.{Ticket}
-use Rattle.krb_msg.specs.Views.{kind_name, kind_of}
+use Rattle.krb_msg.specs.Views.{kind_name, kind_of, message_of_der}
 use Rattle.krb_text.specs.declared.form.Form.{Form}
 use Rattle.krb_text.specs.Forms.{record_text, record_line}
 use Rattle.krb_text.specs.Inside.{inside_of}
@@ -48,3 +51,9 @@ message_line_from form origin m = record_line form (with_origin origin (message_
 
 abbrev pub ticket_line : Form → List Field → Ticket → List ℕ
 ticket_line form origin t = record_line form (with_origin origin (ticket_record t))
+
+-- ---- octets that are a message
+-- The line of a message was appended, if octets are one of a profile, and else nothing. More than 2147483647 octets are none.
+abbrev pub PutsMessage : Profile → List ℕ → (Message → List ℕ) → List ℕ → List ℕ → Bool → Type 0
+PutsMessage profile octets line old new true = (judgement profile (length octets) octets ≡ Whole) × (new ≡ old ++ line (message_of_der octets))
+PutsMessage profile octets line old new false = (length octets < 2 ^ 31 → judgement profile (length octets) octets ≡ Whole → ⊥) × (new ≡ old)

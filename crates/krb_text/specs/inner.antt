@@ -3,3 +3,4 @@ pub mod Strings
 pub mod Items
 pub mod Flags
 pub mod Parts
+pub mod Records

@@ -1,39 +1,35 @@
 //! Records of captures.
 
-ghost use Rattle.std.specs.Prelude.{◌≡◌, ◌++◌, OnOk};
+ghost use Rattle.std.specs.Prelude.{◌≡◌, ◌++◌, IfOk, OnOk};
 ghost use Rattle.std.specs.Option.{option_copied};
-ghost use Rattle.krb_msg.specs.ViewValues.{IsValidMessage, message_of_view};
 ghost use Rattle.krb_text.specs.Captures.{capture_end_line, capture_refused_line, captured_message_line, captured_refused_line, count_fields, joined_line, lost_line, password_line};
 ghost use Rattle.krb_text.specs.Forms.{fields_text};
+ghost use Rattle.krb_text.specs.Messages.{PutsMessage};
 
 use crate::extent::Extent;
 use crate::field::{put_end, put_opening};
 use crate::form::Form;
-use crate::message::put_rest;
 use crate::origin::{Origin, put_captured_opening};
 use crate::put_field;
+use crate::record::{Heading, put_record_of};
 use crate::refusal::{Reason, put_fault_fields, put_path};
 use crate::text_buffer::TextBuffer;
-use krb_der::{Memory, Refusal};
+use krb_der::{Memory, Profile, Refusal};
 use krb_file::FileWhy;
-use krb_msg::MessageView;
 use std::alloc::AllocError;
 
-/// Appends a message of a capture by a view of it, as a line or an object with its line feed.
-#[tactic(auto, unfolding(crate::specs::Forms::record_text, crate::specs::Messages::message_record))]
+/// Appends a message of a capture, as a line or an object with its line feed, if octets are one of a
+/// profile, and returns whether they are. More than 2147483647 octets are none.
 pub fn put_captured_message(
     text: &mut TextBuffer,
     form: Form,
     origin: &Origin,
-    view: &MessageView<'_>,
-) -> Result<(), Memory>
-    requires { IsValidMessage view.now }
-    ensures { OnOk result (text.new ≡ text.old ++ captured_message_line form origin.now (message_of_view view.now)) }
+    profile: Profile,
+    octets: &[u8],
+) -> Result<bool, Memory>
+    ensures { IfOk result (PutsMessage profile octets.now (captured_message_line form origin.now) text.old text.new) }
 {
-    put_captured_opening(text, form, origin, view.kind().name())?;
-    put_rest(text, form, view)?;
-    text.push_str("\n")?;
-    Ok(())
+    put_record_of(text, form, Heading::Captured(origin), profile, octets)
 }
 
 /// Appends the line of a refused message of a capture: the place of the octet at fault and what is

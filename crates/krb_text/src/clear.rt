@@ -1,6 +1,6 @@
 //! What is in the clear in pre-authentication data, and in Tickets, as parts.
 
-ghost use Rattle.std.specs.Prelude.{◌≡◌, ◌++◌, ◌^◌, ◌<◌, codes, length, IfOk, MatchOption, None, OnOk, Some};
+ghost use Rattle.std.specs.Prelude.{◌≡◌, ◌++◌, ◌^◌, ◌<◌, codes, length, IfOk, MatchOption, None, OnOk, Some, nat_lt};
 ghost use Rattle.std.specs.Option.{option_map};
 ghost use Rattle.krb_msg.specs.Grammar.{encrypted_data};
 ghost use Rattle.krb_msg.specs.Types.{IsValidApReq, ap_req_of, ap_req_of_view, ap_req_view_value, encrypted_data_of, encrypted_data_of_view, ticket_of_view};
@@ -15,10 +15,10 @@ ghost use Rattle.krb_text.specs.inner.Parts.{Tells, separator};
 
 use crate::field::put_closing;
 use crate::form::Form;
-use crate::message::put_ap_req;
 use crate::number::Numbered;
 use crate::part::{Clear, PartPlace, put_part_opening, view_judged};
 use crate::put_field;
+use crate::record::HasRecord;
 use crate::shown::QuotedText;
 use crate::text_buffer::TextBuffer;
 use crate::viewed::{ABSENT, flags_of, optional_hex, optional_quoted, principal_of};
@@ -40,7 +40,7 @@ impl<'a> Clear<'a> for ApReq {
     #[tactic(auto, unfolding(crate::specs::Forms::part_text))]
     fn put_part(text: &mut TextBuffer, at: PartPlace, seen: &Self::Of) -> Result<(), AllocError> {
         put_part_opening(text, at, "PA-TGS-REQ")?;
-        put_ap_req(text, at.form, seen)?;
+        seen.put_fields(text, at.form)?;
         put_closing(text, at.form)
     }
 }
@@ -226,21 +226,21 @@ fn put_encrypted_part(
     kind: &str,
     seen: &EncryptedDataView<'_>,
 ) -> Result<(), AllocError>
-    ensures { OnOk result (text.new ≡ text.old ++ separator at.form at.told ++ part_text at.form (encrypted_part kind.now (encrypted_data_of_view seen.now))) }
+    ensures { OnOk result (text.new ≡ text.old ++ separator at.form (nat_lt 0 at.told) ++ part_text at.form (encrypted_part kind.now (encrypted_data_of_view seen.now))) }
 {
     put_part_opening(text, at, kind)?;
     put_field!(text, at.form, "enc": seen)?;
     put_closing(text, at.form)
 }
 
-/// Appends the part of octets that are all of what is encrypted, and returns whether any was told by
+/// Appends the part of octets that are all of what is encrypted, and returns how many were told by
 /// now: PA-ENC-TIMESTAMP (RFC 4120, 5.2.7.2) and PA-ENCRYPTED-CHALLENGE (RFC 6113, 5.4.6).
 pub(crate) fn put_encrypted(
     text: &mut TextBuffer,
     at: PartPlace,
     kind: &str,
     octets: &[u8],
-) -> Result<bool, AllocError>
+) -> Result<u64, AllocError>
     requires { length octets.now < 2 ^ 31 }
     ensures { IfOk result (λ by_now. Tells at.form (one_if (λ v. encrypted_part kind.now (encrypted_data_of v)) (judged encrypted_data octets.now)) at.told text.old by_now text.new) }
 {
@@ -248,7 +248,7 @@ pub(crate) fn put_encrypted(
         None => Ok(at.told),
         Some(seen) => {
             put_encrypted_part(text, at, kind, &seen)?;
-            Ok(true)
+            Ok(at.told.saturating_add(1))
         }
     }
 }
@@ -260,7 +260,7 @@ pub(crate) fn put_salt(
     at: PartPlace,
     octets: &[u8],
 ) -> Result<(), AllocError>
-    ensures { OnOk result (text.new ≡ text.old ++ separator at.form at.told ++ part_text at.form (salt_part octets.now)) }
+    ensures { OnOk result (text.new ≡ text.old ++ separator at.form (nat_lt 0 at.told) ++ part_text at.form (salt_part octets.now)) }
 {
     put_part_opening(text, at, "PA-PW-SALT")?;
     put_field!(text, at.form, "salt": &QuotedText(octets))?;
@@ -274,7 +274,7 @@ pub(crate) fn put_pac_request(
     at: PartPlace,
     include: bool,
 ) -> Result<(), AllocError>
-    ensures { OnOk result (text.new ≡ text.old ++ separator at.form at.told ++ part_text at.form (pac_request_part include)) }
+    ensures { OnOk result (text.new ≡ text.old ++ separator at.form (nat_lt 0 at.told) ++ part_text at.form (pac_request_part include)) }
 {
     put_part_opening(text, at, "PA-PAC-REQUEST")?;
     put_field!(text, at.form, "pac": &include)?;

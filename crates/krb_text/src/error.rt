@@ -6,16 +6,19 @@ ghost use Rattle.krb_msg.specs.Types.{IsValidKrbError, krb_error_of_view};
 ghost use Rattle.krb_msg.specs.Viewed.{AreViewed, items_of};
 ghost use Rattle.krb_registry.specs.declared.registry.Registry.TheVariants.{PreAuthenticationData};
 ghost use Rattle.krb_text.specs.Errors.{code_suffix, code_text};
-ghost use Rattle.krb_text.specs.Forms.{field, fields_text};
+ghost use Rattle.krb_text.specs.Forms.{field};
+ghost use Rattle.krb_text.specs.Inside.{krb_error_parts};
 ghost use Rattle.krb_text.specs.Judged.{judged, methods_in};
 ghost use Rattle.krb_text.specs.MessageFields.{krb_error_fields, methods};
 ghost use Rattle.krb_text.specs.Values.{ErrorCode, Number, Numbers, Quoted, Word, client, count, if_there, principal};
 
 use crate::form::Form;
+use crate::inside::put_list;
 use crate::item::{put_name_member, put_named};
 use crate::list::PaDataTypes;
 use crate::part::view_judged;
 use crate::put_field;
+use crate::record::HasRecord;
 use crate::shown::{Shown, put_begin};
 use crate::text_buffer::TextBuffer;
 use crate::viewed::{
@@ -149,15 +152,20 @@ fn put_last_fields(
     put_field!(text, form, "methods": &methods_of(error))
 }
 
-/// Appends the fields of a KRB-ERROR.
-pub(crate) fn put_krb_error(
-    text: &mut TextBuffer,
-    form: Form,
-    error: &KrbErrorView<'_>,
-) -> Result<(), AllocError>
-    requires { IsValidKrbError error.now }
-    ensures { OnOk result (text.new ≡ text.old ++ fields_text form (krb_error_fields (krb_error_of_view error.now))) }
-{
-    put_first_fields(text, form, error)?;
-    put_last_fields(text, form, error)
+impl<'a> HasRecord for KrbErrorView<'a> {
+    ghost IsValid = { IsValidKrbError };
+
+    ghost fields = { λ error. krb_error_fields (krb_error_of_view error) };
+
+    ghost inside = { λ error. Some (krb_error_parts (krb_error_of_view error)) };
+
+    fn put_fields(&self, text: &mut TextBuffer, form: Form) -> Result<(), AllocError> {
+        put_first_fields(text, form, self)?;
+        put_last_fields(text, form, self)
+    }
+
+    #[inline(always)]
+    fn put_ending(&self, text: &mut TextBuffer, form: Form) -> Result<(), AllocError> {
+        put_list(text, form, self)
+    }
 }

@@ -2,15 +2,14 @@
 
 ghost use Rattle.std.specs.Prelude.{◌≡◌, ◌++◌, ◌-◌, ◌*◌, ◌==◌, [], ◌∷◌, decimal, length, not, map, codes, true, MatchOption, OnOk};
 ghost use Rattle.std.specs.List.{flat_map, list_all};
-ghost use Rattle.std.specs.Str.{IsAscii};
 ghost use Rattle.krb_registry.specs.Rows.{number_and_name, rows};
-ghost use Rattle.krb_text.specs.Forms.{flags_object, is_set, named_flags_text, named_in, octet_at, plus_text, set_names, unnamed};
+ghost use Rattle.krb_text.specs.Forms.{flags_object, is_set, json_character, named_flags_text, named_in, octet_at, plus_text, set_names, unnamed};
 ghost use Rattle.krb_text.specs.Text.{hex, joined, list_text};
 ghost use Rattle.krb_text.specs.Values.{Flags};
 ghost use Rattle.krb_text.specs.inner.Flags.{are_plain, name_item, names_set};
 
 use crate::escape::put_hex;
-use crate::json::put_string;
+use crate::json::put_plain_string;
 use crate::shown::{Shown, put_begin};
 use crate::text_buffer::TextBuffer;
 use krb_registry::{Registry, Row, rows};
@@ -46,9 +45,10 @@ fn is_set(octets: &[u8], bit: u64) -> bool
 }
 
 /// Returns the name of the first bit that is set and has one, and the rows after it.
+#[tactic(auto, using(crate::proofs::Names::plain_in_json))]
 fn first_set(octets: &[u8], table: &'static [Row]) -> Option<(&'static str, &'static [Row])>
     requires { are_plain (map number_and_name table.now) ≡ true }
-    ensures { MatchOption result (names_set octets.now (map number_and_name table.now) ≡ []) (λ found. IsAscii found.0.now × (are_plain (map number_and_name found.1.now) ≡ true) × (names_set octets.now (map number_and_name table.now) ≡ found.0.now ∷ names_set octets.now (map number_and_name found.1.now))) }
+    ensures { MatchOption result (names_set octets.now (map number_and_name table.now) ≡ []) (λ found. (flat_map json_character found.0.now ≡ found.0.now) × (are_plain (map number_and_name found.1.now) ≡ true) × (names_set octets.now (map number_and_name table.now) ≡ found.0.now ∷ names_set octets.now (map number_and_name found.1.now))) }
 {
     let mut others = table;
     'others: while let Some((row, rest)) = others.split_first() {
@@ -62,12 +62,12 @@ fn first_set(octets: &[u8], table: &'static [Row]) -> Option<(&'static str, &'st
 
 /// Appends the name of a bit.
 fn put_name(text: &mut TextBuffer, form: NameForm, name: &str) -> Result<(), AllocError>
-    requires { IsAscii name.now }
+    requires { flat_map json_character name.now ≡ name.now }
     ensures { OnOk result (text.new ≡ text.old ++ name_item form name.now) }
 {
     match form {
         NameForm::Word => text.push_str(name),
-        NameForm::String => put_string(text, name.as_bytes()),
+        NameForm::String => put_plain_string(text, name),
     }
 }
 
@@ -111,12 +111,12 @@ fn put_names(
     }
 }
 
-/// Returns octet k of a mask of the bits that have no name.
-fn nameless(registry: Registry, k: u64) -> u8
-    ensures { result ≡ 255 - named_in k (rows registry) }
+/// Returns octet k of a mask of the bits that have no name in a table.
+fn nameless_in(table: &'static [Row], k: u64) -> u8
+    ensures { result ≡ 255 - named_in k (map number_and_name table.now) }
 {
     let mut mask = 255u8;
-    let mut others = rows(registry);
+    let mut others = table;
     'others: while let Some((row, rest)) = others.split_first() {
         let bit = row.number.unsigned_abs();
         if bit / 8 == k {
@@ -125,6 +125,21 @@ fn nameless(registry: Registry, k: u64) -> u8
         others = rest;
     }
     mask
+}
+
+/// Returns octet k of a mask of the bits that have no name. Of those that a line has most, it is
+/// known.
+#[tactic(auto, unfolding(krb_registry::specs::Rows::rows))]
+fn nameless(registry: Registry, k: u64) -> u8
+    ensures { result ≡ 255 - named_in k (rows registry) }
+{
+    match (registry, k) {
+        (Registry::KdcOptions, 0) => 0x81,
+        (Registry::KdcOptions, 1) => 0x6C,
+        (Registry::KdcOptions, 2) => 0x7F,
+        (Registry::KdcOptions, 3) => 0xC4,
+        _ => nameless_in(rows(registry), k),
+    }
 }
 
 /// Returns whether a bit is set that has no name.

@@ -4,107 +4,77 @@ ghost use Rattle.std.specs.Prelude.{◌≡◌, ◌+◌, ◌^◌, ◌<◌, ◌≤
 ghost use Rattle.std.specs.Option.{option_map};
 ghost use Rattle.krb_msg.specs.Grammar.{pa_data, ticket};
 ghost use Rattle.krb_msg.specs.Types.{IsValidKdcRep, IsValidKdcReq, IsValidKrbCred, IsValidKrbError, kdc_rep_of_view, kdc_req_of_view, krb_cred_of_view, krb_error_of_view, pa_data_of, ticket_of};
-ghost use Rattle.krb_msg.specs.ViewValues.{IsValidMessage, message_of_view};
 ghost use Rattle.krb_msg.specs.Term.{IfPresent};
 ghost use Rattle.krb_msg.specs.Viewed.{AreViewed, items_of};
 ghost use Rattle.krb_text.specs.Forms.{ending, part_text};
-ghost use Rattle.krb_text.specs.Inside.{each_if, inside_of, kdc_req_parts, krb_error_parts, method_data_if, methods_part, padata_parts, ticket_part};
+ghost use Rattle.krb_text.specs.Inside.{each_if, kdc_req_parts, krb_error_parts, method_data_if, methods_part, padata_parts, ticket_part, types_if};
 ghost use Rattle.krb_text.specs.Judged.{asks_for_preauth, says_preauth_failed};
 ghost use Rattle.krb_text.specs.Values.{Part};
-ghost use Rattle.krb_text.specs.inner.Parts.{Tells, parts_after, separator};
+ghost use Rattle.krb_text.specs.inner.Parts.{Tells, separator};
 
 use crate::error::{PREAUTH_REQUIRED, method_data};
 use crate::field::put_closing;
 use crate::form::Form;
-use crate::list::{PaDataTypes, count_items};
-use crate::padata::{count_padata, put_padata};
+use crate::list::PaDataTypes;
+use crate::padata::put_padata;
 use crate::part::{PartPlace, put_each, put_part_opening};
 use crate::put_field;
 use crate::text_buffer::TextBuffer;
-use krb_msg::{ItemsView, KdcRepView, KdcReqView, KrbCredView, KrbErrorView, MessageView, Ticket};
+use krb_msg::{ItemsView, KdcRepView, KdcReqView, KrbCredView, KrbErrorView, Ticket};
 use std::alloc::AllocError;
 
 /// The code of an error that says that pre-authentication failed (RFC 4120, 7.5.9).
 const PREAUTH_FAILED: i64 = 24;
 
 /// A message that may have parts.
-trait HasParts {
+pub(crate) trait HasParts {
     /// The parts.
     ghost parts: { Self → List Part };
 
     /// What is known of a view.
     ghost IsValid: { Self → Type 0 };
 
-    /// Returns how many parts it has.
-    fn count_parts(&self) -> u64
+    /// Appends the parts, and returns how many there are.
+    fn put_parts(&self, text: &mut TextBuffer, form: Form) -> Result<u64, AllocError>
         requires { IsValid self.now }
-        ensures { result ≡ length (parts self.now) };
-
-    /// Appends the parts.
-    fn put_parts(&self, text: &mut TextBuffer, form: Form) -> Result<(), AllocError>
-        requires { IsValid self.now }
-        ensures { OnOk result (text.new ≡ text.old ++ parts_after form false (parts self.now)) };
+        ensures { IfOk result (λ told. Tells form (parts self.now) 0 text.old told text.new) };
 }
 
-/// Returns how many parts pre-authentication data have, if they are there.
-fn count_optional_padata(in_request: bool, items: Option<ItemsView<'_>>) -> u64
-    requires { IfPresent (λ items. AreViewed pa_data items.octets.now) items }
-    ensures many { result ≡ length (padata_parts in_request (option_map (map pa_data_of) (option_map (λ items. items_of pa_data items.octets.now) items.entry))) }
-    ensures few { result ≤ 2 ^ 62 }
-{
-    match items {
-        None => 0,
-        Some(items) => count_padata(in_request, items),
-    }
-}
-
-/// Appends the parts of pre-authentication data, if they are there, and returns whether any was
+/// Appends the parts of pre-authentication data, if they are there, and returns how many were
 /// told.
 fn put_optional_padata(
     text: &mut TextBuffer,
     form: Form,
     in_request: bool,
     items: Option<ItemsView<'_>>,
-) -> Result<bool, AllocError>
+) -> Result<u64, AllocError>
     requires { IfPresent (λ items. AreViewed pa_data items.octets.now) items }
-    ensures { IfOk result (λ told. Tells form (padata_parts in_request (option_map (map pa_data_of) (option_map (λ items. items_of pa_data items.octets.now) items.entry))) false text.old told text.new) }
+    ensures { IfOk result (λ told. Tells form (padata_parts in_request (option_map (map pa_data_of) (option_map (λ items. items_of pa_data items.octets.now) items.entry))) 0 text.old told text.new) }
 {
     match items {
-        None => Ok(false),
-        Some(items) => put_padata(text, form, false, in_request, items),
+        None => Ok(0),
+        Some(items) => put_padata(text, form, 0, in_request, items),
     }
 }
 
-/// Returns how many Tickets there are.
-fn count_tickets(items: Option<ItemsView<'_>>) -> u64
-    requires { IfPresent (λ items. AreViewed ticket items.octets.now) items }
-    ensures many { result ≡ length (each_if ticket_part (option_map (map ticket_of) (option_map (λ items. items_of ticket items.octets.now) items.entry))) }
-    ensures few { result < 2 ^ 31 }
-{
-    match items {
-        None => 0,
-        Some(items) => count_items::<Ticket>(items) as u64,
-    }
-}
-
-/// Appends the parts of Tickets, and returns whether any was told by now.
+/// Appends the parts of Tickets, and returns how many were told by now.
 fn put_tickets(
     text: &mut TextBuffer,
     at: PartPlace,
     items: ItemsView<'_>,
-) -> Result<bool, AllocError>
+) -> Result<u64, AllocError>
     requires { AreViewed ticket items.octets.now }
     ensures { IfOk result (λ by_now. Tells at.form (map ticket_part (map ticket_of (items_of ticket items.entry.octets.now))) at.told text.old by_now text.new) }
 {
     put_each::<Ticket>(text, at, items)
 }
 
-/// Appends the parts of Tickets, if there are any, and returns whether any was told by now.
+/// Appends the parts of Tickets, if there are any, and returns how many were told by now.
 fn put_optional_tickets(
     text: &mut TextBuffer,
     at: PartPlace,
     items: Option<ItemsView<'_>>,
-) -> Result<bool, AllocError>
+) -> Result<u64, AllocError>
     requires { IfPresent (λ items. AreViewed ticket items.octets.now) items }
     ensures { IfOk result (λ by_now. Tells at.form (each_if ticket_part (option_map (map ticket_of) (option_map (λ items. items_of ticket items.octets.now) items.entry))) at.told text.old by_now text.new) }
 {
@@ -119,14 +89,9 @@ impl<'a> HasParts for KdcReqView<'a> {
 
     ghost IsValid = { IsValidKdcReq };
 
-    fn count_parts(&self) -> u64 {
-        count_optional_padata(true, self.padata) + count_tickets(self.body.additional_tickets)
-    }
-
-    fn put_parts(&self, text: &mut TextBuffer, form: Form) -> Result<(), AllocError> {
+    fn put_parts(&self, text: &mut TextBuffer, form: Form) -> Result<u64, AllocError> {
         let told = put_optional_padata(text, form, true, self.padata)?;
-        put_optional_tickets(text, PartPlace { form, told }, self.body.additional_tickets)?;
-        Ok(())
+        put_optional_tickets(text, PartPlace { form, told }, self.body.additional_tickets)
     }
 }
 
@@ -135,13 +100,8 @@ impl<'a> HasParts for KdcRepView<'a> {
 
     ghost IsValid = { IsValidKdcRep };
 
-    fn count_parts(&self) -> u64 {
-        count_optional_padata(false, self.padata)
-    }
-
-    fn put_parts(&self, text: &mut TextBuffer, form: Form) -> Result<(), AllocError> {
-        put_optional_padata(text, form, false, self.padata)?;
-        Ok(())
+    fn put_parts(&self, text: &mut TextBuffer, form: Form) -> Result<u64, AllocError> {
+        put_optional_padata(text, form, false, self.padata)
     }
 }
 
@@ -150,13 +110,8 @@ impl<'a> HasParts for KrbCredView<'a> {
 
     ghost IsValid = { IsValidKrbCred };
 
-    fn count_parts(&self) -> u64 {
-        count_items::<Ticket>(self.tickets) as u64
-    }
-
-    fn put_parts(&self, text: &mut TextBuffer, form: Form) -> Result<(), AllocError> {
-        put_tickets(text, PartPlace { form, told: false }, self.tickets)?;
-        Ok(())
+    fn put_parts(&self, text: &mut TextBuffer, form: Form) -> Result<u64, AllocError> {
+        put_tickets(text, PartPlace { form, told: 0 }, self.tickets)
     }
 }
 
@@ -182,13 +137,36 @@ fn methods_of<'a>(error: &KrbErrorView<'a>) -> Option<ItemsView<'a>>
 
 /// Appends the part of METHOD-DATA, their types.
 #[tactic(auto, unfolding(crate::specs::Forms::part_text))]
-fn put_methods(text: &mut TextBuffer, form: Form, items: ItemsView<'_>) -> Result<(), AllocError>
+fn put_methods_part(
+    text: &mut TextBuffer,
+    form: Form,
+    items: ItemsView<'_>,
+) -> Result<(), AllocError>
     requires { AreViewed pa_data items.octets.now }
     ensures { OnOk result (text.new ≡ text.old ++ separator form false ++ part_text form (methods_part (map pa_data_of (items_of pa_data items.entry.octets.now)))) }
 {
-    put_part_opening(text, PartPlace { form, told: false }, "METHOD-DATA")?;
+    put_part_opening(text, PartPlace { form, told: 0 }, "METHOD-DATA")?;
     put_field!(text, form, "methods": &PaDataTypes::new(items))?;
     put_closing(text, form)
+}
+
+/// Appends the part of METHOD-DATA of an error that says that pre-authentication failed, and returns
+/// how many parts were told by now.
+fn put_methods(
+    text: &mut TextBuffer,
+    form: Form,
+    failed: bool,
+    items: ItemsView<'_>,
+) -> Result<u64, AllocError>
+    requires { AreViewed pa_data items.octets.now }
+    ensures { IfOk result (λ told. Tells form (types_if failed (map pa_data_of (items_of pa_data items.entry.octets.now))) 0 text.old told text.new) }
+{
+    if failed {
+        put_methods_part(text, form, items)?;
+        Ok(1)
+    } else {
+        Ok(0)
+    }
 }
 
 impl<'a> HasParts for KrbErrorView<'a> {
@@ -196,28 +174,13 @@ impl<'a> HasParts for KrbErrorView<'a> {
 
     ghost IsValid = { IsValidKrbError };
 
-    fn count_parts(&self) -> u64 {
+    fn put_parts(&self, text: &mut TextBuffer, form: Form) -> Result<u64, AllocError> {
         let Some(items) = methods_of(self) else {
-            return 0;
-        };
-        let count = count_padata(false, items);
-        if self.error_code == PREAUTH_FAILED {
-            count + 1
-        } else {
-            count
-        }
-    }
-
-    fn put_parts(&self, text: &mut TextBuffer, form: Form) -> Result<(), AllocError> {
-        let Some(items) = methods_of(self) else {
-            return Ok(());
+            return Ok(0);
         };
         let failed = self.error_code == PREAUTH_FAILED;
-        if failed {
-            put_methods(text, form, items)?;
-        }
-        put_padata(text, form, failed, false, items)?;
-        Ok(())
+        let told = put_methods(text, form, failed, items)?;
+        put_padata(text, form, told, false, items)
     }
 }
 
@@ -225,7 +188,11 @@ impl<'a> HasParts for KrbErrorView<'a> {
 /// nothing there.
 #[inline(always)]
 #[tactic(auto, unfolding(crate::specs::Forms::closing, crate::specs::Forms::inside_text))]
-fn put_list<M: HasParts>(text: &mut TextBuffer, form: Form, message: &M) -> Result<(), AllocError>
+pub(crate) fn put_list<M: HasParts>(
+    text: &mut TextBuffer,
+    form: Form,
+    message: &M,
+) -> Result<(), AllocError>
     requires { M.IsValid message.now }
     ensures { OnOk result (text.new ≡ text.old ++ ending form (Some (M.parts message.now))) }
 {
@@ -233,35 +200,14 @@ fn put_list<M: HasParts>(text: &mut TextBuffer, form: Form, message: &M) -> Resu
         Form::Lines => Ok(()),
         Form::NamedLines => {
             text.push_str(" inside=")?;
-            text.push_number(message.count_parts())?;
-            message.put_parts(text, form)
+            let place = text.size();
+            let count = message.put_parts(text, form)?;
+            text.insert_number(place, count)
         }
         Form::Json => {
             text.push_str(",\"inside\":[")?;
             message.put_parts(text, form)?;
             text.push_str("]}")
         }
-    }
-}
-
-/// Appends what follows the fields of the record of a message.
-#[inline(always)]
-pub(crate) fn put_ending(
-    text: &mut TextBuffer,
-    form: Form,
-    view: &MessageView<'_>,
-) -> Result<(), AllocError>
-    requires { IsValidMessage view.now }
-    ensures { OnOk result (text.new ≡ text.old ++ ending form (inside_of (message_of_view view.now))) }
-{
-    match view {
-        MessageView::AsReq(req) | MessageView::TgsReq(req) => put_list(text, form, req),
-        MessageView::AsRep(rep) | MessageView::TgsRep(rep) => put_list(text, form, rep),
-        MessageView::KrbCred(cred) => put_list(text, form, cred),
-        MessageView::KrbError(error) => put_list(text, form, error),
-        MessageView::ApReq(_)
-        | MessageView::ApRep(_)
-        | MessageView::KrbSafe(_)
-        | MessageView::KrbPriv(_) => put_closing(text, form),
     }
 }

@@ -7,7 +7,7 @@ ghost use Rattle.krb_text.specs.Text.{or_dash};
 ghost use Rattle.krb_text.specs.inner.Items.{number_item, octets_item};
 
 use crate::escape::put_escaped;
-use crate::json::{Escape, put_octets_string, put_quoted, put_string};
+use crate::json::{Escape, put_octets_string, put_plain_string, put_quoted};
 use crate::text_buffer::TextBuffer;
 use krb_registry::{Registry, name_of};
 use std::alloc::AllocError;
@@ -27,13 +27,13 @@ pub(crate) enum ItemForm {
     Object,
 }
 
-/// Appends the name of a number, or `-` if it has none.
+/// Appends `:` and the name of a number, or `-` if it has none.
 fn put_name(line: &mut TextBuffer, registry: Registry, number: i64) -> Result<(), AllocError>
-    ensures { OnOk result (line.new ≡ line.old ++ or_dash (λ name. name) (name_of registry number)) }
+    ensures { OnOk result (line.new ≡ line.old ++ codes ":" ++ or_dash (λ name. name) (name_of registry number)) }
 {
     match name_of(registry, number) {
-        None => line.push_str("-"),
-        Some(name) => line.push_str(name),
+        None => line.push_str(":-"),
+        Some(name) => line.push_both(":", name),
     }
 }
 
@@ -47,7 +47,7 @@ pub(crate) fn put_name_string(
 {
     match name_of(registry, number) {
         None => object.push_str("null"),
-        Some(name) => put_string(object, name.as_bytes()),
+        Some(name) => put_plain_string(object, name),
     }
 }
 
@@ -56,7 +56,6 @@ fn put_with_name(line: &mut TextBuffer, registry: Registry, number: i64) -> Resu
     ensures { OnOk result (line.new ≡ line.old ++ number_text true registry number) }
 {
     line.push_signed(number)?;
-    line.push_str(":")?;
     put_name(line, registry, number)
 }
 

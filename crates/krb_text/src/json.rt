@@ -66,6 +66,15 @@ pub fn put_string(object: &mut TextBuffer, text: &[u8]) -> Result<(), AllocError
     object.push_str("\"")
 }
 
+/// Appends a text of which no character is escaped as a string.
+pub(crate) fn put_plain_string(object: &mut TextBuffer, text: &str) -> Result<(), AllocError>
+    requires { flat_map json_character text.now ≡ text.now }
+    ensures { OnOk result (object.new ≡ object.old ++ json_string text.now) }
+{
+    object.push_both("\"", text)?;
+    object.push_str("\"")
+}
+
 /// Returns whether an octet is not escaped.
 fn is_unescaped(escape: Escape, octet: u8) -> bool
     ensures { result ≡ is_unescaped escape octet }

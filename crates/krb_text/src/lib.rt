@@ -9,7 +9,7 @@
 //! of a message may have parts, records of what is in the clear inside of it, which lines without
 //! names leave out.
 //!
-//! The main calls are [`put_message_view`] and [`message_line`] for messages, [`put_message_from`]
+//! The main calls are [`put_message_in`] and [`message_line`] for messages, [`put_message_from`]
 //! for messages of an origin, [`put_ticket`] for Tickets, and [`put_captured_message`] for captures.
 //! What is refused has a call for each source, [`put_message_refusal`] among them, which takes an
 //! [`Extent`]: where the octets lie that are refused. `krb_list` prints keytabs and caches with the
@@ -41,6 +41,7 @@ mod origin;
 mod padata;
 mod part;
 mod principal;
+mod record;
 mod refusal;
 mod shown;
 mod stream;
@@ -68,11 +69,11 @@ pub use law::{
     escape_is_graphic, message_is_one_line, plain_lines_have_nothing_inside,
     principal_text_is_injective,
 };
-pub use message::{message_line, put_message, put_message_from, put_message_view};
 pub use message_origin::MessageOrigin;
 pub use number::{Encrypted, Numbered};
 pub use origin::{Origin, Transport};
 pub use principal::{Principal, Strings, ViewedStrings, principal_text, put_principal};
+pub use record::{message_line, put_message, put_message_from, put_message_in};
 pub use refusal::{put_file_refusal, put_message_refusal, put_untold_message_refusal};
 pub use shown::{Plain, QuotedText, Shown, put_begin};
 pub use stream::{

@@ -1,6 +1,6 @@
 //! Lists that are viewed in octets, as records show them.
 
-ghost use Rattle.std.specs.Prelude.{◌≡◌, ◌≤◌, ◌++◌, [], true, length, map, OnOk, codes};
+ghost use Rattle.std.specs.Prelude.{◌≡◌, ◌≤◌, ◌++◌, [], true, length, map, MatchOption, OnOk, codes};
 ghost use Rattle.std.specs.List.{flat_map};
 ghost use Rattle.krb_msg.specs.Grammar.{int32, pa_data};
 ghost use Rattle.krb_registry.specs.declared.registry.Registry.TheVariants.{EncryptionTypes, PreAuthenticationData};
@@ -12,49 +12,38 @@ ghost use Rattle.krb_text.specs.Forms.{members, name_string, number_text, value_
 ghost use Rattle.krb_text.specs.Messages.{padata};
 ghost use Rattle.krb_text.specs.Text.{joined, list_text};
 ghost use Rattle.krb_text.specs.Values.{Numbers};
-ghost use Rattle.krb_text.specs.inner.Items.{item_number, number_item};
+ghost use Rattle.krb_text.specs.inner.Items.{IsFirstNumber, item_number, number_item};
 
 use crate::item::{ItemForm, put_number_item};
 use crate::shown::{Shown, put_begin, put_names_begin};
 use crate::text_buffer::TextBuffer;
 use krb_der::Int32;
-use krb_msg::{ItemsView, PaData, PaDataView, View, next_item};
+use krb_msg::{ItemsView, PaData, View, next_item, next_type};
 use krb_registry::Registry;
 use std::alloc::AllocError;
 use std::marker::Model;
 
 /// A type of items that are numbers of a registry, or begin with one.
 pub(crate) trait Listed<'a>: View<'a> {
-    /// Returns the number of an item.
-    fn number(seen: &Self::Of) -> i64
-        ensures { result ≡ item_number Self.View.term (Self.View.value seen.now) };
+    /// Returns the number of the first of items that were viewed, and the items after it.
+    fn next_number(items: ItemsView<'a>) -> Option<(i64, ItemsView<'a>)>
+        requires { AreViewed Self.View.term items.octets.now }
+        ensures { MatchOption result (items_of Self.View.term items.entry.octets.now ≡ []) (λ (number, rest). IsFirstNumber Self.View.term items.entry.octets.now number rest.octets.now) };
 }
 
 impl<'a> Listed<'a> for Int32 {
     #[inline(always)]
-    fn number(seen: &i64) -> i64 {
-        *seen
+    fn next_number(items: ItemsView<'a>) -> Option<(i64, ItemsView<'a>)> {
+        next_item::<Int32>(items)
     }
 }
 
 /// Its type alone.
 impl<'a> Listed<'a> for PaData {
     #[inline(always)]
-    fn number(seen: &PaDataView<'a>) -> i64 {
-        seen.padata_type
+    fn next_number(items: ItemsView<'a>) -> Option<(i64, ItemsView<'a>)> {
+        next_type(items)
     }
-}
-
-/// Appends the number of an item.
-#[inline(always)]
-fn put_item<'a, T: Listed<'a>>(
-    text: &mut TextBuffer,
-    form: ItemForm,
-    seen: &T::Of,
-) -> Result<(), AllocError>
-    ensures { OnOk result (text.new ≡ text.old ++ number_item form (item_number T.View.term (T.View.value seen.now))) }
-{
-    put_number_item(text, form, T::number(seen))
 }
 
 /// Appends a comma and the number of an item, for each of the items.
@@ -64,15 +53,13 @@ fn put_other_numbers<'a, T: Listed<'a>>(
     form: ItemForm,
     items: ItemsView<'a>,
 ) -> Result<(), AllocError>
-    requires tags { has_octet_tags T.View.term ≡ true }
-    requires unambiguous { is_unambiguous T.View.term ≡ true }
-    requires viewed { AreViewed T.View.term items.octets.now }
+    requires { AreViewed T.View.term items.octets.now }
     ensures { OnOk result (text.new ≡ text.old ++ flat_map (λ item. codes "," ++ number_item form (item_number T.View.term item)) (items_of T.View.term items.entry.octets.now)) }
 {
     let mut others = items;
-    'others: while let Some((seen, rest)) = next_item::<T>(others) {
+    'others: while let Some((number, rest)) = T::next_number(others) {
         text.push_str(",")?;
-        put_item::<T>(text, form, &seen)?;
+        put_number_item(text, form, number)?;
         others = rest;
     }
     Ok(())
@@ -85,15 +72,13 @@ fn put_numbers<'a, T: Listed<'a>>(
     form: ItemForm,
     items: ItemsView<'a>,
 ) -> Result<(), AllocError>
-    requires tags { has_octet_tags T.View.term ≡ true }
-    requires unambiguous { is_unambiguous T.View.term ≡ true }
-    requires viewed { AreViewed T.View.term items.octets.now }
+    requires { AreViewed T.View.term items.octets.now }
     ensures { OnOk result (text.new ≡ text.old ++ joined [] (codes ",") (λ item. number_item form (item_number T.View.term item)) (items_of T.View.term items.entry.octets.now)) }
 {
-    match next_item::<T>(items) {
+    match T::next_number(items) {
         None => Ok(()),
         Some((first, others)) => {
-            put_item::<T>(text, form, &first)?;
+            put_number_item(text, form, first)?;
             put_other_numbers::<T>(text, form, others)
         }
     }
@@ -106,9 +91,7 @@ fn put_number_list<'a, T: Listed<'a>>(
     form: ItemForm,
     items: ItemsView<'a>,
 ) -> Result<(), AllocError>
-    requires tags { has_octet_tags T.View.term ≡ true }
-    requires unambiguous { is_unambiguous T.View.term ≡ true }
-    requires viewed { AreViewed T.View.term items.octets.now }
+    requires { AreViewed T.View.term items.octets.now }
     ensures { OnOk result (text.new ≡ text.old ++ list_text (λ item. number_item form (item_number T.View.term item)) (items_of T.View.term items.entry.octets.now)) }
 {
     text.push_str("[")?;
@@ -122,9 +105,7 @@ fn put_plain_list<'a, T: Listed<'a>>(
     text: &mut TextBuffer,
     items: ItemsView<'a>,
 ) -> Result<(), AllocError>
-    requires tags { has_octet_tags T.View.term ≡ true }
-    requires unambiguous { is_unambiguous T.View.term ≡ true }
-    requires viewed { AreViewed T.View.term items.octets.now }
+    requires { AreViewed T.View.term items.octets.now }
     ensures { OnOk result (text.new ≡ text.old ++ list_text signed_decimal (map (item_number T.View.term) (items_of T.View.term items.entry.octets.now))) }
 {
     put_number_list::<T>(text, ItemForm::Line, items)
@@ -137,9 +118,7 @@ fn put_named_list<'a, T: Listed<'a>>(
     registry: Registry,
     items: ItemsView<'a>,
 ) -> Result<(), AllocError>
-    requires tags { has_octet_tags T.View.term ≡ true }
-    requires unambiguous { is_unambiguous T.View.term ≡ true }
-    requires viewed { AreViewed T.View.term items.octets.now }
+    requires { AreViewed T.View.term items.octets.now }
     ensures { OnOk result (text.new ≡ text.old ++ list_text (number_text true registry) (map (item_number T.View.term) (items_of T.View.term items.entry.octets.now))) }
 {
     put_number_list::<T>(text, ItemForm::Named(registry), items)
@@ -152,9 +131,7 @@ fn put_name_list<'a, T: Listed<'a>>(
     registry: Registry,
     items: ItemsView<'a>,
 ) -> Result<(), AllocError>
-    requires tags { has_octet_tags T.View.term ≡ true }
-    requires unambiguous { is_unambiguous T.View.term ≡ true }
-    requires viewed { AreViewed T.View.term items.octets.now }
+    requires { AreViewed T.View.term items.octets.now }
     ensures { OnOk result (text.new ≡ text.old ++ list_text (name_string registry) (map (item_number T.View.term) (items_of T.View.term items.entry.octets.now))) }
 {
     put_number_list::<T>(text, ItemForm::Name(registry), items)
@@ -169,9 +146,7 @@ fn put_numbers_text<'a, T: Listed<'a>>(
     registry: Registry,
     items: ItemsView<'a>,
 ) -> Result<(), AllocError>
-    requires tags { has_octet_tags T.View.term ≡ true }
-    requires unambiguous { is_unambiguous T.View.term ≡ true }
-    requires viewed { AreViewed T.View.term items.octets.now }
+    requires { AreViewed T.View.term items.octets.now }
     ensures { OnOk result (line.new ≡ line.old ++ value_text names (Numbers registry (map (item_number T.View.term) (items_of T.View.term items.entry.octets.now)))) }
 {
     if names {
@@ -189,9 +164,7 @@ fn put_numbers_members<'a, T: Listed<'a>>(
     registry: Registry,
     items: ItemsView<'a>,
 ) -> Result<(), AllocError>
-    requires tags { has_octet_tags T.View.term ≡ true }
-    requires unambiguous { is_unambiguous T.View.term ≡ true }
-    requires viewed { AreViewed T.View.term items.octets.now }
+    requires { AreViewed T.View.term items.octets.now }
     ensures { OnOk result (object.new ≡ object.old ++ members begin.now (Numbers registry (map (item_number T.View.term) (items_of T.View.term items.entry.octets.now)))) }
 {
     put_begin(object, begin)?;

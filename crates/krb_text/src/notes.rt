@@ -40,7 +40,7 @@ fn put_numbers(text: &mut TextBuffer, form: ItemForm, notes: &Notes) -> Result<(
 
 /// Returns whether a note holds. Mostly none does.
 #[inline(always)]
-fn has_any(notes: &Notes) -> bool
+pub(crate) fn has_any(notes: &Notes) -> bool
     ensures { result ≡ list_any (notes_have notes.now) (1 ∷ 2 ∷ 3 ∷ 4 ∷ []) }
 {
     notes.has(1) | notes.has(2) | notes.has(3) | notes.has(4)
@@ -72,6 +72,22 @@ impl Shown for Notes {
             put_number_list(line, ItemForm::Named(Registry::Notes), self)
         } else {
             put_number_list(line, ItemForm::Line, self)
+        }
+    }
+
+    #[inline(always)]
+    #[tactic(auto, unfolding(crate::specs::Forms::value_text))]
+    fn put_labelled(
+        &self,
+        line: &mut TextBuffer,
+        label: &str,
+        names: bool,
+    ) -> Result<(), AllocError> {
+        if has_any(self) {
+            line.push_str(label)?;
+            self.put_text(line, names)
+        } else {
+            line.push_both(label, "[]")
         }
     }
 

@@ -1,6 +1,6 @@
-//! What is in the clear in lists of pre-authentication data, as parts that are appended or counted.
+//! What is in the clear in lists of pre-authentication data, as parts that are appended.
 
-ghost use Rattle.std.specs.Prelude.{◌≡◌, ◌^◌, ◌<◌, ◌≤◌, length, map, IfOk};
+ghost use Rattle.std.specs.Prelude.{◌^◌, ◌<◌, length, map, IfOk};
 ghost use Rattle.std.specs.List.{flat_map};
 ghost use Rattle.krb_msg.specs.Grammar.{pa_data};
 ghost use Rattle.krb_msg.specs.Types.{pa_data_of};
@@ -15,8 +15,7 @@ ghost use Rattle.krb_text.specs.inner.Parts.{Tells};
 use crate::clear::{put_encrypted, put_pac_request, put_salt};
 use crate::clear_type::ClearType;
 use crate::form::Form;
-use crate::list::count_items;
-use crate::part::{PartPlace, count_whole, put_each, put_whole, view_judged};
+use crate::part::{PartPlace, put_each, put_whole, view_judged};
 use crate::text_buffer::TextBuffer;
 use krb_msg::{ApReq, EncryptedData, ItemsView, PaData, next_item};
 use krb_padata::{
@@ -25,8 +24,8 @@ use krb_padata::{
 };
 use std::alloc::AllocError;
 
-/// Appends the parts of a PA-ETYPE-INFO, and returns whether any was told by now.
-fn put_etype_info(text: &mut TextBuffer, at: PartPlace, octets: &[u8]) -> Result<bool, AllocError>
+/// Appends the parts of a PA-ETYPE-INFO, and returns how many were told by now.
+fn put_etype_info(text: &mut TextBuffer, at: PartPlace, octets: &[u8]) -> Result<u64, AllocError>
     requires { length octets.now < 2 ^ 31 }
     ensures { IfOk result (λ by_now. Tells at.form (each_if (λ v. etype_info_part (etype_info_entry_of v)) (judged etype_info octets.now)) at.told text.old by_now text.new) }
 {
@@ -36,8 +35,8 @@ fn put_etype_info(text: &mut TextBuffer, at: PartPlace, octets: &[u8]) -> Result
     }
 }
 
-/// Appends the parts of a PA-ETYPE-INFO2, and returns whether any was told by now.
-fn put_etype_info2(text: &mut TextBuffer, at: PartPlace, octets: &[u8]) -> Result<bool, AllocError>
+/// Appends the parts of a PA-ETYPE-INFO2, and returns how many were told by now.
+fn put_etype_info2(text: &mut TextBuffer, at: PartPlace, octets: &[u8]) -> Result<u64, AllocError>
     requires { length octets.now < 2 ^ 31 }
     ensures { IfOk result (λ by_now. Tells at.form (each_if (λ v. etype_info2_part (etype_info2_entry_of v)) (judged etype_info2 octets.now)) at.told text.old by_now text.new) }
 {
@@ -47,31 +46,31 @@ fn put_etype_info2(text: &mut TextBuffer, at: PartPlace, octets: &[u8]) -> Resul
     }
 }
 
-/// Appends the parts of a PA-PAC-REQUEST, and returns whether any was told by now.
+/// Appends the parts of a PA-PAC-REQUEST, and returns how many were told by now.
 fn put_pac_request_of(
     text: &mut TextBuffer,
     at: PartPlace,
     octets: &[u8],
-) -> Result<bool, AllocError>
+) -> Result<u64, AllocError>
     ensures { IfOk result (λ by_now. Tells at.form (clear_parts PacRequest octets.now) at.told text.old by_now text.new) }
 {
     match view_pac_request(octets) {
         None => Ok(at.told),
         Some(include) => {
             put_pac_request(text, at, include)?;
-            Ok(true)
+            Ok(at.told.saturating_add(1))
         }
     }
 }
 
-/// Appends the parts of a value of a type, and returns whether any was told by now.
+/// Appends the parts of a value of a type, and returns how many were told by now.
 fn put_value(
     text: &mut TextBuffer,
     form: Form,
-    told: bool,
+    told: u64,
     kind: ClearType,
     octets: &[u8],
-) -> Result<bool, AllocError>
+) -> Result<u64, AllocError>
     requires { length octets.now < 2 ^ 31 }
     ensures { IfOk result (λ by_now. Tells form (clear_parts kind octets.now) told text.old by_now text.new) }
 {
@@ -82,7 +81,7 @@ fn put_value(
         ClearType::EncTimestamp => put_encrypted(text, at, "PA-ENC-TIMESTAMP", octets),
         ClearType::PwSalt => {
             put_salt(text, at, octets)?;
-            Ok(true)
+            Ok(told.saturating_add(1))
         }
         ClearType::EtypeInfo => put_etype_info(text, at, octets),
         ClearType::EtypeInfo2 => put_etype_info2(text, at, octets),
@@ -96,14 +95,14 @@ fn put_value(
     }
 }
 
-/// Appends the parts of pre-authentication data, and returns whether any was told by now.
+/// Appends the parts of pre-authentication data, and returns how many were told by now.
 pub(crate) fn put_padata(
     text: &mut TextBuffer,
     form: Form,
-    told: bool,
+    told: u64,
     in_request: bool,
     items: ItemsView<'_>,
-) -> Result<bool, AllocError>
+) -> Result<u64, AllocError>
     requires { AreViewed pa_data items.octets.now }
     ensures { IfOk result (λ by_now. Tells form (flat_map (item_parts in_request) (map pa_data_of (items_of pa_data items.entry.octets.now))) told text.old by_now text.new) }
 {
@@ -115,76 +114,4 @@ pub(crate) fn put_padata(
         others = rest;
     }
     Ok(by_now)
-}
-
-/// Returns how many parts a PA-ETYPE-INFO has.
-fn count_etype_info(octets: &[u8]) -> u64
-    requires { length octets.now < 2 ^ 31 }
-    ensures many { result ≡ length (each_if (λ v. etype_info_part (etype_info_entry_of v)) (judged etype_info octets.now)) }
-    ensures few { result < 2 ^ 31 }
-{
-    match view_judged::<EtypeInfo>(octets) {
-        None => 0,
-        Some(entries) => count_items::<EtypeInfoEntry>(entries) as u64,
-    }
-}
-
-/// Returns how many parts a PA-ETYPE-INFO2 has.
-fn count_etype_info2(octets: &[u8]) -> u64
-    requires { length octets.now < 2 ^ 31 }
-    ensures many { result ≡ length (each_if (λ v. etype_info2_part (etype_info2_entry_of v)) (judged etype_info2 octets.now)) }
-    ensures few { result < 2 ^ 31 }
-{
-    match view_judged::<EtypeInfo2>(octets) {
-        None => 0,
-        Some(entries) => count_items::<EtypeInfo2Entry>(entries) as u64,
-    }
-}
-
-/// Returns how many parts a PA-PAC-REQUEST has.
-fn count_pac_request(octets: &[u8]) -> u64
-    ensures { result ≡ length (clear_parts PacRequest octets.now) }
-{
-    match view_pac_request(octets) {
-        None => 0,
-        Some(_include) => 1,
-    }
-}
-
-/// Returns how many parts a value of a type has.
-fn count_value(kind: ClearType, octets: &[u8]) -> u64
-    requires { length octets.now < 2 ^ 31 }
-    ensures many { result ≡ length (clear_parts kind octets.now) }
-    ensures few { result ≤ 2 ^ 31 }
-{
-    match kind {
-        ClearType::TgsReq => count_whole::<ApReq>(octets),
-        ClearType::EncTimestamp => count_whole::<EncryptedData>(octets),
-        ClearType::PwSalt => 1,
-        ClearType::EtypeInfo => count_etype_info(octets),
-        ClearType::EtypeInfo2 => count_etype_info2(octets),
-        ClearType::PacRequest => count_pac_request(octets),
-        ClearType::ForUser => count_whole::<PaForUser>(octets),
-        ClearType::FastRequest => count_whole::<PaFxFastRequest>(octets),
-        ClearType::FastReply => count_whole::<PaFxFastReply>(octets),
-        ClearType::EncryptedChallenge => count_whole::<EncryptedData>(octets),
-        ClearType::PacOptions => count_whole::<PaPacOptions>(octets),
-        ClearType::Other => 0,
-    }
-}
-
-/// Returns how many parts pre-authentication data have.
-pub(crate) fn count_padata(in_request: bool, items: ItemsView<'_>) -> u64
-    requires { AreViewed pa_data items.octets.now }
-    ensures many { result ≡ length (flat_map (item_parts in_request) (map pa_data_of (items_of pa_data items.entry.octets.now))) }
-    ensures few { result ≤ 2 ^ 62 }
-{
-    let mut count = 0;
-    let mut others = items;
-    'others: while let Some((seen, rest)) = next_item::<PaData>(others) {
-        let kind = ClearType::of(in_request, &seen);
-        count += count_value(kind, seen.padata_value);
-        others = rest;
-    }
-    count
 }

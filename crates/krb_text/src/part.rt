@@ -1,6 +1,6 @@
 //! Parts: records inside of the record of a message.
 
-ghost use Rattle.std.specs.Prelude.{◌≡◌, ◌+◌, ◌++◌, ◌^◌, ◌<◌, ◌≤◌, true, length, map, IfOk, MatchOption, None, OnOk, Some};
+ghost use Rattle.std.specs.Prelude.{◌≡◌, ◌+◌, ◌++◌, ◌^◌, ◌<◌, ◌≤◌, true, length, map, IfOk, MatchOption, None, OnOk, Some, nat_lt};
 ghost use Rattle.krb_msg.specs.Shape.{has_octet_tags, is_unambiguous};
 ghost use Rattle.krb_msg.specs.Term.{Value};
 ghost use Rattle.krb_msg.specs.Viewed.{AreViewed, items_of};
@@ -21,8 +21,8 @@ use std::alloc::AllocError;
 pub(crate) struct PartPlace {
     /// The form of the record.
     pub(crate) form: Form,
-    /// Whether a part was told before it.
-    pub(crate) told: bool,
+    /// How many parts were told before it.
+    pub(crate) told: u64,
 }
 
 /// A type each item of which has a part.
@@ -33,7 +33,7 @@ pub(crate) trait Clear<'a>: View<'a> {
     /// Appends the part of an item, after what separates it from the parts that were told before.
     fn put_part(text: &mut TextBuffer, at: PartPlace, seen: &Self::Of) -> Result<(), AllocError>
         requires { Self.View.IsValid seen.now }
-        ensures { OnOk result (text.new ≡ text.old ++ separator at.form at.told ++ part_text at.form (part seen.now)) };
+        ensures { OnOk result (text.new ≡ text.old ++ separator at.form (nat_lt 0 at.told) ++ part_text at.form (part seen.now)) };
 }
 
 /// Returns a view of the item that octets are all of, if they are judged to be one.
@@ -56,23 +56,23 @@ pub(crate) fn put_part_opening(
     at: PartPlace,
     kind: &str,
 ) -> Result<(), AllocError>
-    ensures { OnOk result (text.new ≡ text.old ++ separator at.form at.told ++ opening at.form kind.now) }
+    ensures { OnOk result (text.new ≡ text.old ++ separator at.form (nat_lt 0 at.told) ++ opening at.form kind.now) }
 {
     match at.form {
         Form::Lines | Form::NamedLines => text.push_str(" ")?,
-        Form::Json if at.told => text.push_str(",")?,
+        Form::Json if at.told != 0 => text.push_str(",")?,
         Form::Json => (),
     }
     put_opening(text, at.form, kind)
 }
 
-/// Appends the part of octets that are all of one item, and returns whether any was told by now.
+/// Appends the part of octets that are all of one item, and returns how many were told by now.
 #[inline(always)]
 pub(crate) fn put_whole<'a, T: Clear<'a>>(
     text: &mut TextBuffer,
     at: PartPlace,
     octets: &'a [u8],
-) -> Result<bool, AllocError>
+) -> Result<u64, AllocError>
     requires short { length octets.now < 2 ^ 31 }
     requires tags { has_octet_tags T.View.term ≡ true }
     requires unambiguous { is_unambiguous T.View.term ≡ true }
@@ -83,18 +83,18 @@ pub(crate) fn put_whole<'a, T: Clear<'a>>(
         None => Ok(told),
         Some(seen) => {
             T::put_part(text, at, &seen)?;
-            Ok(true)
+            Ok(told.saturating_add(1))
         }
     }
 }
 
-/// Appends the parts of items, and returns whether any was told by now.
+/// Appends the parts of items, and returns how many were told by now.
 #[inline(always)]
 pub(crate) fn put_each<'a, T: Clear<'a>>(
     text: &mut TextBuffer,
     at: PartPlace,
     items: ItemsView<'a>,
-) -> Result<bool, AllocError>
+) -> Result<u64, AllocError>
     requires tags { has_octet_tags T.View.term ≡ true }
     requires unambiguous { is_unambiguous T.View.term ≡ true }
     requires viewed { AreViewed T.View.term items.octets.now }
@@ -105,23 +105,8 @@ pub(crate) fn put_each<'a, T: Clear<'a>>(
     let mut others = items;
     'others: while let Some((seen, rest)) = next_item::<T>(others) {
         T::put_part(text, PartPlace { form, told: by_now }, &seen)?;
-        by_now = true;
+        by_now = by_now.saturating_add(1);
         others = rest;
     }
     Ok(by_now)
-}
-
-/// Returns how many parts octets have that are all of one item, or none.
-#[inline(always)]
-pub(crate) fn count_whole<'a, T: View<'a>>(octets: &'a [u8]) -> u64
-    requires short { length octets.now < 2 ^ 31 }
-    requires tags { has_octet_tags T.term ≡ true }
-    requires unambiguous { is_unambiguous T.term ≡ true }
-    ensures many { (part : Value T.term → Part) → result ≡ length (one_if part (judged T.term octets.now)) }
-    ensures few { result ≤ 1 }
-{
-    match view_judged::<T>(octets) {
-        None => 0,
-        Some(_seen) => 1,
-    }
 }

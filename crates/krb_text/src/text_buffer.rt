@@ -1,6 +1,6 @@
 //! Text that grows.
 
-ghost use Rattle.std.specs.Prelude.{◌≡◌, ◌+◌, ◌++◌, ◌<◌, ◌≤◌, ◌∷◌, [], IfSome, OnErr, OnOk, decimal, length, string_bytes, take};
+ghost use Rattle.std.specs.Prelude.{◌≡◌, ◌+◌, ◌++◌, ◌^◌, ◌<◌, ◌≤◌, ◌∷◌, [], IfSome, OnErr, OnOk, decimal, drop, length, string_bytes, take};
 ghost use Rattle.std.specs.Fmt.{signed_decimal};
 ghost use Rattle.std.specs.Str.{IsAscii, IsUtf8};
 
@@ -71,7 +71,8 @@ fn make_fit(octets: &mut Vec<u8>, used: usize, more: usize) -> Result<(), AllocE
 #[inline(always)]
 fn overwrite(to: &mut [u8], place: usize, octets: &[u8])
     requires { place + length octets.now ≤ length to.old }
-    ensures { take (place + length octets.now) to.new ≡ take place to.old ++ octets.now }
+    ensures front { take (place + length octets.now) to.new ≡ take place to.old ++ octets.now }
+    ensures all { to.new ≡ take place to.old ++ octets.now ++ drop (place + length octets.now) to.old }
 {
     to[place..place + octets.len()].copy_from_slice(octets);
 }
@@ -113,6 +114,29 @@ fn copy_at(to: &mut [u8], place: usize, octets: &[u8])
         16..=32 => overwrite_ends::<16>(to, place, octets),
         _ => overwrite(to, place, octets),
     }
+}
+
+/// Puts octets before those that are used from a place on, which are moved.
+fn put_between(to: &mut [u8], used: usize, place: usize, octets: &[u8])
+    requires place { place ≤ used }
+    requires fits { used + length octets.now ≤ length to.old }
+    ensures { take (used + length octets.now) to.new ≡ take place (take used to.old) ++ octets.now ++ drop place (take used to.old) }
+{
+    to.copy_within(place..used, place + octets.len());
+    overwrite(to, place, octets);
+}
+
+/// Puts octets before those that are used from a place on. Out of memory, nothing changes.
+fn put_before(octets: &mut Vec<u8>, used: usize, place: usize, new: &[u8]) -> Result<(), AllocError>
+    requires used { used ≤ length octets.old.items }
+    requires place { place ≤ used }
+    ensures fits { OnOk result (used + length new.now ≤ length octets.new.items) }
+    ensures text { OnOk result (take (used + length new.now) octets.new.items ≡ take place (take used octets.old.items) ++ new.now ++ drop place (take used octets.old.items)) }
+    ensures memory { OnErr result (octets.new.items ≡ octets.old.items) }
+{
+    make_fit(octets, used, new.len())?;
+    put_between(octets, used, place, new);
+    Ok(())
 }
 
 /// Copies octets after those that are used, which stay. Out of memory, nothing changes.
@@ -294,6 +318,35 @@ impl TextBuffer {
             b'0' + (others / 10) as u8,
             b'0' + (others % 10) as u8,
         ])
+    }
+
+    /// Returns how many octets the text has.
+    pub(crate) fn size(&self) -> usize
+        ensures many { result ≡ length self.now }
+        ensures text { IsUtf8 self.now }
+    {
+        self.size
+    }
+
+    /// Inserts text at a place that has text before it.
+    fn insert(&mut self, place: usize, text: &str) -> Result<(), AllocError>
+        requires place { place ≤ length self.old }
+        requires before { IsUtf8 (take place self.old) }
+        ensures { OnOk result ((self.new ≡ take place self.old ++ text.now ++ drop place self.old) × (length self.new < 2 ^ 64)) }
+    {
+        put_before(&mut self.octets, self.size, place, text.as_bytes())?;
+        self.size += text.len();
+        Ok(())
+    }
+
+    /// Inserts a number in decimal at a place that has text before it.
+    pub(crate) fn insert_number(&mut self, place: usize, number: u64) -> Result<(), AllocError>
+        requires place { place ≤ length self.old }
+        requires before { IsUtf8 (take place self.old) }
+        ensures { OnOk result ((self.new ≡ take place self.old ++ decimal number ++ drop place self.old) × (length self.new < 2 ^ 64)) }
+    {
+        let mut buffer = Buffer::new();
+        self.insert(place, buffer.format(number))
     }
 
     /// Appends a number that may be negative in decimal.

@@ -53,7 +53,7 @@ after_both form found listed others left e =
 pub rest_added : (form : Form) (model : PacketsModel) (was now : Capture) (rest : Box Rest Global) (next : Option (Box Rest Global)) (left : RecordListing) (before after : List ℕ) → IsCaptureLeft model was (Some rest) form left → ((settings : Settings) (progress : Progress) (found : List Finding) → HasFollowedBut was settings progress (Some rest) found → Lists now settings (record { found = found; progress = progress }) next before after) → AddsLine (IsCaptureLeft model now next form) left before after (Ok None)
 rest_added form model was now rest next left before after is_left goes_on =
     let lists = goes_on is_left.settings is_left.progress is_left.found is_left.followed in
-    let others = listing_from is_left.settings (drop is_left.count (packets is_left.file).packets) (packets is_left.file).refusal is_left.progress in (
+    let others = listing_from is_left.settings (drop is_left.count (packets is_left.file).items) (packets is_left.file).end is_left.progress in (
       lines_of is_left.settings.form lists.listed,
       after_line (lines_of is_left.settings.form lists.left) others,
       lists.text,
@@ -80,7 +80,7 @@ record AreFollowed (model : PacketsModel) (capture : Capture) (form : Form) (lef
   reads : Reads model file count
   followed : HasFollowed capture settings progress
   form_is : form ≡ settings.form
-  is : left ≡ listing_from settings (drop count (packets file).packets) (packets file).refusal progress
+  is : left ≡ listing_from settings (drop count (packets file).items) (packets file).end progress
 
 are_followed : (model : PacketsModel) (capture : Capture) (rest : Option (Box Rest Global)) (form : Form) (left : RecordListing) → rest ≡ None → IsCaptureLeft model capture rest form left → AreFollowed model capture form left
 are_followed model capture (Some rest) form left e l = absurd cc
@@ -99,7 +99,7 @@ are_followed model capture None form left e l = record {
     counts = sym (ap (λ found. counted_each found capture.listing.counts) l.followed.table.1) ∙ l.followed.counts;
   };
   form_is = l.form_is;
-  is = l.is ∙ ap (λ found. after_line (lines_of l.settings.form found) (listing_from l.settings (drop l.count (packets l.file).packets) (packets l.file).refusal l.progress)) l.followed.table.1;
+  is = l.is ∙ ap (λ found. after_line (lines_of l.settings.form found) (listing_from l.settings (drop l.count (packets l.file).items) (packets l.file).end l.progress)) l.followed.table.1;
 }
 
 module _ (form : Form) (old new : PacketsModel) (was now : Capture) (rest : Option (Box Rest Global)) (none : rest ≡ None) (left : RecordListing) (before after : List ℕ) (given_left : IsCaptureLeft old was rest form left) where
@@ -107,10 +107,10 @@ module _ (form : Form) (old new : PacketsModel) (was now : Capture) (rest : Opti
   is_left = are_followed old was rest form left none given_left
 
   abbrev found : List Packet
-  found = (packets is_left.file).packets
+  found = (packets is_left.file).items
 
   abbrev refusal : Option Fault
-  refusal = (packets is_left.file).refusal
+  refusal = (packets is_left.file).end
 
   pub packet_added : (packet : Packet) (next : Option (Box Rest Global)) → Promises old (Ok (Some packet)) new → ((settings : Settings) (progress : Progress) → HasFollowed was settings progress → Lists now settings (packet_taken settings packet progress) next before after) → AddsLine (IsCaptureLeft new now next form) left before after (Ok None)
   packet_added packet next promises lists =

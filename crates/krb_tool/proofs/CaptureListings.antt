@@ -34,8 +34,8 @@ module _ (settings : Settings) where
 pub captures_are_listed : CapturesAreListed
 unfolding capture_listing
 captures_are_listed settings file =
-    let all = (packets file).packets in
-    let refusal = (packets file).refusal in
+    let all = (packets file).items in
+    let refusal = (packets file).end in
     let last = after_packets settings all at_first in
     ap (λ (l : List ℕ). lines_from settings all at_first ++ l) (last_records-are settings refusal last)
     ∙ sym (append_assoc (lines_from settings all at_first) (end_lines settings last) (last_line settings refusal last))

@@ -7,7 +7,6 @@ pub mod ListedPieces
 pub mod Files
 pub mod Messages
 pub mod Records
-pub mod KeytabLines
 pub mod CredentialLines
 pub mod Upgrades
 pub mod KnownLengths

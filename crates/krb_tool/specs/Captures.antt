@@ -42,4 +42,4 @@ listing_from settings left refusal progress =
     record { lines = lines_from settings left progress; last = last_records settings refusal last; end = capture_run_end settings refusal last }
 
 unfoldable pub capture_listing : Settings → List ℕ → RecordListing
-capture_listing settings file = listing_from settings (packets file).packets (packets file).refusal at_first
+capture_listing settings file = listing_from settings (packets file).items (packets file).end at_first

@@ -68,7 +68,7 @@ last_line settings (Some fault) progress = capture_refused_line settings.form (a
 
 -- The listing of a capture is the records of what is found in its packets, in order, and then the last line.
 abbrev pub CapturesAreListed : Type 0
-CapturesAreListed = (settings : Settings) (file : List ℕ) → text_of (capture_listing settings file) ≡ lines_of settings.form (capture_found settings (packets file).packets) ++ last_line settings (packets file).refusal (after_packets settings (packets file).packets at_first)
+CapturesAreListed = (settings : Settings) (file : List ℕ) → text_of (capture_listing settings file) ≡ lines_of settings.form (capture_found settings (packets file).items) ++ last_line settings (packets file).end (after_packets settings (packets file).items at_first)
 
 -- The first octet with which a stream is refused is the one at the offset and the place that its last line tells.
 abbrev pub RefusalsAreAtOffsets : Type 0

@@ -1,10 +1,7 @@
 -- The contracts of the parts of a delivery.
 use Rattle.std.specs.Prelude.{ℕ, ◌≡◌, ◌<◌, ◌≤◌, Bool, true, false, Option, Some, None, List, [], ◌++◌, length, take}
 use Rattle.std.specs.List.{AllByRecursion}
-use Rattle.krb_der.specs.declared.profile.Profile.{Profile}
-use Rattle.krb_der.specs.declared.verdict.Verdict.TheVariants.{Whole}
 use Rattle.krb_msg.specs.Grammar.{messages}
-use Rattle.krb_msg.specs.Judgement.{judgement}
 use Rattle.krb_msg.specs.Term.{Term}
 use Rattle.krb_frame.specs.Decoding.{Decoding, borrowed}
 use Rattle.krb_frame.specs.Deliveries.{IsMessage, Delivers, DeliversBefore, DeliversPrefix, DeliversUpTo, status_in}
@@ -15,11 +12,6 @@ use Rattle.krb_frame.specs.declared.delivery.Next.{Next}
 use Rattle.krb_frame.specs.declared.delivery.Next.TheVariants as next
 
 -- ---- a frame of which earlier pieces have some octets
--- its contents were received if they are a message
-abbrev pub DeliversContents : {R : Type 0} → (R → Entry → R → Type 0) → Profile → List ℕ → R → R → Bool → Type 0
-DeliversContents receives profile contents before after true = (judgement profile (length contents) contents ≡ Whole) × receives before (Contents contents) after
-DeliversContents receives profile contents before after false = after ≡ before
-
 -- A message was received, as if the first octets of a piece had been fed and the frame cleared.
 pub record CompletesWith {R : Type 0} (receives : R → Entry → R → Type 0) (messages : List Term) (old : Decoding) (piece : List ℕ) (used : ℕ) (new : Decoding) (before after : R) : Type 0 where
   pub contents : List ℕ

@@ -5,7 +5,6 @@ use Rattle.krb_der.specs.declared.profile.Profile.{Profile}
 use Rattle.krb_der.specs.declared.verdict.Refusal.{Refusal}
 use Rattle.krb_der.specs.declared.verdict.Verdict.{Verdict}
 use Rattle.krb_der.specs.declared.verdict.Verdict.TheVariants as verdict
-use Rattle.krb_der.specs.declared.why.Why.{Why}
 use Rattle.krb_msg.specs.Term.{Term}
 use Rattle.krb_msg.specs.Judgement.{judgement_by}
 use Rattle.krb_msg.specs.Stream.{End, Boundary, Within, Refused, ends, frames}
@@ -95,10 +94,6 @@ pub record HasRefused (messages : List Term) (limit : ℕ) (announced contents :
   pub last : 4 + length contents ≡ refusal.place + 1
   pub few : length contents ≤ limit
   pub short : length contents < 2 ^ 31
-
--- a length is refused on its fourth octet, whatever the messages are
-abbrev pub IsRefusedLength : ℕ → List ℕ → Why → Type 0
-IsRefusedLength limit announced reason = (messages : List Term) → HasRefused messages limit announced [] (record { place = 3; why = reason })
 
 abbrev pub IsPhaseOf : List Term → ℕ → List ℕ → List ℕ → Phase → Type 0
 IsPhaseOf messages limit announced contents (phase.Length count) = HasPartOfLength announced contents count

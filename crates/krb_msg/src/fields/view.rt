@@ -62,7 +62,9 @@ pub trait ViewFields<'a> {
 
 /// Returns the field `[INDEX]` with which octets begin, and what follows it.
 #[inline(always)]
-fn view_field<'a, const INDEX: u8, T: View<'a>>(octets: &'a [u8]) -> Option<(T::Of, &'a [u8])>
+pub(crate) fn view_field<'a, const INDEX: u8, T: View<'a>>(
+    octets: &'a [u8],
+) -> Option<(T::Of, &'a [u8])>
     requires short { length octets.now < 2 ^ 31 }
     requires tags { has_octet_tags (TaggedTerm INDEX T.term) ≡ true }
     requires unambiguous { is_unambiguous T.term ≡ true }

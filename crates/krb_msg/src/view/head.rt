@@ -1,12 +1,11 @@
 //! Items found in place (X.690, 8.1 and 10.1).
 //!
 //! Of most items and fields the lengths have one octet, which is read in place. The rarer forms are
-//! read by calls, each from a function of its own: what a call returns has room of its own, which
-//! is filled with zeros where that function begins, and so costs nothing where it is not called.
+//! read by calls, which return where contents are: two numbers, in registers.
 
-ghost use Rattle.std.specs.Prelude.{◌≡◌, ◌^◌, ◌<◌, ◌≤◌, ◌++◌, ◌∷◌, length, MatchOption, IfSome};
+ghost use Rattle.std.specs.Prelude.{◌≡◌, ◌+◌, ◌^◌, ◌<◌, ◌≤◌, ◌++◌, ◌∷◌, length, take, drop, MatchOption, IfSome};
 ghost use Rattle.krb_der.specs.Octets.{item, length_octets};
-ghost use Rattle.krb_msg.specs.inner.Fields.{HasNoField};
+ghost use Rattle.krb_msg.specs.inner.Fields.{HasNoField, IsHead};
 ghost use Rattle.krb_msg.specs.Viewed.{HasNoItem, IsNoItem, HasNoLength};
 
 use krb_der::number_of;
@@ -29,22 +28,65 @@ pub fn first_item(tag: u8, octets: &[u8]) -> Option<(&[u8], &[u8])>
     long_item(tag, octets)
 }
 
+/// Where contents are in octets that begin with their item, or with their field. A call returns it
+/// in a register.
+#[derive(Clone, Copy)]
+struct Head {
+    /// How many octets are before the contents. There are no contents if it is 0.
+    before: u32,
+    /// How many octets the contents are.
+    size: u32,
+}
+
+/// Returns where contents are in octets, by them and by what follows them.
+#[inline(always)]
+fn head_of(octets: &[u8], contents: &[u8], rest: &[u8]) -> Head
+    requires short { length octets.now < 2 ^ 31 }
+    requires within { length contents.now + length rest.now ≤ length octets.now }
+    ensures before { result.before + length contents.now + length rest.now ≡ length octets.now }
+    ensures size { result.size ≡ length contents.now }
+{
+    Head {
+        before: (octets.len() - contents.len() - rest.len()) as u32,
+        size: contents.len() as u32,
+    }
+}
+
+/// Returns the contents, and what follows them.
+#[inline(always)]
+fn split_at_head(octets: &[u8], head: Head) -> (&[u8], &[u8])
+    requires { head.before + head.size ≤ length octets.now }
+    ensures contents { result.0.now ≡ take head.size (drop head.before octets.now) }
+    ensures rest { result.1.now ≡ drop head.size (drop head.before octets.now) }
+{
+    octets[head.before as usize..].split_at(head.size as usize)
+}
+
 /// Returns the same as [`first_item`], for a length of several octets.
 #[inline(always)]
 fn long_item(tag: u8, octets: &[u8]) -> Option<(&[u8], &[u8])>
     requires { length octets.now < 2 ^ 31 }
     ensures { MatchOption result (HasNoItem tag octets.now) (λ (contents, rest). octets.now ≡ item tag contents.now ++ rest.now) }
 {
-    find_item(tag, octets)
+    let head = find_head(tag, octets);
+    if head.before == 0 {
+        None
+    } else {
+        Some(split_at_head(octets, head))
+    }
 }
 
-/// Returns the same as [`first_item`], by a call.
+/// Returns where the contents of the first item are, if it has a tag, by a call.
 #[inline(never)]
-fn find_item(tag: u8, octets: &[u8]) -> Option<(&[u8], &[u8])>
+fn find_head(tag: u8, octets: &[u8]) -> Head
     requires { length octets.now < 2 ^ 31 }
-    ensures { MatchOption result (HasNoItem tag octets.now) (λ (contents, rest). octets.now ≡ item tag contents.now ++ rest.now) }
+    ensures none { result.before ≡ 0 → HasNoItem tag octets.now }
+    ensures some { 0 < result.before → IsHead (item tag) octets.now result.before result.size }
 {
-    any_item(tag, octets)
+    match any_item(tag, octets) {
+        Some((contents, rest)) => head_of(octets, contents, rest),
+        None => Head { before: 0, size: 0 },
+    }
 }
 
 /// Returns the same as [`first_item`], whatever the length is.
@@ -100,12 +142,31 @@ fn long_field(outer: u8, tag: u8, octets: &[u8]) -> Option<(&[u8], &[u8])>
     requires { length octets.now < 2 ^ 31 }
     ensures { MatchOption result (HasNoField outer tag octets.now) (λ (contents, rest). octets.now ≡ item outer (item tag contents.now) ++ rest.now) }
 {
-    find_field(outer, tag, octets)
+    let head = find_heads(outer, tag, octets);
+    if head.before == 0 {
+        None
+    } else {
+        Some(split_at_head(octets, head))
+    }
 }
 
-/// Returns the same as [`first_field`], by a call.
+/// Returns where the contents of the item in the first field are, if both have their tags, by a
+/// call.
 #[inline(never)]
-fn find_field(outer: u8, tag: u8, octets: &[u8]) -> Option<(&[u8], &[u8])>
+fn find_heads(outer: u8, tag: u8, octets: &[u8]) -> Head
+    requires { length octets.now < 2 ^ 31 }
+    ensures none { result.before ≡ 0 → HasNoField outer tag octets.now }
+    ensures some { 0 < result.before → IsHead (λ contents. item outer (item tag contents)) octets.now result.before result.size }
+{
+    match any_field(outer, tag, octets) {
+        Some((contents, rest)) => head_of(octets, contents, rest),
+        None => Head { before: 0, size: 0 },
+    }
+}
+
+/// Returns the same as [`first_field`], whatever the lengths are.
+#[inline(always)]
+fn any_field(outer: u8, tag: u8, octets: &[u8]) -> Option<(&[u8], &[u8])>
     requires { length octets.now < 2 ^ 31 }
     ensures { MatchOption result (HasNoField outer tag octets.now) (λ (contents, rest). octets.now ≡ item outer (item tag contents.now) ++ rest.now) }
 {

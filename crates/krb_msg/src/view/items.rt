@@ -1,12 +1,13 @@
 //! A SEQUENCE OF viewed in place (X.690, 8.10).
 
 ghost use Rattle.std.specs.Prelude.{◌≡◌, ◌^◌, ◌<◌, true, [], length, MatchOption};
-ghost use Rattle.krb_msg.specs.Grammar.{sequence_of};
+ghost use Rattle.krb_msg.specs.Grammar.{pa_data, sequence_of};
 ghost use Rattle.krb_msg.specs.Shape.{is_unambiguous, has_octet_tags};
-ghost use Rattle.krb_msg.specs.Viewed.{AreContents, AreNoContents, AreViewed, IfElse, IsFirstItem, items_of};
+ghost use Rattle.krb_msg.specs.Viewed.{AreContents, AreNoContents, AreViewed, IfElse, IsFirstItem, IsFirstType, items_of};
 
-use crate::fields::View;
+use crate::fields::{View, view_field};
 use crate::view::head::first_item;
+use krb_der::Int32;
 
 /// A view of a list: its items, one after another.
 #[derive(Clone, Copy)]
@@ -68,4 +69,23 @@ pub fn next_item<'a, T: View<'a>>(items: ItemsView<'a>) -> Option<(T::Of, ItemsV
         unreachable!()
     };
     Some((seen, ItemsView { octets: rest }))
+}
+
+/// Returns the type of the first of PA-DATA that were viewed, and those after it: [`next_item`],
+/// with no view of the value. It cannot fail.
+#[inline(always)]
+pub fn next_type(items: ItemsView<'_>) -> Option<(i64, ItemsView<'_>)>
+    requires { AreViewed pa_data items.octets.now }
+    ensures { MatchOption result (items_of pa_data items.entry.octets.now ≡ []) (λ (number, rest). IsFirstType items.entry.octets.now number rest.octets.now) }
+{
+    if items.octets.is_empty() {
+        return None;
+    }
+    let Some((inner, rest)) = first_item(0x30, items.octets) else {
+        unreachable!()
+    };
+    let Some((number, _)) = view_field::<1, Int32>(inner) else {
+        unreachable!()
+    };
+    Some((number, ItemsView { octets: rest }))
 }

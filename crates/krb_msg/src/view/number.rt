@@ -1,7 +1,7 @@
 //! The contents of INTEGERs.
 
-ghost use Rattle.std.specs.Prelude.{◌≡◌, ◌≤ℤ◌, ◌&&◌, pos, negsuc, MatchOption, IfSome};
-ghost use Rattle.krb_der.specs.Octets.{integer_octets};
+ghost use Rattle.std.specs.Prelude.{◌≡◌, ◌≤◌, ◌≤ℤ◌, ◌&&◌, pos, negsuc, length, MatchOption, IfSome};
+ghost use Rattle.krb_der.specs.Octets.{integer_octets, integer_value as value_of_octets};
 ghost use Rattle.krb_msg.specs.Judgement.{int_le};
 ghost use Rattle.krb_msg.specs.Viewed.{IsNumberIn, IsNoNumberIn};
 
@@ -42,11 +42,26 @@ fn long_number(low: i64, high: i64, contents: &[u8]) -> Option<i64>
     if contents.is_empty() || contents.len() > 5 || is_padded(contents) {
         return None;
     }
-    let number = integer_value(contents);
+    let number = value(contents);
     if is_between(low, high, number) {
         Some(number)
     } else {
         None
+    }
+}
+
+/// Returns the number that contents spell. With a size that is known, the octets are put together
+/// with no loop.
+#[inline(always)]
+fn value(contents: &[u8]) -> i64
+    requires { length contents.now ≤ 5 }
+    ensures { result ≡ value_of_octets contents.now }
+{
+    match contents {
+        [a, b] => integer_value(&[*a, *b]),
+        [a, b, c] => integer_value(&[*a, *b, *c]),
+        [a, b, c, d] => integer_value(&[*a, *b, *c, *d]),
+        _ => integer_value(contents),
     }
 }
 

@@ -1,7 +1,8 @@
 -- The items of lists as records show them.
-use Rattle.std.specs.Prelude.{ℕ, ℤ, pos, true, List}
+use Rattle.std.specs.Prelude.{ℕ, ℤ, ◌≡◌, pos, true, List}
 use Rattle.std.specs.Fmt.{signed_decimal}
 use Rattle.krb_msg.specs.Term.{Term, Integer, Sequence, Tagged, Required, Value}
+use Rattle.krb_msg.specs.Viewed.{IsFirstItem}
 use Rattle.krb_text.specs.declared.item.ItemForm.{ItemForm}
 use Rattle.krb_text.specs.declared.item.ItemForm.TheVariants as form
 use Rattle.krb_text.specs.declared.json.Escape.TheVariants as escapes
@@ -29,3 +30,9 @@ item_number (Integer low high) number = number
 item_number (Tagged index term) value = item_number term value
 item_number (Sequence (Required term fields)) values = item_number term values.0
 item_number other value = pos 0
+
+-- the number of the first of items that were viewed, and the items after it
+pub record IsFirstNumber (term : Term) (octets : List ℕ) (number : ℤ) (rest : List ℕ) : Type 0 where
+  pub value : Value term
+  pub first : IsFirstItem term octets value rest
+  pub same : number ≡ item_number term value

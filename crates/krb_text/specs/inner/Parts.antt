@@ -1,5 +1,5 @@
 -- Parts one after another, as they are appended and counted.
-use Rattle.std.specs.Prelude.{ℕ, ◌≡◌, Bool, true, false, List, [], ◌∷◌, ◌++◌, codes}
+use Rattle.std.specs.Prelude.{ℕ, ◌≡◌, ◌+◌, ◌-◌, ◌^◌, Bool, true, false, List, [], ◌∷◌, ◌++◌, codes, min, nat_lt}
 use Rattle.krb_text.specs.declared.form.Form.{Form}
 use Rattle.krb_text.specs.declared.form.Form.TheVariants as form
 use Rattle.krb_text.specs.Forms.{part_text}
@@ -21,7 +21,12 @@ abbrev pub told_after : Bool → List Part → Bool
 told_after told [] = told
 told_after told (p ∷ ps) = true
 
--- parts were appended to a text: what was told before and after, and the text before and after
-pub record Tells (f : Form) (parts : List Part) (old_told : Bool) (old : List ℕ) (told : Bool) (new : List ℕ) : Type 0 where
-  pub text : new ≡ old ++ parts_after f old_told parts
-  pub by_now : told ≡ told_after old_told parts
+-- how many were told after these; 64 bits count no further
+abbrev pub counted : ℕ → List Part → ℕ
+counted told [] = told
+counted told (p ∷ ps) = counted (min (told + 1) (2 ^ 64 - 1)) ps
+
+-- parts were appended to a text: how many were told before and after, and the text before and after
+pub record Tells (f : Form) (parts : List Part) (old_told : ℕ) (old : List ℕ) (told : ℕ) (new : List ℕ) : Type 0 where
+  pub text : new ≡ old ++ parts_after f (nat_lt 0 old_told) parts
+  pub by_now : told ≡ counted old_told parts

@@ -27,7 +27,7 @@ pub record IsCaptureLeft (model : PacketsModel) (capture : Capture) (rest : Opti
   pub reads : Reads model file count
   pub followed : HasFollowedBut capture settings progress rest found
   pub form_is : form ≡ settings.form
-  pub is : left ≡ after_line (lines_of settings.form found) (listing_from settings (drop count (packets file).packets) (packets file).refusal progress)
+  pub is : left ≡ after_line (lines_of settings.form found) (listing_from settings (drop count (packets file).items) (packets file).end progress)
 
 -- the records of the end were added
 abbrev pub AddsCaptureEnd : Capture → List ℕ → List ℕ → Option RunEnd → Type 0

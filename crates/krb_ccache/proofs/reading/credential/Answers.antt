@@ -1,6 +1,6 @@
 use Rattle.krb_file.proofs.FieldReaders.{part_read}
 use Rattle.krb_ccache.specs.Reading.{credential_fields_at}
-use Rattle.krb_ccache.proofs.Followed.{fails_part}
+use Rattle.krb_file.proofs.FieldReaders.{fails_part}
 use Rattle.krb_ccache.proofs.reading.credential.Goals as goal
 
 pub returns-in-Ok-clause-read : goal.returns-in-Ok-clause-read

@@ -1,39 +1,47 @@
-use Rattle.std.proofs.Common.{◌≡◌, ℕ, Option, Some, None, Ok, ◌∙◌, subst}
-use Rattle.krb_file.specs.Fields.{limited, ended}
-use Rattle.krb_file.specs.FieldReaders.{source_at}
-use Rattle.krb_file.proofs.FieldReaders.{known, known_end}
-use Rattle.krb_ccache.specs.Reading.{credential_at, next_at, items_after}
-use Rattle.krb_ccache.proofs.Loops.{goes_on, is_done}
-use Rattle.krb_ccache.proofs.Stepwise.{Shortens-credential}
-use Rattle.krb_ccache.proofs.Followed.{IsNext, is_next, is_end}
+use Rattle.std.proofs.Common.{Some, None, Ok, Err, ap, refl, subst}
+use Rattle.std.proofs.lemmas.Result.{err_from_is_err_and}
+use Rattle.krb_file.specs.Fields.{ended}
+use Rattle.krb_file.specs.FieldReaders.{HasRead, of_slice, source_at}
+use Rattle.krb_file.proofs.FieldReaders.{known}
+use Rattle.krb_file.proofs.Items.{gave_none, item_read, end_read, loop_fails}
+use Rattle.krb_ccache.specs.Reading.{credential_at, next_at, items_after, all_items}
+use Rattle.krb_ccache.proofs.Stepwise.{Shortens-credential, next-shorter, after_read, after-step}
 use Rattle.krb_ccache.proofs.reading.credentials.Given.{Over}
 use Rattle.krb_ccache.proofs.reading.credentials.Goals as goal
 
 -- the next credential
-next : (g : Over) (c : goal.In_ok-push g) → IsNext g.K.Kept.kept c.args.version (limited None) (source_at c.credentials.reader.place c.credentials.reader.octets) (source_at c.next.new.reader.place c.next.new.reader.octets) c.in-Some.item
-next g c =
-    let s = c.credentials.reader in
-    let t = c.next.new.reader in
-    let read = known (next_at g.K.Kept.kept c.args.version) c.in_ok-item.field-0 s t c.in_ok-item.ensures.read in
-    is_next g.K.Kept.kept c.args.version (limited None) (source_at s.place s.octets) (source_at t.place t.octets) c.in-Some.item
-    (subst (λ (e : Option ℕ). next_at g.K.Kept.kept c.args.version (ended e) (source_at s.place s.octets) ≡ Ok (Some c.in-Some.item, source_at t.place t.octets)) c.credentials.invariant.same_end
-    (subst (λ (x : _). next_at g.K.Kept.kept c.args.version (ended s.end) (source_at s.place s.octets) ≡ Ok (x, source_at t.place t.octets)) c.in-Some.is read))
+next : (g : Over) (c : goal.In_ok-push g) → HasRead (next_at g.K.Kept.kept c.args.version) (Some c.in-Some.item) (of_slice c.credentials.reader) (of_slice c.next.new.reader)
+next g c = subst (λ (x : _). HasRead (next_at g.K.Kept.kept c.args.version) x (of_slice c.credentials.reader) (of_slice c.next.new.reader)) c.in-Some.is c.in_ok-item.ensures.read
+
+pub credentials-init : goal.credentials-init
+credentials-init g c = rw c.new-credentials.ensures.items (gave_none (items_after (credential_at g.K.Kept.kept c.args.version) None) None c.args.reader.now.octets (of_slice c.args.reader.now) (ap ended c.requires) (λ octets there. there))
 
 pub credentials-smaller : goal.credentials-smaller
-credentials-smaller g c = (Shortens-credential g.K.Kept.kept c.args.version).shorter (limited None) (source_at c.credentials.reader.place c.credentials.reader.octets) c.in-Some.item (source_at c.next.new.reader.place c.next.new.reader.octets) (next g c).read
+credentials-smaller g c =
+    let s = c.credentials.reader in
+    let t = c.next.new.reader in
+    next-shorter (credential_at g.K.Kept.kept c.args.version) (Shortens-credential g.K.Kept.kept c.args.version) (ended s.end) s.place s.octets c.in-Some.item (source_at t.place t.octets) (known (next_at g.K.Kept.kept c.args.version) (Some c.in-Some.item) s t (next g c))
 
 pub credentials-preserved : goal.credentials-preserved
-credentials-preserved g c = record {
-  same_end = known_end (next_at g.K.Kept.kept c.args.version) c.in_ok-item.field-0 c.credentials.reader c.next.new.reader c.in_ok-item.ensures.read ∙ c.credentials.invariant.same_end;
-  so_far = rw c.in_ok-push.ensures.items (goes_on (credential_at g.K.Kept.kept c.args.version) (Shortens-credential g.K.Kept.kept c.args.version) c.credentials.credentials.items (source_at c.credentials.reader.place c.credentials.reader.octets) (source_at c.next.new.reader.place c.next.new.reader.octets) c.in-Some.item (items_after (credential_at g.K.Kept.kept c.args.version) None (source_at c.args.reader.now.place c.args.reader.now.octets)) (next g c).some (next g c).read c.credentials.invariant.so_far);
-}
+credentials-preserved g c =
+    let one = credential_at g.K.Kept.kept c.args.version in
+    rw c.in_ok-push.ensures.items
+    (item_read (next_at g.K.Kept.kept c.args.version) None (items_after one None) (after_read one None) (after-step one (Shortens-credential g.K.Kept.kept c.args.version) None) _ (of_slice c.credentials.reader) c.credentials.credentials.items c.credentials.invariant
+    (Some c.in-Some.item) c.in-Some.item (of_slice c.next.new.reader) (items_after one None) (next g c) (λ t. refl))
 
 pub returns : goal.returns
 returns g c =
-    let s = c.credentials.reader in
-    let t = c.next.new.reader in
-    let read = known (next_at g.K.Kept.kept c.args.version) c.in_ok-item.field-0 s t c.in_ok-item.ensures.read in
-    let none = is_end g.K.Kept.kept c.args.version (limited None) (source_at s.place s.octets) (source_at t.place t.octets)
-    (subst (λ (e : Option ℕ). next_at g.K.Kept.kept c.args.version (ended e) (source_at s.place s.octets) ≡ Ok (None, source_at t.place t.octets)) c.credentials.invariant.same_end
-    (subst (λ (x : _). next_at g.K.Kept.kept c.args.version (ended s.end) (source_at s.place s.octets) ≡ Ok (x, source_at t.place t.octets)) c.in_default.is read)) in
-    rw c.new.ensures (is_done (credential_at g.K.Kept.kept c.args.version) (Shortens-credential g.K.Kept.kept c.args.version) c.credentials.credentials.items (source_at s.place s.octets) (items_after (credential_at g.K.Kept.kept c.args.version) None (source_at c.args.reader.now.place c.args.reader.now.octets)) none c.credentials.invariant.so_far)
+    let one = credential_at g.K.Kept.kept c.args.version in
+    let s = of_slice c.credentials.reader in
+    let t = of_slice c.next.new.reader in
+    rw c.new.ensures
+    (ap all_items (end_read (next_at g.K.Kept.kept c.args.version) None (items_after one None) (after_read one None) (after-step one (Shortens-credential g.K.Kept.kept c.args.version) None) _ s c.credentials.credentials.items c.credentials.invariant
+    None (λ place. Ok place) t (subst (λ (x : _). HasRead (next_at g.K.Kept.kept c.args.version) x s t) c.in_default.is c.in_ok-item.ensures.read) (λ t. refl)))
+
+pub returns-in_err-item : goal.returns-in_err-item
+returns-in_err-item g c =
+    let one = credential_at g.K.Kept.kept c.args.version in
+    let p = err_from_is_err_and c.from_residual.result c.from_residual.ensures.1 in
+    rw (p.1, p.2)
+    (loop_fails (next_at g.K.Kept.kept c.args.version) None (items_after one None) (after_read one None) (after-step one (Shortens-credential g.K.Kept.kept c.args.version) None) _ (of_slice c.credentials.reader) c.credentials.credentials.items c.credentials.invariant
+    (λ f. Err f) all_items c.in_err-item.field-0.0 c.in_err-item.ensures.read (λ f. refl) (λ f. refl))

@@ -1,13 +1,18 @@
 use Rattle.std.proofs.lemmas.Result.{on_ok_weaker}
 use Rattle.krb_text.specs.Forms.{closing}
-use Rattle.krb_text.proofs.Parts.{named_inside, object_inside}
+use Rattle.krb_text.proofs.Parts.{before_parts, named_inside, object_inside}
 use Rattle.krb_text.proofs.inside.put_list.Goals as goal
 
-pub returns-in_ok-push_number-in-NamedLines : goal.returns-in_ok-push_number-in-NamedLines
+pub insert_number-requires : goal.insert_number-requires
+insert_number-requires g c =
+    let at = before_parts _ _ c.size-place.ensures.many c.size-place.ensures.text (rw c.in-NamedLines.is at c.in_ok-count-in-NamedLines.ensures) in
+    record { place = at.0; before = at.1 }
+
+pub returns-in_ok-count-in-NamedLines : goal.returns-in_ok-count-in-NamedLines
 unfolding closing
-returns-in_ok-push_number-in-NamedLines g c =
+returns-in_ok-count-in-NamedLines g c =
     rw c.in-NamedLines.is
-    (on_ok_weaker c.put_parts.result (named_inside _ (g.M.HasParts.parts c.args.message.now) c.in_ok-push_str-in-NamedLines.ensures (rw c.count_parts.ensures at c.in_ok-push_number-in-NamedLines.ensures)) (rw c.in-NamedLines.is at c.put_parts.ensures))
+    (on_ok_weaker c.insert_number.result (named_inside _ (g.M.HasParts.parts c.args.message.now) c.in_ok-push_str-in-NamedLines.ensures c.size-place.ensures.many (rw c.in-NamedLines.is at c.in_ok-count-in-NamedLines.ensures)) c.insert_number.ensures)
 
 pub returns-in_ok-put_parts-in-Json : goal.returns-in_ok-put_parts-in-Json
 unfolding closing

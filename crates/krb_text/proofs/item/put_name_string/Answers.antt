@@ -1,11 +1,10 @@
 use Rattle.std.proofs.Common.{ap, sym, w64, ◌∙◌}
 use Rattle.std.proofs.lemmas.Int.{to_z-of_z}
 use Rattle.std.specs.Option.{option_copied}
-use Rattle.krb_text.proofs.Ascii.{ascii_same}
-use Rattle.krb_text.proofs.Names.{name_is_ascii}
+use Rattle.krb_text.proofs.Names.{name_in_json}
 use Rattle.krb_text.proofs.item.put_name_string.Goals as goal
 
-pub put_string-requires : goal.put_string-requires
-put_string-requires c =
+pub put_plain_string-requires : goal.put_plain_string-requires
+put_plain_string-requires c =
     let found = rw (to_z-of_z w64 c.args.number c.ranges.number) at c.name_of.ensures in
-    ascii_same c.as_bytes.ensures.value (name_is_ascii c.args.registry c.args.number c.in-Some.name.now (sym found ∙ ap option_copied c.in-Some.is))
+    name_in_json c.args.registry c.args.number c.in-Some.name.now (sym found ∙ ap option_copied c.in-Some.is)

@@ -13,8 +13,8 @@ returns-in-Ok-None-clause-next g c =
 
 pub returns-in-Err-clause-next : goal.returns-in-Err-clause-next
 returns-in-Err-clause-next g c =
-    λ file limit given reads. fault_given (Some limit) file given c.args.self.now.start c.args.self.now.state c.args.self.now.reader c.next.new.reader reads c.in-Err.fault (Unit {0}) (states.Failed c.in-Err.fault) c.in-Err.ensures.read
+    λ file limit given reads. fault_given (Some limit) file given c.args.self.now.start c.args.self.now.state c.args.self.now.reader c.next.new.reader reads c.in-Err.fault (Unit {0}) c.in-Err.ensures.read
 
 pub returns-in-Err-clause-refused : goal.returns-in-Err-clause-refused
 returns-in-Err-clause-refused g c =
-    λ file limit given reads. refusal_in_file (Some limit) file given (Err c.in-Err.fault) c.next.new.reader c.args.self.now.start (states.Failed c.in-Err.fault) (fault_given (Some limit) file given c.args.self.now.start c.args.self.now.state c.args.self.now.reader c.next.new.reader reads c.in-Err.fault (Unit {0}) (states.Failed c.in-Err.fault) c.in-Err.ensures.read)
+    λ file limit given reads. refusal_in_file (Some limit) file given (Err c.in-Err.fault) c.next.new.reader c.args.self.now.start (states.Failed c.in-Err.fault) (fault_given (Some limit) file given c.args.self.now.start c.args.self.now.state c.args.self.now.reader c.next.new.reader reads c.in-Err.fault (Unit {0}) c.in-Err.ensures.read)

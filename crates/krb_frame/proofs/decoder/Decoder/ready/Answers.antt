@@ -11,13 +11,19 @@ use Rattle.krb_frame.specs.inner.Phases.{IsPhaseOf, IsScanned, HasFrame}
 use Rattle.krb_frame.proofs.DecoderFrames.{borrowed-none, borrowed-ready}
 use Rattle.krb_frame.proofs.decoder.Decoder.ready.Goals as goal
 
-pub returns-in-Ready : goal.returns-in-Ready
-returns-in-Ready c =
+pub returns-in-Ready-clause-frame : goal.returns-in-Ready-clause-frame
+returns-in-Ready-clause-frame c =
     let d = c.self.inside in
     rw (← c.self.view_is) (ap Some (c.new.ensures ∙ c.as_slice.ensures.value) ∙ sym (borrowed-ready (messages (profile_of d.machine)) (profile_of d.machine) d.limit (ledger_of d.machine) (vec_capacity d.contents) d.length d.contents.items d.phase c.self.invariant.0 c.in-Ready.is))
 
-pub returns-in_default : goal.returns-in_default
-returns-in_default c =
+pub returns-in-Ready-clause-whole : goal.returns-in-Ready-clause-whole
+returns-in-Ready-clause-whole c =
+    let d = c.self.inside in
+    let frame : HasFrame (messages (profile_of d.machine)) d.limit d.length d.contents.items = subst (IsPhaseOf (messages (profile_of d.machine)) d.limit d.length d.contents.items) c.in-Ready.is c.self.invariant.0 in
+    rw (← c.self.view_is) (subst (λ octets. judgement (profile_of d.machine) (length octets) octets ≡ Whole) (sym (c.new.ensures ∙ c.as_slice.ensures.value)) frame.whole)
+
+pub returns-in_default-clause-frame : goal.returns-in_default-clause-frame
+returns-in_default-clause-frame c =
     let d = c.self.inside in
     rw (← c.self.view_is) (sym (borrowed-none (messages (profile_of d.machine)) (profile_of d.machine) d.limit (ledger_of d.machine) (vec_capacity d.contents) d.length d.contents.items d.phase c.self.invariant.0 c.in_default.not-Ready))
 

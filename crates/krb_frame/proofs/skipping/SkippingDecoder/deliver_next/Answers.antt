@@ -1,13 +1,13 @@
-use Rattle.std.proofs.Common.{sym, ◌∙◌, ap}
-use Rattle.std.specs.Option.{option_map}
-use Rattle.krb_frame.specs.Passes.{contents_of}
-use Rattle.krb_frame.proofs.Deliveries.{passed-frame}
+use Rattle.std.proofs.Common.{true, ◌∙◌, ap, subst}
+use Rattle.krb_frame.specs.Decoding.{Decoding}
+use Rattle.krb_frame.specs.Deliveries.{IsReceived}
+use Rattle.krb_frame.proofs.Deliveries.{delivers-whole}
 use Rattle.krb_frame.proofs.skipping.SkippingDecoder.deliver_next.Goals as goal
 
-pub receive_message-requires-clause-view : goal.receive_message-requires-clause-view
-unfolding contents_of
-receive_message-requires-clause-view g c = c.in-Some.ensures.passes.passes.view
-
-pub returns-in_ok-receive_message-in-Some : goal.returns-in_ok-receive_message-in-Some
-returns-in_ok-receive_message-in-Some g c =
-    passed-frame g.R.Receiver.Receives c.args.keeps_going c.args.self.now c.args.piece.now c.in-Some.passed c.args.receiver.now c.receive_message.new.self (sym (ap (option_map contents_of) c.in-Some.is) ∙ c.pass.ensures.frame) c.in-Some.ensures.passes c.in_ok-receive_message-in-Some.ensures
+pub returns : goal.returns
+returns g c =
+    let r = g.R.Receiver.Receives in
+    let contents = c.in-Some.frame.contents.now in
+    delivers-whole r c.args.keeps_going c.args.self.now c.args.piece.now contents c.in-Some.frame.rest.now c.args.receiver.now c.receive_contents.new.self c.in-Some.ensures.0 c.in-Some.ensures.1
+    (subst (λ p. IsReceived r p contents c.args.receiver.now c.receive_contents.new.self true) (c.profile-profile.ensures ∙ ap (λ (d : Decoding). d.profile) c.decoder.ensures)
+    (subst (IsReceived r c.profile-profile.result contents c.args.receiver.now c.receive_contents.new.self) c.if-not-branch.false c.in_ok-receive_contents.ensures))

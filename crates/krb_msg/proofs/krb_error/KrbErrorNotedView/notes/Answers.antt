@@ -1,11 +1,8 @@
 -- asn1/generate wrote this from asn1/krb5.asn1
-use Rattle.std.proofs.Common.{refl, sym, ◌∙◌}
-use Rattle.krb_msg.specs.Grammar.{krb_error}
-use Rattle.krb_msg.proofs.Noted.{same_value}
+use Rattle.std.proofs.Common.{refl, ◌∙◌}
+use Rattle.krb_msg.specs.Grammar.{microseconds}
+use Rattle.krb_msg.proofs.Noted.{same_option}
 use Rattle.krb_msg.proofs.krb_error.KrbErrorNotedView.notes.Goals as goal
 
-pub notes-requires : goal.notes-requires
-notes-requires c = λ k. ((refl, tt), c.fields.ensures.lists c.requires)
-
 pub returns : goal.returns
-returns c = c.notes.ensures ∙ same_value krb_error (sym c.fields.ensures.value)
+returns c = rw (c.or-8.ensures, c.or-7.ensures, c.or-6.ensures, c.or-5.ensures, c.or-4.ensures, c.or-3.ensures, c.or-2.ensures, c.or.ensures, c.none.ensures, c.optional_view_notes.ensures, c.optional_view_notes-2.ensures ∙ same_option microseconds c.args.seen.now.cusec, c.optional_view_notes-3.ensures, c.optional_view_notes-4.ensures, c.notes.ensures, c.notes-2.ensures, c.optional_view_notes-5.ensures, c.optional_view_notes-6.ensures) refl

@@ -21,19 +21,19 @@ returns-then-is_empty c = λ number n.
 pub returns-then-is_between : goal.returns-then-is_between
 returns-then-is_between c =
     let some : 0 < length c.args.contents.now = search rules in
-    let fits : FitsSigned w64 c.integer_value-number.result = search rules in
-    let between : (int_le c.args.low c.integer_value-number.result && int_le c.integer_value-number.result c.args.high) ≡ true =
-    rw (to_z-of_z w64 c.args.low c.ranges.low, to_z-of_z w64 c.args.high c.ranges.high, to_z-of_z w64 c.integer_value-number.result fits) at (sym c.is_between.ensures ∙ c.if-is_between.true) in
-    let r = and_parts (int_le c.args.low c.integer_value-number.result) (int_le c.integer_value-number.result c.args.high) between in
-    subst (IsNumberIn c.args.low c.args.high c.args.contents.now) (sym (to_z-of_z w64 c.integer_value-number.result fits))
-    (number_some c.args.low c.args.high c.args.contents.now c.integer_value-number.result (AreOctets-slice c.args.contents.now c.type_inv.contents) some (sym c.is_padded.ensures ∙ c.if-is_padded.false) c.integer_value-number.ensures (int_le-true _ _ r.0) (int_le-true _ _ r.1))
+    let fits : FitsSigned w64 c.value-number.result = search rules in
+    let between : (int_le c.args.low c.value-number.result && int_le c.value-number.result c.args.high) ≡ true =
+    rw (to_z-of_z w64 c.args.low c.ranges.low, to_z-of_z w64 c.args.high c.ranges.high, to_z-of_z w64 c.value-number.result fits) at (sym c.is_between.ensures ∙ c.if-is_between.true) in
+    let r = and_parts (int_le c.args.low c.value-number.result) (int_le c.value-number.result c.args.high) between in
+    subst (IsNumberIn c.args.low c.args.high c.args.contents.now) (sym (to_z-of_z w64 c.value-number.result fits))
+    (number_some c.args.low c.args.high c.args.contents.now c.value-number.result (AreOctets-slice c.args.contents.now c.type_inv.contents) some (sym c.is_padded.ensures ∙ c.if-is_padded.false) c.value-number.ensures (int_le-true _ _ r.0) (int_le-true _ _ r.1))
 
 pub returns-else-is_between : goal.returns-else-is_between
 returns-else-is_between c = λ number n.
     let s = number_shape c.args.low c.args.high c.args.contents.now number c.requires.low c.requires.high (AreOctets-slice c.args.contents.now c.type_inv.contents) n in
-    let same : c.integer_value-number.result ≡ number = c.integer_value-number.ensures ∙ s.value in
-    let fits : FitsSigned w64 c.integer_value-number.result = search rules in
-    let between : (int_le c.args.low c.integer_value-number.result && int_le c.integer_value-number.result c.args.high) ≡ false =
-    rw (to_z-of_z w64 c.args.low c.ranges.low, to_z-of_z w64 c.args.high c.ranges.high, to_z-of_z w64 c.integer_value-number.result fits) at (sym c.is_between.ensures ∙ c.if-is_between.false) in
+    let same : c.value-number.result ≡ number = c.value-number.ensures ∙ s.value in
+    let fits : FitsSigned w64 c.value-number.result = search rules in
+    let between : (int_le c.args.low c.value-number.result && int_le c.value-number.result c.args.high) ≡ false =
+    rw (to_z-of_z w64 c.args.low c.ranges.low, to_z-of_z w64 c.args.high c.ranges.high, to_z-of_z w64 c.value-number.result fits) at (sym c.is_between.ensures ∙ c.if-is_between.false) in
     let within : (int_le c.args.low number && int_le number c.args.high) ≡ true = and_from _ _ (int_le-from c.args.low number n.low_le) (int_le-from number c.args.high n.le_high) in
     true≢false (sym within ∙ ap (λ m. int_le c.args.low m && int_le m c.args.high) (sym same) ∙ between)

@@ -1,4 +1,4 @@
-use Rattle.std.proofs.Common.{codes}
+use Rattle.std.proofs.Common.{codes, nat_lt}
 use Rattle.std.proofs.lemmas.Result.{on_ok_weaker}
 use Rattle.krb_text.specs.Forms.{closing, opening, part_text}
 use Rattle.krb_text.specs.inner.Parts.{separator}
@@ -10,5 +10,5 @@ unfolding part_text
 returns c =
     on_ok_weaker
     c.put_closing.result
-    (part_of_two c.args.text.now (separator c.args.at.form c.args.at.told) (opening c.args.at.form (codes "PA-ETYPE-INFO")) _ _ (closing c.args.at.form) c.in_ok-put_part_opening.ensures c.in_ok-put_etype_field.ensures (rw c.optional_quoted.ensures at c.in_ok-put_field.ensures))
+    (part_of_two c.args.text.now (separator c.args.at.form (nat_lt 0 c.args.at.told)) (opening c.args.at.form (codes "PA-ETYPE-INFO")) _ _ (closing c.args.at.form) c.in_ok-put_part_opening.ensures c.in_ok-put_etype_field.ensures (rw c.optional_quoted.ensures at c.in_ok-put_field.ensures))
     c.put_closing.ensures

@@ -1,0 +1,10 @@
+-- asn1/generate wrote this from asn1/krb5.asn1
+use Rattle.std.proofs.Common.{◌∙◌}
+use Rattle.krb_msg.specs.Grammar.{ap_req}
+use Rattle.krb_msg.specs.declared.message_view.MessageView.TheVariants as view
+use Rattle.krb_msg.proofs.KindLaws.{message_value-seen}
+use Rattle.krb_msg.proofs.Noted.{same_value}
+use Rattle.krb_msg.proofs.message_kinds.ApReqKindMessageKind.notes.Goals as goal
+
+pub returns : goal.returns
+returns c = c.notes.ensures ∙ same_value ap_req (message_value-seen (view.ApReq c.args.view.now) c.requires)

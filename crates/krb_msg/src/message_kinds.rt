@@ -1,0 +1,227 @@
+//! A type for each kind of messages. `asn1/generate` wrote this from `asn1/krb5.asn1`.
+
+ghost use Rattle.krb_msg.specs.declared.message.Kind.TheVariants as kinds;
+ghost use Rattle.krb_msg.specs.declared.message_view.MessageView.TheVariants as views;
+
+use crate::ap_rep::{ApRep, ApRepView};
+use crate::ap_req::{ApReq, ApReqView};
+use crate::fields::NotedView;
+use crate::kdc_rep::{KdcRep, KdcRepView};
+use crate::kdc_req::{KdcReq, KdcReqView};
+use crate::krb_cred::{KrbCred, KrbCredView};
+use crate::krb_error::{KrbError, KrbErrorView};
+use crate::krb_priv::{KrbPriv, KrbPrivView};
+use crate::krb_safe::{KrbSafe, KrbSafeView};
+use crate::message_kind::MessageKind;
+use crate::notes::Notes;
+use crate::view::view_whole;
+
+/// AS-REQ.
+pub struct AsReqKind;
+
+impl<'a> MessageKind<'a> for AsReqKind {
+    type View = KdcReqView<'a>;
+
+    ghost kind = { kinds.AsReq };
+
+    ghost as_message = { λ view. views.AsReq view };
+
+    #[inline(always)]
+    fn view(octets: &'a [u8]) -> Option<KdcReqView<'a>> {
+        KdcReq::view::<10>(octets)
+    }
+
+    #[inline(always)]
+    fn notes(view: &KdcReqView<'a>) -> Notes {
+        view.notes::<10>()
+    }
+}
+
+/// AS-REP.
+pub struct AsRepKind;
+
+impl<'a> MessageKind<'a> for AsRepKind {
+    type View = KdcRepView<'a>;
+
+    ghost kind = { kinds.AsRep };
+
+    ghost as_message = { λ view. views.AsRep view };
+
+    #[inline(always)]
+    fn view(octets: &'a [u8]) -> Option<KdcRepView<'a>> {
+        KdcRep::view::<11>(octets)
+    }
+
+    #[inline(always)]
+    fn notes(view: &KdcRepView<'a>) -> Notes {
+        view.notes::<11>()
+    }
+}
+
+/// TGS-REQ.
+pub struct TgsReqKind;
+
+impl<'a> MessageKind<'a> for TgsReqKind {
+    type View = KdcReqView<'a>;
+
+    ghost kind = { kinds.TgsReq };
+
+    ghost as_message = { λ view. views.TgsReq view };
+
+    #[inline(always)]
+    fn view(octets: &'a [u8]) -> Option<KdcReqView<'a>> {
+        KdcReq::view::<12>(octets)
+    }
+
+    #[inline(always)]
+    fn notes(view: &KdcReqView<'a>) -> Notes {
+        view.notes::<12>()
+    }
+}
+
+/// TGS-REP.
+pub struct TgsRepKind;
+
+impl<'a> MessageKind<'a> for TgsRepKind {
+    type View = KdcRepView<'a>;
+
+    ghost kind = { kinds.TgsRep };
+
+    ghost as_message = { λ view. views.TgsRep view };
+
+    #[inline(always)]
+    fn view(octets: &'a [u8]) -> Option<KdcRepView<'a>> {
+        KdcRep::view::<13>(octets)
+    }
+
+    #[inline(always)]
+    fn notes(view: &KdcRepView<'a>) -> Notes {
+        view.notes::<13>()
+    }
+}
+
+/// AP-REQ.
+pub struct ApReqKind;
+
+impl<'a> MessageKind<'a> for ApReqKind {
+    type View = ApReqView<'a>;
+
+    ghost kind = { kinds.ApReq };
+
+    ghost as_message = { λ view. views.ApReq view };
+
+    #[inline(always)]
+    fn view(octets: &'a [u8]) -> Option<ApReqView<'a>> {
+        view_whole::<ApReq>(octets)
+    }
+
+    #[inline(always)]
+    fn notes(view: &ApReqView<'a>) -> Notes {
+        ApReq::notes(view)
+    }
+}
+
+/// AP-REP.
+pub struct ApRepKind;
+
+impl<'a> MessageKind<'a> for ApRepKind {
+    type View = ApRepView<'a>;
+
+    ghost kind = { kinds.ApRep };
+
+    ghost as_message = { λ view. views.ApRep view };
+
+    #[inline(always)]
+    fn view(octets: &'a [u8]) -> Option<ApRepView<'a>> {
+        view_whole::<ApRep>(octets)
+    }
+
+    #[inline(always)]
+    fn notes(view: &ApRepView<'a>) -> Notes {
+        ApRep::notes(view)
+    }
+}
+
+/// KRB-SAFE.
+pub struct KrbSafeKind;
+
+impl<'a> MessageKind<'a> for KrbSafeKind {
+    type View = KrbSafeView<'a>;
+
+    ghost kind = { kinds.KrbSafe };
+
+    ghost as_message = { λ view. views.KrbSafe view };
+
+    #[inline(always)]
+    fn view(octets: &'a [u8]) -> Option<KrbSafeView<'a>> {
+        view_whole::<KrbSafe>(octets)
+    }
+
+    #[inline(always)]
+    fn notes(view: &KrbSafeView<'a>) -> Notes {
+        KrbSafe::notes(view)
+    }
+}
+
+/// KRB-PRIV.
+pub struct KrbPrivKind;
+
+impl<'a> MessageKind<'a> for KrbPrivKind {
+    type View = KrbPrivView<'a>;
+
+    ghost kind = { kinds.KrbPriv };
+
+    ghost as_message = { λ view. views.KrbPriv view };
+
+    #[inline(always)]
+    fn view(octets: &'a [u8]) -> Option<KrbPrivView<'a>> {
+        view_whole::<KrbPriv>(octets)
+    }
+
+    #[inline(always)]
+    fn notes(view: &KrbPrivView<'a>) -> Notes {
+        KrbPriv::notes(view)
+    }
+}
+
+/// KRB-CRED.
+pub struct KrbCredKind;
+
+impl<'a> MessageKind<'a> for KrbCredKind {
+    type View = KrbCredView<'a>;
+
+    ghost kind = { kinds.KrbCred };
+
+    ghost as_message = { λ view. views.KrbCred view };
+
+    #[inline(always)]
+    fn view(octets: &'a [u8]) -> Option<KrbCredView<'a>> {
+        view_whole::<KrbCred>(octets)
+    }
+
+    #[inline(always)]
+    fn notes(view: &KrbCredView<'a>) -> Notes {
+        KrbCred::notes(view)
+    }
+}
+
+/// KRB-ERROR.
+pub struct KrbErrorKind;
+
+impl<'a> MessageKind<'a> for KrbErrorKind {
+    type View = KrbErrorView<'a>;
+
+    ghost kind = { kinds.KrbError };
+
+    ghost as_message = { λ view. views.KrbError view };
+
+    #[inline(always)]
+    fn view(octets: &'a [u8]) -> Option<KrbErrorView<'a>> {
+        view_whole::<KrbError>(octets)
+    }
+
+    #[inline(always)]
+    fn notes(view: &KrbErrorView<'a>) -> Notes {
+        KrbError::notes(view)
+    }
+}

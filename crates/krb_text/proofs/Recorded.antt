@@ -1,0 +1,50 @@
+-- The record of a message that octets are, by the view of its kind.
+use Rattle.std.proofs.Common.{◌≡◌, ℕ, ◌^◌, ◌<◌, Bool, true, false, List, [], ◌∷◌, ◌++◌, length, refl, append_assoc, codes, arith, not, ◌||◌}
+use Rattle.std.specs.List.{list_any}
+use Rattle.krb_der.specs.Octets.{AreOctets}
+use Rattle.krb_der.specs.declared.profile.Profile.{Profile}
+use Rattle.krb_der.specs.declared.profile.Profile.TheVariants as profiles
+use Rattle.krb_der.specs.declared.verdict.Verdict.TheVariants.{Whole}
+use Rattle.krb_msg.specs.Judgement.{judgement}
+use Rattle.krb_msg.specs.Notes.{are_none, notes_have, notes_of}
+use Rattle.krb_msg.specs.ViewValues.{IsMessageView, IsNoMessage, message_of_view}
+use Rattle.krb_msg.specs.Views.{kind_name, kind_of}
+use Rattle.krb_msg.specs.declared.message.Message.{Message}
+use Rattle.krb_msg.specs.declared.message_view.MessageView.{MessageView}
+use Rattle.krb_msg.specs.declared.notes.Notes.{Notes}
+use Rattle.krb_msg.proofs.Judged.{lenient_whole}
+use Rattle.krb_msg.proofs.StrictViews.{strict_kept, strict_whole}
+use Rattle.krb_text.specs.declared.form.Form.{Form}
+use Rattle.krb_text.specs.declared.record.Heading.{Heading}
+use Rattle.krb_text.specs.Forms.{ending, field, fields_text, heading, record_text}
+use Rattle.krb_text.specs.Inside.{inside_of}
+use Rattle.krb_text.specs.Messages.{fields_of, notes}
+use Rattle.krb_text.specs.inner.Records.{heading_origin, is_kept, text_after}
+use Rattle.krb_text.proofs.Records.{message_fields, message_inside, message_kind}
+
+-- ---- the text
+pub text_of_parts : (form : Form) (from : Heading) (m : Message) (old : List ℕ) {l₁ l₂ l₃ l₄ : List ℕ} → l₁ ≡ old ++ heading form (heading_origin from) (kind_name (kind_of m)) → l₂ ≡ l₁ ++ fields_text form (fields_of m) → l₃ ≡ l₂ ++ field form (codes "notes") (notes (notes_of m)) → l₄ ≡ l₃ ++ ending form (inside_of m) → l₄ ≡ old ++ text_after form from m
+unfolding record_text
+text_of_parts form from m old h₁ h₂ h₃ h₄ = rw (h₄, h₃, h₂, h₁, message_kind m, message_fields form m, message_inside m) (simp append_assoc)
+
+-- ---- the profile
+pub any_or_none : (n : Notes) → not (list_any (notes_have n) (1 ∷ 2 ∷ 3 ∷ 4 ∷ [])) ≡ are_none n
+any_or_none n = by n.high_octet n.few_flags n.negative n.empty_list
+  where
+    by : (a b c d : Bool) → not (a || (b || (c || (d || false)))) ≡ not (((a || b) || c) || d)
+    by true b c d = refl
+    by false true c d = refl
+    by false false true d = refl
+    by false false false true = refl
+    by false false false false = refl
+
+pub kept_whole : (profile : Profile) (octets : List ℕ) (view : MessageView) → IsMessageView octets view → is_kept profile (notes_of (message_of_view view)) ≡ true → judgement profile (length octets) octets ≡ Whole
+kept_whole profiles.Lenient octets view seen kept = seen.whole
+kept_whole profiles.Strict octets view seen kept = strict_whole octets view seen kept
+
+pub not_kept : (profile : Profile) (octets : List ℕ) (view : MessageView) → AreOctets octets → IsMessageView octets view → is_kept profile (notes_of (message_of_view view)) ≡ false → length octets < 2 ^ 31 → judgement profile (length octets) octets ≡ Whole → ⊥
+not_kept profiles.Lenient octets view are seen kept short whole = absurd cc
+not_kept profiles.Strict octets view are seen kept short whole = let e = strict_kept octets view short are seen whole in absurd cc
+
+pub no_message : (profile : Profile) (octets : List ℕ) → AreOctets octets → IsNoMessage octets → length octets < 2 ^ 31 → judgement profile (length octets) octets ≡ Whole → ⊥
+no_message profile octets are none short whole = none short (lenient_whole profile (length octets) octets short are (omega arith) whole)

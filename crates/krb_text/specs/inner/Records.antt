@@ -1,0 +1,40 @@
+-- Records of messages by the views of their kinds.
+use Rattle.std.specs.Prelude.{◌≡◌, Bool, true, List, [], ℕ, Option}
+use Rattle.krb_der.specs.declared.profile.Profile.{Profile}
+use Rattle.krb_der.specs.declared.profile.Profile.TheVariants as profiles
+use Rattle.krb_msg.specs.Notes.{are_none}
+use Rattle.krb_msg.specs.ViewValues.{IsValidMessage, message_of_view}
+use Rattle.krb_msg.specs.Views.{kind_of}
+use Rattle.krb_msg.specs.declared.message.Kind.{Kind}
+use Rattle.krb_msg.specs.declared.message.Message.{Message}
+use Rattle.krb_msg.specs.declared.message_view.MessageView.{MessageView}
+use Rattle.krb_msg.specs.declared.notes.Notes.{Notes}
+use Rattle.krb_text.specs.declared.form.Form.{Form}
+use Rattle.krb_text.specs.declared.record.Heading.{Heading}
+use Rattle.krb_text.specs.declared.record.Heading.TheVariants as headings
+use Rattle.krb_text.specs.Captures.{origin_fields}
+use Rattle.krb_text.specs.Forms.{record_text}
+use Rattle.krb_text.specs.Inside.{inside_of}
+use Rattle.krb_text.specs.Messages.{fields_of, message_origin, message_record}
+use Rattle.krb_text.specs.Values.{Field, Part, with_origin}
+
+-- what is recorded of a view of a kind is what is recorded of its message
+pub record IsRecordedAs (kind : Kind) (IsValid : Type 0) (fields : List Field) (inside : Option (List Part)) (view : MessageView) : Type 0 where
+  pub same_kind : kind_of (message_of_view view) ≡ kind
+  pub valid : IsValidMessage view → IsValid
+  pub same_fields : fields_of (message_of_view view) ≡ fields
+  pub same_inside : inside_of (message_of_view view) ≡ inside
+
+abbrev pub heading_origin : Heading → List Field
+heading_origin headings.Alone = []
+heading_origin (headings.Captured origin) = origin_fields origin.now
+heading_origin (headings.From origin) = message_origin origin.now.line origin.now.layers.now
+
+-- the record of a message after its origin, without its line feed
+abbrev pub text_after : Form → Heading → Message → List ℕ
+text_after form from m = record_text form (with_origin (heading_origin from) (message_record m))
+
+-- whether a message in which these notes hold is one of a profile
+abbrev pub is_kept : Profile → Notes → Bool
+is_kept profiles.Lenient notes = true
+is_kept profiles.Strict notes = are_none notes

@@ -1,0 +1,249 @@
+//! Records of messages: octets are viewed as a message of their kind, and its record is
+//! appended.
+
+ghost use Rattle.std.specs.Prelude.{◌≡◌, ◌++◌, IfOk, List, MatchOption, OnOk, Option, string_bytes};
+ghost use Rattle.krb_msg.specs.ViewValues.{BeginAs, IsNoMessage};
+ghost use Rattle.krb_text.specs.Forms.{ending, fields_text, heading};
+ghost use Rattle.krb_text.specs.Messages.{PutsMessage, message_line, message_line_from, message_origin, message_text};
+ghost use Rattle.krb_text.specs.Values.{Field, Part};
+ghost use Rattle.krb_text.specs.inner.Records.{IsRecordedAs, heading_origin, is_kept, text_after};
+
+use crate::field::put_opening;
+use crate::form::Form;
+use crate::message_origin::{MessageOrigin, put_message_opening};
+use crate::notes::has_any;
+use crate::origin::{Origin, put_captured_opening};
+use crate::put_field;
+use crate::text_buffer::TextBuffer;
+use krb_der::{Memory, Profile};
+use krb_msg::message_kinds::{
+    ApRepKind, ApReqKind, AsRepKind, AsReqKind, KrbCredKind, KrbErrorKind, KrbPrivKind,
+    KrbSafeKind, TgsRepKind, TgsReqKind,
+};
+use krb_msg::{Kind, Message, MessageKind, Notes, encode};
+use std::alloc::{AllocError, Global};
+
+/// The most octets of a message (RFC 4120, 7.2.2).
+const MOST: usize = 0x7FFF_FFFF;
+
+/// A view of a message of some kind.
+pub(crate) trait HasRecord {
+    /// What is known of a view.
+    ghost IsValid: { Self → Type 0 };
+
+    /// The fields of its record but the notes.
+    ghost fields: { Self → List Field };
+
+    /// The parts of its record, if it may have some.
+    ghost inside: { Self → Option (List Part) };
+
+    /// Appends the fields but the notes.
+    fn put_fields(&self, text: &mut TextBuffer, form: Form) -> Result<(), AllocError>
+        requires { IsValid self.now }
+        ensures { OnOk result (text.new ≡ text.old ++ fields_text form (fields self.now)) };
+
+    /// Appends what follows the fields.
+    fn put_ending(&self, text: &mut TextBuffer, form: Form) -> Result<(), AllocError>
+        requires { IsValid self.now }
+        ensures { OnOk result (text.new ≡ text.old ++ ending form (inside self.now)) };
+}
+
+/// What the record of a message has besides the message: its origin.
+#[derive(Clone, Copy)]
+pub(crate) enum Heading<'a> {
+    /// Nothing.
+    Alone,
+    /// That of a message of a capture.
+    Captured(&'a Origin),
+    /// That of a message that does not lie in an input by itself.
+    From(&'a MessageOrigin<'a>),
+}
+
+/// Appends what precedes the fields of the record of a message.
+#[inline(always)]
+fn put_heading(
+    text: &mut TextBuffer,
+    form: Form,
+    from: Heading<'_>,
+    kind: &str,
+) -> Result<(), AllocError>
+    ensures { OnOk result (text.new ≡ text.old ++ heading form (heading_origin from.entry) kind.now) }
+{
+    match from {
+        Heading::Alone => put_opening(text, form, kind),
+        Heading::Captured(origin) => put_captured_opening(text, form, origin, kind),
+        Heading::From(origin) => put_message_opening(text, form, origin, kind),
+    }
+}
+
+/// Returns whether a message in which these notes hold is one of a profile. None may hold in one of
+/// the strict profile.
+#[inline(always)]
+fn is_kept(profile: Profile, notes: &Notes) -> bool
+    ensures { result ≡ is_kept profile notes.now }
+{
+    match profile {
+        Profile::Lenient => true,
+        Profile::Strict => !has_any(notes),
+    }
+}
+
+/// Appends the record of a message of a kind without its line feed, if octets are one of a profile,
+/// and returns whether they are. They are viewed once, and the notes are looked for once.
+fn put_kind<'a, K: MessageKind<'a>>(
+    text: &mut TextBuffer,
+    form: Form,
+    from: Heading<'_>,
+    profile: Profile,
+    kind: Kind,
+    octets: &'a [u8],
+) -> Result<bool, AllocError>
+where
+    K::View: HasRecord,
+    requires begin { BeginAs K.kind octets.now }
+    requires recorded { (view : K.View) → IsRecordedAs kind (K.View.IsValid view) (K.View.fields view) (K.View.inside view) (K.as_message view) }
+    ensures { IfOk result (PutsMessage profile octets.now (text_after form from.entry) text.old text.new) }
+{
+    let Some(view) = K::view(octets) else {
+        return Ok(false);
+    };
+    let notes = K::notes(&view);
+    if !is_kept(profile, &notes) {
+        return Ok(false);
+    }
+    put_heading(text, form, from, kind.name())?;
+    view.put_fields(text, form)?;
+    put_field!(text, form, "notes": &notes)?;
+    view.put_ending(text, form)?;
+    Ok(true)
+}
+
+/// Returns the kind of the message that octets begin as, if they may be one.
+#[inline(always)]
+fn kind_of(octets: &[u8]) -> Option<Kind>
+    ensures { MatchOption result (IsNoMessage octets.now) (λ kind. BeginAs kind octets.now) }
+{
+    if octets.len() > MOST {
+        return None;
+    }
+    let [first, ..] = octets else {
+        return None;
+    };
+    Kind::of_tag(*first)
+}
+
+/// Appends the record of a message without its line feed, if octets are one of a profile, and
+/// returns whether they are.
+fn put_text(
+    text: &mut TextBuffer,
+    form: Form,
+    from: Heading<'_>,
+    profile: Profile,
+    octets: &[u8],
+) -> Result<bool, AllocError>
+    ensures { IfOk result (PutsMessage profile octets.now (text_after form from.entry) text.old text.new) }
+{
+    let Some(kind) = kind_of(octets) else {
+        return Ok(false);
+    };
+    match kind {
+        Kind::AsReq => put_kind::<AsReqKind>(text, form, from, profile, Kind::AsReq, octets),
+        Kind::AsRep => put_kind::<AsRepKind>(text, form, from, profile, Kind::AsRep, octets),
+        Kind::TgsReq => put_kind::<TgsReqKind>(text, form, from, profile, Kind::TgsReq, octets),
+        Kind::TgsRep => put_kind::<TgsRepKind>(text, form, from, profile, Kind::TgsRep, octets),
+        Kind::ApReq => put_kind::<ApReqKind>(text, form, from, profile, Kind::ApReq, octets),
+        Kind::ApRep => put_kind::<ApRepKind>(text, form, from, profile, Kind::ApRep, octets),
+        Kind::KrbSafe => put_kind::<KrbSafeKind>(text, form, from, profile, Kind::KrbSafe, octets),
+        Kind::KrbPriv => put_kind::<KrbPrivKind>(text, form, from, profile, Kind::KrbPriv, octets),
+        Kind::KrbCred => put_kind::<KrbCredKind>(text, form, from, profile, Kind::KrbCred, octets),
+        Kind::KrbError => {
+            put_kind::<KrbErrorKind>(text, form, from, profile, Kind::KrbError, octets)
+        }
+    }
+}
+
+/// Appends the record of a message with its line feed, if octets are one of a profile, and returns
+/// whether they are.
+pub(crate) fn put_record_of(
+    text: &mut TextBuffer,
+    form: Form,
+    from: Heading<'_>,
+    profile: Profile,
+    octets: &[u8],
+) -> Result<bool, Memory>
+    ensures { IfOk result (PutsMessage profile octets.now (message_line_from form (heading_origin from.entry)) text.old text.new) }
+{
+    if !put_text(text, form, from, profile, octets)? {
+        return Ok(false);
+    }
+    text.push_str("\n")?;
+    Ok(true)
+}
+
+/// Appends a message, as a line or an object with its line feed, if octets are one of a profile, and
+/// returns whether they are. More than 2147483647 octets are none. No `Message` is made.
+pub fn put_message_in(
+    text: &mut TextBuffer,
+    form: Form,
+    profile: Profile,
+    octets: &[u8],
+) -> Result<bool, Memory>
+    ensures { IfOk result (PutsMessage profile octets.now (message_line form) text.old text.new) }
+{
+    put_record_of(text, form, Heading::Alone, profile, octets)
+}
+
+/// Appends a message that comes from an origin, if octets are one of a profile, as
+/// [`put_message_in`] does: in a line the origin precedes its name, in an object it follows it.
+pub fn put_message_from(
+    text: &mut TextBuffer,
+    form: Form,
+    origin: &MessageOrigin<'_>,
+    profile: Profile,
+    octets: &[u8],
+) -> Result<bool, Memory>
+    ensures { IfOk result (PutsMessage profile octets.now (message_line_from form (message_origin origin.now.line origin.now.layers.now)) text.old text.new) }
+{
+    put_record_of(text, form, Heading::From(origin), profile, octets)
+}
+
+/// Appends a message without its line feed, by its DER octets.
+fn put_text_of(text: &mut TextBuffer, form: Form, message: &Message) -> Result<(), Memory>
+    ensures { OnOk result (text.new ≡ text.old ++ message_text form message.now) }
+{
+    let Ok(octets) = encode(text.allocator(), message) else {
+        return Err(Memory);
+    };
+    if put_text(
+        text,
+        form,
+        Heading::Alone,
+        Profile::Lenient,
+        octets.as_slice(),
+    )? {
+        Ok(())
+    } else {
+        unreachable!()
+    }
+}
+
+/// Appends a message as a line or an object with its line feed. It allocates the DER octets,
+/// too, and answers `Memory` if these are more than a message may have, 2147483647.
+#[tactic(auto, unfolding(crate::specs::Messages::message_line))]
+pub fn put_message(text: &mut TextBuffer, form: Form, message: &Message) -> Result<(), Memory>
+    ensures { OnOk result (text.new ≡ text.old ++ message_line form message.now) }
+{
+    put_text_of(text, form, message)?;
+    text.push_str("\n")?;
+    Ok(())
+}
+
+/// Returns a message as a line or an object, without a line feed: its name, its fields and its
+/// notes. It allocates as [`put_message`] does.
+pub fn message_line(alloc: Global, form: Form, message: &Message) -> Result<String, Memory>
+    ensures { IfOk result (λ text. string_bytes text ≡ message_text form message.now) }
+{
+    let mut text = TextBuffer::new(alloc);
+    put_text_of(&mut text, form, message)?;
+    Ok(text.into_string())
+}
