@@ -98,6 +98,7 @@ impl JsonLines {
     }
 }
 
+// A decoding ends at a refusal, so none is received, and no message after one that is not encrypted.
 impl Receiver for JsonLines {
     ghost Receives = { ReceivesEntry };
 
