@@ -1,9 +1,8 @@
-use Rattle.std.proofs.Common.{ℕ, List, Some, Ok, Err, refl}
+use Rattle.std.proofs.Common.{Ok, refl}
 use Rattle.krb_file.specs.declared.field_path.FileItem.TheVariants as items
 use Rattle.krb_ccache.specs.Streaming.{Reads, credentials}
 use Rattle.krb_tool.specs.Files.{field_limit, ccache_last}
 use Rattle.krb_tool.specs.Lines.{credential_line}
-use Rattle.krb_tool.specs.inner.RecordRuns.{AreCredentialsLeft}
 use Rattle.krb_tool.proofs.Records.{item_added, end_added, refusal_added}
 use Rattle.krb_tool.proofs.record_run.CredentialLinesRecordLines.put_next.Goals as goal
 

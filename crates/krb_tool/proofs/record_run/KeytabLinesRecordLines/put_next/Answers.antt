@@ -1,10 +1,9 @@
-use Rattle.std.proofs.Common.{ℕ, List, Some, Ok, Err, refl}
+use Rattle.std.proofs.Common.{Ok, refl}
 use Rattle.krb_file.specs.declared.field_path.FileItem.TheVariants as items
 use Rattle.krb_keytab.specs.Reading.{items as keytab_records}
 use Rattle.krb_keytab.specs.Streaming.{Reads}
 use Rattle.krb_tool.specs.Files.{field_limit, keytab_last}
 use Rattle.krb_tool.specs.Lines.{record_line}
-use Rattle.krb_tool.specs.inner.RecordRuns.{AreRecordsLeft}
 use Rattle.krb_tool.proofs.Records.{item_added, end_added, refusal_added}
 use Rattle.krb_tool.proofs.record_run.KeytabLinesRecordLines.put_next.Goals as goal
 
