@@ -1,7 +1,7 @@
 -- The octets of messages that change passwords, taken one after another.
 use Rattle.std.proofs.Common.{◌≡◌, ℕ, zero, suc, ◌+◌, ◌-◌, ◌<◌, ◌≤◌, ◌⊎◌, inl, inr, true, false, List, [], ◌∷◌, ◌++◌, length, take, drop, sym, ◌∙◌, ap, ap₂, subst, arith, append_assoc, append-nil, length-append}
 use Rattle.std.specs.Prelude.{get_or}
-use Rattle.std.proofs.lemmas.List.{take-append-le, take_all, take_more}
+use Rattle.std.proofs.lemmas.List.{take-append-le, take_more}
 use Rattle.krb_der.specs.Octets.{number}
 use Rattle.krb_text.specs.declared.origin.Origin.{Origin}
 use Rattle.krb_capture.specs.Found.{Written, with_all}
@@ -132,6 +132,3 @@ takes-pushed old between new octet origin before after o z l same k i at whole =
 -- ---- all octets of a piece
 pub takes-next : (a b c : PasswordFrames) (octets : List ℕ) (i : ℕ) (origin : Origin) (u v w : Written) → i < length octets → TakesPasswords a b (take i octets) origin u v → TakesPasswords b c (get_or octets i 0 ∷ []) origin v w → TakesPasswords a c (take (i + 1) octets) origin u w
 takes-next a b c octets i origin u v w h l m = subst (λ x. TakesPasswords a c x origin u w) (sym (take_more octets i 0 h)) (takes-both a b c (take i octets) (get_or octets i 0 ∷ []) origin u v w l m)
-
-pub takes-all : (a b : PasswordFrames) (octets : List ℕ) (i : ℕ) (origin : Origin) (u v : Written) → length octets ≤ i → TakesPasswords a b (take i octets) origin u v → TakesPasswords a b octets origin u v
-takes-all a b octets i origin u v h l = subst (λ x. TakesPasswords a b x origin u v) (take_all i octets h) l

@@ -1,8 +1,8 @@
 -- What the frames of messages that change passwords answer at the end.
-use Rattle.std.proofs.Common.{◌≡◌, ℕ, ◌^◌, ◌<◌, inl, inr, false, List, [], ◌∷◌, length, Some, None, refl, ap, subst, arith}
+use Rattle.std.proofs.Common.{◌≡◌, ℕ, ◌<◌, false, List, [], ◌∷◌, length, Some, None, refl, ap, subst, arith}
 use Rattle.krb_der.specs.declared.why.Why.TheVariants as why
 use Rattle.krb_capture.specs.Streams.{cut_refusal}
-use Rattle.krb_capture.specs.Taken.{IsPart, Keeps, KeepsUnless, TookPasswords}
+use Rattle.krb_capture.specs.Taken.{Keeps, KeepsUnless, TookPasswords}
 use Rattle.krb_capture.specs.declared.password_frames.PasswordFrames.{PasswordFrames}
 
 pub keeps-of : (taker : PasswordFrames) (limit : ℕ) (stream : List ℕ) → TookPasswords taker limit stream → taker.is_over ≡ false → Keeps taker stream
@@ -16,10 +16,3 @@ cut-none (octet ∷ octets) e = absurd (omega (arith, e))
 pub cut-some : (items : List ℕ) (place : ℕ) → place ≡ length items → 0 < length items → Some (record { place = place; why = why.Truncated }) ≡ cut_refusal items
 cut-some [] place e h = absurd (omega (arith, h))
 cut-some (octet ∷ octets) place e h = ap (λ n. Some (record { place = n; why = why.Truncated })) e
-
-part_few : (limit : ℕ) (octets : List ℕ) → IsPart limit octets → length octets < 2 ^ 32
-part_few limit octets (inl h) = omega (arith, h)
-part_few limit octets (inr p) = omega (arith, p.0.short, p.2)
-
-pub password-few : (taker : PasswordFrames) (limit : ℕ) (stream : List ℕ) → TookPasswords taker limit stream → taker.is_over ≡ false → length taker.octets.items < 2 ^ 32
-password-few taker limit stream t e = part_few taker.limit taker.octets.items (keeps-of taker limit stream t e).partial

@@ -100,9 +100,6 @@ HoldsMaps-kept old new limit number flow step table one sent h s l n a d = recor
 pub holds-none : (d : Directions) (limit : ℕ) (table : Table) → d.last ≡ None → HoldsMaps d limit table → HoldsTable d limit table
 holds-none d limit table e m = subst (λ o. HoldsWith o d limit table) (sym e) m
 
-pub maps-none : (d : Directions) (limit : ℕ) (table : Table) → d.last ≡ None → HoldsTable d limit table → HoldsMaps d limit table
-maps-none d limit table e h = subst (λ o. HoldsWith o d limit table) e h
-
 pub is-among : (d : Directions) (limit : ℕ) (table : Table) (last : Last) → d.last ≡ Some last → HoldsTable d limit table → IsAmong last d limit table
 is-among d limit table last e h = subst (λ o. HoldsWith o d limit table) e h
 
@@ -113,27 +110,6 @@ maps-back old new limit table last h l n a d = record {
   active = subst (λ es. AllRepresented limit es table.active) (sym a) (subst (λ ss. AllRepresented limit (insert_entry nat_cmp old.active.entries last.number last.sending) ss) (sym h.active) (represented-insert limit last.number old.active.entries h.others last.sending h.sent h.represents h.maps.active));
   ended = d ∙ h.maps.ended;
 }
-
--- it is kept
-pub among-kept : (old new : Directions) (limit : ℕ) (flow : Flow) (last : Last) (step : Step) (table : Table) (sent : Sent) → HoldsMaps old limit table → IsKnown step.began flow last old.numbers.entries → Represents last.sending.value limit sent → step.ended ≡ None → new.last ≡ Some last → new.limit ≡ old.limit → new.numbers.entries ≡ (if step.began then insert_entry flow_cmp old.numbers.entries flow last.number else old.numbers.entries) → (step.began ≡ true → lookup (is_at (flow_cmp flow)) new.numbers.entries ≡ Some last.number) → new.active.entries ≡ old.active.entries → lookup (is_at (nat_cmp last.number)) old.active.entries ≡ None → new.ended.entries ≡ old.ended.entries → HoldsTable new limit (kept flow last.number step sent table)
-among-kept old new limit flow last step table sent h k s stays is l n inserted a alone d = subst (λ o. HoldsWith o new limit (kept flow last.number step sent table)) (sym is) (record {
-  sent = sent;
-  others = table.active;
-  maps = record {
-    limit_is = l ∙ h.limit_is;
-    numbers = n ∙ ap (λ es. if step.began then insert_entry flow_cmp es flow last.number else es) h.numbers;
-    active = subst (λ es. AllRepresented limit es table.active) (sym a) h.active;
-    ended = d ∙ h.ended ∙ sym (ap (λ o. ended_with o last.number flow table.ended) stays);
-  };
-  represents = s;
-  known = by step.began refl k;
-  alone = ap (λ es. lookup (is_at (nat_cmp last.number)) es) a ∙ alone;
-  active = ap (λ o. active_with o last.number sent table.active) stays;
-})
-  where
-    by : (b : Bool) → step.began ≡ b → IsKnown b flow last old.numbers.entries → lookup (is_at (flow_cmp last.flow)) new.numbers.entries ≡ Some last.number
-    by true e k = ap (λ f. lookup (is_at (flow_cmp f)) new.numbers.entries) k ∙ inserted e
-    by false e k = ap (λ es. lookup (is_at (flow_cmp last.flow)) es) (n ∙ ap (λ b. if b then insert_entry flow_cmp old.numbers.entries flow last.number else old.numbers.entries) e) ∙ k
 
 -- it is found again
 some_is_none : {X : Type 0} (x : X) → Some x ≡ None → ⊥
@@ -313,13 +289,3 @@ EndsSome-next old now next due initial written more number one e first found = r
             ∙ left.listed;
       };
 }
-
-pub EndsSome-end : (old now : Directions) (due : Due) (initial written : Written) → EndsSome old due initial now written → now.active.entries ≡ [] → (limit : ℕ) (table : Table) → HoldsMaps old limit table → written ≡ with_each (over_tcp due (last_of limit table.active)) initial
-EndsSome-end old now due initial written e none limit table h = by left.rest (subst (λ es. AllRepresented limit es left.rest) none left.all) left.listed
-  where
-    left : Left limit table due initial now written
-    left = e.ends limit table h
-
-    by : (rest : List (ℕ × Sent)) → AllRepresented limit [] rest → with_each (over_tcp due (last_of limit rest)) written ≡ with_each (over_tcp due (last_of limit table.active)) initial → written ≡ with_each (over_tcp due (last_of limit table.active)) initial
-    by [] a l = l
-    by (s ∷ ss) a l = absurd a

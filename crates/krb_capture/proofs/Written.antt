@@ -47,7 +47,3 @@ flow-found due flow flow' xs l l0 e f = e ∙ ap (λ x. with_all (origin_of due 
 pub on_ok-map : {T E P Q : Type 0} (result : Result T E) → (P → Q) → OnOk result P → OnOk result Q
 on_ok-map (Ok x) f p = f p
 on_ok-map (Err e) f p = tt
-
-pub on_ok-both : {T E P Q R : Type 0} (result : Result T E) → (P → Q → R) → OnOk result P → OnOk result Q → OnOk result R
-on_ok-both (Ok x) f p q = f p q
-on_ok-both (Err e) f p q = tt

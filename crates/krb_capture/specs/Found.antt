@@ -1,10 +1,6 @@
 -- What is found in a flow, and what is written of it.
-use Rattle.std.specs.Prelude.{ℕ, ◌≡◌, ◌+◌, ◌-◌, ◌^◌, ◌≤◌, min, Bool, true, false, List, [], ◌∷◌, ◌++◌, length, Option, None, Some}
-use Rattle.krb_der.specs.declared.profile.Profile.{Profile}
+use Rattle.std.specs.Prelude.{ℕ, ◌+◌, ◌-◌, ◌^◌, ◌≤◌, min, List, [], ◌∷◌, ◌++◌, length, Option, None, Some}
 use Rattle.krb_der.specs.declared.verdict.Refusal.{Refusal}
-use Rattle.krb_der.specs.declared.verdict.Verdict.TheVariants as verdict
-use Rattle.krb_msg.specs.Judgement.{judgement}
-use Rattle.krb_msg.specs.Views.{message_of_der}
 use Rattle.krb_msg.specs.declared.message.Message.{Message}
 use Rattle.krb_text.specs.Captures.{captured_message_line, captured_refused_line, joined_line, lost_line, password_line}
 use Rattle.krb_text.specs.declared.capture.CaptureCounts.{CaptureCounts}
@@ -55,11 +51,6 @@ IsFullIf (Some left) text = IsFull text
 
 abbrev pub with_found : Origin → Found → Written → Written
 with_found origin found written = record { form = written.form; text = written.text ++ found_line written.form origin found; counts = counted found written.counts }
-
--- A message was found, if octets are one of a profile, and else nothing.
-abbrev pub IsFound : Profile → List ℕ → Origin → Written → Written → Bool → Type 0
-IsFound profile octets origin old new true = (judgement profile (length octets) octets ≡ verdict.Whole) × (new ≡ with_found origin (Whole (message_of_der octets)) old)
-IsFound profile octets origin old new false = (judgement profile (length octets) octets ≡ verdict.Whole → ⊥) × (new ≡ old)
 
 abbrev pub with_all : Origin → List Found → Written → Written
 with_all origin [] written = written

@@ -80,8 +80,8 @@ impl Frames {
         ensures { result ≡ over_in self.now }
     {
         match self {
-            Frames::Messages(frames) => frames.is_over(),
-            Frames::Passwords(frames) => frames.is_over(),
+            Frames::Messages(frames) => frames.is_over,
+            Frames::Passwords(frames) => frames.is_over,
         }
     }
 

@@ -3,7 +3,8 @@
 ghost use Rattle.std.specs.Prelude.{◌≡◌, ◌↔◌, ◌++◌, ◌<◌, ◌^◌, IfOk, IsTrue, OnOk, length, string_bytes};
 ghost use Rattle.std.specs.Option.{option_copied};
 ghost use Rattle.krb_text.specs.Captures.{capture_end_line, capture_refused_line};
-ghost use Rattle.krb_capture.specs.Found.{IsFound, IsFull, Faulty, Joined, Missing, Password, and_more, nothing_written, totals, with_found};
+ghost use Rattle.krb_capture.specs.Found.{IsFull, Faulty, Joined, Missing, Password, and_more, nothing_written, totals, with_found};
+ghost use Rattle.krb_capture.specs.Listed.{IsListed};
 
 use krb_der::{Memory, Profile, Refusal};
 use krb_file::FileWhy;
@@ -99,7 +100,7 @@ impl Listing {
         octets: &[u8],
     ) -> Result<bool, Memory>
         requires { length octets.now < 2 ^ 31 }
-        ensures { IfOk result (IsFound profile octets.now origin.now self.old self.new) }
+        ensures { IfOk result (IsListed profile octets.now origin.now self.old self.new) }
     {
         if !put_captured_message(&mut self.text, self.form, origin, profile, octets)? {
             return Ok(false);

@@ -3,7 +3,6 @@
 ghost use Rattle.std.specs.Prelude.{◌≡◌, ◌+◌, ◌<◌, ◌≤◌, ℕ, true, false, List, [], ◌++◌, length, take, IfOk, OnOk, string_bytes};
 ghost use Rattle.std.specs.Option.{option_map};
 ghost use Rattle.krb_text.specs.Refusals.{path_in};
-ghost use Rattle.krb_frame.specs.Deliveries.{DeliversPiece};
 ghost use Rattle.krb_frame.specs.GoingOn.{Fault};
 ghost use Rattle.krb_capture.specs.Found.{IsFull, with_all, with_found};
 ghost use Rattle.krb_capture.specs.Listed.{ListsEntry};
@@ -26,7 +25,7 @@ pub(crate) struct MessageFrames {
     /// Where in the direction the current frame begins.
     offset: u64,
     /// The length of the last frame is not known, and all that follows is passed over.
-    is_over: bool,
+    pub(crate) is_over: bool,
 }
 
 impl MessageFrames {
@@ -63,7 +62,7 @@ impl MessageFrames {
             origin,
             listing,
         };
-        let delivered = lister.take(&mut self.decoder, octets)?;
+        let delivered = self.decoder.deliver(octets, true, &mut lister)?;
         self.offset = lister.offset;
         match delivered {
             Delivered::UpTo(rest) => Ok(octets.len() - rest.len()),
@@ -90,13 +89,6 @@ impl MessageFrames {
         extent_of(self.offset, self.decoder.decoder().announced())
     }
 
-    /// Returns whether all that follows is passed over.
-    pub(crate) fn is_over(&self) -> bool
-        ensures { result ≡ self.now.is_over }
-    {
-        self.is_over
-    }
-
     /// Returns why a frame is refused that is not whole at the end, if there is one.
     pub(crate) fn finish(&self) -> Option<Refusal>
         ensures { (limit : ℕ) (stream : List ℕ) → TookMessages self.now limit stream → self.now.is_over ≡ false → result ≡ cut_refusal self.now.decoder.current.octets }
@@ -115,19 +107,6 @@ struct FrameLister<'a> {
 }
 
 impl<'a> FrameLister<'a> {
-    /// Lists the frames that are whole with the next octets of a decoder or refused, until the
-    /// listing is full.
-    fn take<'p>(
-        &mut self,
-        decoder: &mut SkippingDecoder,
-        octets: &'p [u8],
-    ) -> Result<Delivered<'p>, Memory>
-        ensures same { IfOk result (λ delivered. self.new.listing.ghost_name ≡ self.old.listing.ghost_name) }
-        ensures delivered { IfOk result (DeliversPiece ListsEntry (λ lister. IsFull lister.listing.now.text) true decoder.old octets.now decoder.new self.old self.new) }
-    {
-        decoder.deliver(octets, true, self)
-    }
-
     /// Lists the refusal of the current frame of a decoder.
     fn put_refusal(&mut self, refusal: Refusal, decoder: &Decoder) -> Result<(), Memory>
         ensures same { OnOk result (self.new.listing.ghost_name ≡ self.old.listing.ghost_name) }

@@ -28,7 +28,8 @@ pub(crate) struct PasswordFrames {
     octets: Vec<u8>,
     /// How many octets of a frame that was refused are to come.
     skipped: u32,
-    is_over: bool,
+    /// As of [`MessageFrames`](crate::message_frames::MessageFrames).
+    pub(crate) is_over: bool,
     /// Where in the direction that frame begins.
     offset: u64,
 }
@@ -150,13 +151,6 @@ impl PasswordFrames {
         self.skipped = count;
         self.octets = Vec::new(*self.octets.allocator());
         self.offset = and_more(self.offset, LENGTH as u64 + u64::from(size));
-    }
-
-    /// Returns whether all that follows is passed over.
-    pub(crate) fn is_over(&self) -> bool
-        ensures { result ≡ self.now.is_over }
-    {
-        self.is_over
     }
 
     /// Returns the path in the frame that is not whole: there is none in its length.

@@ -1,5 +1,5 @@
 -- The fields of a decoder: the frames of the octets in them.
-use Rattle.std.proofs.Common.{◌≡◌, ℕ, zero, suc, ◌+◌, ◌^◌, ◌<◌, ◌≤◌, inl, inr, List, [], ◌∷◌, ◌++◌, length, take, drop, Some, None, refl, sym, ◌∙◌, ap, ap₂, subst, arith, append-nil, length-append, length-take, drop_at}
+use Rattle.std.proofs.Common.{◌≡◌, ℕ, zero, suc, ◌+◌, ◌<◌, ◌≤◌, inl, inr, List, [], ◌∷◌, ◌++◌, length, take, drop, Some, None, refl, sym, ◌∙◌, ap, ap₂, subst, arith, append-nil, length-append, length-take, drop_at}
 use Rattle.std.specs.Int.{w32, from_be_bytes}
 use Rattle.std.proofs.lemmas.List.{take_all, take_at, drop_all, nil_from_length}
 use Rattle.krb_der.specs.Octets.{number}
@@ -15,7 +15,7 @@ use Rattle.krb_msg.proofs.Grammars.{whole_outcome, refused_outcome, open_outcome
 use Rattle.krb_scan.specs.Scanned.{open_count}
 use Rattle.krb_scan.specs.Machine.{HasScanned}
 use Rattle.krb_scan.specs.declared.machine.Machine.{Machine}
-use Rattle.krb_frame.specs.Decoding.{Decoding, found, status_at, status_of, first_of, borrowed, open_lengths_of, finish_at, finish_of, AreOfOne, IsOfOneFrame, octets_of, decoding_of, length_present}
+use Rattle.krb_frame.specs.Decoding.{Decoding, found, status_at, status_of, first_of, borrowed, open_lengths_of, finish_at, finish_of, AreOfOne, IsOfOneFrame, octets_of, decoding_of}
 use Rattle.krb_frame.specs.Frame.{length_fault}
 use Rattle.krb_frame.specs.inner.Phases.{end_after, IsRefusedIn, IsFedContents, phase_of, IsAccepted, HasPartOfLength, HasPart, HasFrame, HasRefused, IsPhaseOf, IsScanned, phase_status}
 use Rattle.krb_frame.specs.declared.decoder.Phase.{Phase}
@@ -209,13 +209,6 @@ module _ (messages : List Term) (profile : Profile) where
   contents-at limit announced contents phase.Ready h = ap (drop 4) (four_octets announced contents h.accepted.four) ∙ drop_at announced contents 4 h.accepted.four
   contents-at limit announced contents (phase.Refused refusal) h = ap (drop 4) (four_octets announced contents h.four) ∙ drop_at announced contents 4 h.four
 
-  -- how many octets they are, with those of the length
-  pub looked-at : (limit : ℕ) (announced contents : List ℕ) (p : Phase) → IsPhaseOf messages limit announced contents p → length (octets_of p announced contents) ≡ length_present p + length contents
-  looked-at limit announced contents (phase.Length count) h = omega (arith, length_of-part announced contents count h, ap length h.none)
-  looked-at limit announced contents (phase.Contents size) h = omega (arith, h.accepted.four, length-append (take 4 announced) contents, length-take 4 announced)
-  looked-at limit announced contents phase.Ready h = omega (arith, h.accepted.four, length-append (take 4 announced) contents, length-take 4 announced)
-  looked-at limit announced contents (phase.Refused refusal) h = omega (arith, h.four, length-append (take 4 announced) contents, length-take 4 announced)
-
   -- ---- the lengths that are open
   pub open-none : (limit looks : ℕ) (space : ℕ) (announced contents : List ℕ) (p : Phase) → IsPhaseOf messages limit announced contents p → length contents ≡ 0 → open_lengths_of (decoding_of profile limit looks space announced contents p) ≡ 0
   open-none limit looks space announced contents p h e =
@@ -236,12 +229,6 @@ module _ (messages : List Term) (profile : Profile) where
       by phase.Ready h s = of_length (length contents) h.accepted.four h.accepted.is s
       by (phase.Refused refusal) h (inl e) = absurd (omega (arith, some, ap length e))
       by (phase.Refused refusal) h (inr at) = of_length (number announced) h.four refl at
-
-  pub few-at : (limit : ℕ) (announced contents : List ℕ) (p : Phase) → limit < 2 ^ 31 → IsPhaseOf messages limit announced contents p → (length contents ≤ limit) × (length contents < 2 ^ 31)
-  few-at limit announced contents (phase.Length count) l h = (omega (arith, ap length h.none), omega (arith, ap length h.none))
-  few-at limit announced contents (phase.Contents size) l h = (omega (arith, h.present, h.accepted.within), omega (arith, h.present, h.accepted.short))
-  few-at limit announced contents phase.Ready l h = (h.accepted.within, h.accepted.short)
-  few-at limit announced contents (phase.Refused refusal) l h = (h.few, h.short)
 
   -- ---- contents that were fed
   refused_within : (limit : ℕ) (announced contents : List ℕ) (size : ℕ) (refusal : Refusal) → IsAccepted limit announced size → length contents ≤ size → IsRefusedIn messages size contents refusal → HasRefused messages limit announced contents refusal

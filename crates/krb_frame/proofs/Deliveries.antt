@@ -35,12 +35,6 @@ memory_ready e = cc
 pub memory_refused : (refusal : Refusal) → status.Memory ≡ status.Refused refusal → ⊥
 memory_refused refusal e = cc
 
-due_one : (s : Status) → due s ≤ 1
-due_one status.More = omega arith
-due_one status.Ready = omega arith
-due_one status.Memory = omega arith
-due_one (status.Refused refusal) = omega arith
-
 waits_or : (s : Status) → (s ≡ status.More) ⊎ (due s ≡ 1)
 waits_or status.More = inl refl
 waits_or status.Ready = inr refl

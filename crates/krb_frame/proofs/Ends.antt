@@ -17,9 +17,6 @@ use Rattle.krb_frame.specs.Laws.{MatchesStream}
 use Rattle.krb_frame.specs.declared.decoder.Status.TheVariants as status
 
 -- ---- octets after a refusal
-same_refused : (place other : ℕ) (reason same : Why) → ends (Refused place reason) ≡ ends (Refused other same) → Refused place reason ≡ Refused other same
-same_refused place other reason same e = ap (λ f. f.end) e
-
 pub no_within : (n place : ℕ) (reason : Why) → ends (Within n) ≡ ends (Refused place reason) → ⊥
 no_within n place reason e = absurd (no (ap (λ f. f.end) e))
   where

@@ -243,6 +243,3 @@ module _ (messages : List Term) (profile : Profile) (limit looks : ℕ) (space :
 
 pub rest-known : (size used : ℕ) → size < 2 ^ 31 → rest_of size (4 + used) ≡ Some (size - used)
 rest-known size used h = rw (lt-leb (2 ^ 31) size h) (let e : 4 + size - (4 + used) ≡ size - used = omega arith in ap Some e)
-
-pub rest-unknown : (size used : ℕ) → 2 ^ 31 ≤ size → rest_of size used ≡ None
-rest-unknown size used h = rw (le-leb (2 ^ 31) size h) refl

@@ -2,7 +2,8 @@ use Rattle.std.proofs.Common.{◌≡◌, Some, OnOk, length, refl, sym, ◌∙�
 use Rattle.std.specs.Prelude.{IsErrOf}
 use Rattle.krb_der.specs.declared.profile.Profile.TheVariants.{Lenient}
 use Rattle.krb_judge.specs.Parses.{refusal_of}
-use Rattle.krb_capture.specs.Found.{IsFound, with_found}
+use Rattle.krb_capture.specs.Found.{with_found}
+use Rattle.krb_capture.specs.Listed.{IsListed}
 use Rattle.krb_capture.specs.Messages.{found_unless, message_found, refused_found}
 use Rattle.krb_capture.proofs.Found.{place_few}
 use Rattle.krb_capture.proofs.message.list_message.Goals as goal
@@ -17,7 +18,7 @@ pub returns : goal.returns
 unfolding message_found
 returns c =
     let same : c.else-size-le-MOST_OCTETS.listing ≡ c.args.listing.now = elim c.else-size-le-MOST_OCTETS.branch [
-      | else-size-le-MOST_OCTETS-via-then-size-le-MOST_OCTETS+in_ok-put_message+else-branch w ↦ w.listing-is ∙ (subst (IsFound Lenient c.args.octets.now c.args.origin.now c.args.listing.now w.put_message.new.self) w.if-branch.false w.in_ok-put_message.ensures).1
+      | else-size-le-MOST_OCTETS-via-then-size-le-MOST_OCTETS+in_ok-put_message+else-branch w ↦ w.listing-is ∙ (subst (IsListed Lenient c.args.octets.now c.args.origin.now c.args.listing.now w.put_message.new.self) w.if-branch.false w.in_ok-put_message.ensures).1
       | else-size-le-MOST_OCTETS-via-else-size-le-MOST_OCTETS w ↦ w.listing-is
     ] in
     let e : refusal_of Lenient c.args.octets.now ≡ Some c.in-Err.refusal = (c.read_message.ensures.refused c.in-Err.refusal).0 (subst (λ x. IsErrOf x c.in-Err.refusal) (sym c.in-Err.is) refl) in
