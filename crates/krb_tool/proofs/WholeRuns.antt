@@ -25,7 +25,7 @@ use Rattle.krb_tool.specs.inner.WholeRuns.{ReadsMost, converted_of}
 use Rattle.krb_tool.specs.inner.JsonLines.{IsOfMessage}
 
 -- octets that are viewed as a message
-pub message_viewed : (octets : List ℕ) (view : MessageView) → IsMessageView octets view → IsOfMessage octets
+pub message_viewed : (octets : List ℕ) (view : MessageView) → IsMessageView octets view → IsOfMessage Lenient octets
 message_viewed octets view v = record { in_profile = subst (IsInProfile Lenient) v.read v.in_profile; form = ap message_der (sym v.read) ∙ v.form }
 
 -- ---- a message

@@ -1,6 +1,7 @@
 pub mod Streams
 pub mod Pieces
 pub mod Listers
+pub mod StreamLines
 pub mod Transfers
 pub mod FileRuns
 pub mod RecordRuns

@@ -10,7 +10,7 @@ use crate::lines::{is_blank_line, line_length};
 use crate::message_input::{MOST_INPUT, MessageInput};
 use crate::run::{RunEnd, RunFault};
 use crate::stream_run::{ListStream, list_all};
-use crate::transfer::Asked;
+use crate::transfer::CountedReader;
 use krb_der::Profile;
 use krb_text::{Form, TextBuffer, put_counted_stream_end};
 use std::alloc::{AllocError, Global};
@@ -206,7 +206,7 @@ pub fn run_lines_in<R: Read, W: Write>(
     ensures listed { IfOk result (ListsLines form profile (R.remaining reader.old) (R.remaining reader.new) (W.contents writer.old) (W.contents writer.new)) }
     ensures fault { OnErr result (FailsLines form profile (R.remaining reader.old) (R.remaining reader.new) (W.contents writer.old) (W.contents writer.new)) }
 {
-    let mut asked = Asked::new(reader);
+    let mut counted = CountedReader::new(reader);
     let request = LinesRequest { form, profile };
-    list_all::<LineLister, _, _>(alloc, request, &mut asked, writer)
+    list_all::<LineLister, _, _>(alloc, request, &mut counted, writer)
 }
