@@ -23,6 +23,7 @@ pub mod ConversionRuns
 pub mod DecodedFrames
 pub mod DecodedPieces
 pub mod SourceLineParts
+pub mod LineReaders
 pub mod EncodedLines
 mod EncodedMessages
 mod AlikeStreams

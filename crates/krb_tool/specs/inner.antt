@@ -1,5 +1,6 @@
 pub mod Streams
 pub mod Pieces
+pub mod LineReaders
 pub mod Listers
 pub mod Transfers
 pub mod FileRuns
