@@ -20,6 +20,7 @@ mod CaptureListings
 pub mod ConversionRuns
 pub mod DecodedFrames
 pub mod SourceLineParts
+pub mod LineReaders
 pub mod EncodedLines
 mod EncodedMessages
 mod AlikeStreams

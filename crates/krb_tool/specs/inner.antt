@@ -1,5 +1,6 @@
 pub mod Streams
 pub mod Pieces
+pub mod LineReaders
 pub mod Listers
 pub mod StreamLines
 pub mod Transfers
