@@ -5,9 +5,12 @@ use Rattle.std.specs.Option.{option_map}
 use Rattle.std.specs.Prelude.{IsSome, string_bytes}
 use Rattle.std.specs.Io.KnownBytes.{IsAtEnd}
 use Rattle.krb_der.specs.declared.profile.Profile.{Profile}
+use Rattle.krb_der.specs.declared.profile.Profile.TheVariants.{Lenient}
 use Rattle.krb_msg.specs.Grammar.{messages}
 use Rattle.krb_msg.specs.Stream.{End, Boundary, Frames, frames}
 use Rattle.krb_msg.specs.Laws.{AreMessage}
+use Rattle.krb_msg.specs.ViewValues.{IsMessageView}
+use Rattle.krb_msg.specs.declared.message_view.MessageView.{MessageView}
 use Rattle.krb_msg.specs.Views.{message_der, message_of_der, IsInProfile}
 use Rattle.krb_msg.proofs.MessageOfDer.{message_of_der_is_message}
 use Rattle.krb_frame.specs.Deliveries.{IsMessage, contents_in}
@@ -33,6 +36,10 @@ pub of_message : (profile : Profile) (octets : List ℕ) → AreMessage profile 
 of_message profile octets m =
     let same : m.message ≡ message_of_der octets = sym (message_of_der_is_message profile m.message m.in_profile) ∙ ap message_of_der m.form in
     record { in_profile = subst (IsInProfile profile) same m.in_profile; form = ap message_der (sym same) ∙ m.form }
+
+-- that are viewed as one
+pub message_viewed : (octets : List ℕ) (view : MessageView) → IsMessageView octets view → IsOfMessage Lenient octets
+message_viewed octets view v = record { in_profile = subst (IsInProfile Lenient) v.read v.in_profile; form = ap message_der (sym v.read) ∙ v.form }
 
 -- ---- messages that are encrypted
 -- all of them have their lines
@@ -103,17 +110,27 @@ receives-put octets old new (Some path) none u p =
       few = omega (arith, p.messages);
     }
 
+pub none_full : (lines : JsonLines) → lines.unencrypted ≡ None → IsSome lines.unencrypted → ⊥
+none_full lines none full = no (subst IsSome none full)
+  where
+    no : IsSome {T = String Global} None → ⊥
+    no e = cc
+
 -- or a message before it is not encrypted
-pub receives-nothing : (octets : List ℕ) (lines : JsonLines) (path : String Global) → lines.unencrypted ≡ Some path → ReceivesMessage octets lines lines
-receives-nothing octets lines path some = record {
-  added = [];
-  text = sym (append-nil lines.text.items);
-  rest = λ few contents end.
-      let kept : option_map string_bytes lines.unencrypted ≡ Some (string_bytes path) = ap (option_map string_bytes) some in
-      ap (λ found. rest_by found lines.messages (octets ∷ contents) end) kept ∙ ap (λ found. after_text [] (rest_by found lines.messages contents end)) (sym kept);
-  counted = λ few left. absurd (not_some (sym left ∙ some));
-  few = omega arith;
-}
+pub receives-nothing : (octets : List ℕ) (lines : JsonLines) → IsSome lines.unencrypted → ReceivesMessage octets lines lines
+receives-nothing octets lines full = by lines.unencrypted refl
+  where
+    by : (found : Option (String Global)) → lines.unencrypted ≡ found → ReceivesMessage octets lines lines
+    by None none = absurd (none_full lines none full)
+    by (Some path) some = record {
+      added = [];
+      text = sym (append-nil lines.text.items);
+      rest = λ few contents end.
+          let kept : option_map string_bytes lines.unencrypted ≡ Some (string_bytes path) = ap (option_map string_bytes) some in
+          ap (λ found. rest_by found lines.messages (octets ∷ contents) end) kept ∙ ap (λ found. after_text [] (rest_by found lines.messages contents end)) (sym kept);
+      counted = λ few left. absurd (not_some (sym left ∙ some));
+      few = omega arith;
+    }
 
 adds_entry : (old : JsonLines) (entry : Entry) (new : JsonLines) → ReceivesEntry old entry new → old.messages + 1 < 2 ^ 64 → 0 + entry_size entry < 2 ^ 64 → Adds json_lines old entry new
 adds_entry old (Contents octets) new r few small = record {
@@ -147,18 +164,12 @@ adds_entry old (Fault place reason prefix) new r few small = record {
 }
 
 -- ---- lines
-not_full : (lines : JsonLines) → (IsSome lines.unencrypted → ⊥) → lines.unencrypted ≡ None
+pub not_full : (lines : JsonLines) → (IsSome lines.unencrypted → ⊥) → lines.unencrypted ≡ None
 not_full lines room = by lines.unencrypted refl
   where
     by : (found : Option (String Global)) → lines.unencrypted ≡ found → lines.unencrypted ≡ None
     by None e = e
     by (Some path) e = absurd (room (subst IsSome (sym e) refl))
-
-pub none_full : (lines : JsonLines) → lines.unencrypted ≡ None → IsSome lines.unencrypted → ⊥
-none_full lines none full = no (subst IsSome none full)
-  where
-    no : IsSome {A = String Global} None → ⊥
-    no e = cc
 
 rest-none : (lines : JsonLines) (end : Ending) → lines.unencrypted ≡ None → rest_of lines [] end ≡ record { text = []; end = end }
 rest-none lines end none = ap (λ found. rest_by (option_map string_bytes found) lines.messages [] end) none

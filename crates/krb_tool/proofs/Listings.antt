@@ -222,6 +222,37 @@ all_is_read Boundary left a = a tt
 all_is_read (Within present) left a = a tt
 all_is_read (Refused place reason) left a = tt
 
+-- ---- what a run did
+pub ListsStream-listed : (going : Bool) (form : Form) (profile : Profile) (limit : ℕ) (had left written_before written_after : Option (List ℕ)) (ended : RunEnd) → ListsBy (rules_of going form profile limit) had left written_before written_after ended → ListsStream going form profile limit had left written_before written_after ended
+ListsStream-listed true form profile limit had left written_before written_after ended l = record {
+  read = l.read;
+  written = l.written;
+  taken = l.taken;
+  added = l.added;
+  listed = l.listing.listing;
+  ended_so = l.listing.ends.ended_so;
+  all_read = l.listing.ends.all_read;
+  stops = l.listing.ends.stops;
+}
+ListsStream-listed false form profile limit had left written_before written_after ended l = record {
+  read = l.read;
+  written = l.written;
+  taken = l.taken;
+  added = l.added;
+  listed = l.listing.listing;
+  ended_so = l.listing.ends.ended_so;
+  all_read = l.listing.ends.all_read;
+  stops = l.listing.ends.stops;
+}
+
+pub FailsStream-failed : (going : Bool) (form : Form) (profile : Profile) (limit : ℕ) (had left written_before written_after : Option (List ℕ)) (failed : RunFault) → FailsBy (rules_of going form profile limit) had left written_before written_after failed → FailsStream going form profile limit had left written_before written_after failed
+FailsStream-failed true form profile limit had left written_before written_after (fault.Write error) f = f
+FailsStream-failed true form profile limit had left written_before written_after (fault.Read error) f = f
+FailsStream-failed true form profile limit had left written_before written_after fault.Memory f = f
+FailsStream-failed false form profile limit had left written_before written_after (fault.Write error) f = f
+FailsStream-failed false form profile limit had left written_before written_after (fault.Read error) f = f
+FailsStream-failed false form profile limit had left written_before written_after fault.Memory f = f
+
 -- ---- no octet more is looked at
 module _ (lister : FrameLister StreamLines) (taken : Taken) (d : IsDone stream_lines lister taken) where
   abbrev form : Form
@@ -361,34 +392,3 @@ ends-listed lister new ended f taken left o =
     ends-by lister taken o.done lister.lines.request.keep_going refl (taken.written ++ new.text) left ended (o.read (λ full. full))
     (ap (λ l. taken.written ++ l) f.lines ∙ text-is lister taken o.done lister.lines.request.keep_going)
     (f.ended_so ∙ ap (λ k. counted_run_end (k + refused_in (listed_last lister))) o.done.lines.refused)
-
--- ---- what a run did
-pub ListsStream-listed : (going : Bool) (form : Form) (profile : Profile) (limit : ℕ) (had left written_before written_after : Option (List ℕ)) (ended : RunEnd) → ListsBy (rules_of going form profile limit) had left written_before written_after ended → ListsStream going form profile limit had left written_before written_after ended
-ListsStream-listed true form profile limit had left written_before written_after ended l = record {
-  read = l.read;
-  written = l.written;
-  taken = l.taken;
-  added = l.added;
-  listed = l.listing.listing;
-  ended_so = l.listing.ends.ended_so;
-  all_read = l.listing.ends.all_read;
-  stops = l.listing.ends.stops;
-}
-ListsStream-listed false form profile limit had left written_before written_after ended l = record {
-  read = l.read;
-  written = l.written;
-  taken = l.taken;
-  added = l.added;
-  listed = l.listing.listing;
-  ended_so = l.listing.ends.ended_so;
-  all_read = l.listing.ends.all_read;
-  stops = l.listing.ends.stops;
-}
-
-pub FailsStream-failed : (going : Bool) (form : Form) (profile : Profile) (limit : ℕ) (had left written_before written_after : Option (List ℕ)) (failed : RunFault) → FailsBy (rules_of going form profile limit) had left written_before written_after failed → FailsStream going form profile limit had left written_before written_after failed
-FailsStream-failed true form profile limit had left written_before written_after (fault.Write error) f = f
-FailsStream-failed true form profile limit had left written_before written_after (fault.Read error) f = f
-FailsStream-failed true form profile limit had left written_before written_after fault.Memory f = f
-FailsStream-failed false form profile limit had left written_before written_after (fault.Write error) f = f
-FailsStream-failed false form profile limit had left written_before written_after (fault.Read error) f = f
-FailsStream-failed false form profile limit had left written_before written_after fault.Memory f = f

@@ -1,6 +1,6 @@
 -- Messages in lines, which come piece by piece.
 use Rattle.std.proofs.Common.{◌≡◌, ℕ, ◌+◌, ◌-◌, ◌≤◌, Bool, true, false, List, [], ◌∷◌, ◌++◌, length, take, min, Option, Some, None, refl, sym, ◌∙◌, ap, subst, arith, append-nil, length-append, length-take, take_all}
-use Rattle.std.specs.Prelude.{nat_lt, not, ◌&&◌}
+use Rattle.std.specs.Prelude.{nat_lt, not, ◌&&◌, ◌==◌}
 use Rattle.std.proofs.lemmas.Bool.Decides.{nat_tests}
 use Rattle.krb_der.specs.Octets.{when}
 use Rattle.krb_tool.specs.Conversions.{Converted, after_text}
@@ -181,6 +181,19 @@ unfolding first_of
 nothing_kept [] e = refl
 nothing_kept (octet ∷ last) e = absurd (not_some (sym (ap first_of e)))
 
-pub has-line : (lister : LineLister) (empty : Bool) → (empty ≡ true → lister.line.items ≡ []) → (empty ≡ false → lister.line.items ≡ [] → ⊥) → HasLine message_lines lister (not empty)
-has-line lister true none some = λ c line held. nothing_kept line (sym held.kept ∙ none refl)
-has-line lister false none some = (λ held. some refl held.kept, never_stopped lister)
+is_zero : (n : ℕ) → (n == 0) ≡ true → n ≡ 0
+is_zero n e = grind (arith, nat_tests)
+
+pub has-line : (lister : LineLister) (empty : Bool) → empty ≡ (length lister.line.items == 0) → HasLine message_lines lister (not empty)
+has-line lister empty is = by empty (sym is)
+  where
+    none : (line : List ℕ) → (length line == 0) ≡ true → line ≡ []
+    none [] e = refl
+    none (octet ∷ line) e = absurd (omega (arith, is_zero (length (octet ∷ line)) e))
+
+    never : true ≡ false → ⊥
+    never e = cc
+
+    by : (empty : Bool) → (length lister.line.items == 0) ≡ empty → HasLine message_lines lister (not empty)
+    by true e = λ c line held. nothing_kept line (sym held.kept ∙ none lister.line.items e)
+    by false e = (λ held. never (ap (λ (l : List ℕ). length l == 0) (sym held.kept) ∙ e), never_stopped lister)

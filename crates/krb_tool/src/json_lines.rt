@@ -104,12 +104,13 @@ impl Receiver for JsonLines {
     ghost IsFull = { λ lines. IsSome lines.unencrypted };
 
     fn receive_contents(&mut self, profile: Profile, contents: &[u8]) -> Result<bool, Memory> {
-        if view_message_in(profile, contents).is_none() {
+        let Some(_) = view_message_in(profile, contents) else {
             return Ok(false);
+        };
+        if self.unencrypted.is_some() {
+            return Ok(true);
         }
-        if self.unencrypted.is_none() {
-            self.put_message(contents)?;
-        }
+        self.put_message(contents)?;
         Ok(true)
     }
 

@@ -36,7 +36,7 @@ lines-preserved g c =
     (fed-line g.L.ReadLines.kind c.lines.lines c.add.new.self c.end_line.new.self c.lines.rest.now c.in-Some.end (first_line c.lines.rest.now c.in-Some.end c.in-Some.ensures) c.in_ok-add.ensures.added ended))
 
 pub add-requires-2 : goal.add-requires-2
-add-requires-2 g c = few_left (reader_kind g.L.ReadLines.kind) c.requires.waits c.requires.short c.lines.invariant
+add-requires-2 g c = record { few = few_left (reader_kind g.L.ReadLines.kind) c.requires.waits c.requires.short c.lines.invariant }
 
 pub returns-clause-taken : goal.returns-clause-taken
 returns-clause-taken g c =

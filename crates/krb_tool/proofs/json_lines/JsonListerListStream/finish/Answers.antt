@@ -1,7 +1,8 @@
-use Rattle.std.proofs.Common.{refl, sym, ◌∙◌, subst}
-use Rattle.std.specs.Prelude.{IfOk}
-use Rattle.std.proofs.lemmas.Result.{IfOk-weaker}
-use Rattle.krb_frame.specs.Decoding.{Decoding}
+use Rattle.std.proofs.Common.{◌≡◌, refl, sym, ◌∙◌, subst}
+use Rattle.krb_msg.specs.Grammar.{messages}
+use Rattle.krb_frame.specs.Decoding.{Decoding, found}
+use Rattle.krb_tool.specs.Decoding.{ending_at, ending_of}
+use Rattle.krb_tool.specs.Paths.{frame_path}
 use Rattle.krb_tool.specs.declared.json_lines.JsonLines.{JsonLines}
 use Rattle.krb_tool.specs.inner.JsonLines.{json_lines}
 use Rattle.krb_tool.specs.inner.Listers.{FrameLister}
@@ -17,4 +18,10 @@ returns-in-Some-clause-finished c =
     (λ taken left o. ends-unencrypted old new taken left o refl c.in-Some.path (sym c.take.ensures.value ∙ c.in-Some.is))
 
 pub returns-in_ok-stream_end-in-None-clause-finished : goal.returns-in_ok-stream_end-in-None-clause-finished
-returns-in_ok-stream_end-in-None-clause-finished c = ?
+returns-in_ok-stream_end-in-None-clause-finished c =
+    let old : FrameLister JsonLines = record { decoder = c.args.self.now.decoder; lines = c.args.self.now.lines } in
+    let new : JsonLines = record old.lines { unencrypted = c.take.new.self } in
+    let ended = c.in_ok-stream_end-in-None.field-0 in
+    let is = subst (λ (d : Decoding). ending_of ended ≡ ending_at old.lines.messages (found (messages d.profile) d).end (frame_path d.profile d.octets)) c.decoder.ensures c.in_ok-stream_end-in-None.ensures in
+    finishes json_lines json_listed old (record { decoder = old.decoder; lines = new }) ended
+    (λ taken left o. ends-encrypted old new taken left o refl ended (sym c.take.ensures.value ∙ c.in-None.is) is)
