@@ -110,6 +110,19 @@ receives-put octets old new (Some path) none u p =
       few = omega (arith, p.messages);
     }
 
+-- one alone
+unencrypted_end : (message : ℕ) (path found : List ℕ) → Some path ≡ Some found → Unencrypted message path ≡ Unencrypted message found
+unencrypted_end message path found e = cc
+
+module _ (octets : List ℕ) (old new : JsonLines) (empty : old.text.items ≡ []) (none : old.unencrypted ≡ None) where
+  pub whole-line : (unencrypted : Option (List ℕ)) → PutsBy unencrypted octets old new → new.unencrypted ≡ None → record { text = new.text.items; end = All } ≡ line_and 1 octets unencrypted (record { text = []; end = All })
+  whole-line None p e = ap (λ t. record { text = t; end = All }) (p.text ∙ ap (λ t. t ++ octets_line octets) empty ∙ sym (append-nil (octets_line octets)))
+  whole-line (Some path) p e = absurd (not_some (ap (option_map string_bytes) (sym e) ∙ p.kept))
+
+  pub whole-path : (unencrypted : Option (List ℕ)) (path : String Global) → PutsBy unencrypted octets old new → new.unencrypted ≡ Some path → record { text = new.text.items; end = Unencrypted 1 (string_bytes path) } ≡ line_and 1 octets unencrypted (record { text = []; end = All })
+  whole-path None path p e = absurd (not_some (sym none ∙ sym p.same ∙ e))
+  whole-path (Some found) path p e = ap₂ (λ t end. record { text = t; end = end }) (p.text ∙ empty) (unencrypted_end 1 (string_bytes path) found (ap (option_map string_bytes) (sym e) ∙ p.kept))
+
 pub none_full : (lines : JsonLines) → lines.unencrypted ≡ None → IsSome lines.unencrypted → ⊥
 none_full lines none full = no (subst IsSome none full)
   where

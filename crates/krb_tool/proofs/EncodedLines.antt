@@ -1,7 +1,7 @@
 -- Lines that are encoded, piece by piece.
-use Rattle.std.proofs.Common.{◌≡◌, ℕ, ◌+◌, Bool, true, false, List, [], ◌∷◌, ◌++◌, Option, Some, None, refl, sym, ◌∙◌, ap, subst, arith, append-nil}
+use Rattle.std.proofs.Common.{◌≡◌, ℕ, ◌+◌, Bool, true, false, List, [], ◌∷◌, ◌++◌, length, Option, Some, None, refl, sym, ◌∙◌, ap, subst, arith, append-nil}
 use Rattle.std.specs.Option.{option_map}
-use Rattle.std.specs.Prelude.{◌&&◌, not, IsSome, IfSome, Result, Err}
+use Rattle.std.specs.Prelude.{◌&&◌, ◌==◌, not, is_some, IsSome, IfSome, Result, Err}
 use Rattle.krb_tool.specs.Conversions.{Converted, after_text}
 use Rattle.krb_tool.specs.Encoding.{Ending, Faulty, SecondMessage, is_blank_line, written_as, message_and, ending_of, ending_after, IsNoFault}
 use Rattle.krb_der.specs.Octets.{when}
@@ -10,10 +10,12 @@ use Rattle.krb_json.specs.Reading.{AreSpelled, line_fault_of}
 use Rattle.krb_json.specs.declared.line_fault.LineFault.{LineFault}
 use Rattle.krb_json.specs.declared.line_fault.LineFault.TheVariants as wrong
 use Rattle.krb_msg.specs.declared.message.Message.{Message}
+use Rattle.krb_tool.specs.declared.encode_run.EncodeEnd.{EncodeEnd}
 use Rattle.krb_tool.specs.declared.json_reader.EncodeRequest.{EncodeRequest}
 use Rattle.krb_tool.specs.declared.json_reader.JsonReader.{JsonReader}
 use Rattle.krb_tool.specs.inner.EncodedLines.{KeepsFault, TakesLine, encoded_from, json_reading, read_and, rest_by, rest_of}
 use Rattle.krb_tool.specs.inner.LineReaders.{EndsLine, Follows, GoesOn, HasLine}
+use Rattle.krb_tool.proofs.SourceLineParts.{is_nothing, is_something}
 
 -- ---- a line
 abbrev second : ℕ → Converted Ending
@@ -96,7 +98,7 @@ follows : (new : JsonReader) (is_read : Bool) → KeepsFault new is_read → Fol
 follows new true none =
     let rest : rest_of new [] ≡ record { text = []; end = ending_after new.request.is_framed new.came } = ap (λ fault. rest_by fault new.request (new.lines + 1) new.came []) (not_kept new none) in
     (none, subst (λ c. IsNoFault c.end) (sym rest) (no_fault new.request.is_framed new.came))
-follows new false (ending, kept, wrong) = record { end = ending; rest = λ lines. ap (λ fault. rest_by fault new.request (new.lines + 1) new.came lines) kept; fault = wrong }
+follows new false k = record { end = k.0; rest = λ lines. ap (λ fault. rest_by fault new.request (new.lines + 1) new.came lines) k.1; fault = k.2 }
 
 -- it has ended, and is counted
 pub ends-taken : (old between new : JsonReader) (is_read : Bool) → old.fault ≡ None → TakesLine old between is_read → new.text ≡ between.text → new.request ≡ between.request → new.came ≡ between.came → new.fault ≡ between.fault → new.lines ≡ between.lines + 1 → new.line.items ≡ [] → EndsLine json_reading old new is_read
@@ -116,14 +118,19 @@ ends-taken old between new is_read none t text request came fault lines empty = 
   where
     kept : (is_read : Bool) → KeepsFault between is_read → KeepsFault new is_read
     kept true none = fault ∙ none
-    kept false (ending, kept, wrong) = (ending, ap (option_map ending_of) fault ∙ kept, wrong)
+    kept false k = (k.0, ap (option_map ending_of) fault ∙ k.1, k.2)
 
 -- a line that has not ended
-not_some : {A : Type 0} {value : A} → None ≡ Some value → ⊥
-not_some e = cc
+pub not_at_fault : (fault : Option EncodeEnd) → is_some fault ≡ false → fault ≡ None
+not_at_fault None e = refl
+not_at_fault (Some fault) e = absurd cc
 
-pub has-line : (reader : JsonReader) → reader.fault ≡ None → (reader.line.items ≡ [] → ⊥) → HasLine json_reading reader true
-has-line reader none some = (some, λ s. s.fault (subst (λ c. IsNoFault c.end) (s.rest []) (follows reader true none).1))
+pub has-line : (reader : JsonReader) (empty : Bool) → reader.fault ≡ None → empty ≡ (length reader.line.items == 0) → HasLine json_reading reader (not empty)
+has-line reader empty none is = by empty (sym is)
+  where
+    by : (empty : Bool) → (length reader.line.items == 0) ≡ empty → HasLine json_reading reader (not empty)
+    by true e = λ is_open line held. sym held ∙ is_nothing reader.line.items e
+    by false e = (is_something reader.line.items e, λ s. s.fault (subst (λ c. IsNoFault c.end) (s.rest []) (follows reader true none).1))
 
 -- nothing came yet
 pub start-is : (reader : JsonReader) (lines : List (List ℕ)) → reader.fault ≡ None → reader.text.items ≡ [] → reader.lines ≡ 0 → reader.came ≡ false → encoded_from reader.request 1 false lines ≡ after_text reader.text.items (rest_of reader lines)

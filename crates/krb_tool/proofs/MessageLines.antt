@@ -18,6 +18,7 @@ use Rattle.krb_tool.specs.inner.LineReaders.{Adds, EndsLine, HasLine, IsStopped}
 use Rattle.krb_tool.specs.inner.MessageLines.{IsCounted, PutsLine, kept_octets, message_lines, records_from}
 use Rattle.krb_tool.proofs.FirstOctets.{first-both, first-kept}
 use Rattle.krb_tool.proofs.Messages.{too-long}
+use Rattle.krb_tool.proofs.SourceLineParts.{is_nothing, is_something}
 
 -- ---- the octets that are kept of a line
 -- they decide whether it is too long
@@ -181,19 +182,9 @@ unfolding first_of
 nothing_kept [] e = refl
 nothing_kept (octet ∷ last) e = absurd (not_some (sym (ap first_of e)))
 
-is_zero : (n : ℕ) → (n == 0) ≡ true → n ≡ 0
-is_zero n e = grind (arith, nat_tests)
-
 pub has-line : (lister : LineLister) (empty : Bool) → empty ≡ (length lister.line.items == 0) → HasLine message_lines lister (not empty)
 has-line lister empty is = by empty (sym is)
   where
-    none : (line : List ℕ) → (length line == 0) ≡ true → line ≡ []
-    none [] e = refl
-    none (octet ∷ line) e = absurd (omega (arith, is_zero (length (octet ∷ line)) e))
-
-    never : true ≡ false → ⊥
-    never e = cc
-
     by : (empty : Bool) → (length lister.line.items == 0) ≡ empty → HasLine message_lines lister (not empty)
-    by true e = λ c line held. nothing_kept line (sym held.kept ∙ none lister.line.items e)
-    by false e = (λ held. never (ap (λ (l : List ℕ). length l == 0) (sym held.kept) ∙ e), never_stopped lister)
+    by true e = λ c line held. nothing_kept line (sym held.kept ∙ is_nothing lister.line.items e)
+    by false e = (λ held. is_something lister.line.items e held.kept, never_stopped lister)

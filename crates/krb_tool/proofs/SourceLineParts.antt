@@ -162,3 +162,17 @@ no_feed text none = λ k d l. none_before text (length text) (omega arith) none 
 
 pub no_line : (text : List ℕ) → IsFirstByte (is_byte 10) text None → parts text ≡ text ∷ []
 no_line text none = slice_split_none (λ octet. octet == 10) text (no_feed text none)
+
+-- ---- octets, if there are any
+is_zero : (n : ℕ) → (n == 0) ≡ true → n ≡ 0
+is_zero n e = grind (arith, nat_tests)
+
+pub is_nothing : (octets : List ℕ) → (length octets == 0) ≡ true → octets ≡ []
+is_nothing [] e = refl
+is_nothing (octet ∷ octets) e = absurd (omega (arith, is_zero (length (octet ∷ octets)) e))
+
+pub is_something : (octets : List ℕ) → (length octets == 0) ≡ false → octets ≡ [] → ⊥
+is_something octets e none = never (ap (λ (l : List ℕ). length l == 0) (sym none) ∙ e)
+  where
+    never : true ≡ false → ⊥
+    never e = cc

@@ -140,9 +140,14 @@ fn put_message(alloc: Global, octets: &[u8]) -> Result<MessageLine, RunFault>
     let mut lines = JsonLines::new(alloc);
     lines.put_message(octets)?;
     let text = lines.text;
-    let end = match lines.unencrypted {
-        Some(path) => DecodeEnd::Unencrypted { message: 1, path },
-        None => DecodeEnd::Clean,
-    };
-    Ok(MessageLine { text, end })
+    match lines.unencrypted {
+        Some(path) => {
+            let end = DecodeEnd::Unencrypted { message: 1, path };
+            Ok(MessageLine { text, end })
+        }
+        None => {
+            let end = DecodeEnd::Clean;
+            Ok(MessageLine { text, end })
+        }
+    }
 }
