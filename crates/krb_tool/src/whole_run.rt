@@ -139,15 +139,14 @@ fn put_message(alloc: Global, octets: &[u8]) -> Result<MessageLine, RunFault>
 {
     let mut lines = JsonLines::new(alloc);
     lines.put_message(octets)?;
-    let text = lines.text;
-    match lines.unencrypted {
-        Some(path) => {
-            let end = DecodeEnd::Unencrypted { message: 1, path };
-            Ok(MessageLine { text, end })
-        }
-        None => {
-            let end = DecodeEnd::Clean;
-            Ok(MessageLine { text, end })
-        }
+    match lines.unencrypted.take() {
+        Some(path) => Ok(MessageLine {
+            text: lines.text,
+            end: DecodeEnd::Unencrypted { message: 1, path },
+        }),
+        None => Ok(MessageLine {
+            text: lines.text,
+            end: DecodeEnd::Clean,
+        }),
     }
 }
