@@ -226,7 +226,7 @@ json_listed = record {
   listing = λ lister taken d room. (
     [],
     append-nil (taken.written ++ lister.lines.text.items)
-    ∙ sym (ap (λ c. c.text) (decoded-whole lister taken.octets taken.written d.frames d.lines (done-first json_lines lister taken d refl room).0 (not_full lister.lines room))),
+        ∙ sym (ap (λ c. c.text) (decoded-whole lister taken.octets taken.written d.frames d.lines (done-first json_lines lister taken d refl room).0 (not_full lister.lines room))),
   );
 }
 

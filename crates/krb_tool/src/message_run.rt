@@ -85,5 +85,6 @@ pub fn run_message_in<R: Read, W: Write>(
     ensures fault { IfErr result (FailsFile (IsMessageListing form profile) (R.remaining reader.old) (R.remaining reader.new) (W.contents writer.old) (W.contents writer.new)) }
 {
     let mut counted = CountedReader::new(reader);
-    run_file(alloc, &mut counted, writer, &SpelledMessage { form, profile })
+    let message = SpelledMessage { form, profile };
+    run_file(alloc, &mut counted, writer, &message)
 }
