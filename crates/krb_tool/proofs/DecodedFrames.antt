@@ -1,13 +1,12 @@
 -- The lines of the messages of a stream, written as JSON.
-use Rattle.std.proofs.Common.{String, Global, ◌≡◌, ℕ, ◌+◌, ◌^◌, ◌<◌, ◌⊎◌, inl, inr, List, [], ◌∷◌, ◌++◌, length, Option, Some, None, refl, sym, ◌∙◌, ap, ap₂, subst, arith, append-nil, append_assoc, length-append}
+use Rattle.std.proofs.Common.{String, Global, ◌≡◌, ℕ, ◌+◌, ◌^◌, ◌<◌, inl, inr, List, [], ◌∷◌, ◌++◌, length, Option, Some, None, refl, sym, ◌∙◌, ap, ap₂, subst, arith, append-nil, append_assoc, length-append}
 use Rattle.std.specs.List.{AllByRecursion, flat_map}
 use Rattle.std.specs.Option.{option_map}
 use Rattle.std.specs.Prelude.{IsSome, string_bytes}
-use Rattle.std.specs.Io.KnownBytes.{IsAtEnd}
 use Rattle.krb_der.specs.declared.profile.Profile.{Profile}
 use Rattle.krb_der.specs.declared.profile.Profile.TheVariants.{Lenient}
 use Rattle.krb_msg.specs.Grammar.{messages}
-use Rattle.krb_msg.specs.Stream.{End, Boundary, Frames, frames}
+use Rattle.krb_msg.specs.Stream.{End, Frames, frames}
 use Rattle.krb_msg.specs.Laws.{AreMessage}
 use Rattle.krb_msg.specs.ViewValues.{IsMessageView}
 use Rattle.krb_msg.specs.declared.message_view.MessageView.{MessageView}
@@ -17,15 +16,15 @@ use Rattle.krb_frame.specs.Deliveries.{IsMessage, contents_in}
 use Rattle.krb_frame.specs.GoingOn.{Entry, Contents, Fault, after_contents, entries, entry_size}
 use Rattle.krb_json.specs.Unencrypted.{unencrypted_in}
 use Rattle.krb_tool.specs.Conversions.{Converted, after_text}
-use Rattle.krb_tool.specs.Decoding.{Ending, All, Unencrypted, ending_at, ending_of, line_and, lines_after, decoded, AllAreEncrypted, GoesOn}
+use Rattle.krb_tool.specs.Decoding.{Ending, All, Unencrypted, ending_at, ending_of, line_and, lines_after, decoded, AllAreEncrypted}
 use Rattle.krb_tool.specs.Listing.{IsNotRefused}
 use Rattle.krb_tool.specs.Paths.{found_path, frame_path, last_octets}
 use Rattle.krb_tool.specs.declared.decode_run.DecodeEnd.{DecodeEnd}
 use Rattle.krb_tool.specs.declared.decode_run.DecodeEnd.TheVariants as ends
 use Rattle.krb_tool.specs.declared.json_lines.JsonLines.{JsonLines}
 use Rattle.krb_tool.specs.inner.Conversions.{IsBeginning}
-use Rattle.krb_tool.specs.inner.JsonLines.{AddsLine, HasLines, IsOfMessage, KeepsPath, PutsBy, ReceivesEntry, ReceivesMessage, json_lines, octets_line, rest_by, rest_of}
-use Rattle.krb_tool.specs.inner.Listers.{Adds, AreListed, FrameLister, HasListed, IsDone, current_end, lister_kind}
+use Rattle.krb_tool.specs.inner.JsonLines.{HasLines, IsOfMessage, PutsBy, ReceivesEntry, ReceivesMessage, json_lines, octets_line, rest_by, rest_of}
+use Rattle.krb_tool.specs.inner.Listers.{Adds, AreListed, FrameLister, current_end, lister_kind}
 use Rattle.krb_tool.specs.inner.Streams.{EndsListing, Taken}
 use Rattle.krb_tool.proofs.ConversionRuns.{after_text-both}
 use Rattle.krb_tool.proofs.FirstRefusals.{SameEnd, frames-begin}

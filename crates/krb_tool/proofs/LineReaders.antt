@@ -5,7 +5,7 @@ use Rattle.krb_tool.specs.Conversions.{Converted, after_text}
 use Rattle.krb_tool.specs.Encoding.{parts, without_empty_last, ended_of, lines_of}
 use Rattle.krb_tool.specs.Listing.{StopsInPiece}
 use Rattle.krb_tool.specs.inner.Conversions.{IsBeginning}
-use Rattle.krb_tool.specs.inner.LineReaders.{Adds, EndsLine, EndsText, GoesOn, HasLine, HasRead, IsRight, IsStopped, IsStoppedAfter, LineKind, line_rules, reader_kind}
+use Rattle.krb_tool.specs.inner.LineReaders.{Adds, EndsLine, EndsText, GoesOn, HasLine, HasRead, IsRight, IsStoppedAfter, LineKind, line_rules, reader_kind}
 use Rattle.krb_tool.specs.inner.Pieces.{IsFed, IsLastOf, TakesPiece, WaitsAfter, listing_of}
 use Rattle.krb_tool.specs.inner.Streams.{Begins, Feeds, Finishes, IsLast, IsNew, MayFinish, Taken, with_piece}
 use Rattle.krb_tool.proofs.ConversionRuns.{after_text-both}

@@ -1,5 +1,5 @@
 -- A stream whose frames are listed piece by piece, whatever is written of them.
-use Rattle.std.proofs.Common.{◌≡◌, ℕ, ◌+◌, ◌*◌, ◌^◌, ◌<◌, ◌≤◌, ◌⊎◌, inl, inr, Bool, true, false, List, [], ◌∷◌, ◌++◌, length, take, drop, Option, refl, sym, ◌∙◌, ap, ap₂, subst, arith, append-nil, append_assoc, length-append, take-append-drop}
+use Rattle.std.proofs.Common.{◌≡◌, ℕ, ◌+◌, ◌^◌, ◌<◌, ◌≤◌, ◌⊎◌, inl, inr, Bool, true, false, List, [], ◌∷◌, ◌++◌, length, take, drop, Option, refl, sym, ◌∙◌, ap, ap₂, subst, arith, append-nil, append_assoc, length-append, take-append-drop}
 use Rattle.std.specs.Prelude.{◌↔◌, IsTrue, not}
 use Rattle.std.specs.Io.KnownBytes.{IsAtEnd}
 use Rattle.std.specs.List.{AllByRecursion}
@@ -13,7 +13,7 @@ use Rattle.krb_msg.specs.Grammar.{messages}
 use Rattle.krb_msg.specs.Stream.{End, Boundary, Within, Refused, ends, frames}
 use Rattle.krb_frame.specs.Decoding.{Decoding, AreOfOne, found, finish_at, status_at, status_of}
 use Rattle.krb_frame.specs.Deliveries.{AreUsed, Delivers, DeliversBefore, DeliversPrefix, DeliversUpTo, IsMessage, Received, contents_in, due}
-use Rattle.krb_frame.specs.GoingOn.{Entry, Fault, GoesOn, Skipping, after_contents, entries, entries_size, entry_size, last_entry, next_entries}
+use Rattle.krb_frame.specs.GoingOn.{Entry, Fault, GoesOn, Skipping, after_contents, entries, entries_size, last_entry, next_entries}
 use Rattle.krb_frame.specs.declared.decoder.Status.TheVariants as status
 use Rattle.krb_frame.proofs.DecoderFrames.{more-nothing}
 use Rattle.krb_frame.proofs.Ends.{refused_end, refused_more}

@@ -1,5 +1,5 @@
 -- The lines of a stream, up to its end or the first refusal, or also after refusals.
-use Rattle.std.proofs.Common.{◌≡◌, ℕ, ◌+◌, ◌^◌, ◌<◌, ◌≤◌, ◌⊎◌, inl, inr, Bool, true, false, List, [], ◌∷◌, ◌++◌, length, map, Option, Result, Ok, Err, refl, sym, ◌∙◌, ap, ap₂, subst, arith, append_assoc, append-nil}
+use Rattle.std.proofs.Common.{◌≡◌, ℕ, ◌+◌, ◌^◌, ◌<◌, ◌⊎◌, inl, inr, Bool, true, false, List, [], ◌∷◌, ◌++◌, length, map, Option, Result, Ok, Err, refl, sym, ◌∙◌, ap, ap₂, subst, arith, append_assoc, append-nil}
 use Rattle.std.specs.Io.KnownBytes.{IsAtEnd}
 use Rattle.std.specs.List.{AllByRecursion, flat_map}
 use Rattle.std.proofs.lemmas.List.{map-append}
@@ -25,7 +25,7 @@ use Rattle.krb_tool.specs.declared.listing.StreamLines.{StreamLines}
 use Rattle.krb_tool.specs.declared.run.RunEnd.{RunEnd}
 use Rattle.krb_tool.specs.declared.run.RunFault.{RunFault}
 use Rattle.krb_tool.specs.declared.run.RunFault.TheVariants as fault
-use Rattle.krb_tool.specs.inner.Listers.{Adds, AreListed, Ends, FrameLister, HasListed, IsDone, current_end, last_frames, last_of, lister_kind}
+use Rattle.krb_tool.specs.inner.Listers.{Adds, AreListed, FrameLister, HasListed, IsDone, current_end, last_frames, last_of, lister_kind}
 use Rattle.krb_tool.specs.inner.StreamLines.{AddsEnd, AddsRefused, AsksAfter, HasLines, ListsEntry, PutsClosing, closing, last_listed, listed_last, rules_of, stream_lines}
 use Rattle.krb_tool.specs.inner.Streams.{EndsListing, FailsBy, ListsBy, Taken}
 use Rattle.krb_tool.proofs.FirstRefusals.{SameEnd, frames-begin}

@@ -1,6 +1,6 @@
 -- Pieces of a stream, whatever kind of lister lists it.
-use Rattle.std.proofs.Common.{◌≡◌, ℕ, ◌+◌, ◌-◌, ◌*◌, ◌^◌, ◌<◌, ◌≤◌, inl, inr, Bool, true, false, List, [], ◌++◌, length, take, drop, Option, refl, sym, ◌∙◌, ap, subst, arith, append-nil, append_assoc, length-append, length-drop, drop_at}
-use Rattle.std.proofs.lemmas.List.{drop-drop, take_all, take_at}
+use Rattle.std.proofs.Common.{◌≡◌, ℕ, ◌+◌, ◌-◌, ◌*◌, ◌^◌, ◌<◌, ◌≤◌, inl, inr, Bool, true, false, List, [], ◌++◌, length, take, drop, Option, refl, sym, ◌∙◌, ap, subst, arith, append-nil, append_assoc, length-append, length-drop}
+use Rattle.std.proofs.lemmas.List.{drop-drop, take_all}
 use Rattle.std.proofs.Math.Seq.{take-add}
 use Rattle.krb_tool.specs.inner.Streams.{Taken, with_piece, Begins, GoesOn, IsNew, AcceptsPiece, Feeds, Clears, IsLast, EndsListing, Finishes}
 use Rattle.krb_tool.specs.inner.Pieces.{Kind, IsFed, Goes, TakesPiece, WaitsAfter, IsLastOf, listing_of}

@@ -1,4 +1,4 @@
-use Rattle.std.proofs.Common.{refl, sym, ◌∙◌, ap, append-nil}
+use Rattle.std.proofs.Common.{◌∙◌, ap}
 use Rattle.krb_tool.specs.inner.EncodedLines.{json_reading}
 use Rattle.krb_tool.proofs.EncodedLines.{rest-nothing}
 use Rattle.krb_tool.proofs.LineReaders.{finishes}
