@@ -1,6 +1,6 @@
 //! Octets that are one message.
 
-ghost use Rattle.std.specs.Prelude.{◌≡◌, ◌+◌, ◌-◌, ◌^◌, ◌<◌, ◌≤◌, length, take, IfOk, OnOk, string_bytes};
+ghost use Rattle.std.specs.Prelude.{◌≡◌, ◌+◌, ◌-◌, ◌^◌, ◌<◌, ◌≤◌, length, IfOk, OnOk, string_bytes};
 ghost use Rattle.std.specs.Option.{option_map};
 ghost use Rattle.krb_text.specs.Refusals.{path_in};
 ghost use Rattle.krb_capture.specs.Found.{Missing, with_found};
@@ -34,13 +34,6 @@ pub(crate) fn path_of(
     path(alloc, Profile::Lenient, size as u32, prefix)
 }
 
-/// Returns the first `count` octets, or all if there are no more.
-fn first(octets: &[u8], count: usize) -> &[u8]
-    ensures { result.now ≡ take count octets.now }
-{
-    &octets[..octets.len().min(count)]
-}
-
 /// Lists octets that are refused as a message of `size` octets, which follows `before` others of
 /// a frame or a datagram.
 pub(crate) fn list_refused(
@@ -56,7 +49,7 @@ pub(crate) fn list_refused(
     requires fits { before + refusal.place < 2 ^ 32 }
     ensures { OnOk result (listing.new ≡ with_found origin.now (refused_found extent before size octets.now refusal) listing.old) }
 {
-    let prefix = first(octets, refusal.place as usize + 1);
+    let prefix = &octets[..octets.len().min(refusal.place as usize + 1)];
     let path = path_of(listing.allocator(), listing.form(), size, prefix)?;
     let place = before + refusal.place;
     let why = refusal.why;

@@ -153,11 +153,10 @@ impl<'a> Receiver for FrameLister<'a> {
 pub(crate) fn extent_of(offset: u64, announced: Option<u32>) -> Extent
     ensures { result ≡ record { at = offset; length = announced } }
 {
-    let length = match announced {
-        None => None,
-        Some(length) => Some(u64::from(length)),
-    };
-    Extent { at: offset, length }
+    Extent {
+        at: offset,
+        length: announced.map(u64::from),
+    }
 }
 
 /// Returns the path of the field of which the next octet is due, or that has the octet that is

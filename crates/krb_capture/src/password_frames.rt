@@ -157,11 +157,7 @@ impl PasswordFrames {
     pub(crate) fn path(&self) -> Option<&'static str>
         ensures { option_copied result ≡ open_path services.Passwords self.now.octets.items }
     {
-        if self.octets.len() < LENGTH {
-            None
-        } else {
-            Some("KPASSWD")
-        }
+        (self.octets.len() >= LENGTH).then_some("KPASSWD")
     }
 
     /// Returns where the frame begins that is not whole, and the length that it announces.

@@ -1,5 +1,5 @@
 -- A run on records, one line after another.
-use Rattle.std.proofs.Common.{◌≡◌, ℕ, suc, List, [], ◌∷◌, ◌++◌, length, drop, Option, Some, None, Result, Ok, Err, IfOk, refl, sym, ◌∙◌, ap, ap₂, subst, arith, append-nil, append_assoc, length-append, drop_of_length-le, drop_at}
+use Rattle.std.proofs.Common.{◌≡◌, ℕ, suc, List, [], ◌∷◌, ◌++◌, length, drop, Option, Some, None, Result, Ok, Err, refl, sym, ◌∙◌, ap, ap₂, subst, arith, append-nil, append_assoc, length-append, drop_of_length-le, drop_at}
 use Rattle.std.proofs.lemmas.List.Concat.{flat_map-cons}
 use Rattle.std.specs.List.{flat_map}
 use Rattle.std.specs.Io.KnownBytes.{Appends}
@@ -17,7 +17,7 @@ use Rattle.krb_tool.specs.declared.run.RunFault.{RunFault}
 use Rattle.krb_tool.specs.declared.run.RunFault.TheVariants as fault
 use Rattle.krb_tool.specs.Faults.{IsRead, IsWrite}
 use Rattle.krb_tool.specs.Files.{RecordListing, text_of, after_line, end_of, AppendsPrefix, ListsRecords}
-use Rattle.krb_tool.specs.inner.RecordRuns.{Adds, AddsRefusal, Moves, AddsLine, WritesBefore, left_of, AreLeft}
+use Rattle.krb_tool.specs.inner.RecordRuns.{AddsRefusal, Moves, AddsLine, WritesBefore, left_of, AreLeft}
 
 -- ---- what is left of items, one after another
 module _ {A E : Type 0} (line : A → List ℕ) (last : ℕ → Result E Fault → List ℕ) (all : Items A (Result E Fault)) (count : ℕ) where
@@ -140,30 +140,25 @@ module _ (IsLeft : RecordListing → Type 0) (all : RecordListing) (written_befo
       subst (λ (f : RunFault). ListsRecords all written_before after (Err f)) (sym w.0) (subst (λ (a : Option (List ℕ)). AppendsPrefix written_before a all.lines) (sym w.1) Listed-stops)
 
 -- ---- what a line makes of what is left
-pub last_added : (IsLeft : RecordListing → Type 0) (left : RecordListing) (text : List ℕ) (end : RunEnd) (old new : List ℕ) (ended : Option RunEnd) → left ≡ record { lines = []; last = text; end = end } → Adds text (Some end) old new ended → AddsLine IsLeft left old new (Ok ended)
-last_added IsLeft left text end old new ended is adds =
-    subst (λ (e : Option RunEnd). AddsLine IsLeft left old new (Ok e)) (sym adds.0) (
-      adds.1 ∙ ap (λ (l : RecordListing). old ++ l.last) (sym is),
-      ap (λ (l : RecordListing). l.lines) is,
-      ap (λ (l : RecordListing). l.end) (sym is),
-    )
-
 module _ {A E : Type 0} (line : A → List ℕ) (last : ℕ → Result E Fault → List ℕ) (all : List ℕ → Items A (Result E Fault)) (Reads : List ℕ → ℕ → Type 0) (count : ℕ) (left : RecordListing) (is_left : AreLeft line last all Reads count left) (old new : List ℕ) where
   pub item_added : (ReadsOn : List ℕ → ℕ → Type 0) (item : A) → ((file : List ℕ) → Reads file count → IsItem (all file) count item × ReadsOn file (suc count)) → new ≡ old ++ line item → AddsLine (AreLeft line last all ReadsOn (suc count)) left old new (Ok None)
   item_added ReadsOn item promises added =
       let given = promises is_left.file is_left.reads in
       (line item, left_of line last (all is_left.file) (suc count), added, is_left.is ∙ item_left line last (all is_left.file) count item given.0, record { file = is_left.file; reads = given.1; is = refl })
 
-  pub end_added : (IsLeft : RecordListing → Type 0) (end : Result E Fault) → ((file : List ℕ) → Reads file count → EndsBy (all file) count end) → (ended : Option RunEnd) → Adds (last count end) (Some (end_of end)) old new ended → AddsLine IsLeft left old new (Ok ended)
-  end_added IsLeft end promises ended adds = last_added IsLeft left (last count end) (end_of end) old new ended (is_left.is ∙ none_left line last (all is_left.file) count end (promises is_left.file is_left.reads)) adds
+  pub end_added : (end : Result E Fault) → ((file : List ℕ) → Reads file count → EndsBy (all file) count end) → new ≡ old ++ last count end → AddsLine (λ l. ⊥) left old new (Ok (Some (end_of end)))
+  end_added end promises added =
+      let is = is_left.is ∙ none_left line last (all is_left.file) count end (promises is_left.file is_left.reads) in (
+        added ∙ ap (λ (l : RecordListing). old ++ l.last) (sym is),
+        ap (λ (l : RecordListing). l.lines) is,
+        ap (λ (l : RecordListing). l.end) (sym is),
+      )
 
-  pub refusal_added : (IsLeft : RecordListing → Type 0) (item : FileItem) (form : Form) → ((f : Fault) → last count (Err f) ≡ fault_line form f (file_path item f.field)) → (e : FileFault) → ((file : List ℕ) → Reads file count → FailsAfter (λ f. Err f) (all file) count e)
-      → (r : Result (Option RunEnd) RunFault) → IfOk r (AddsRefusal item form e old new) → AddsLine IsLeft left old new r
-  refusal_added IsLeft item form line e promises (Err f) adds = tt
-  refusal_added IsLeft item form line faults.Read promises (Ok ended) adds = absurd adds
-  refusal_added IsLeft item form line faults.Memory promises (Ok ended) adds = absurd adds
-  refusal_added IsLeft item form line (faults.Refused fault) promises (Ok ended) adds =
-      end_added IsLeft (Err fault) promises ended (adds.0, adds.1 ∙ ap (λ (l : List ℕ). old ++ l) (sym (line fault)))
+  pub refusal_added : (item : FileItem) (form : Form) → ((f : Fault) → last count (Err f) ≡ fault_line form f (file_path item f.field)) → (e : FileFault) → ((file : List ℕ) → Reads file count → FailsAfter (λ f. Err f) (all file) count e) → (ended : RunEnd) → AddsRefusal item form e old new ended → AddsLine (λ l. ⊥) left old new (Ok (Some ended))
+  refusal_added item form line faults.Read promises ended adds = absurd adds
+  refusal_added item form line faults.Memory promises ended adds = absurd adds
+  refusal_added item form line (faults.Refused fault) promises ended adds =
+      subst (λ (end : RunEnd). AddsLine (λ l. ⊥) left old new (Ok (Some end))) (sym adds.0) (end_added (Err fault) promises (adds.1 ∙ ap (λ (l : List ℕ). old ++ l) (sym (line fault))))
 
 -- a write failed
 pub write-fault : (all : RecordListing) (written_before after : Option (List ℕ)) (e : RunFault) → IsWrite e → AppendsPrefix written_before after (text_of all) → ListsRecords all written_before after (Err e)

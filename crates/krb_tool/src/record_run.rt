@@ -6,7 +6,7 @@ ghost use Rattle.std.specs.Option.{option_map};
 ghost use Rattle.krb_tool.specs.Extents.{fault_line};
 ghost use Rattle.krb_tool.specs.Faults.{IsRead, IsWrite};
 ghost use Rattle.krb_tool.specs.Files.{RecordListing, after_line, keytab_listing, ccache_listing, AppendsPrefix, ListsRecords};
-ghost use Rattle.krb_tool.specs.inner.RecordRuns.{AddsRefusal, AddsLine, Moves, WritesBefore, AreRecordsLeft, AreCredentialsLeft, IsRefusal};
+ghost use Rattle.krb_tool.specs.inner.RecordRuns.{AddsRefusal, AddsLine, Moves, WritesBefore, AreRecordsLeft, AreCredentialsLeft};
 ghost use Rattle.std.specs.Io.KnownBytes.{Appends};
 
 use crate::extent::extent_of;
@@ -133,7 +133,8 @@ impl<R: Read> RecordLines for KeytabLines<'_, R> {
             }
             Err(fault) => {
                 let item = FileItem::Record(count);
-                put_fault(alloc, text, self.form, item, fault, self.watch)
+                let ended = put_fault(alloc, text, self.form, item, fault, self.watch)?;
+                Ok(Some(ended))
             }
         }
     }
@@ -166,7 +167,7 @@ fn put_fault(
     item: FileItem,
     fault: FileFault,
     watch: &Watch,
-) -> Result<Option<RunEnd>, RunFault>
+) -> Result<RunEnd, RunFault>
     ensures refused { IfOk result (AddsRefusal item form fault text.old text.new) }
     ensures fault { IfErr result (λ e. IsWrite e → ⊥) }
     ensures kept { IfErr result (λ e. IsRead e → text.new ≡ text.old) }
@@ -175,38 +176,10 @@ fn put_fault(
         FileFault::Refused(refusal) => {
             let path = file_path(alloc, form, item, refusal.field)?;
             put_refusal(text, form, refusal, &path)?;
-            Ok(Some(RunEnd::Refused))
+            Ok(RunEnd::Refused)
         }
         FileFault::Read => Err(RunFault::Read(watch.error())),
         FileFault::Memory => Err(RunFault::Memory),
-    }
-}
-
-/// A file that is at fault before its records.
-#[derive(Clone, Copy)]
-struct NoLines<'a> {
-    form: Form,
-    fault: FileFault,
-    watch: &'a Watch,
-}
-
-impl RecordLines for NoLines<'_> {
-    ghost IsLeft = { λ lines _ left. IsRefusal lines.form lines.fault left };
-
-    fn put_next(
-        &mut self,
-        alloc: Global,
-        _count: u64,
-        text: &mut TextBuffer,
-    ) -> Result<Option<RunEnd>, RunFault> {
-        put_fault(
-            alloc,
-            text,
-            self.form,
-            FileItem::File,
-            self.fault,
-            self.watch,
-        )
     }
 }
 
@@ -240,7 +213,8 @@ impl<R: Read + Drop> RecordLines for CredentialLines<'_, R> {
             }
             Err(fault) => {
                 let item = FileItem::Credential(count);
-                put_fault(alloc, text, self.form, item, fault, self.watch)
+                let ended = put_fault(alloc, text, self.form, item, fault, self.watch)?;
+                Ok(Some(ended))
             }
         }
     }
@@ -404,12 +378,12 @@ pub fn run_ccache_in<R: Read, W: Write>(
             };
             list_records(alloc, &mut lines, &mut text, watch, writer)
         }
-        Err(fault) => list_records(
-            alloc,
-            &mut NoLines { form, fault, watch },
-            &mut text,
-            watch,
-            writer,
-        ),
+        Err(fault) => match put_fault(alloc, &mut text, form, FileItem::File, fault, watch) {
+            Ok(ended) => {
+                write_all(writer, text.octets())?;
+                Ok(ended)
+            }
+            Err(fault) => write_before(writer, &mut text, fault),
+        },
     }
 }

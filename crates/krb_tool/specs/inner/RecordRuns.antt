@@ -30,13 +30,9 @@ AddsLine IsLeft left old new (Ok None) = (line : List ℕ) × (others : RecordLi
 AddsLine IsLeft left old new (Ok (Some ended)) = (new ≡ old ++ left.last) × (left.lines ≡ []) × (ended ≡ left.end)
 AddsLine IsLeft left old new (Err fault) = Unit {0}
 
--- A line was added, and the run ends so, or goes on.
-abbrev pub Adds : List ℕ → Option RunEnd → List ℕ → List ℕ → Option RunEnd → Type 0
-Adds line wanted old new ended = (ended ≡ wanted) × (new ≡ old ++ line)
-
 -- The line of a refusal in this item was added, which ends the run.
-abbrev pub AddsRefusal : FileItem → Form → FileFault → List ℕ → List ℕ → Option RunEnd → Type 0
-AddsRefusal item form (faults.Refused fault) old new ended = Adds (fault_line form fault (file_path item fault.field)) (Some run.Refused) old new ended
+abbrev pub AddsRefusal : FileItem → Form → FileFault → List ℕ → List ℕ → RunEnd → Type 0
+AddsRefusal item form (faults.Refused fault) old new ended = (ended ≡ run.Refused) × (new ≡ old ++ fault_line form fault (file_path item fault.field))
 AddsRefusal item form faults.Read old new ended = ⊥
 AddsRefusal item form faults.Memory old new ended = ⊥
 

@@ -1,9 +1,8 @@
-use Rattle.std.proofs.Common.{ℕ, List, Some, Ok, Err, refl}
+use Rattle.std.proofs.Common.{Ok, refl}
 use Rattle.krb_file.specs.declared.field_path.FileItem.TheVariants as items
 use Rattle.krb_ccache.specs.Streaming.{Reads, credentials}
 use Rattle.krb_tool.specs.Files.{field_limit, ccache_last}
 use Rattle.krb_tool.specs.Lines.{credential_line}
-use Rattle.krb_tool.specs.inner.RecordRuns.{AreCredentialsLeft}
 use Rattle.krb_tool.proofs.Records.{item_added, end_added, refusal_added}
 use Rattle.krb_tool.proofs.record_run.CredentialLinesRecordLines.put_next.Goals as goal
 
@@ -23,11 +22,11 @@ returns-in_ok-put_cache_end-in-Ok-None-clause-line g c = λ left is_left.
     let old = lines.credentials in
     let new = c.next_credential.new.self in
     end_added (λ x. credential_line lines.form lines.now x) (ccache_last lines.form) (credentials field_limit) (λ file count. Reads field_limit old.reader old.start old.state file count) c.args.count left is_left c.args.text.now c.put_cache_end.new.text
-    (λ l. Unit {0}) (Ok new.reader.place) (λ file reads. (rw c.in-Ok-None.field-0-is at c.in-Ok-None.ensures.next) file 16777216 c.args.count reads) _ (refl, c.in_ok-put_cache_end-in-Ok-None.ensures)
+    (Ok new.reader.place) (λ file reads. (rw c.in-Ok-None.field-0-is at c.in-Ok-None.ensures.next) file 16777216 c.args.count reads) c.in_ok-put_cache_end-in-Ok-None.ensures
 
-pub returns-in-Err-clause-line : goal.returns-in-Err-clause-line
-returns-in-Err-clause-line g c = λ left is_left.
+pub returns-in_ok-ended-in-Err-clause-line : goal.returns-in_ok-ended-in-Err-clause-line
+returns-in_ok-ended-in-Err-clause-line g c = λ left is_left.
     let lines = c.args.self.now in
     let old = lines.credentials in
     refusal_added (λ x. credential_line lines.form lines.now x) (ccache_last lines.form) (credentials field_limit) (λ file count. Reads field_limit old.reader old.start old.state file count) c.args.count left is_left c.args.text.now c.put_fault.new.text
-    _ (items.Credential c.args.count) lines.form (λ f. refl) c.in-Err.fault (λ file reads. c.in-Err.ensures.next file 16777216 c.args.count reads) c.put_fault.result c.put_fault.ensures.refused
+    (items.Credential c.args.count) lines.form (λ f. refl) c.in-Err.fault (λ file reads. c.in-Err.ensures.next file 16777216 c.args.count reads) c.in_ok-ended-in-Err.ended c.in_ok-ended-in-Err.ensures.refused
