@@ -10,13 +10,14 @@
 //! - [`Part::put`] appends the octets of a part of a file, and [`Part::size`] returns their number.
 //!
 //! A [`FileFault`] is a refusal at the first octet of a field, a read that failed, or out of
-//! memory.
+//! memory. A [`FieldPath`] shows which field of a file that is.
 //!
 //! Of these files it knows the names of their fields; `krb_keytab`, `krb_ccache` and `krb_packet`
 //! know the formats.
 //! Nothing opens a file: the caller passes a reader.
 //!
-//! `specs/Fields` says how fields are spelled, and `specs/FieldReaders` what a reader returns.
+//! `specs/Fields` says how fields are spelled, `specs/FieldReaders` what a reader returns, and
+//! `specs/Items` what a reader of items, one after another, returns.
 #![tactic(auto)]
 
 mod ahead;

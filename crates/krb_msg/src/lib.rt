@@ -8,8 +8,10 @@
 //!
 //! [`view_message`] judges and views a message in place, in one pass without allocating
 //! ([`view_message_in`] by a profile): a [`MessageView`] has the same fields as plain numbers,
-//! borrowed octets and lists ([`ItemsView`], walked by [`next_item`]). [`MessageView::to_message`]
-//! copies it out as a `Message`. [`view_whole`] views an item of any type alone (the trait
+//! borrowed octets and lists ([`ItemsView`], walked by [`next_item`], and by [`next_type`] for the
+//! types of PA-DATA alone). [`MessageView::to_message`] copies it out as a `Message`. Code that is
+//! generic over the kind has a [`MessageKind`], one of [`message_kinds`], and views a message as the
+//! view of its kind, with no `MessageView` made. [`view_whole`] views an item of any type alone (the trait
 //! [`View`]), such as a [`Ticket`], and [`FromView`] copies it. [`first_item`] finds an item in
 //! octets that were judged.
 //!

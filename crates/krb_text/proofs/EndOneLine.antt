@@ -2,32 +2,24 @@
 use Rattle.std.proofs.Common.{◌≡◌, ℕ, true, List, [], ◌++◌, Option, Some, None, IfSome, pos, ◌∷◌, refl}
 use Rattle.std.specs.List.{list_all}
 use Rattle.krb_der.specs.Octets.{AreOctets}
-use Rattle.krb_der.specs.declared.verdict.Refusal.{Refusal}
-use Rattle.krb_der.specs.declared.why.Why.{Why}
-use Rattle.krb_der.specs.declared.why.Why.TheVariants as whys
-use Rattle.krb_file.specs.declared.fault.FileWhy.{FileWhy}
 use Rattle.krb_input.specs.Spellings.{spelling_name}
 use Rattle.krb_input.specs.declared.spelling.Spelling.{Spelling}
 use Rattle.krb_input.specs.declared.spelling.Spelling.TheVariants as spellings
-use Rattle.krb_msg.specs.Stream.{End, Boundary, Within, Refused}
 use Rattle.krb_text.specs.declared.extent.Extent.{Extent}
 use Rattle.krb_text.specs.declared.form.Form.{Form}
 use Rattle.krb_text.specs.declared.form.Form.TheVariants as forms
 use Rattle.krb_text.specs.declared.input.InputFault.{InputFault}
 use Rattle.krb_text.specs.declared.input.InputFault.TheVariants as faults
-use Rattle.krb_text.specs.Files.{file_line, file_record}
 use Rattle.krb_text.specs.Forms.{record_line}
-use Rattle.krb_text.specs.Inputs.{input_kind, input_refused_line, input_refused_record, input_word}
+use Rattle.krb_text.specs.Inputs.{input_kind, input_refused_record, input_word}
 use Rattle.krb_text.specs.Laws.{IsOneLine}
 use Rattle.krb_text.specs.Messages.{message_origin}
-use Rattle.krb_text.specs.Refusals.{path_in, extent_in, spelling_in, refusal_record, file_refused_record, file_refused_line, message_refused_record, message_refused_line, untold_message_refused_line}
-use Rattle.krb_text.specs.Streams.{counted_end_line, counted_end_record, end_line, end_record, refused_frame, refused_line, refused_record, untold_refused_line}
+use Rattle.krb_text.specs.Refusals.{path_in, extent_in, spelling_in}
 use Rattle.krb_text.specs.Text.{line_feed}
 use Rattle.krb_msg.specs.Term.{IfPresent}
 use Rattle.krb_text.specs.Values.{Field, Number, String, Word, Printed, if_there, with_inside, with_origin}
 use Rattle.krb_token.specs.declared.layer.Layer.{Layer}
 use Rattle.krb_text.proofs.Printable.{Prints, is_printable, word}
-use Rattle.krb_text.proofs.Reasons as reasons
 use Rattle.krb_text.proofs.EachForm.{ArePlainParts, IsShown, AreShown, names_are_plain, record_prints}
 
 ended : {text : List ℕ} → Prints text → IsOneLine (text ++ line_feed)

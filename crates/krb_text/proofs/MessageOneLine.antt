@@ -1,26 +1,19 @@
 -- What is printed of a message is one line.
-use Rattle.std.proofs.Common.{◌≡◌, ℕ, false, true, Option, List, [], ◌∷◌, ◌++◌, refl, codes}
+use Rattle.std.proofs.Common.{◌≡◌, false, true, List, [], ◌∷◌, ◌++◌, refl, codes}
 use Rattle.std.specs.List.{list_all}
 use Rattle.krb_der.specs.declared.profile.Profile.TheVariants as profiles
-use Rattle.krb_msg.specs.Grammar.{ticket}
-use Rattle.krb_msg.specs.Term.{Fits, IfPresent}
+use Rattle.krb_msg.specs.Term.{IfPresent}
 use Rattle.krb_msg.specs.Notes.{notes_of}
 use Rattle.krb_msg.specs.declared.notes.Notes.{Notes}
 use Rattle.krb_msg.specs.Views.{IsInProfile, kind_name, kind_of}
-use Rattle.krb_msg.specs.Types.{ticket_value}
-use Rattle.krb_msg.specs.declared.ticket.Ticket.{Ticket}
 use Rattle.krb_msg.specs.declared.message.Message.{Message}
 use Rattle.krb_msg.specs.declared.message.Message.TheVariants as message
-use Rattle.krb_text.specs.declared.form.Form.{Form}
-use Rattle.krb_text.specs.Laws.{IsOneLine}
-use Rattle.krb_text.specs.Messages.{notes, fields_of, message_record, message_line, message_line_from, message_origin, ticket_line, ticket_record}
-use Rattle.krb_token.specs.declared.layer.Layer.{Layer}
+use Rattle.krb_text.specs.Messages.{notes, fields_of, message_record}
 use Rattle.krb_text.specs.Values.{Field, Printed, the}
 use Rattle.krb_text.proofs.Printable.{is_printable}
 use Rattle.krb_text.proofs.EachForm.{ArePlainParts, AreShown, names_are_plain}
-use Rattle.krb_text.proofs.EndOneLine.{line_from, message_line_from as from_origin}
 use Rattle.krb_text.specs.Inside.{inside_of}
-use Rattle.krb_text.proofs.FieldsOneLine.{kdc_req, kdc_rep, of_ap_req, of_ticket, safe, error}
+use Rattle.krb_text.proofs.FieldsOneLine.{kdc_req, kdc_rep, of_ap_req, safe, error}
 use Rattle.krb_text.proofs.InsideOneLine.{error_inside, kdc_req_inside, padata_inside, tickets_inside}
 
 -- ---- and their notes

@@ -1,5 +1,5 @@
 -- The record of a message that octets are, by the view of its kind.
-use Rattle.std.proofs.Common.{◌≡◌, ℕ, ◌^◌, ◌<◌, Bool, true, false, List, [], ◌∷◌, ◌++◌, length, refl, sym, ◌∙◌, ap, append_assoc, codes, arith, not, ◌||◌}
+use Rattle.std.proofs.Common.{◌≡◌, ℕ, ◌^◌, ◌<◌, Bool, true, false, List, [], ◌∷◌, ◌++◌, length, refl, append_assoc, codes, arith, not, ◌||◌}
 use Rattle.std.specs.List.{list_any}
 use Rattle.krb_der.specs.Octets.{AreOctets}
 use Rattle.krb_der.specs.declared.profile.Profile.{Profile}
@@ -18,7 +18,7 @@ use Rattle.krb_text.specs.declared.form.Form.{Form}
 use Rattle.krb_text.specs.declared.record.Heading.{Heading}
 use Rattle.krb_text.specs.Forms.{ending, field, fields_text, heading, record_text}
 use Rattle.krb_text.specs.Inside.{inside_of}
-use Rattle.krb_text.specs.Messages.{PutsMessage, fields_of, message_record, notes}
+use Rattle.krb_text.specs.Messages.{fields_of, notes}
 use Rattle.krb_text.specs.inner.Records.{heading_origin, is_kept, text_after}
 use Rattle.krb_text.proofs.Records.{message_fields, message_inside, message_kind}
 

@@ -164,6 +164,7 @@ impl<'a> HasRecord for KrbErrorView<'a> {
         put_last_fields(text, form, self)
     }
 
+    #[inline(always)]
     fn put_ending(&self, text: &mut TextBuffer, form: Form) -> Result<(), AllocError> {
         put_list(text, form, self)
     }

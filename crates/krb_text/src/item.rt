@@ -27,13 +27,13 @@ pub(crate) enum ItemForm {
     Object,
 }
 
-/// Appends the name of a number, or `-` if it has none.
+/// Appends `:` and the name of a number, or `-` if it has none.
 fn put_name(line: &mut TextBuffer, registry: Registry, number: i64) -> Result<(), AllocError>
-    ensures { OnOk result (line.new ≡ line.old ++ or_dash (λ name. name) (name_of registry number)) }
+    ensures { OnOk result (line.new ≡ line.old ++ codes ":" ++ or_dash (λ name. name) (name_of registry number)) }
 {
     match name_of(registry, number) {
-        None => line.push_str("-"),
-        Some(name) => line.push_str(name),
+        None => line.push_str(":-"),
+        Some(name) => line.push_both(":", name),
     }
 }
 
@@ -56,7 +56,6 @@ fn put_with_name(line: &mut TextBuffer, registry: Registry, number: i64) -> Resu
     ensures { OnOk result (line.new ≡ line.old ++ number_text true registry number) }
 {
     line.push_signed(number)?;
-    line.push_str(":")?;
     put_name(line, registry, number)
 }
 

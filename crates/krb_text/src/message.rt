@@ -89,6 +89,7 @@ impl<'a> HasRecord for KdcReqView<'a> {
         put_kdc_req_last_fields(text, form, self)
     }
 
+    #[inline(always)]
     fn put_ending(&self, text: &mut TextBuffer, form: Form) -> Result<(), AllocError> {
         put_list(text, form, self)
     }
@@ -110,6 +111,7 @@ impl<'a> HasRecord for KdcRepView<'a> {
         put_field!(text, form, "enc": &self.enc_part)
     }
 
+    #[inline(always)]
     fn put_ending(&self, text: &mut TextBuffer, form: Form) -> Result<(), AllocError> {
         put_list(text, form, self)
     }
@@ -130,6 +132,7 @@ impl<'a> HasRecord for ApReqView<'a> {
         put_field!(text, form, "auth": &self.authenticator)
     }
 
+    #[inline(always)]
     fn put_ending(&self, text: &mut TextBuffer, form: Form) -> Result<(), AllocError> {
         put_closing(text, form)
     }
@@ -146,6 +149,7 @@ impl<'a> HasRecord for ApRepView<'a> {
         put_field!(text, form, "enc": &self.enc_part)
     }
 
+    #[inline(always)]
     fn put_ending(&self, text: &mut TextBuffer, form: Form) -> Result<(), AllocError> {
         put_closing(text, form)
     }
@@ -169,6 +173,7 @@ impl<'a> HasRecord for KrbSafeView<'a> {
         put_field!(text, form, "cksum": &self.cksum)
     }
 
+    #[inline(always)]
     fn put_ending(&self, text: &mut TextBuffer, form: Form) -> Result<(), AllocError> {
         put_closing(text, form)
     }
@@ -185,6 +190,7 @@ impl<'a> HasRecord for KrbPrivView<'a> {
         put_field!(text, form, "enc": &self.enc_part)
     }
 
+    #[inline(always)]
     fn put_ending(&self, text: &mut TextBuffer, form: Form) -> Result<(), AllocError> {
         put_closing(text, form)
     }
@@ -202,6 +208,7 @@ impl<'a> HasRecord for KrbCredView<'a> {
         put_field!(text, form, "enc": &self.enc_part)
     }
 
+    #[inline(always)]
     fn put_ending(&self, text: &mut TextBuffer, form: Form) -> Result<(), AllocError> {
         put_list(text, form, self)
     }

@@ -82,13 +82,17 @@ impl Encrypted {
     }
 }
 
-/// Appends the version of a key, or `-`.
+/// Appends the version of a key, or `-`, with a `:` before it and one after it.
 fn put_kvno(line: &mut TextBuffer, kvno: Option<i64>) -> Result<(), AllocError>
-    ensures { OnOk result (line.new ≡ line.old ++ or_dash signed_decimal kvno) }
+    ensures { OnOk result (line.new ≡ line.old ++ codes ":" ++ or_dash signed_decimal kvno ++ codes ":") }
 {
     match kvno {
-        None => line.push_str("-"),
-        Some(kvno) => line.push_signed(kvno),
+        None => line.push_str(":-:"),
+        Some(kvno) => {
+            line.push_str(":")?;
+            line.push_signed(kvno)?;
+            line.push_str(":")
+        }
     }
 }
 
@@ -96,10 +100,12 @@ fn put_kvno(line: &mut TextBuffer, kvno: Option<i64>) -> Result<(), AllocError>
 fn put_kvno_member(object: &mut TextBuffer, kvno: Option<i64>) -> Result<(), AllocError>
     ensures { OnOk result (object.new ≡ object.old ++ codes ",\"kvno\":" ++ or_null signed_decimal kvno) }
 {
-    object.push_str(",\"kvno\":")?;
     match kvno {
-        None => object.push_str("null"),
-        Some(kvno) => object.push_signed(kvno),
+        None => object.push_str(",\"kvno\":null"),
+        Some(kvno) => {
+            object.push_str(",\"kvno\":")?;
+            object.push_signed(kvno)
+        }
     }
 }
 
@@ -142,9 +148,7 @@ impl Shown for Encrypted {
     #[tactic(auto, unfolding(crate::specs::Forms::value_text))]
     fn put_text(&self, line: &mut TextBuffer, names: bool) -> Result<(), AllocError> {
         put_named(line, names, Registry::EncryptionTypes, self.etype)?;
-        line.push_str(":")?;
         put_kvno(line, self.kvno)?;
-        line.push_str(":")?;
         line.push_number(self.size)
     }
 

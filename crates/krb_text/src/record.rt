@@ -60,6 +60,7 @@ pub(crate) enum Heading<'a> {
 }
 
 /// Appends what precedes the fields of the record of a message.
+#[inline(always)]
 fn put_heading(
     text: &mut TextBuffer,
     form: Form,

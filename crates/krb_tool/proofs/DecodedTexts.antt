@@ -1,5 +1,5 @@
 -- What is decoded is lines of JSON.
-use Rattle.std.proofs.Common.{◌≡◌, ℕ, ◌+◌, ◌⊎◌, inl, inr, true, false, List, [], ◌∷◌, ◌++◌, length, Option, Some, None, refl, sym, ◌∙◌, ap, subst, arith}
+use Rattle.std.proofs.Common.{◌≡◌, ℕ, ◌+◌, ◌⊎◌, inl, inr, true, false, List, [], ◌∷◌, ◌++◌, length, Option, Some, None, refl, sym, ap, subst, arith}
 use Rattle.std.specs.Prelude.{nat_lt}
 use Rattle.std.specs.List.{AllByRecursion, flat_map}
 use Rattle.std.proofs.lemmas.Bool.{cases_Bool}
@@ -8,11 +8,9 @@ use Rattle.krb_der.specs.declared.profile.Profile.{Profile}
 use Rattle.krb_der.specs.declared.verdict.Refusal.{Refusal}
 use Rattle.krb_msg.specs.Grammar.{messages}
 use Rattle.krb_msg.specs.Judgement.{verdict_of}
-use Rattle.krb_msg.specs.Laws.{AreMessage}
 use Rattle.krb_msg.specs.Stream.{Frames, frames}
 use Rattle.krb_msg.specs.Views.{message_of_der, IsInProfile}
 use Rattle.krb_msg.proofs.Judged.{whole_is_message}
-use Rattle.krb_msg.proofs.MessageOfDer.{message_of_der_is_message}
 use Rattle.krb_msg.proofs.Streams.{IsMessage, IsParse, frames-parse}
 use Rattle.krb_frame.specs.Frame.{framed}
 use Rattle.krb_judge.specs.Parses.{refusal_of}
@@ -24,6 +22,7 @@ use Rattle.krb_tool.specs.Conversions.{Converted}
 use Rattle.krb_tool.specs.Decoding.{Ending, All, ending_at, line_and, lines_after, message_decoded, decoded, decoded_whole}
 use Rattle.krb_tool.specs.Laws.{AreLines, DecodedIsLines}
 use Rattle.krb_tool.specs.Paths.{found_path}
+use Rattle.krb_tool.proofs.DecodedFrames.{of_message}
 use Rattle.krb_tool.proofs.RoundTrips.{both_are}
 use Rattle.krb_tool.proofs.WholeRuns.{whole-long, whole-short}
 
@@ -31,14 +30,11 @@ no_lines : AreLines []
 no_lines = record { those = []; each = tt; form = refl }
 
 -- ---- octets that are a message
-in_profile : (profile : Profile) (octets : List ℕ) → AreMessage profile (length octets) octets → IsInProfile profile (message_of_der octets)
-in_profile profile octets m = subst (IsInProfile profile) (sym (message_of_der_is_message profile m.message m.in_profile) ∙ ap message_of_der m.form) m.in_profile
-
 all_in_profile : (profile : Profile) (limit : ℕ) (contents : List (List ℕ)) → AreOctets (flat_map framed contents) → AllByRecursion (IsMessage (messages profile) limit) contents → AllByRecursion (λ octets. IsInProfile profile (message_of_der octets)) contents
 all_in_profile profile limit [] are each = tt
 all_in_profile profile limit (octets ∷ contents) are each =
     let one = both_are (framed octets) (flat_map framed contents) are in
-    (in_profile profile octets (whole_is_message profile (length octets) octets each.0.short one.0.1.1.1.1 (omega arith) (ap verdict_of each.0.whole)), all_in_profile profile limit contents one.1 each.1)
+    ((of_message profile octets (whole_is_message profile (length octets) octets each.0.short one.0.1.1.1.1 (omega arith) (ap verdict_of each.0.whole))).in_profile, all_in_profile profile limit contents one.1 each.1)
 
 -- ---- its line before others
 module _ (json : TextsAreJson) (profile : Profile) where
@@ -63,7 +59,7 @@ module _ (json : TextsAreJson) (profile : Profile) where
       lines-first 0 found.contents (ending_at (length found.contents) found.end (found_path profile found stream)) (all_in_profile profile limit found.contents octets.0 parse.are_messages)
 
   message-lines : (octets : List ℕ) (found : Option Refusal) → AreOctets octets → refusal_of profile octets ≡ found → AreLines (message_decoded profile octets found).text
-  message-lines octets None are none = line-first 1 octets (unencrypted_in (message_of_der octets)) (record { text = []; end = All }) (in_profile profile octets (message_in profile octets are none)) no_lines
+  message-lines octets None are none = line-first 1 octets (unencrypted_in (message_of_der octets)) (record { text = []; end = All }) (of_message profile octets (message_in profile octets are none)).in_profile no_lines
   message-lines octets (Some refusal) are some = no_lines
 
   whole-lines : (limit : ℕ) (octets : List ℕ) → AreOctets octets → (nat_lt limit (length octets) ≡ true) ⊎ (nat_lt limit (length octets) ≡ false) → AreLines (decoded_whole profile limit octets).text

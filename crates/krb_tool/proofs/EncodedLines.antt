@@ -1,25 +1,21 @@
 -- Lines that are encoded, piece by piece.
-use Rattle.std.proofs.Common.{◌≡◌, ℕ, ◌+◌, ◌≤◌, inl, inr, Bool, true, false, List, [], ◌∷◌, ◌++◌, ◌-◌, length, take, drop, Option, Some, None, refl, sym, ◌∙◌, ap, subst, arith, append-nil, append_assoc, take-append-drop, take_all}
+use Rattle.std.proofs.Common.{◌≡◌, ℕ, ◌+◌, Bool, true, false, List, [], ◌∷◌, ◌++◌, length, Option, Some, None, refl, sym, ◌∙◌, ap, subst, arith, append-nil}
 use Rattle.std.specs.Option.{option_map}
-use Rattle.std.specs.Prelude.{◌&&◌, not, IsSome, IfSome, Result, Err}
+use Rattle.std.specs.Prelude.{◌&&◌, ◌==◌, not, is_some, IsSome, IfSome, Result, Err}
 use Rattle.krb_tool.specs.Conversions.{Converted, after_text}
-use Rattle.krb_tool.specs.Encoding.{Ending, Faulty, SecondMessage, is_blank_line, written_as, message_and, ending_of, ending_after, parts, without_empty_last, ended_of, lines_of, encoded, IsNoFault, GoesOn}
+use Rattle.krb_tool.specs.Encoding.{Ending, Faulty, SecondMessage, is_blank_line, written_as, message_and, ending_of, ending_after, IsNoFault}
 use Rattle.krb_der.specs.Octets.{when}
-use Rattle.krb_msg.specs.declared.message.Message.{Message}
 use Rattle.krb_json.specs.Lines as lines
 use Rattle.krb_json.specs.Reading.{AreSpelled, line_fault_of}
 use Rattle.krb_json.specs.declared.line_fault.LineFault.{LineFault}
 use Rattle.krb_json.specs.declared.line_fault.LineFault.TheVariants as wrong
+use Rattle.krb_msg.specs.declared.message.Message.{Message}
 use Rattle.krb_tool.specs.declared.encode_run.EncodeEnd.{EncodeEnd}
 use Rattle.krb_tool.specs.declared.json_reader.EncodeRequest.{EncodeRequest}
 use Rattle.krb_tool.specs.declared.json_reader.JsonReader.{JsonReader}
-use Rattle.krb_tool.specs.inner.Conversions.{IsBeginning}
-use Rattle.krb_tool.specs.inner.EncodedLines.{encoded_from, read_and, ReadsLine, EndsWell, EndsAtFault, EndsLine, EndsLast, ending_or, ending_by, HasRead, IsFaultyAfter, encoding_rules, encoding}
-use Rattle.krb_tool.specs.inner.Pieces.{IsFed, TakesPiece, WaitsAfter, IsLastOf, listing_of}
-use Rattle.krb_tool.specs.inner.Streams.{Taken, with_piece, Begins, EndsListing, Feeds}
-use Rattle.krb_tool.proofs.ConversionRuns.{after_text-both}
-use Rattle.krb_tool.proofs.Pieces.{together, IsFed-used, Feeds-stopped}
-use Rattle.krb_tool.proofs.SourceLineParts.{lines-more, lines-from, parts_grow, parts_end, HasLine, line_stays, ended_of-last, ended_of-line, lines-empty, lines-last, lines-line, HasFirst}
+use Rattle.krb_tool.specs.inner.EncodedLines.{KeepsFault, TakesLine, encoded_from, json_reading, read_and, rest_by, rest_of}
+use Rattle.krb_tool.specs.inner.LineReaders.{EndsLine, Follows, GoesOn, HasLine}
+use Rattle.krb_tool.proofs.SourceLineParts.{is_nothing, is_something}
 
 -- ---- a line
 abbrev second : ℕ → Converted Ending
@@ -56,251 +52,97 @@ found_some wrong.NotAMessage never = refl
 found_some (wrong.At found) never = refl
 found_some wrong.Memory never = absurd (never refl)
 
--- a line that is not blank was read
-pub ends-read : (old new : JsonReader) (is_read : Bool) → is_blank_line old.line.items ≡ false → (not old.request.is_framed && old.came) ≡ false → ReadsLine old new is_read → EndsLine old new is_read
-ends-read old new true blank full r = record {
-  added = r.added;
-  text = r.text;
-  request = r.request;
-  fault = r.fault;
-  step = λ more. read-step old.request (old.lines + 1) old.came old.line.items more blank full ∙ r.step (encoded_from old.request (old.lines + 1 + 1) true more) ∙ ap (λ came. after_text r.added (encoded_from old.request (old.lines + 1 + 1) came more)) (sym r.came);
-}
-ends-read old new false blank full r = record {
-  ending = r.ending;
-  kept = r.kept;
-  is_fault = r.is_fault;
-  text = r.text;
-  request = r.request;
-  step = λ more. read-step old.request (old.lines + 1) old.came old.line.items more blank full ∙ r.step (encoded_from old.request (old.lines + 1 + 1) true more);
-}
-
--- ---- what was read so far
+-- ---- the line of a reader
 no_fault : (is_framed came : Bool) → IsNoFault (ending_after is_framed came)
 no_fault true came = tt
 no_fault false true = tt
 no_fault false false = tt
 
--- of the lines of a text the first ones are read
-encoded-is : (request : EncodeRequest) (text : List ℕ) (lines : List (List ℕ)) (converted : Converted Ending) → lines_of text ≡ lines → encoded_from request 1 false lines ≡ converted → encoded request.is_framed request.profile request.limit text ≡ converted
-unfolding encoded
-encoded-is request text lines converted l e = ap (encoded_from request 1 false) l ∙ e
+not_kept : (reader : JsonReader) → reader.fault ≡ None → option_map ending_of reader.fault ≡ None
+not_kept reader none = ap (option_map ending_of) none
 
-module _ (reader : JsonReader) (stream written : List ℕ) (h : HasRead reader stream written) where
-  text_of : List ℕ
-  text_of = written ++ reader.text.items
-
-  -- the text so far begins that of any text which begins with the lines that ended
-  begins-lines : (text : List ℕ) (others : List (List ℕ)) → lines_of text ≡ h.ended ++ others → IsBeginning (written ++ reader.text.items) (encoded reader.request.is_framed reader.request.profile reader.request.limit text).text
-  begins-lines text others l =
-      record {
-        rest = (encoded_from reader.request (reader.lines + 1) reader.came others).text;
-        parts = ap (λ c. c.text) (encoded-is reader.request text (h.ended ++ others) (after_text (written ++ reader.text.items) (encoded_from reader.request (reader.lines + 1) reader.came others)) l (h.goes_on others));
-      }
-
-  -- none of the lines that ended is at fault
-  pub goes_on-read : GoesOn reader.request.is_framed reader.request.profile reader.request.limit stream
-  goes_on-read =
-      let ended : ended_of (parts stream) ≡ h.ended = ap ended_of h.all ∙ ended_of-last h.ended reader.line.items in
-      let read : encoded_from reader.request 1 false (ended_of (parts stream)) ≡ after_text (written ++ reader.text.items) (encoded_from reader.request (reader.lines + 1) reader.came []) = ap (encoded_from reader.request 1 false) (ended ∙ sym (append-nil h.ended)) ∙ h.goes_on [] in
-      subst (λ c. IsNoFault c.end) (sym read) (no_fault reader.request.is_framed reader.came)
-
--- a reader that waits has the beginning of any text that begins with what came
-pub Begins-waits : (reader : JsonReader) (taken : Taken) → WaitsAfter encoding reader taken → Begins (encoding_rules reader.request) taken reader.text.items
-Begins-waits reader taken w =
-    let l = begins-lines reader taken.octets taken.written w.listed in
-    let now = l taken.octets (without_empty_last ((reader.line).items ∷ [])) (ap without_empty_last w.listed.all ∙ lines-from w.listed.ended reader.line.items []) in
-    record {
-      lines = λ more. let m = lines-more taken.octets w.listed.ended reader.line.items w.listed.all more in l (taken.octets ++ more) m.0 m.1;
-      rest = now.rest;
-      listing = sym now.parts;
-    }
-
--- ---- octets of a line came
--- the line has more octets, and nothing else changed
-pub record Grows (old : JsonReader) (more : List ℕ) (new : JsonReader) : Type 0 where
-  pub line : new.line.items ≡ old.line.items ++ more
-  pub text : new.text ≡ old.text
-  pub lines : new.lines ≡ old.lines
-  pub came : new.came ≡ old.came
-  pub request : new.request ≡ old.request
-  pub fault : new.fault ≡ old.fault
-
--- what was read so far, if nothing but the line changed
-same_so_far : (old new : JsonReader) (written more : List ℕ) (others : List (List ℕ)) → Grows old more new → after_text (written ++ old.text.items) (encoded_from old.request (old.lines + 1) old.came others) ≡ after_text (written ++ new.text.items) (encoded_from new.request (new.lines + 1) new.came others)
-same_so_far old new written more others g = λ i. after_text (written ++ (sym g.text i).items) (encoded_from (sym g.request i) (sym g.lines i + 1) (sym g.came i) others)
-
--- those of a line that has not ended
-HasRead-grown : (old new : JsonReader) (stream written more : List ℕ) → parts more ≡ more ∷ [] → Grows old more new → HasRead old stream written → HasRead new (stream ++ more) written
-HasRead-grown old new stream written more alone g h = record {
-  ended = h.ended;
-  all = parts_grow stream h.ended old.line.items h.all more alone ∙ ap (λ l. h.ended ++ l ∷ []) (sym g.line);
-  goes_on = λ others. ap (λ q. encoded_from q 1 false (h.ended ++ others)) g.request ∙ h.goes_on others ∙ same_so_far old new written more others g;
+-- it is blank
+pub takes-blank : (reader : JsonReader) → reader.fault ≡ None → is_blank_line reader.line.items ≡ true → TakesLine reader reader true
+takes-blank reader none blank = record {
+  added = [];
+  text = sym (append-nil reader.text.items);
+  request = refl;
+  lines = refl;
+  step = λ more. blank-step reader.request (reader.lines + 1) reader.came reader.line.items more blank ∙ ap (λ fault. after_text [] (rest_by fault reader.request (reader.lines + 1 + 1) reader.came more)) (sym (not_kept reader none));
+  fault = none;
 }
 
--- those of one that has ended
-HasRead-ended : (old full new : JsonReader) (stream written more : List ℕ) → parts (more ++ 10 ∷ []) ≡ more ∷ [] ∷ [] → Grows old more full → EndsWell full new → new.line.items ≡ [] → new.lines ≡ full.lines + 1 → HasRead old stream written → HasRead new (stream ++ (more ++ 10 ∷ [])) written
-HasRead-ended old full new stream written more alone g e line lines h = record {
-  ended = h.ended ++ full.line.items ∷ [];
-  all = parts_end stream h.ended old.line.items h.all more alone ∙ (λ i. (h.ended ++ (sym g.line i) ∷ []) ++ (sym line i) ∷ []);
-  goes_on = λ others.
-      ap (λ l. encoded_from new.request 1 false l) (append_assoc h.ended (full.line.items ∷ []) others)
-      ∙ ap (λ q. encoded_from q 1 false (h.ended ++ full.line.items ∷ others)) (e.request ∙ g.request)
-      ∙ h.goes_on (full.line.items ∷ others)
-      ∙ same_so_far old full written more (full.line.items ∷ others) g
-      ∙ ap (after_text (written ++ full.text.items)) (e.step others)
-      ∙ after_text-both (written ++ full.text.items) e.added (encoded_from full.request (full.lines + 1 + 1) new.came others)
-      ∙ (λ i. after_text ((append_assoc written full.text.items e.added ∙ ap (λ t. written ++ t) (sym e.text)) i) (encoded_from (sym e.request i) (sym lines i + 1) new.came others));
+-- it is at fault
+pub takes-fault : (old new : JsonReader) (ending : Ending) → option_map ending_of new.fault ≡ Some ending → (IsNoFault ending → ⊥) → new.text ≡ old.text → new.request ≡ old.request → new.lines ≡ old.lines → ((more : List (List ℕ)) → encoded_from old.request (old.lines + 1) old.came (old.line.items ∷ more) ≡ record { text = []; end = ending }) → TakesLine old new false
+takes-fault old new ending kept wrong text request lines step = record {
+  added = [];
+  text = ap (λ t. t.items) text ∙ sym (append-nil old.text.items);
+  request = request;
+  lines = lines;
+  step = λ more. step more ∙ ap (λ fault. after_text [] (rest_by fault old.request (old.lines + 1 + 1) new.came more)) (sym kept);
+  fault = (ending, kept, wrong);
 }
 
--- ---- a line of a piece ends
-module _ (old full new : JsonReader) (rest : List ℕ) (size : ℕ) (first : HasFirst rest size) (g : Grows old (take size rest) full) where
-  -- and is not at fault
-  pub IsFed-line : old.fault ≡ None → EndsWell full new → new.line.items ≡ [] → new.lines ≡ full.lines + 1 → IsFed encoding old rest (drop (size + 1) rest) new
-  IsFed-line none e line lines =
-      IsFed-used encoding old new rest (size + 1) (omega (arith, first.within))
-      (e.request ∙ g.request)
-      (e.fault ∙ g.fault ∙ none)
-      (omega (arith, lines, g.lines))
-      (λ stream written h. subst (λ l. HasRead new (stream ++ l) written) (sym first.line) (HasRead-ended old full new stream written (take size rest) first.alone g e line lines h))
-
-  -- and is at fault
-  module _ (e : EndsAtFault full new) (stream written more : List ℕ) (h : HasRead old stream written) where
-    fault-read : (others : List (List ℕ)) → encoded_from new.request 1 false (h.ended ++ full.line.items ∷ others) ≡ record { text = written ++ new.text.items; end = e.ending }
-    fault-read others =
-        ap (λ q. encoded_from q 1 false (h.ended ++ full.line.items ∷ others)) (e.request ∙ g.request)
-        ∙ h.goes_on (full.line.items ∷ others)
-        ∙ same_so_far old full written (take size rest) (full.line.items ∷ others) g
-        ∙ ap (after_text (written ++ full.text.items)) (e.step others)
-        ∙ ap (λ t. record { text = t; end = e.ending }) (append-nil (written ++ full.text.items) ∙ ap (λ t. written ++ t) (sym e.text))
-
-    fault-line : HasLine ((stream ++ (take size rest ++ 10 ∷ [])) ++ more) h.ended full.line.items
-    fault-line = line_stays (stream ++ (take size rest ++ 10 ∷ [])) h.ended full.line.items more (parts_end stream h.ended old.line.items h.all (take size rest) first.alone ∙ ap (λ l. (h.ended ++ l ∷ []) ++ [] ∷ []) (sym g.line))
-
-    -- the text ends so
-    fault-is : encoded new.request.is_framed new.request.profile new.request.limit ((stream ++ (take size rest ++ 10 ∷ [])) ++ more) ≡ record { text = written ++ new.text.items; end = e.ending }
-    fault-is =
-        encoded-is new.request ((stream ++ (take size rest ++ 10 ∷ [])) ++ more) (h.ended ++ full.line.items ∷ without_empty_last (fault-line.next ∷ fault-line.others)) (record { text = written ++ new.text.items; end = e.ending })
-        (ap without_empty_last fault-line.is ∙ lines-line h.ended full.line.items fault-line.next fault-line.others)
-        (fault-read (without_empty_last (fault-line.next ∷ fault-line.others)))
-
-    fault-ends : GoesOn new.request.is_framed new.request.profile new.request.limit ((stream ++ (take size rest ++ 10 ∷ [])) ++ more) → ⊥
-    fault-ends goes_on =
-        let lines : ended_of (parts ((stream ++ (take size rest ++ 10 ∷ [])) ++ more)) ≡ h.ended ++ full.line.items ∷ ended_of (fault-line.next ∷ fault-line.others) = ap ended_of fault-line.is ∙ ended_of-line h.ended full.line.items fault-line.next fault-line.others in
-        e.is_fault (subst (λ c. IsNoFault c.end) (ap (encoded_from new.request 1 false) lines ∙ fault-read (ended_of (fault-line.next ∷ fault-line.others))) goes_on)
-
--- a piece was fed, of which a line is at fault
-module _ (initial old full new : JsonReader) (piece rest : List ℕ) (size : ℕ) (short : length piece ≤ 65536) (i : IsFed encoding initial piece rest old) (first : HasFirst rest size) (g : Grows old (take size rest) full) (e : EndsAtFault full new) where
-  stops-fault : (taken : Taken) → WaitsAfter encoding initial taken → IsFaultyAfter new (with_piece taken piece) × IsBeginning (taken.written ++ new.text.items) (encoded new.request.is_framed new.request.profile new.request.limit (taken.octets ++ piece)).text
-  stops-fault taken w =
-      let stream : List ℕ = taken.octets ++ take (length piece - length rest) piece in
-      let used : ℕ = length piece - length rest + (size + 1) in
-      let h : HasRead old (taken.octets ++ take (length piece - length rest) piece) taken.written = i.listed taken.octets taken.written w.listed in
-      let all : (stream ++ (take size rest ++ 10 ∷ [])) ++ drop used piece ≡ taken.octets ++ piece =
-      ap (λ line. (stream ++ line) ++ drop used piece) (sym first.line)
-      ∙ ap (λ l. l ++ drop used piece) (together piece rest taken.octets (size + 1) i.place)
-      ∙ append_assoc taken.octets (take used piece) (drop used piece)
-      ∙ ap (λ l. taken.octets ++ l) (take-append-drop used piece) in
-      let is : encoded new.request.is_framed new.request.profile new.request.limit (taken.octets ++ piece) ≡ record { text = taken.written ++ new.text.items; end = e.ending } = subst (λ o. encoded new.request.is_framed new.request.profile new.request.limit o ≡ record { text = taken.written ++ new.text.items; end = e.ending }) all (fault-is old full new rest size first g e stream taken.written (drop used piece) h) in
-      let same : new.request ≡ initial.request = e.request ∙ g.request ∙ i.same in (
-        record {
-          ending = e.ending;
-          is = is;
-          kept = e.kept;
-          ends = subst (λ o. GoesOn new.request.is_framed new.request.profile new.request.limit o → ⊥) all (fault-ends old full new rest size first g e stream taken.written (drop used piece) h);
-          stops = record { prefix = taken.octets; piece = piece; parts = refl; goes_on = subst (λ q. GoesOn q.is_framed q.profile q.limit taken.octets) (sym same) (goes_on-read initial taken.octets taken.written w.listed); short = short };
-        },
-        record { rest = []; parts = ap (λ c. c.text) is ∙ sym (append-nil (taken.written ++ new.text.items)) },
-      )
-
-  pub Feeds-fault : Feeds encoding.rules (listing_of encoding initial) piece (listing_of encoding new) false
-  Feeds-fault = Feeds-stopped encoding (e.request ∙ g.request ∙ i.same) stops-fault
-
--- the rest of a piece came, in which no line ends
-pub TakesPiece-rest : (old new : JsonReader) (rest : List ℕ) → old.fault ≡ None → parts rest ≡ rest ∷ [] → Grows old rest new → TakesPiece encoding old rest new true
-TakesPiece-rest old new rest none alone g = record {
-  used = length rest;
-  within = omega arith;
-  same = g.request;
-  listed = λ stream written h. subst (λ o. HasRead new (stream ++ o) written) (sym (take_all (length rest) rest (omega arith))) (HasRead-grown old new stream written rest alone g h);
-  few = omega (arith, g.lines);
-  goes = (refl, g.fault ∙ none);
+-- it spells a message, whose octets were added
+pub takes-message : (old new : JsonReader) (added : List ℕ) → new.fault ≡ None → new.came ≡ true → new.text.items ≡ old.text.items ++ added → new.request ≡ old.request → new.lines ≡ old.lines → ((more : List (List ℕ)) → encoded_from old.request (old.lines + 1) old.came (old.line.items ∷ more) ≡ after_text added (encoded_from old.request (old.lines + 1 + 1) true more)) → TakesLine old new true
+takes-message old new added none came text request lines step = record {
+  added = added;
+  text = text;
+  request = request;
+  lines = lines;
+  step = λ more. step more ∙ (λ i. after_text added (rest_by (sym (not_kept new none) i) old.request (old.lines + 1 + 1) (sym came i) more));
+  fault = none;
 }
 
--- a reader stops at a fault alone
-pub stops-never : (old new : JsonReader) (piece : List ℕ) (taken : Taken) → length piece ≤ 65536 → WaitsAfter encoding old taken → TakesPiece encoding old piece new false → IsFaultyAfter new (with_piece taken piece) × IsBeginning (taken.written ++ new.text.items) (encoded new.request.is_framed new.request.profile new.request.limit (taken.octets ++ piece)).text
-stops-never old new piece taken short w f = absurd f.goes
+follows : (new : JsonReader) (is_read : Bool) → KeepsFault new is_read → Follows json_reading new is_read
+follows new true none =
+    let rest : rest_of new [] ≡ record { text = []; end = ending_after new.request.is_framed new.came } = ap (λ fault. rest_by fault new.request (new.lines + 1) new.came []) (not_kept new none) in
+    (none, subst (λ c. IsNoFault c.end) (sym rest) (no_fault new.request.is_framed new.came))
+follows new false k = record { end = k.0; rest = λ lines. ap (λ fault. rest_by fault new.request (new.lines + 1) new.came lines) k.1; fault = k.2 }
 
--- ---- the end
-not_some : {A : Type 0} {value : A} → None ≡ Some value → ⊥
-not_some e = cc
+-- it has ended, and is counted
+pub ends-taken : (old between new : JsonReader) (is_read : Bool) → old.fault ≡ None → TakesLine old between is_read → new.text ≡ between.text → new.request ≡ between.request → new.came ≡ between.came → new.fault ≡ between.fault → new.lines ≡ between.lines + 1 → new.line.items ≡ [] → EndsLine json_reading old new is_read
+ends-taken old between new is_read none t text request came fault lines empty = record {
+  added = t.added;
+  text = ap (λ v. v.items) text ∙ t.text;
+  request = request ∙ t.request;
+  holds = empty;
+  rest = λ line more held.
+      ap (λ f. rest_by f old.request (old.lines + 1) old.came (line ∷ more)) (not_kept old none)
+      ∙ ap (λ l. encoded_from old.request (old.lines + 1) old.came (l ∷ more)) (sym held)
+      ∙ t.step more
+      ∙ (λ i. after_text t.added (rest_by (option_map ending_of (sym fault i)) (sym (request ∙ t.request) i) (sym (lines ∙ ap (λ n. n + 1) t.lines) i + 1) (sym came i) more));
+  few = omega (arith, lines, t.lines);
+  follows = follows new is_read (kept is_read t.fault);
+}
+  where
+    kept : (is_read : Bool) → KeepsFault between is_read → KeepsFault new is_read
+    kept true none = fault ∙ none
+    kept false k = (k.0, ap (option_map ending_of) fault ∙ k.1, k.2)
 
--- what was read is all that came
-is_converted : JsonReader → JsonReader → Taken → Type 0
-is_converted old between taken = encoded old.request.is_framed old.request.profile old.request.limit taken.octets ≡ record { text = taken.written ++ between.text.items; end = ending_by between }
+-- a line that has not ended
+pub not_at_fault : (fault : Option EncodeEnd) → is_some fault ≡ false → fault ≡ None
+not_at_fault None e = refl
+not_at_fault (Some fault) e = absurd cc
 
-ends-empty : (old : JsonReader) (taken : Taken) → HasRead old taken.octets taken.written → old.fault ≡ None → old.line.items ≡ [] → is_converted old old taken
-unfolding is_converted
-ends-empty old taken h none empty =
-    encoded-is old.request taken.octets h.ended _ (ap without_empty_last (h.all ∙ ap (λ l. h.ended ++ l ∷ []) empty) ∙ lines-empty h.ended)
-    (ap (encoded_from old.request 1 false) (sym (append-nil h.ended))
-    ∙ h.goes_on []
-    ∙ (λ i. record { text = append-nil (taken.written ++ old.text.items) i; end = ending_or (option_map ending_of (sym none i)) (ending_after old.request.is_framed old.came) }))
-
-ends-full : (old between : JsonReader) (taken : Taken) → HasRead old taken.octets taken.written → (old.line.items ≡ [] → ⊥) → old.fault ≡ None → (is_read : Bool) → EndsLine old between is_read → is_converted old between taken
-unfolding is_converted
-ends-full old between taken h some none true e =
-    encoded-is old.request taken.octets (h.ended ++ old.line.items ∷ []) _ (ap without_empty_last h.all ∙ lines-last h.ended old.line.items some)
-    (h.goes_on (old.line.items ∷ [])
-    ∙ ap (after_text (taken.written ++ old.text.items)) (e.step [])
-    ∙ (λ i. record {
-      text = (ap (λ t. (taken.written ++ old.text.items) ++ t) (append-nil e.added) ∙ append_assoc taken.written old.text.items e.added ∙ ap (λ t. taken.written ++ t) (sym e.text)) i;
-      end = ending_or (option_map ending_of (sym (e.fault ∙ none) i)) (ending_after (sym e.request i).is_framed between.came);
-    }))
-ends-full old between taken h some none false e =
-    encoded-is old.request taken.octets (h.ended ++ old.line.items ∷ []) _ (ap without_empty_last h.all ∙ lines-last h.ended old.line.items some)
-    (h.goes_on (old.line.items ∷ [])
-    ∙ ap (after_text (taken.written ++ old.text.items)) (e.step [])
-    ∙ (λ i. record {
-      text = (append-nil (taken.written ++ old.text.items) ∙ ap (λ t. taken.written ++ t) (sym e.text)) i;
-      end = ending_or (sym e.kept i) (ending_after between.request.is_framed between.came);
-    }))
-
-ends-waits : (old between : JsonReader) (taken : Taken) → WaitsAfter encoding old taken → EndsLast old between → is_converted old between taken
-ends-waits old between taken w (inl full) = ends-full old between taken w.listed full.some full.none full.is_read full.ends
-ends-waits old between taken w (inr empty) = subst (λ r. is_converted old r taken) (sym empty.same) (ends-empty old taken w.listed w.waits (empty.empty w.waits))
-
-ends-faulty : (old between : JsonReader) (taken : Taken) → IsFaultyAfter old taken → EndsLast old between → is_converted old between taken
-unfolding is_converted
-ends-faulty old between taken f (inl full) = absurd (not_some (ap (option_map ending_of) (sym full.none) ∙ f.kept))
-ends-faulty old between taken f (inr empty) = f.is ∙ (λ i. record { text = taken.written ++ (sym empty.same i).text.items; end = (ap (λ e. ending_or e (ending_after old.request.is_framed old.came)) (sym f.kept) ∙ ap ending_by (sym empty.same)) i })
-
-pub ends-last : (old between new : JsonReader) (ended : EncodeEnd) → EndsLast old between → ending_of ended ≡ ending_by between → new.text ≡ between.text → (taken : Taken) (left : Option (List ℕ)) → IsLastOf encoding old taken left → EndsListing (encoding_rules old.request) taken.octets (taken.written ++ new.text.items) left ended
-unfolding is_converted
-ends-last old between new ended l is text taken left (inl (w, a)) =
-    let c = ends-waits old between taken w l in
-    record {
-      listing = ap (λ t. taken.written ++ t.items) text ∙ sym (ap (λ x. x.text) c);
-      ends = record {
-        ended_so = is ∙ sym (ap (λ x. x.end) c);
-        all_read = λ goes_on. a;
-        stops = record { prefix = taken.octets; piece = []; parts = sym (append-nil taken.octets); goes_on = goes_on-read old taken.octets taken.written w.listed; short = omega arith };
-      };
-    }
-ends-last old between new ended l is text taken left (inr f) =
-    let c = ends-faulty old between taken f l in
-    record {
-      listing = ap (λ t. taken.written ++ t.items) text ∙ sym (ap (λ x. x.text) c);
-      ends = record {
-        ended_so = is ∙ sym (ap (λ x. x.end) c);
-        all_read = λ goes_on. absurd (f.ends goes_on);
-        stops = f.stops;
-      };
-    }
+pub has-line : (reader : JsonReader) (empty : Bool) → reader.fault ≡ None → empty ≡ (length reader.line.items == 0) → HasLine json_reading reader (not empty)
+has-line reader empty none is = by empty (sym is)
+  where
+    by : (empty : Bool) → (length reader.line.items == 0) ≡ empty → HasLine json_reading reader (not empty)
+    by true e = λ is_open line held. sym held ∙ is_nothing reader.line.items e
+    by false e = (is_something reader.line.items e, λ s. s.fault (subst (λ c. IsNoFault c.end) (s.rest []) (follows reader true none).1))
 
 -- nothing came yet
-pub HasRead-start : (reader : JsonReader) → reader.line.items ≡ [] → reader.text.items ≡ [] → reader.lines ≡ 0 → reader.came ≡ false → HasRead reader [] []
-HasRead-start reader line text lines came = record {
-  ended = [];
-  all = ap (λ l. l ∷ []) (sym line);
-  goes_on = λ more. λ i. after_text (sym text i) (encoded_from reader.request (sym lines i + 1) (sym came i) more);
-}
+pub start-is : (reader : JsonReader) (lines : List (List ℕ)) → reader.fault ≡ None → reader.text.items ≡ [] → reader.lines ≡ 0 → reader.came ≡ false → encoded_from reader.request 1 false lines ≡ after_text reader.text.items (rest_of reader lines)
+start-is reader lines none text count came = λ i. after_text (sym text i) (rest_by (sym (not_kept reader none) i) reader.request (sym count i + 1) (sym came i) lines)
+
+pub goes_on-start : (reader : JsonReader) → reader.fault ≡ None → GoesOn json_reading reader
+goes_on-start reader none = follows reader true none
+
+-- no text is added at the end
+pub rest-nothing : (reader : JsonReader) → reader.text.items ≡ reader.text.items ++ (rest_of reader []).text
+rest-nothing reader = sym (append-nil reader.text.items) ∙ ap (λ t. reader.text.items ++ t) (none (option_map ending_of reader.fault))
+  where
+    none : (fault : Option Ending) → [] ≡ (rest_by fault reader.request (reader.lines + 1) reader.came []).text
+    none None = refl
+    none (Some ending) = refl

@@ -65,9 +65,9 @@ ending-boundary profile limit octets found is boundary =
 decoded_of : (profile : Profile) (limit : ℕ) (octets : List ℕ) (ms : List Message) → frames (messages profile) limit octets ≡ record { contents = map message_der ms; end = Boundary } → AllByRecursion (IsSpelled profile limit) ms → AllByRecursion (λ m. unencrypted_in m ≡ None) ms → decoded profile limit octets ≡ record { text = flat_map line_of ms; end = decoding.All }
 decoded_of profile limit octets ms found each encrypted =
     let all = decoded-all profile limit octets (map message_der ms) (all_encrypted profile limit ms each encrypted) (ap (λ f. f.contents) found) in
-    let text = all.0 ∙ all_lines profile limit ms each in
-    let end = all.1 ∙ ending-boundary profile limit octets (record { contents = map message_der ms; end = Boundary }) found refl in
-    (λ i. record { text = text i; end = end i })
+    let text = all_lines profile limit ms each in
+    let end = ending-boundary profile limit octets (record { contents = map message_der ms; end = Boundary }) found refl in
+    all ∙ (λ i. record { text = text i; end = end i })
 
 -- ---- lines
 abbrev second : ℕ → Converted Ending

@@ -1,27 +1,21 @@
 -- The frames of a stream up to the first that is refused, by all of its frames.
-use Rattle.std.proofs.Common.{◌≡◌, ℕ, ◌+◌, ◌⊎◌, inl, inr, List, [], ◌∷◌, ◌++◌, length, map, refl, sym, ◌∙◌, ap, ap₂, subst, arith, append-nil}
-use Rattle.std.specs.List.{flat_map}
-use Rattle.std.proofs.lemmas.List.Sums.{sum_by-cons}
-use Rattle.krb_der.specs.declared.profile.Profile.{Profile}
+use Rattle.std.proofs.Common.{◌≡◌, ℕ, ◌⊎◌, inl, inr, List, [], ◌∷◌, ◌++◌, map, refl, sym, ◌∙◌, ap, ap₂, subst, arith, append-nil}
+use Rattle.std.specs.List.{AllByRecursion}
 use Rattle.krb_der.specs.declared.profile.Profile.TheVariants.{Lenient}
 use Rattle.krb_der.specs.declared.why.Why.TheVariants.{Truncated}
-use Rattle.krb_msg.specs.declared.message.Message.{Message}
 use Rattle.krb_msg.specs.Stream.{Frames, End, Boundary, Within, Refused, frames}
 use Rattle.krb_msg.specs.Term.{Term}
-use Rattle.krb_msg.specs.Views.{message_der}
 use Rattle.krb_frame.specs.Decoding.{Decoding, status_at, status_of, found, finish_at}
-use Rattle.krb_frame.specs.Decoded.{HasDecoded, frames_size}
+use Rattle.krb_frame.specs.Decoded.{HasDecoded}
+use Rattle.krb_frame.specs.Deliveries.{IsMessage, contents_in}
 use Rattle.krb_frame.specs.Feeds.{Feeds}
 use Rattle.krb_frame.specs.GoingOn.{Entry, Contents, Fault, last_entry, after_contents, entries_after, entries}
 use Rattle.krb_frame.specs.declared.decoder.Status.TheVariants as status
 use Rattle.krb_frame.proofs.GoingOn.{entries-step}
 use Rattle.krb_frame.proofs.Refusals.{refusals_are_inside, feed_is_not_truncated}
-use Rattle.krb_text.specs.declared.form.Form.{Form}
-use Rattle.krb_tool.specs.Lines.{message_line}
 use Rattle.krb_tool.specs.Listing.{IsNotRefused}
 use Rattle.krb_tool.specs.Paths.{last_octets}
-use Rattle.krb_tool.specs.GoingOn.{Listed, Whole, Faulty, entry_of, messages_in, octets_in, refused_in, lines_after}
-use Rattle.krb_tool.specs.inner.Listers.{last_listed}
+use Rattle.krb_tool.specs.inner.Listers.{last_frames}
 
 -- ---- no frame is refused as cut
 abbrev pub IsTold : End → Type 0
@@ -57,6 +51,12 @@ is_told messages limit stream place e = feed_is_not_truncated messages d d [] (r
     }
 
 -- ---- whole frames, and what comes after them
+-- frames that are messages are those with their contents
+pub are_contents : (xs : List Entry) → AllByRecursion IsMessage xs → map Contents (contents_in xs) ≡ xs
+are_contents [] m = refl
+are_contents (Contents contents ∷ xs) m = ap (λ l. Contents contents ∷ l) (are_contents xs m.1)
+are_contents (Fault place reason prefix ∷ xs) m = absurd m.0
+
 abbrev BeginsOtherwise : List Entry → Type 0
 BeginsOtherwise [] = Unit {0}
 BeginsOtherwise (Contents contents ∷ others) = ⊥
@@ -84,7 +84,7 @@ after_end Boundary f octets = tt
 after_end (Within present) f octets = tt
 after_end (Refused place reason) f octets = tt
 
-after_last : (end : End) (octets : List ℕ) (others : List Entry) → (IsNotRefused end → others ≡ []) → BeginsOtherwise (map entry_of (last_listed (finish_at end) octets) ++ others)
+after_last : (end : End) (octets : List ℕ) (others : List Entry) → (IsNotRefused end → others ≡ []) → BeginsOtherwise (last_frames (finish_at end) octets ++ others)
 after_last Boundary octets others n = subst BeginsOtherwise (sym (n tt)) tt
 after_last (Within present) octets others n = tt
 after_last (Refused place reason) octets others n = tt
@@ -93,7 +93,7 @@ after_last (Refused place reason) octets others n = tt
 abbrev pub SameEnd : End → End → (left octets : List ℕ) → Type 0
 SameEnd end other left octets = (end ≡ other) × ((other ≡ Boundary) ⊎ (last_octets end left ≡ octets))
 
-same_end : (end other : End) (f : List ℕ → List Entry) (left octets : List ℕ) (others : List Entry) → last_entry end left ++ entries_after end f left ≡ map entry_of (last_listed (finish_at other) octets) ++ others → (IsNotRefused other → others ≡ []) → IsTold end → IsTold other → SameEnd end other left octets
+same_end : (end other : End) (f : List ℕ → List Entry) (left octets : List ℕ) (others : List Entry) → last_entry end left ++ entries_after end f left ≡ last_frames (finish_at other) octets ++ others → (IsNotRefused other → others ≡ []) → IsTold end → IsTold other → SameEnd end other left octets
 same_end Boundary Boundary f left octets others e n t u = (refl, inl refl)
 same_end Boundary (Within present) f left octets others e n t u = absurd cc
 same_end Boundary (Refused place reason) f left octets others e n t u = absurd cc
@@ -121,33 +121,15 @@ module _ (messages : List Term) (limit : ℕ) (stream : List ℕ) where
   abbrev left : List ℕ
   left = after_contents (frames messages limit stream) stream
 
-  -- the contents of its first frames
-  pub frames-begin : (contents : List (List ℕ)) (others : List Entry) → entries messages limit stream ≡ map Contents contents ++ others → (rest : List (List ℕ)) × (all.contents ≡ contents ++ rest)
-  frames-begin contents others e = whole-begin all.contents contents (last_entry all.end left ++ entries_after all.end (entries messages limit) left) others (after_end all.end (entries messages limit) left) (sym (entries-step messages limit stream) ∙ e)
+  -- the contents of its first frames, if they are messages
+  pub frames-begin : (first others : List Entry) → entries messages limit stream ≡ first ++ others → AllByRecursion IsMessage first → (rest : List (List ℕ)) × (all.contents ≡ contents_in first ++ rest)
+  frames-begin first others e m =
+      whole-begin all.contents (contents_in first) (last_entry all.end left ++ entries_after all.end (entries messages limit) left) others (after_end all.end (entries messages limit) left)
+      (sym (entries-step messages limit stream) ∙ e ∙ ap (λ l. l ++ others) (sym (are_contents first m)))
 
   -- all of them, up to the first that is refused
-  pub frames-first : (contents : List (List ℕ)) (end : End) (octets : List ℕ) (others : List Entry) → entries messages limit stream ≡ map Contents contents ++ (map entry_of (last_listed (finish_at end) octets) ++ others) → (IsNotRefused end → others ≡ []) → IsTold end → (all.contents ≡ contents) × SameEnd all.end end left octets
-  frames-first contents end octets others e n u =
-      let s = whole-same all.contents contents (last_entry all.end left ++ entries_after all.end (entries messages limit) left) (map entry_of (last_listed (finish_at end) octets) ++ others) (after_end all.end (entries messages limit) left) (after_last end octets others n) (sym (entries-step messages limit stream) ∙ e) in
+  pub frames-first : (first : List Entry) (end : End) (octets : List ℕ) (others : List Entry) → entries messages limit stream ≡ first ++ (last_frames (finish_at end) octets ++ others) → AllByRecursion IsMessage first → (IsNotRefused end → others ≡ []) → IsTold end → (all.contents ≡ contents_in first) × SameEnd all.end end left octets
+  frames-first first end octets others e m n u =
+      let s = whole-same all.contents (contents_in first) (last_entry all.end left ++ entries_after all.end (entries messages limit) left) (last_frames (finish_at end) octets ++ others) (after_end all.end (entries messages limit) left) (after_last end octets others n)
+      (sym (entries-step messages limit stream) ∙ e ∙ ap (λ l. l ++ (last_frames (finish_at end) octets ++ others)) (sym (are_contents first m))) in
       (s.0, same_end all.end end (entries messages limit) left octets others s.1 n (is_told messages limit stream) u)
-
--- ---- frames that are listed, none of which is refused
-pub record AreWhole (form : Form) (profile : Profile) (n offset : ℕ) (listed : List Listed) : Type 0 where
-  pub found : List Message
-  pub in_frames : map entry_of listed ≡ map Contents (map message_der found)
-  pub lines : lines_after form profile n offset listed ≡ flat_map (message_line form) found
-  pub counted : messages_in listed ≡ length found
-  pub octets : octets_in listed ≡ frames_size (map message_der found)
-
-pub are_whole : (form : Form) (profile : Profile) (n offset : ℕ) (listed : List Listed) → refused_in listed ≡ 0 → AreWhole form profile n offset listed
-are_whole form profile n offset [] none = record { found = []; in_frames = refl; lines = refl; counted = refl; octets = refl }
-are_whole form profile n offset (Whole message ∷ others) none =
-    let rest : AreWhole form profile (n + 1) (offset + (4 + length (message_der message))) others = are_whole form profile (n + 1) (offset + (4 + length (message_der message))) others none in
-    record {
-      found = message ∷ rest.found;
-      in_frames = ap (λ l. Contents (message_der message) ∷ l) rest.in_frames;
-      lines = ap (λ l. message_line form message ++ l) rest.lines;
-      counted = omega (arith, rest.counted);
-      octets = ap (λ k. 4 + length (message_der message) + k) rest.octets ∙ sym (sum_by-cons (λ c. 4 + length c) (message_der message) (map message_der rest.found));
-    }
-are_whole form profile n offset (Faulty place reason prefix ∷ others) none = absurd (omega (arith, none))

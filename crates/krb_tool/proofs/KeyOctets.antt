@@ -3,12 +3,12 @@ use Rattle.std.proofs.Common.{◌≡◌, ℕ, ◌≤◌, Option, Result, Ok, Err
 use Rattle.std.proofs.lemmas.List.{length-map}
 use Rattle.std.specs.List.{flat_map}
 use Rattle.krb_file.specs.Fields.{Source, Fault}
-use Rattle.krb_keytab.specs.Reading.{Items as Records, items as keytab_records}
+use Rattle.krb_keytab.specs.Reading.{Records, items as keytab_records}
 use Rattle.krb_keytab.specs.Spelling.{masked_record}
 use Rattle.krb_keytab.specs.Laws.{IsUpToKey, masked_items as masked_records, KeysChangeNothingElse}
 use Rattle.krb_ccache.specs.declared.value.Credential.{Credential}
 use Rattle.krb_ccache.specs.declared.reading.Start.{Start}
-use Rattle.krb_ccache.specs.Reading.{Items}
+use Rattle.krb_ccache.specs.Reading.{CacheItems}
 use Rattle.krb_ccache.specs.Spelling.{masked_credential}
 use Rattle.krb_ccache.specs.Streaming.{file_start, credentials}
 use Rattle.krb_ccache.specs.Laws.{IsUpToKey as IsUpToSessionKey, masked_items, start_alone, SessionKeysChangeNothingElse}
@@ -27,8 +27,8 @@ lines-same line mask same (a ∷ values) = ap₂ (λ (first others : List ℕ). 
 records-masked : RecordKeyIsNotShown → (form : Form) (found : Records) → records_listing form (masked_records found) ≡ records_listing form found
 records-masked shown form found =
     ap₂ (λ (lines last : List ℕ). let it : RecordListing = record { lines = lines; last = last; end = end_of found.end } in it)
-    (lines-same (λ r. record_line form r) masked_record (λ r. ap (λ printed. line_of form printed) (shown r)) found.records)
-    (ap (λ (count : ℕ). keytab_last form count found.end) (length-map found.records masked_record))
+    (lines-same (λ r. record_line form r) masked_record (λ r. ap (λ printed. line_of form printed) (shown r)) found.items)
+    (ap (λ (count : ℕ). keytab_last form count found.end) (length-map found.items masked_record))
 
 pub keytab-same : KeysChangeNothingElse → RecordKeyIsNotShown → (form : Form) (before key other after : List ℕ) (size : ℕ) → IsUpToKey before size → length key ≤ size → length other ≡ length key → keytab_listing form (before ++ (key ++ after)) ≡ keytab_listing form (before ++ (other ++ after))
 unfolding keytab_listing
@@ -38,7 +38,7 @@ keytab-same alike shown form before key other after size up le len =
     ∙ records-masked shown form (keytab_records field_limit (before ++ (other ++ after)))
 
 -- ---- caches
-credentials-masked : CredentialKeyIsNotShown → (form : Form) (now : Option ℕ) (found : Items Credential) → credentials_listing form now (masked_items found) ≡ credentials_listing form now found
+credentials-masked : CredentialKeyIsNotShown → (form : Form) (now : Option ℕ) (found : CacheItems Credential) → credentials_listing form now (masked_items found) ≡ credentials_listing form now found
 credentials-masked shown form now found =
     ap₂ (λ (lines last : List ℕ). let it : RecordListing = record { lines = lines; last = last; end = end_of found.end } in it)
     (lines-same (λ c. credential_line form now c) masked_credential (λ c. ap (λ printed. line_of form printed) (shown form now c)) found.items)
@@ -49,7 +49,7 @@ abbrev listing_by : Form → Result Start Fault → RecordListing → RecordList
 listing_by form (Err fault) others = refused_listing form fault
 listing_by form (Ok start) others = after_line (cache_line form start.header start.principal) others
 
-listing-by : (form : Form) (now : Option ℕ) (r : Result (Start × Source) Fault) (found : Items Credential) → cache_listing form now r found ≡ listing_by form (start_alone r) (credentials_listing form now found)
+listing-by : (form : Form) (now : Option ℕ) (r : Result (Start × Source) Fault) (found : CacheItems Credential) → cache_listing form now r found ≡ listing_by form (start_alone r) (credentials_listing form now found)
 listing-by form now (Err fault) found = refl
 listing-by form now (Ok start) found = refl
 

@@ -1,15 +1,12 @@
-pub mod DecoderResults
 pub mod Listings
 pub mod Transfers
 pub mod StreamRuns
 pub mod Pieces
-pub mod LastFrames
 pub mod FirstRefusals
 pub mod ListedPieces
 pub mod Files
 pub mod Messages
 pub mod Records
-pub mod KeytabLines
 pub mod CredentialLines
 pub mod Upgrades
 pub mod KnownLengths
@@ -21,8 +18,8 @@ mod CaptureLines
 mod CaptureListings
 pub mod ConversionRuns
 pub mod DecodedFrames
-pub mod DecodedPieces
 pub mod SourceLineParts
+pub mod LineReaders
 pub mod EncodedLines
 mod EncodedMessages
 mod AlikeStreams

@@ -1,42 +1,52 @@
--- Frames listed one after another.
-use Rattle.std.proofs.Common.{◌≡◌, ℕ, ◌+◌, ◌^◌, ◌<◌, ◌≤◌, inl, inr, Bool, true, false, List, [], ◌∷◌, ◌++◌, length, take, map, refl, sym, ◌∙◌, ap, ap₂, subst, arith, append_assoc, append-nil, length-append}
-use Rattle.std.specs.List.{AllByRecursion}
-use Rattle.std.proofs.lemmas.Bool.{cases_lt}
-use Rattle.std.proofs.lemmas.List.{map-append, take_at}
+-- The lines of a stream, up to its end or the first refusal, or also after refusals.
+use Rattle.std.proofs.Common.{◌≡◌, ℕ, ◌+◌, ◌^◌, ◌<◌, ◌⊎◌, inl, inr, Bool, true, false, List, [], ◌∷◌, ◌++◌, length, map, Option, Result, Ok, Err, refl, sym, ◌∙◌, ap, ap₂, subst, arith, append_assoc, append-nil}
+use Rattle.std.specs.Io.KnownBytes.{IsAtEnd}
+use Rattle.std.specs.List.{AllByRecursion, flat_map}
+use Rattle.std.proofs.lemmas.List.{map-append}
+use Rattle.std.proofs.lemmas.List.Sums.{sum_by-cons}
 use Rattle.krb_der.specs.declared.profile.Profile.{Profile}
+use Rattle.krb_der.specs.declared.why.Why.{Why}
+use Rattle.krb_der.specs.declared.why.Why.TheVariants.{HighBit, Truncated}
 use Rattle.krb_der.specs.declared.verdict.Refusal.{Refusal}
 use Rattle.krb_msg.specs.Grammar.{messages}
-use Rattle.krb_frame.specs.Decoding.{Decoding}
-use Rattle.krb_frame.specs.Deliveries.{AreUsed, Delivers, DeliversBefore, DeliversPrefix, DeliversUpTo, IsMessage, Received, due}
-use Rattle.krb_frame.specs.GoingOn.{Entry, GoesOn, entries_size, entry_size}
+use Rattle.krb_msg.specs.Stream.{Frames, End, Boundary, Within, Refused, frames}
+use Rattle.krb_msg.specs.Views.{message_der}
+use Rattle.krb_msg.specs.declared.message.Message.{Message}
+use Rattle.krb_frame.specs.Decoding.{finish_at, finish_of}
+use Rattle.krb_frame.specs.Decoded.{frames_size}
+use Rattle.krb_frame.specs.Deliveries.{IsMessage, contents_in}
+use Rattle.krb_frame.specs.GoingOn.{Entry, after_contents, entries, entries_size, entry_size}
 use Rattle.krb_text.specs.declared.form.Form.{Form}
-use Rattle.krb_tool.specs.Lines.{message_line, refused_line}
-use Rattle.krb_tool.specs.Paths.{frame_extent, frame_path}
-use Rattle.krb_tool.specs.GoingOn.{Listed, Whole, Faulty, entry_of, messages_in, octets_in, refused_in, lines_after, EndsUnknown}
-use Rattle.krb_tool.specs.inner.Streams.{AcceptsPiece}
-use Rattle.krb_tool.specs.inner.Pieces.{Goes, TakesPiece, listing_of}
-use Rattle.krb_tool.specs.inner.Listers.{HasListed, IsDecoded, ListsEntry, request_of, frames_kind}
-use Rattle.krb_tool.specs.declared.listing.Lister.{Lister}
+use Rattle.krb_tool.specs.GoingOn.{Listed, Whole, Faulty, entry_of, messages_in, octets_in, refused_in, lines_after, IsCountedListing, counted_run_end, EndsUnknown, ListsStream, FailsStream}
+use Rattle.krb_tool.specs.Lines.{message_line, refused_line, end_line}
+use Rattle.krb_tool.specs.Listing.{run_end, AllIsRead, IsListing, IsNotRefused, StopsInPiece}
+use Rattle.krb_tool.specs.Paths.{frame_extent, frame_path, last_octets}
 use Rattle.krb_tool.specs.declared.listing.StreamLines.{StreamLines}
-use Rattle.krb_tool.specs.declared.stream_run.Request.{Request}
-use Rattle.krb_tool.proofs.KnownLengths.{known_more}
+use Rattle.krb_tool.specs.declared.run.RunEnd.{RunEnd}
+use Rattle.krb_tool.specs.declared.run.RunFault.{RunFault}
+use Rattle.krb_tool.specs.declared.run.RunFault.TheVariants as fault
+use Rattle.krb_tool.specs.inner.Listers.{Adds, AreListed, FrameLister, HasListed, IsDone, current_end, last_frames, last_of, lister_kind}
+use Rattle.krb_tool.specs.inner.StreamLines.{AddsEnd, AddsRefused, AsksAfter, HasLines, ListsEntry, PutsClosing, closing, last_listed, listed_last, rules_of, stream_lines}
+use Rattle.krb_tool.specs.inner.Streams.{EndsListing, FailsBy, ListsBy, Taken}
+use Rattle.krb_tool.proofs.FirstRefusals.{SameEnd, frames-begin}
+use Rattle.krb_tool.proofs.ListedPieces.{IsOver, SameLast, done-first, waits-known, waits-whole}
 
 -- ---- lists of frames
-pub messages_in-append : (xs ys : List Listed) → messages_in (xs ++ ys) ≡ messages_in xs + messages_in ys
+messages_in-append : (xs ys : List Listed) → messages_in (xs ++ ys) ≡ messages_in xs + messages_in ys
 messages_in-append [] ys = omega arith
 messages_in-append (Whole message ∷ xs) ys = omega (arith, messages_in-append xs ys)
 messages_in-append (Faulty place reason prefix ∷ xs) ys = messages_in-append xs ys
 
-pub refused_in-append : (xs ys : List Listed) → refused_in (xs ++ ys) ≡ refused_in xs + refused_in ys
+refused_in-append : (xs ys : List Listed) → refused_in (xs ++ ys) ≡ refused_in xs + refused_in ys
 refused_in-append [] ys = omega arith
 refused_in-append (Whole message ∷ xs) ys = refused_in-append xs ys
 refused_in-append (Faulty place reason prefix ∷ xs) ys = omega (arith, refused_in-append xs ys)
 
-pub octets_in-append : (xs ys : List Listed) → octets_in (xs ++ ys) ≡ octets_in xs + octets_in ys
+octets_in-append : (xs ys : List Listed) → octets_in (xs ++ ys) ≡ octets_in xs + octets_in ys
 octets_in-append [] ys = omega arith
 octets_in-append (x ∷ xs) ys = omega (arith, octets_in-append xs ys)
 
-pub lines_after-append : (form : Form) (profile : Profile) (n offset : ℕ) (xs ys : List Listed) → lines_after form profile n offset (xs ++ ys) ≡ lines_after form profile n offset xs ++ lines_after form profile (n + messages_in xs) (offset + octets_in xs) ys
+lines_after-append : (form : Form) (profile : Profile) (n offset : ℕ) (xs ys : List Listed) → lines_after form profile n offset (xs ++ ys) ≡ lines_after form profile n offset xs ++ lines_after form profile (n + messages_in xs) (offset + octets_in xs) ys
 lines_after-append form profile n offset [] ys =
     let e : n ≡ n + 0 = omega arith in
     let o : offset ≡ offset + 0 = omega arith in
@@ -60,168 +70,325 @@ one_counted : (x : Listed) → messages_in (x ∷ []) + refused_in (x ∷ []) �
 one_counted (Whole message) = omega arith
 one_counted (Faulty place reason prefix) = omega arith
 
-all_counted : (xs : List Listed) → messages_in xs + refused_in xs ≡ length (map entry_of xs)
-all_counted [] = omega arith
-all_counted (Whole message ∷ xs) = omega (arith, all_counted xs)
-all_counted (Faulty place reason prefix ∷ xs) = omega (arith, all_counted xs)
-
 all_sized : (xs : List Listed) → octets_in xs ≡ entries_size (map entry_of xs)
 all_sized [] = refl
 all_sized (x ∷ xs) = omega (arith, all_sized xs)
 
-none_refused : (xs : List Listed) → AllByRecursion IsMessage (map entry_of xs) → refused_in xs ≡ 0
-none_refused [] m = refl
-none_refused (Whole message ∷ xs) m = none_refused xs m.1
-none_refused (Faulty place reason prefix ∷ xs) m = absurd m.0
+-- none of them is refused
+record AreWhole (form : Form) (profile : Profile) (n offset : ℕ) (listed : List Listed) : Type 0 where
+  found : List Message
+  contents : contents_in (map entry_of listed) ≡ map message_der found
+  lines : lines_after form profile n offset listed ≡ flat_map (message_line form) found
+  counted : messages_in listed ≡ length found
+  none : refused_in listed ≡ 0
+  octets : octets_in listed ≡ frames_size (map message_der found)
 
--- ---- frames that were received
-record ListsEntries (old : StreamLines) (frames : List Entry) (new : StreamLines) : Type 0 where
-  listed : List Listed
-  are : map entry_of listed ≡ frames
-  decoded : AllByRecursion IsDecoded frames
-  lines : new.text ≡ old.text ++ lines_after old.request.form old.request.profile old.messages old.offset listed
-  messages : new.messages ≡ old.messages + messages_in listed
-  refused : new.refused ≡ old.refused + refused_in listed
-  offset : new.offset ≡ old.offset + octets_in listed
-  same : new.request ≡ old.request
-
-lists-entries : (old : StreamLines) (frames : List Entry) (new : StreamLines) → Received ListsEntry old frames new → old.messages + old.refused + length frames < 2 ^ 64 → old.offset + entries_size frames < 2 ^ 64 → ListsEntries old frames new
-lists-entries old [] new e few room = record {
-  listed = [];
-  are = refl;
-  decoded = tt;
-  lines = ap (λ (l : StreamLines). l.text) e ∙ sym (append-nil old.text);
-  messages = omega (arith, ap (λ (l : StreamLines). l.messages) e);
-  refused = omega (arith, ap (λ (l : StreamLines). l.refused) e);
-  offset = omega (arith, ap (λ (l : StreamLines). l.offset) e);
-  same = ap (λ (l : StreamLines). l.request) e;
-}
-lists-entries old (x ∷ xs) new (between, first, others) few room =
-    let one : List Listed = first.listed ∷ [] in
-    let m : between.messages ≡ old.messages + messages_in (first.listed ∷ []) = first.messages (omega (arith, few)) in
-    let r : between.refused ≡ old.refused + refused_in (first.listed ∷ []) = first.refused (omega (arith, few)) in
-    let o : between.offset ≡ old.offset + octets_in (first.listed ∷ []) = omega (arith, first.offset (omega (arith, room)), ap entry_size first.is_entry) in
-    let l : ListsEntries between xs new = lists-entries between xs new others (omega (arith, few, m, r, one_counted first.listed)) (omega (arith, room, first.offset (omega (arith, room)))) in
-    let line : List ℕ = lines_after old.request.form old.request.profile old.messages old.offset (first.listed ∷ []) in
+are_whole : (form : Form) (profile : Profile) (n offset : ℕ) (listed : List Listed) → AllByRecursion IsMessage (map entry_of listed) → AreWhole form profile n offset listed
+are_whole form profile n offset [] m = record { found = []; contents = refl; lines = refl; counted = refl; none = refl; octets = refl }
+are_whole form profile n offset (Whole message ∷ others) m =
+    let rest : AreWhole form profile (n + 1) (offset + (4 + length (message_der message))) others = are_whole form profile (n + 1) (offset + (4 + length (message_der message))) others m.1 in
     record {
-      listed = first.listed ∷ l.listed;
-      are = ap₂ (λ h t. h ∷ t) first.is_entry l.are;
-      decoded = (first.decoded, l.decoded);
+      found = message ∷ rest.found;
+      contents = ap (λ l. message_der message ∷ l) rest.contents;
+      lines = ap (λ l. message_line form message ++ l) rest.lines;
+      counted = omega (arith, rest.counted);
+      none = rest.none;
+      octets = ap (λ k. 4 + length (message_der message) + k) rest.octets ∙ sym (sum_by-cons (λ c. 4 + length c) (message_der message) (map message_der rest.found));
+    }
+are_whole form profile n offset (Faulty place reason prefix ∷ others) m = absurd m.0
+
+-- ---- a frame is listed
+adds_entry : (old : StreamLines) (entry : Entry) (new : StreamLines) → ListsEntry old entry new → old.messages + old.refused + 1 < 2 ^ 64 → old.offset + entry_size entry < 2 ^ 64 → Adds stream_lines old entry new
+adds_entry old entry new r few small =
+    let form : Form = old.request.form in
+    let one : List Listed = r.listed ∷ [] in
+    let messages : new.messages ≡ old.messages + messages_in (r.listed ∷ []) = r.messages (omega (arith, few)) in
+    let refused : new.refused ≡ old.refused + refused_in (r.listed ∷ []) = r.refused (omega (arith, few)) in
+    let offset : new.offset ≡ old.offset + octets_in (r.listed ∷ []) = omega (arith, r.offset small, ap entry_size r.is_entry) in
+    record {
+      decoded = λ kept. r.decoded;
+      lines = λ profile frames written h.
+          let m : old.messages ≡ 0 + messages_in h.listed = omega (arith, h.messages) in
+          let o : old.offset ≡ 0 + octets_in h.listed = omega (arith, h.offset) in
+          record {
+            listed = h.listed ++ r.listed ∷ [];
+            are = map-append entry_of h.listed (r.listed ∷ []) ∙ ap₂ (λ xs x. xs ++ x ∷ []) h.are r.is_entry;
+            same_profile = ap (λ q. q.profile) r.same ∙ h.same_profile;
+            text =
+                ap (λ t. written ++ t) r.line
+                ∙ sym (append_assoc written old.text (lines_after form old.request.profile old.messages old.offset one))
+                ∙ ap₂ (λ t q. t ++ lines_after form q old.messages old.offset one) h.text h.same_profile
+                ∙ ap₂ (λ n k. lines_after form profile 0 0 h.listed ++ lines_after form profile n k one) m o
+                ∙ sym (lines_after-append form profile 0 0 h.listed one)
+                ∙ ap (λ q. lines_after q.form profile 0 0 (h.listed ++ one)) (sym r.same);
+            messages = omega (arith, messages, h.messages, messages_in-append h.listed (r.listed ∷ []));
+            refused = omega (arith, refused, h.refused, refused_in-append h.listed (r.listed ∷ []));
+            offset = omega (arith, offset, h.offset, octets_in-append h.listed (r.listed ∷ []));
+          };
+      few = omega (arith, messages, refused, one_counted r.listed);
+      small = omega (arith, r.offset small);
+      going = ap (λ q. q.keep_going) r.same;
+      same = λ profile limit. ap (λ q. record { form = q.form; profile = profile; limit = limit; keep_going = q.keep_going }) r.same;
+    }
+
+-- the lines of the first frames
+are-lines : (going : Bool) (form : Form) (profile : Profile) (limit : ℕ) (octets text : List ℕ) (listed : List Listed) (others : List Entry) → entries (messages profile) limit octets ≡ map entry_of listed ++ others → (going ≡ false → AllByRecursion IsMessage (map entry_of listed)) → text ≡ lines_after form profile 0 0 listed → (rules_of going form profile limit).AreLines octets text
+are-lines true form profile limit octets text listed others e whole t = record { found = listed; others = others; in_frames = e; lines = t }
+are-lines false form profile limit octets text listed others e whole t =
+    let w : AreWhole form profile 0 0 listed = are_whole form profile 0 0 listed (whole refl) in
+    let begin = frames-begin (messages profile) limit octets (map entry_of listed) others e (whole refl) in
+    record { found = w.found; others = begin.0; in_frames = begin.1 ∙ ap (λ l. l ++ begin.0) w.contents; lines = t ∙ w.lines }
+
+asks-after : (going : Bool) (lister : FrameLister StreamLines) (octets written : List ℕ) (h : HasListed stream_lines lister octets written) → (lister_kind stream_lines).IsWaiting lister → lister.lines.request.keep_going ≡ going → AsksAfter going lister.decoder.current.profile lister.decoder.current.limit octets
+asks-after true lister octets written h w kept = waits-known stream_lines lister octets written h w kept
+asks-after false lister octets written h w stops = (waits-whole stream_lines lister octets written h w stops).1
+
+-- ---- the end of a stream
+-- what is put there
+pub AddsEnd-whole : (old : FrameLister StreamLines) (new : StreamLines) (ended : RunEnd) (done : Unit {0}) → finish_of (messages old.decoder.current.profile) old.decoder.current ≡ Ok done → PutsClosing old.lines new ended → AddsEnd old new ended
+AddsEnd-whole old new ended done e p =
+    let none : listed_last old ≡ [] = ap (λ r. last_listed r old.decoder.current.octets) e in
+    let z : old.lines.refused ≡ old.lines.refused + 0 = omega arith in
+    let form : Form = old.lines.request.form in
+    let going : Bool = old.lines.request.keep_going in
+    record {
       lines =
-          l.lines
-          ∙ ap₂ (λ t q. t ++ lines_after q.form q.profile between.messages between.offset l.listed) first.line first.same
-          ∙ ap₂ (λ n k. (old.text ++ line) ++ lines_after old.request.form old.request.profile n k l.listed) m o
-          ∙ append_assoc old.text line (lines_after old.request.form old.request.profile (old.messages + messages_in one) (old.offset + octets_in one) l.listed)
-          ∙ ap (λ t. old.text ++ t) (sym (lines_after-append old.request.form old.request.profile old.messages old.offset one l.listed));
-      messages = omega (arith, l.messages, m, messages_in-append (first.listed ∷ []) l.listed);
-      refused = omega (arith, l.refused, r, refused_in-append (first.listed ∷ []) l.listed);
-      offset = omega (arith, l.offset, o, octets_in-append (first.listed ∷ []) l.listed);
-      same = l.same ∙ first.same;
+          p.line
+          ∙ ap (λ k. old.lines.text ++ closing going form old.lines.messages k) z
+          ∙ ap (λ l. old.lines.text ++ (lines_after form old.decoder.current.profile old.lines.messages old.lines.offset l ++ closing going form old.lines.messages (old.lines.refused + refused_in l))) (sym none);
+      ended_so = p.ended_so ∙ ap counted_run_end z ∙ ap (λ l. counted_run_end (old.lines.refused + refused_in l)) (sym none);
     }
 
-same_request : (request request' : Request) (old new : Decoding) → request' ≡ request → new.profile ≡ old.profile → new.limit ≡ old.limit → request_of request' new ≡ request_of request old
-same_request request request' old new q p l = λ i. record { form = (q i).form; profile = p i; limit = l i; keep_going = (q i).keep_going }
-
--- ---- the frames of a piece were delivered
--- a lister waits, and can count the frames of a piece and their octets
-pub record HasRoom (lister : Lister) (piece : List ℕ) : Type 0 where
-  pub stream : List ℕ
-  pub written : List ℕ
-  pub listed : HasListed lister stream written
-  pub waits : frames_kind.IsWaiting lister
-  pub few : lister.lines.messages + lister.lines.refused + length piece < 2 ^ 64
-  pub room : length stream + length piece < 2 ^ 63
-
-pub has_room : (lister : Lister) (piece : List ℕ) → AcceptsPiece (listing_of frames_kind lister) → length piece ≤ 65536 → HasRoom lister piece
-has_room lister piece m short =
-    let w = m.waits.1 in
+pub AddsEnd-refused : (old : FrameLister StreamLines) (between new : StreamLines) (ended : RunEnd) (refusal : Refusal) → old.lines.refused + 1 < 2 ^ 64 → finish_of (messages old.decoder.current.profile) old.decoder.current ≡ Err refusal → AddsRefused old.decoder.current.profile refusal old.decoder.current.octets old.lines between → PutsClosing between new ended → AddsEnd old new ended
+AddsEnd-refused old between new ended refusal few e r p =
+    let one : listed_last old ≡ Faulty refusal.place refusal.why old.decoder.current.octets ∷ [] = ap (λ r. last_listed r old.decoder.current.octets) e in
+    let z : between.refused ≡ old.lines.refused + (1 + 0) = omega (arith, r.refused few) in
+    let form : Form = old.lines.request.form in
+    let going : Bool = old.lines.request.keep_going in
+    let line : List ℕ = refused_line form old.lines.messages refusal.place refusal.why (frame_path old.decoder.current.profile old.decoder.current.octets) (frame_extent old.lines.offset old.decoder.current.octets) in
     record {
-      stream = m.taken.octets;
-      written = m.taken.written;
-      listed = w.listed;
-      waits = w.waits;
-      few = omega (arith, m.few, w.few, short);
-      room = omega (arith, m.few, w.short, short);
+      lines =
+          p.line
+          ∙ ap₂ (λ q n. between.text ++ closing q.keep_going q.form n between.refused) r.same r.messages
+          ∙ ap₂ (λ t k. t ++ closing going form old.lines.messages k) r.line z
+          ∙ append_assoc old.lines.text line (closing going form old.lines.messages (old.lines.refused + (1 + 0)))
+          ∙ ap (λ l. old.lines.text ++ (l ++ closing going form old.lines.messages (old.lines.refused + (1 + 0)))) (sym (append-nil line))
+          ∙ ap (λ l. old.lines.text ++ (lines_after form old.decoder.current.profile old.lines.messages old.lines.offset l ++ closing going form old.lines.messages (old.lines.refused + refused_in l))) (sym one);
+      ended_so = p.ended_so ∙ ap counted_run_end z ∙ ap (λ l. counted_run_end (old.lines.refused + refused_in l)) (sym one);
     }
 
-module _ (old new : Lister) (piece rest : List ℕ) (r : HasRoom old piece) (p : DeliversPrefix ListsEntry old.lines.request.keep_going old.decoder piece rest new.decoder old.lines new.lines) where
-  within : length p.used ≤ length piece
-  within = omega (arith, ap length p.parts, length-append p.used rest)
+last_messages : (end : End) (octets : List ℕ) → messages_in (last_listed (finish_at end) octets) ≡ 0
+last_messages Boundary octets = refl
+last_messages (Within present) octets = refl
+last_messages (Refused place reason) octets = refl
 
-  few_frames : length p.delivers.frames ≤ length p.used
-  few_frames = omega (arith, p.delivers.few, ap due r.waits)
+last_entries : (finish : Result (Unit {0}) Refusal) (octets : List ℕ) → map entry_of (last_listed finish octets) ≡ last_frames finish octets
+last_entries (Ok done) octets = refl
+last_entries (Err refusal) octets = refl
 
-  used_by : (stream written : List ℕ) (h : HasListed old stream written) → AreUsed old.decoder p.used p.delivers.frames new.decoder
-  used_by stream written h = p.delivers.used stream (map entry_of h.listed) h.goes_on
-
-  lists : ListsEntries old.lines p.delivers.frames new.lines
-  lists =
-      let u : AreUsed old.decoder p.used p.delivers.frames new.decoder = used_by r.stream r.written r.listed in
-      lists-entries old.lines p.delivers.frames new.lines p.delivers.received (omega (arith, r.few, few_frames, within))
-      (omega (arith, u.size, u.short r.listed.short, r.listed.within, r.room, within))
-
-  delivered : (stream written : List ℕ) → HasListed old stream written → HasListed new (stream ++ p.used) written
-  delivered stream written h =
-      let d : Delivers ListsEntry old.decoder p.used new.decoder old.lines new.lines = p.delivers in
-      let u : AreUsed old.decoder p.used p.delivers.frames new.decoder = used_by stream written h in
-      let form : Form = old.lines.request.form in
-      let profile : Profile = old.decoder.current.profile in
-      let all : List Listed = h.listed ++ lists.listed in
-      let both : map entry_of (h.listed ++ lists.listed) ≡ map entry_of h.listed ++ p.delivers.frames = map-append entry_of h.listed lists.listed ∙ ap (λ l. map entry_of h.listed ++ l) lists.are in
-      let m : old.lines.messages ≡ 0 + messages_in h.listed = omega (arith, h.messages) in
-      let o : old.lines.offset ≡ 0 + octets_in h.listed = omega (arith, h.offset) in
-      record {
-        listed = h.listed ++ lists.listed;
-        goes_on =
-            subst (λ q. GoesOn (messages q) new.decoder (stream ++ p.used) (map entry_of all)) (sym d.same_profile)
-            (subst (GoesOn (messages profile) new.decoder (stream ++ p.used)) (sym both) (d.goes_on stream (map entry_of h.listed) h.goes_on));
-        known = subst (λ l. EndsUnknown l → ⊥) (sym both) (known_more (map entry_of h.listed) p.delivers.frames h.known lists.decoded (d.followed stream (map entry_of h.listed) h.goes_on));
-        whole = λ stops.
-            let kept : old.lines.request.keep_going ≡ false = sym (ap (λ q. q.keep_going) lists.same) ∙ stops in
-            omega (arith, refused_in-append h.listed lists.listed, h.whole kept, none_refused lists.listed (subst (AllByRecursion IsMessage) (sym lists.are) (p.stops kept)));
-        profile = ap (λ q. q.profile) lists.same ∙ h.profile ∙ sym d.same_profile;
-        lines =
-            ap (λ t. written ++ t) lists.lines
-            ∙ sym (append_assoc written old.lines.text (lines_after form old.lines.request.profile old.lines.messages old.lines.offset lists.listed))
-            ∙ ap₂ (λ t q. t ++ lines_after form q old.lines.messages old.lines.offset lists.listed) h.lines h.profile
-            ∙ ap₂ (λ n k. lines_after form profile 0 0 h.listed ++ lines_after form profile n k lists.listed) m o
-            ∙ sym (lines_after-append form profile 0 0 h.listed lists.listed)
-            ∙ ap₂ (λ q x. lines_after q.form x 0 0 all) (sym lists.same) (sym d.same_profile);
-        messages = omega (arith, lists.messages, h.messages, messages_in-append h.listed lists.listed);
-        refused = omega (arith, lists.refused, h.refused, refused_in-append h.listed lists.listed);
-        offset = omega (arith, lists.offset, h.offset, octets_in-append h.listed lists.listed);
-        within = omega (arith, lists.offset, all_sized lists.listed, ap entries_size lists.are, u.size, h.within, length-append stream p.used);
-        short = u.short h.short;
-      }
-
-  taken : (goes_on : Bool) → Goes frames_kind new (length piece) (length p.used) goes_on → TakesPiece frames_kind old piece new goes_on
-  taken goes_on g =
-      let prefix : take (length p.used) piece ≡ p.used = ap (take (length p.used)) p.parts ∙ take_at p.used rest (length p.used) refl in
-      record {
-        used = length p.used;
-        within = within;
-        same = same_request old.lines.request new.lines.request old.decoder.current new.decoder.current lists.same p.delivers.same_profile p.delivers.same_limit;
-        listed = λ stream written h. subst (λ l. HasListed new (stream ++ l) written) (sym prefix) (delivered stream written h);
-        few = omega (arith, lists.messages, lists.refused, all_counted lists.listed, ap length lists.are, few_frames, within);
-        goes = g;
-      }
-
-  keeps : old.lines.request.keep_going ≡ new.lines.request.keep_going
-  keeps = ap (λ q. q.keep_going) (sym lists.same)
-
--- all of them
-pub takes-up-to : (old new : Lister) (piece rest : List ℕ) → HasRoom old piece → DeliversUpTo ListsEntry (λ lines. ⊥) old.lines.request.keep_going old.decoder piece rest new.decoder old.lines new.lines → TakesPiece frames_kind old piece new true
-takes-up-to old new piece rest r d = taken old new piece rest r d.prefix true (all, d.waits)
+-- the last line, up to the end or the first refusal
+last-line : (form : Form) (profile : Profile) (count offset refused : ℕ) (end other : End) (left octets : List ℕ) → refused ≡ 0 → SameEnd end other left octets → lines_after form profile count offset (last_listed (finish_at other) octets) ++ closing false form count (refused + refused_in (last_listed (finish_at other) octets)) ≡ end_line form count end (frame_path profile (last_octets end left)) (frame_extent offset (last_octets end left))
+last-line form profile count offset refused end other left octets none same = by other same.0 same.1
   where
-    none : length rest ≤ 0
-    none = elim (cases_lt 0 (length rest)) [
-      | inl h ↦ absurd (d.full h)
-      | inr h ↦ h
-    ]
+    line : ℕ → Why → List ℕ → List ℕ
+    line place why prefix = refused_line form count place why (frame_path profile prefix) (frame_extent offset prefix)
 
-    all : length d.prefix.used ≡ length piece
-    all = omega (arith, none, ap length d.prefix.parts, length-append d.prefix.used rest)
+    at_end : End → List ℕ
+    at_end other = end_line form count other (frame_path profile (last_octets end left)) (frame_extent offset (last_octets end left))
 
--- those before a frame that is refused and not skipped
-pub takes-stopped : (old new : Lister) (piece : List ℕ) (refusal : Refusal) → HasRoom old piece → DeliversBefore ListsEntry old.lines.request.keep_going old.decoder piece refusal new.decoder old.lines new.lines → TakesPiece frames_kind old piece new false
-takes-stopped old new piece refusal r d = taken old new piece d.rest r d.prefix false (refusal, d.refused, λ kept. d.unknown (keeps old new piece d.rest r d.prefix ∙ kept))
+    told : (place : ℕ) (why : Why) → last_octets end left ≡ octets → (line place why octets ++ []) ++ closing false form count (refused + (1 + 0)) ≡ line place why (last_octets end left)
+    told place why l =
+        let one : refused + (1 + 0) ≡ 1 = omega (arith, none) in
+        ap (λ k. (line place why octets ++ []) ++ closing false form count k) one
+        ∙ append-nil (line place why octets ++ [])
+        ∙ append-nil (line place why octets)
+        ∙ ap (line place why) (sym l)
+
+    by : (other : End) → end ≡ other → (other ≡ Boundary) ⊎ (last_octets end left ≡ octets) → lines_after form profile count offset (last_listed (finish_at other) octets) ++ closing false form count (refused + refused_in (last_listed (finish_at other) octets)) ≡ at_end end
+    by Boundary s l = let z : refused + 0 ≡ 0 = omega (arith, none) in ap (closing false form count) z ∙ ap at_end (sym s)
+    by (Within present) s (inl e) = absurd cc
+    by (Within present) s (inr l) = told present Truncated l ∙ ap at_end (sym s)
+    by (Refused place reason) s (inl e) = absurd cc
+    by (Refused place reason) s (inr l) = told place reason l ∙ ap at_end (sym s)
+
+-- and how a run ends
+last_end : (end : End) (octets : List ℕ) (refused : ℕ) → refused ≡ 0 → counted_run_end (refused + refused_in (last_listed (finish_at end) octets)) ≡ run_end end
+last_end Boundary octets refused none = let z : refused + 0 ≡ 0 = omega (arith, none) in ap counted_run_end z
+last_end (Within present) octets refused none = let one : refused + (1 + 0) ≡ 1 = omega (arith, none) in ap counted_run_end one
+last_end (Refused place reason) octets refused none = let one : refused + (1 + 0) ≡ 1 = omega (arith, none) in ap counted_run_end one
+
+all_is_read : (end : End) (left : Option (List ℕ)) → (IsNotRefused end → IsAtEnd left) → AllIsRead end left
+all_is_read Boundary left a = a tt
+all_is_read (Within present) left a = a tt
+all_is_read (Refused place reason) left a = tt
+
+-- ---- what a run did
+pub ListsStream-listed : (going : Bool) (form : Form) (profile : Profile) (limit : ℕ) (had left written_before written_after : Option (List ℕ)) (ended : RunEnd) → ListsBy (rules_of going form profile limit) had left written_before written_after ended → ListsStream going form profile limit had left written_before written_after ended
+ListsStream-listed true form profile limit had left written_before written_after ended l = record {
+  read = l.read;
+  written = l.written;
+  taken = l.taken;
+  added = l.added;
+  listed = l.listing.listing;
+  ended_so = l.listing.ends.ended_so;
+  all_read = l.listing.ends.all_read;
+  stops = l.listing.ends.stops;
+}
+ListsStream-listed false form profile limit had left written_before written_after ended l = record {
+  read = l.read;
+  written = l.written;
+  taken = l.taken;
+  added = l.added;
+  listed = l.listing.listing;
+  ended_so = l.listing.ends.ended_so;
+  all_read = l.listing.ends.all_read;
+  stops = l.listing.ends.stops;
+}
+
+pub FailsStream-failed : (going : Bool) (form : Form) (profile : Profile) (limit : ℕ) (had left written_before written_after : Option (List ℕ)) (failed : RunFault) → FailsBy (rules_of going form profile limit) had left written_before written_after failed → FailsStream going form profile limit had left written_before written_after failed
+FailsStream-failed true form profile limit had left written_before written_after (fault.Write error) f = f
+FailsStream-failed true form profile limit had left written_before written_after (fault.Read error) f = f
+FailsStream-failed true form profile limit had left written_before written_after fault.Memory f = f
+FailsStream-failed false form profile limit had left written_before written_after (fault.Write error) f = f
+FailsStream-failed false form profile limit had left written_before written_after (fault.Read error) f = f
+FailsStream-failed false form profile limit had left written_before written_after fault.Memory f = f
+
+-- ---- no octet more is looked at
+module _ (lister : FrameLister StreamLines) (taken : Taken) (d : IsDone stream_lines lister taken) where
+  abbrev form : Form
+  form = lister.lines.request.form
+
+  abbrev profile : Profile
+  profile = lister.decoder.current.profile
+
+  abbrev limit : ℕ
+  limit = lister.decoder.current.limit
+
+  abbrev read : Frames
+  read = frames (messages lister.decoder.current.profile) lister.decoder.current.limit taken.octets
+
+  abbrev h : HasLines lister.decoder.current.profile lister.lines d.frames taken.written
+  h = d.lines
+
+  room : ⊥ → ⊥
+  room full = full
+
+  -- the lines, and those of the end
+  abbrev text_of : Bool → List ℕ
+  text_of going = lines_after form profile 0 0 h.listed ++ (lines_after form profile (messages_in h.listed) (octets_in h.listed) (listed_last lister) ++ closing going form (messages_in h.listed) (refused_in h.listed + refused_in (listed_last lister)))
+
+  abbrev end_text : Bool → List ℕ
+  end_text going = lines_after form profile lister.lines.messages lister.lines.offset (listed_last lister) ++ closing going form lister.lines.messages (lister.lines.refused + refused_in (listed_last lister))
+
+  text-is : (going : Bool) → taken.written ++ (lister.lines.text ++ end_text going) ≡ text_of going
+  text-is going =
+      sym (append_assoc taken.written lister.lines.text (end_text going))
+      ∙ ap (λ l. l ++ end_text going) h.text
+      ∙ ap₂ (λ n k. lines_after form profile 0 0 h.listed ++ (lines_after form profile n lister.lines.offset (listed_last lister) ++ closing going form n (k + refused_in (listed_last lister)))) h.messages h.refused
+      ∙ ap (λ o. lines_after form profile 0 0 h.listed ++ (lines_after form profile (messages_in h.listed) o (listed_last lister) ++ closing going form (messages_in h.listed) (refused_in h.listed + refused_in (listed_last lister)))) h.offset
+
+  -- also after refusals
+  counted : (d.end room).others ≡ [] → (text : List ℕ) → text ≡ text_of true → IsCountedListing form profile limit taken.octets text
+  counted none text t =
+      let all : List Listed = h.listed ++ listed_last lister in
+      let m : messages_in all ≡ messages_in h.listed = omega (arith, messages_in-append h.listed (listed_last lister), last_messages (current_end lister) lister.decoder.current.octets) in
+      let z : 0 + messages_in h.listed ≡ messages_in h.listed = omega arith in
+      let o : 0 + octets_in h.listed ≡ octets_in h.listed = omega arith in
+      let line : List ℕ = closing true form (messages_in h.listed) (refused_in h.listed + refused_in (listed_last lister)) in
+      record {
+        found = h.listed ++ listed_last lister;
+        in_frames =
+            map-append entry_of h.listed (listed_last lister)
+            ∙ ap₂ (λ xs ys. xs ++ ys) h.are (last_entries (finish_of (messages profile) lister.decoder.current) lister.decoder.current.octets ∙ sym (append-nil (last_of lister)) ∙ ap (λ l. last_of lister ++ l) (sym none) ∙ sym (d.end room).parts)
+            ∙ sym d.all;
+        lines =
+            t
+            ∙ sym (append_assoc (lines_after form profile 0 0 h.listed) (lines_after form profile (messages_in h.listed) (octets_in h.listed) (listed_last lister)) line)
+            ∙ ap (λ l. l ++ line) (sym (lines_after-append form profile 0 0 h.listed (listed_last lister) ∙ ap₂ (λ n k. lines_after form profile 0 0 h.listed ++ lines_after form profile n k (listed_last lister)) z o))
+            ∙ sym (ap₂ (λ n k. lines_after form profile 0 0 all ++ closing true form n k) m (refused_in-append h.listed (listed_last lister)));
+      }
+
+  -- up to the first refusal
+  module _ (stops : lister.lines.request.keep_going ≡ false) where
+    whole : AreWhole form profile 0 0 h.listed
+    whole = are_whole form profile 0 0 h.listed (subst (AllByRecursion IsMessage) (sym h.are) (d.whole stops))
+
+    first : (read.contents ≡ map message_der whole.found) × SameLast lister taken.octets
+    first = let f = done-first stream_lines lister taken d stops room in (f.0 ∙ ap contents_in (sym h.are) ∙ whole.contents, f.1)
+
+    stopped : (text : List ℕ) → text ≡ text_of false → IsListing form profile limit taken.octets text
+    stopped text t =
+        let w : AreWhole form profile 0 0 h.listed = whole in
+        let prefix : List ℕ = last_octets read.end (after_contents read taken.octets) in
+        let size : octets_in h.listed ≡ frames_size read.contents = w.octets ∙ ap frames_size (sym first.0) in
+        record {
+          found = w.found;
+          in_frames = sym first.0;
+          lines =
+              t
+              ∙ ap₂ (λ a b. a ++ b) w.lines (last-line form profile (messages_in h.listed) (octets_in h.listed) (refused_in h.listed) read.end (current_end lister) (after_contents read taken.octets) lister.decoder.current.octets w.none first.1)
+              ∙ ap₂ (λ n o. flat_map (message_line form) w.found ++ end_line form n read.end (frame_path profile prefix) (frame_extent o prefix)) w.counted size;
+        }
+
+  listing-by : (going : Bool) → lister.lines.request.keep_going ≡ going → (text : List ℕ) → text ≡ text_of going → (rules_of going form profile limit).IsListing taken.octets text
+  listing-by true kept text t = counted ((d.end room).unknown kept).0 text t
+  listing-by false kept text t = stopped kept text t
+
+  -- the lines of the end follow
+  listing-done : (rest : List ℕ) × (rules_of lister.lines.request.keep_going form profile limit).IsListing taken.octets ((taken.written ++ lister.lines.text) ++ rest)
+  listing-done = (
+    end_text lister.lines.request.keep_going,
+    listing-by lister.lines.request.keep_going refl _ (append_assoc taken.written lister.lines.text _ ∙ text-is lister.lines.request.keep_going),
+  )
+
+  unknown-read : (left : Option (List ℕ)) → (IsNotRefused (current_end lister) → IsAtEnd left) → (d.end room).others ≡ [] → IsNotRefused (current_end lister) ⊎ (current_end lister ≡ Refused 3 HighBit) → IsAtEnd left ⊎ EndsUnknown (entries (messages profile) limit taken.octets)
+  unknown-read left a none (inl n) = inl (a n)
+  unknown-read left a none (inr e) = inr (record {
+    before = d.frames;
+    length_octets = lister.decoder.current.octets;
+    parts = d.all ∙ ap (λ l. d.frames ++ l) ((d.end room).parts ∙ ap₂ (λ x o. last_frames (finish_at x) lister.decoder.current.octets ++ o) e none);
+  })
+
+  ends-by : (going : Bool) → lister.lines.request.keep_going ≡ going → (text : List ℕ) (left : Option (List ℕ)) (ended : RunEnd) → (IsNotRefused (current_end lister) → IsAtEnd left) → text ≡ text_of going → ended ≡ counted_run_end (refused_in h.listed + refused_in (listed_last lister)) → EndsListing (rules_of going form profile limit) taken.octets text left ended
+  unfolding counted
+  ends-by true kept text left ended a t e =
+      let unknown = (d.end room).unknown kept in
+      record {
+        listing = counted unknown.0 text t;
+        ends = record {
+          ended_so = e ∙ ap counted_run_end (sym (refused_in-append h.listed (listed_last lister)));
+          all_read = unknown-read left a unknown.0 unknown.1;
+          stops = subst (λ g. StopsInPiece (AsksAfter g profile limit) taken.octets) kept d.stops;
+        };
+      }
+  ends-by false kept text left ended a t e =
+      let same : read.end ≡ current_end lister = (first kept).1.0 in
+      record {
+        listing = stopped kept text t;
+        ends = record {
+          ended_so = e ∙ last_end (current_end lister) lister.decoder.current.octets (refused_in h.listed) (whole kept).none ∙ ap run_end (sym same);
+          all_read = subst (λ x. AllIsRead x left) (sym same) (all_is_read (current_end lister) left a);
+          stops = subst (λ g. StopsInPiece (AsksAfter g profile limit) taken.octets) kept d.stops;
+        };
+      }
+
+-- a lister of these lines
+pub stream_listed : AreListed stream_lines
+stream_listed = record {
+  adds = adds_entry;
+  sized = λ profile lines frames written h. omega (arith, h.offset, all_sized h.listed, ap entries_size h.are);
+  begins = λ profile limit lines octets written frames others e whole h.
+      are-lines lines.request.keep_going lines.request.form profile limit octets (written ++ lines.text) h.listed others
+      (e ∙ ap (λ l. l ++ others) (sym h.are))
+      (λ stops. subst (AllByRecursion IsMessage) (sym h.are) (whole stops))
+      h.text;
+  asks = λ lister octets written h w. asks-after lister.lines.request.keep_going lister octets written h w refl;
+  listing = λ lister taken d room. listing-done lister taken d;
+}
+
+-- the lines of the end were added
+pub ends-listed : (lister : FrameLister StreamLines) (new : StreamLines) (ended : RunEnd) → AddsEnd lister new ended → (taken : Taken) (left : Option (List ℕ)) → IsOver stream_lines stream_listed lister taken left → EndsListing (stream_lines.rules ((lister_kind stream_lines).request lister)) taken.octets (taken.written ++ new.text) left ended
+ends-listed lister new ended f taken left o =
+    ends-by lister taken o.done lister.lines.request.keep_going refl (taken.written ++ new.text) left ended (o.read (λ full. full))
+    (ap (λ l. taken.written ++ l) f.lines ∙ text-is lister taken o.done lister.lines.request.keep_going)
+    (f.ended_so ∙ ap (λ k. counted_run_end (k + refused_in (listed_last lister))) o.done.lines.refused)

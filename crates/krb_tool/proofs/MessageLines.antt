@@ -1,13 +1,12 @@
 -- Messages in lines, which come piece by piece.
-use Rattle.std.proofs.Common.{◌≡◌, ℕ, ◌+◌, ◌^◌, ◌<◌, ◌≤◌, inl, inr, Bool, true, false, List, [], ◌∷◌, ◌++◌, length, take, drop, min, Option, Some, None, refl, sym, ◌∙◌, ap, subst, arith, append-nil, append_assoc, length-append, length-take, take_all}
-use Rattle.std.specs.Prelude.{nat_lt, not, ◌&&◌}
+use Rattle.std.proofs.Common.{◌≡◌, ℕ, ◌+◌, ◌-◌, ◌≤◌, Bool, true, false, List, [], ◌∷◌, ◌++◌, length, take, min, Option, Some, None, refl, sym, ◌∙◌, ap, subst, arith, append-nil, length-append, length-take, take_all}
+use Rattle.std.specs.Prelude.{nat_lt, not, ◌&&◌, ◌==◌}
 use Rattle.std.proofs.lemmas.Bool.Decides.{nat_tests}
 use Rattle.krb_der.specs.Octets.{when}
 use Rattle.krb_tool.specs.Conversions.{Converted, after_text}
-use Rattle.krb_tool.specs.Encoding.{is_blank_line, parts, without_empty_last, lines_of}
+use Rattle.krb_tool.specs.Encoding.{is_blank_line}
 use Rattle.krb_tool.specs.Files.{FileListing}
-use Rattle.krb_tool.specs.Lines.{counted_end_line}
-use Rattle.krb_tool.specs.MessageLines.{end_of, is_passed, lines_listed, next_line, none_seen, with_line, with_record}
+use Rattle.krb_tool.specs.MessageLines.{is_passed, next_line, with_line, with_record}
 use Rattle.krb_tool.specs.Messages.{Puts, input_limit, input_listing}
 use Rattle.krb_tool.specs.declared.lines_run.LineLister.{LineLister}
 use Rattle.krb_tool.specs.declared.lines_run.LinesRequest.{LinesRequest}
@@ -15,15 +14,11 @@ use Rattle.krb_tool.specs.declared.lines_run.Seen.{Seen}
 use Rattle.krb_tool.specs.declared.message_input.MessageInput.{MessageInput}
 use Rattle.krb_tool.specs.declared.run.RunEnd.{RunEnd}
 use Rattle.krb_tool.specs.declared.run.RunEnd.TheVariants as run
-use Rattle.krb_tool.specs.inner.Conversions.{IsBeginning}
-use Rattle.krb_tool.specs.inner.MessageLines.{kept_octets, AddsOctets, PutsLine, EndsLine, EndsLast, HasListed, IsCounted, lines_kind, lines_rules, records_from}
-use Rattle.krb_tool.specs.inner.Pieces.{IsFed, TakesPiece, WaitsAfter, IsLastOf}
-use Rattle.krb_tool.specs.inner.Streams.{Taken, Begins, EndsListing}
-use Rattle.krb_tool.proofs.ConversionRuns.{after_text-both}
-use Rattle.krb_tool.proofs.FirstOctets.{first-both}
+use Rattle.krb_tool.specs.inner.LineReaders.{Adds, EndsLine, HasLine, IsStopped}
+use Rattle.krb_tool.specs.inner.MessageLines.{IsCounted, PutsLine, kept_octets, message_lines, records_from}
+use Rattle.krb_tool.proofs.FirstOctets.{first-both, first-kept}
 use Rattle.krb_tool.proofs.Messages.{too-long}
-use Rattle.krb_tool.proofs.Pieces.{IsFed-used}
-use Rattle.krb_tool.proofs.SourceLineParts.{lines-more, lines-from, lines-empty, lines-last, parts_grow, parts_end, HasFirst}
+use Rattle.krb_tool.proofs.SourceLineParts.{is_nothing, is_something}
 
 -- ---- the octets that are kept of a line
 -- they decide whether it is too long
@@ -130,141 +125,51 @@ PutsLine-made old new octets ended passed same put seen line size request =
           ∙ ap (λ s. after_text (input_listing input octets).text (records_from old.request (with_line s (length whole)) more)) (sym seen);
     }
 
--- the line has ended
-pub EndsLine-made : (old between new : LineLister) → PutsLine old between → new.text ≡ between.text → new.request ≡ between.request → new.line.items ≡ [] → new.size ≡ 0 → new.seen ≡ with_line between.seen between.size → EndsLine old new
-EndsLine-made old between new p text request line size seen = record {
-  added = p.added;
-  text = text ∙ p.text;
-  request = request ∙ p.request;
-  line = line;
-  size = size;
-  octets = ap (λ s. s.octets) seen ∙ (λ i. p.octets i + p.size i + 1);
-  lines = ap (λ s. s.lines) seen ∙ ap (λ n. n + 1) p.lines;
-  few = omega (arith, ap (λ s. s.messages) seen, ap (λ s. s.refused) seen, p.few);
-  step = λ whole more kept long.
-      p.step whole more kept
-      ∙ ap (λ s. after_text p.added (records_from old.request s more)) (ap (with_line between.seen) (sym long ∙ sym p.size) ∙ sym seen);
-}
-
--- ---- what was listed so far
--- of the lines of a text the first ones are listed
-listed-is : (request : LinesRequest) (text : List ℕ) (lines : List (List ℕ)) (converted : Converted RunEnd) → lines_of text ≡ lines → records_from request none_seen lines ≡ converted → lines_listed request.form request.profile text ≡ converted
-unfolding lines_listed
-listed-is request text lines converted l e = ap (records_from request none_seen) l ∙ e
-
-module _ (lister : LineLister) (stream written : List ℕ) (h : HasListed lister stream written) where
-  -- the text so far begins that of any text which begins with the lines that ended
-  begins-lines : (text : List ℕ) (others : List (List ℕ)) → lines_of text ≡ h.ended ++ others → IsBeginning (written ++ lister.text) (lines_listed lister.request.form lister.request.profile text).text
-  begins-lines text others l =
-      record {
-        rest = (records_from lister.request lister.seen others).text;
-        parts = ap (λ c. c.text) (listed-is lister.request text (h.ended ++ others) (after_text (written ++ lister.text) (records_from lister.request lister.seen others)) l (h.goes_on others));
-      }
-
--- a lister has the beginning of the records of any text that begins with what came
-pub Begins-waits : (lister : LineLister) (taken : Taken) → WaitsAfter lines_kind lister taken → Begins (lines_rules lister.request) taken lister.text
-Begins-waits lister taken w =
-    let l = begins-lines lister taken.octets taken.written w.listed in
-    let now = l taken.octets (without_empty_last (w.listed.last ∷ [])) (ap without_empty_last w.listed.all ∙ lines-from w.listed.ended w.listed.last []) in
+-- it has ended
+pub ends-put : (old between new : LineLister) → IsCounted old → PutsLine old between → new.text ≡ between.text → new.request ≡ between.request → new.line.items ≡ [] → new.size ≡ 0 → new.seen ≡ with_line between.seen between.size → EndsLine message_lines old new true
+ends-put old between new c p text request line size seen =
+    let octets : new.seen.octets ≡ old.seen.octets + old.size + 1 = ap (λ s. s.octets) seen ∙ (λ i. p.octets i + p.size i + 1) in
+    let lines : new.seen.lines ≡ old.seen.lines + 1 = ap (λ s. s.lines) seen ∙ ap (λ n. n + 1) p.lines in
+    let few : new.seen.messages + new.seen.refused ≤ old.seen.messages + old.seen.refused + 1 = omega (arith, ap (λ s. s.messages) seen, ap (λ s. s.refused) seen, p.few) in
     record {
-      lines = λ more. let m = lines-more taken.octets w.listed.ended w.listed.last w.listed.all more in l (taken.octets ++ more) m.0 m.1;
-      rest = now.rest;
-      listing = sym now.parts;
+      added = p.added;
+      text = text ∙ p.text;
+      request = request ∙ p.request;
+      holds = record { kept = line; size = size };
+      rest = λ whole more held.
+          p.step whole more held.kept
+          ∙ ap (λ s. after_text p.added (records_from old.request s more)) (ap (with_line between.seen) (sym held.size ∙ sym p.size) ∙ sym seen)
+          ∙ ap (λ q. after_text p.added (records_from q new.seen more)) (sym (request ∙ p.request));
+      few = omega (arith, octets, size);
+      follows = (record { lines = omega (arith, lines, octets, c.lines); records = omega (arith, lines, few, c.records) }, tt);
     }
 
 -- ---- octets of a line came
--- what was listed so far, if nothing but the line changed
-same_so_far : (old new : LineLister) (written more : List ℕ) (others : List (List ℕ)) → AddsOctets old more new → after_text (written ++ old.text) (records_from old.request old.seen others) ≡ after_text (written ++ new.text) (records_from new.request new.seen others)
-same_so_far old new written more others a = λ i. after_text (written ++ sym a.text i) (records_from (sym a.request i) (sym a.seen i) others)
-
--- the line is kept with them
-kept_line : (old new : LineLister) (last more : List ℕ) → AddsOctets old more new → old.line.items ≡ take kept_octets last → new.line.items ≡ take kept_octets (last ++ more)
-kept_line old new last more a kept =
-    a.line (omega (arith, ap length kept, length-take kept_octets last))
-    ∙ ap (λ line. take kept_octets (line ++ more)) kept
-    ∙ first-both kept_octets last more
-
--- those of a line that has not ended
-HasListed-grown : (old new : LineLister) (stream written more : List ℕ) → parts more ≡ more ∷ [] → AddsOctets old more new → HasListed old stream written → HasListed new (stream ++ more) written
-HasListed-grown old new stream written more alone a h = record {
-  ended = h.ended;
-  last = h.last ++ more;
-  all = parts_grow stream h.ended h.last h.all more alone;
-  kept = kept_line old new h.last more a h.kept;
-  size = a.size ∙ ap (λ n. n + length more) h.size ∙ sym (length-append h.last more);
-  goes_on = λ others. ap (λ q. records_from q none_seen (h.ended ++ others)) a.request ∙ h.goes_on others ∙ same_so_far old new written more others a;
+pub adds-octets : (old new : LineLister) (octets : List ℕ) (count : ℕ) → new.line.items ≡ old.line.items ++ take count octets → count ≡ min (length octets) (kept_octets - length old.line.items) → new.size ≡ old.size + length octets → new.request ≡ old.request → new.seen ≡ old.seen → new.text ≡ old.text → Adds message_lines old octets new
+adds-octets old new octets count line is size request seen text = record {
+  request = request;
+  text = text;
+  rest = λ lines. λ i. records_from (request i) (seen i) lines;
+  holds = λ last held. record {
+    kept =
+        line
+        ∙ first-kept kept_octets old.line.items octets count (omega (arith, ap length held.kept, length-take kept_octets last)) is
+        ∙ ap (λ l. take kept_octets (l ++ octets)) held.kept
+        ∙ first-both kept_octets last octets;
+    size = size ∙ ap (λ n. n + length octets) held.size ∙ sym (length-append last octets);
+  };
+  is_open = λ c. record {
+    lines = subst (λ s. s.lines ≤ s.octets) (sym seen) c.lines;
+    records = subst (λ s. s.messages + s.refused ≤ s.lines) (sym seen) c.records;
+  };
+  few = omega (arith, size, ap (λ s. s.octets) seen);
 }
 
--- those of one that has ended
-HasListed-ended : (old full new : LineLister) (stream written more : List ℕ) → parts (more ++ 10 ∷ []) ≡ more ∷ [] ∷ [] → AddsOctets old more full → EndsLine full new → HasListed old stream written → HasListed new (stream ++ (more ++ 10 ∷ [])) written
-HasListed-ended old full new stream written more alone a e h =
-    let last : List ℕ = h.last ++ more in
-    let size : full.size ≡ length last = a.size ∙ ap (λ n. n + length more) h.size ∙ sym (length-append h.last more) in
-    record {
-      ended = h.ended ++ (h.last ++ more) ∷ [];
-      last = [];
-      all = parts_end stream h.ended h.last h.all more alone;
-      kept = e.line;
-      size = e.size;
-      goes_on = λ others.
-          ap (λ l. records_from new.request none_seen l) (append_assoc h.ended (last ∷ []) others)
-          ∙ ap (λ q. records_from q none_seen (h.ended ++ last ∷ others)) (e.request ∙ a.request)
-          ∙ h.goes_on (last ∷ others)
-          ∙ same_so_far old full written more (last ∷ others) a
-          ∙ ap (after_text (written ++ full.text)) (e.step last others (kept_line old full h.last more a h.kept) size)
-          ∙ after_text-both (written ++ full.text) e.added (records_from full.request new.seen others)
-          ∙ (λ i. after_text ((append_assoc written full.text e.added ∙ ap (λ t. written ++ t) (sym e.text)) i) (records_from (sym e.request i) new.seen others));
-    }
-
-IsCounted-added : (old new : LineLister) (more : List ℕ) → AddsOctets old more new → IsCounted old → IsCounted new
-IsCounted-added old new more a c = record {
-  lines = subst (λ s. s.lines ≤ s.octets) (sym a.seen) c.lines;
-  records = subst (λ s. s.messages + s.refused ≤ s.lines) (sym a.seen) c.records;
-}
-
-IsCounted-ended : (old new : LineLister) → EndsLine old new → IsCounted old → IsCounted new
-IsCounted-ended old new e c = record {
-  lines = omega (arith, e.lines, e.octets, c.lines);
-  records = omega (arith, e.lines, e.few, c.records);
-}
-
--- ---- a line of a piece ends
-pub IsFed-line : (old full new : LineLister) (rest : List ℕ) (size : ℕ) → HasFirst rest size → AddsOctets old (take size rest) full → EndsLine full new → IsCounted old → IsFed lines_kind old rest (drop (size + 1) rest) new
-IsFed-line old full new rest size first a e c =
-    IsFed-used lines_kind old new rest (size + 1) (omega (arith, first.within))
-    (e.request ∙ a.request)
-    (IsCounted-ended full new e (IsCounted-added old full (take size rest) a c))
-    (omega (arith, e.octets, e.size, a.size, ap (λ s. s.octets) a.seen, length-take size rest))
-    (λ stream written h. subst (λ l. HasListed new (stream ++ l) written) (sym first.line) (HasListed-ended old full new stream written (take size rest) first.alone a e h))
-
--- what is counted stays below 2^64
-module _ (old full : LineLister) (rest : List ℕ) (size : ℕ) (first : HasFirst rest size) (a : AddsOctets old (take size rest) full) (few : old.seen.octets + old.size + length rest < 2 ^ 64) where
-  pub octets-few : full.seen.octets + full.size + 1 < 2 ^ 64
-  octets-few = omega (arith, few, first.within, a.size, ap (λ s. s.octets) a.seen, length-take size rest)
-
-  module _ (c : IsCounted old) where
-    pub lines-few : full.seen.lines + 1 < 2 ^ 64
-    lines-few = omega (arith, few, first.within, c.lines, ap (λ s. s.lines) a.seen)
-
-    pub records-few : full.seen.messages + full.seen.refused + 1 < 2 ^ 64
-    records-few = omega (arith, few, first.within, c.lines, c.records, ap (λ s. s.messages) a.seen, ap (λ s. s.refused) a.seen)
-
--- the rest of a piece came, in which no line ends
-pub TakesPiece-rest : (old new : LineLister) (rest : List ℕ) → parts rest ≡ rest ∷ [] → AddsOctets old rest new → IsCounted old → TakesPiece lines_kind old rest new true
-TakesPiece-rest old new rest alone a c = record {
-  used = length rest;
-  within = omega arith;
-  same = a.request;
-  listed = λ stream written h. subst (λ o. HasListed new (stream ++ o) written) (sym (take_all (length rest) rest (omega arith))) (HasListed-grown old new stream written rest alone a h);
-  few = omega (arith, a.size, ap (λ s. s.octets) a.seen);
-  goes = (refl, IsCounted-added old new rest a c);
-}
-
+-- ---- the last line
 -- no line ends a run
-pub stops-never : (old new : LineLister) (piece : List ℕ) (taken : Taken) → length piece ≤ 65536 → WaitsAfter lines_kind old taken → TakesPiece lines_kind old piece new false → ⊥ × IsBeginning (taken.written ++ new.text) (lines_listed new.request.form new.request.profile (taken.octets ++ piece)).text
-stops-never old new piece taken short w f = absurd f.goes
+never_stopped : (lister : LineLister) → IsStopped message_lines lister → ⊥
+never_stopped lister s = s.fault tt
 
--- ---- the end
 not_some : {A : Type 0} {value : A} → None ≡ Some value → ⊥
 not_some e = cc
 
@@ -272,58 +177,14 @@ first_of : List ℕ → Option ℕ
 first_of [] = None
 first_of (octet ∷ octets) = Some octet
 
--- what was listed is all that came
-is_listed : LineLister → LineLister → Taken → Type 0
-is_listed old between taken = lines_listed old.request.form old.request.profile taken.octets ≡ record { text = taken.written ++ (between.text ++ counted_end_line between.request.form between.seen.messages between.seen.refused); end = end_of between.seen.refused }
+nothing_kept : (last : List ℕ) → take kept_octets last ≡ [] → last ≡ []
+unfolding first_of
+nothing_kept [] e = refl
+nothing_kept (octet ∷ last) e = absurd (not_some (sym (ap first_of e)))
 
-ends-empty : (old : LineLister) (taken : Taken) → HasListed old taken.octets taken.written → old.line.items ≡ [] → is_listed old old taken
-unfolding is_listed first_of
-ends-empty old taken h empty =
-    let none : h.last ≡ [] = nothing_kept h.last (sym h.kept ∙ empty) in
-    listed-is old.request taken.octets h.ended _ (ap without_empty_last (h.all ∙ ap (λ l. h.ended ++ l ∷ []) none) ∙ lines-empty h.ended)
-    (ap (records_from old.request none_seen) (sym (append-nil h.ended))
-    ∙ h.goes_on []
-    ∙ (λ i. record { text = append_assoc taken.written old.text (counted_end_line old.request.form old.seen.messages old.seen.refused) i; end = end_of old.seen.refused }))
+pub has-line : (lister : LineLister) (empty : Bool) → empty ≡ (length lister.line.items == 0) → HasLine message_lines lister (not empty)
+has-line lister empty is = by empty (sym is)
   where
-    nothing_kept : (last : List ℕ) → take kept_octets last ≡ [] → last ≡ []
-    nothing_kept [] e = refl
-    nothing_kept (octet ∷ last) e = absurd (not_some (sym (ap first_of e)))
-
-ends-full : (old between : LineLister) (taken : Taken) → HasListed old taken.octets taken.written → (old.line.items ≡ [] → ⊥) → EndsLine old between → is_listed old between taken
-unfolding is_listed
-ends-full old between taken h some e =
-    listed-is old.request taken.octets (h.ended ++ h.last ∷ []) _ (ap without_empty_last h.all ∙ lines-last h.ended h.last (λ none. some (h.kept ∙ ap (take kept_octets) none)))
-    (h.goes_on (h.last ∷ [])
-    ∙ ap (after_text (taken.written ++ old.text)) (e.step h.last [] h.kept h.size)
-    ∙ after_text-both (taken.written ++ old.text) e.added (records_from old.request between.seen [])
-    ∙ (λ i. after_text ((append_assoc taken.written old.text e.added ∙ ap (λ t. taken.written ++ t) (sym e.text)) i) (records_from (sym e.request i) between.seen []))
-    ∙ (λ i. record { text = append_assoc taken.written between.text (counted_end_line between.request.form between.seen.messages between.seen.refused) i; end = end_of between.seen.refused }))
-
-ends-waits : (old between : LineLister) (taken : Taken) → HasListed old taken.octets taken.written → EndsLast old between → is_listed old between taken
-ends-waits old between taken h (inl full) = ends-full old between taken h full.some full.ends
-ends-waits old between taken h (inr empty) = subst (λ r. is_listed old r taken) (sym empty.same) (ends-empty old taken h empty.empty)
-
-pub ends-last : (old between new : LineLister) (ended : RunEnd) → EndsLast old between → ended ≡ end_of between.seen.refused → new.text ≡ between.text ++ counted_end_line between.request.form between.seen.messages between.seen.refused → (taken : Taken) (left : Option (List ℕ)) → IsLastOf lines_kind old taken left → EndsListing (lines_rules old.request) taken.octets (taken.written ++ new.text) left ended
-unfolding is_listed
-ends-last old between new ended l is text taken left (inl (w, a)) =
-    let c = ends-waits old between taken w.listed l in
-    record {
-      listing = ap (λ t. taken.written ++ t) text ∙ sym (ap (λ x. x.text) c);
-      ends = record {
-        ended_so = is ∙ sym (ap (λ x. x.end) c);
-        all_read = λ goes_on. a;
-        stops = record { prefix = taken.octets; piece = []; parts = sym (append-nil taken.octets); goes_on = tt; short = omega arith };
-      };
-    }
-ends-last old between new ended l is text taken left (inr never) = absurd never
-
--- nothing came yet
-pub HasListed-start : (lister : LineLister) → lister.line.items ≡ [] → lister.size ≡ 0 → lister.text ≡ [] → lister.seen ≡ none_seen → HasListed lister [] []
-HasListed-start lister line size text seen = record {
-  ended = [];
-  last = [];
-  all = refl;
-  kept = line;
-  size = size;
-  goes_on = λ more. λ i. after_text (sym text i) (records_from lister.request (sym seen i) more);
-}
+    by : (empty : Bool) → (length lister.line.items == 0) ≡ empty → HasLine message_lines lister (not empty)
+    by true e = λ c line held. nothing_kept line (sym held.kept ∙ is_nothing lister.line.items e)
+    by false e = (λ held. is_something lister.line.items e held.kept, never_stopped lister)

@@ -4,6 +4,9 @@ use Rattle.std.specs.Prelude.{nat_lt}
 use Rattle.std.proofs.lemmas.Bool.{lt-ltb, le-ltb}
 use Rattle.krb_der.specs.declared.profile.Profile.{Profile}
 use Rattle.krb_der.specs.declared.verdict.Refusal.{Refusal}
+use Rattle.krb_msg.specs.Judgement.{judgement}
+use Rattle.krb_msg.specs.Views.{message_of_der}
+use Rattle.krb_msg.specs.declared.message.Message.{Message}
 use Rattle.krb_msg.specs.declared.ticket.Ticket.{Ticket}
 use Rattle.krb_msg.specs.Grammar.{ticket}
 use Rattle.krb_msg.specs.Term.{der}
@@ -13,8 +16,9 @@ use Rattle.krb_msg.proofs.ValueOfDer.{value_of_der_is_value}
 use Rattle.krb_judge.specs.Laws.{RefusalsAreInside}
 use Rattle.krb_judge.specs.Parses.{AreOfTicket, refusal_of, ticket_refusal}
 use Rattle.krb_judge.specs.Paths.{ticket_path}
+use Rattle.krb_judge.proofs.Slices.{IsWholeSlice, whole_message, whole_not_refused}
 use Rattle.krb_text.specs.Forms.{record_line}
-use Rattle.krb_text.specs.Messages.{message_origin, ticket_line}
+use Rattle.krb_text.specs.Messages.{PutsMessage, message_line_from, message_origin, ticket_line}
 use Rattle.krb_text.specs.Refusals.{path_in, extent_in, spelling_in, refusal_record}
 use Rattle.krb_text.specs.Values.{Field, with_origin}
 use Rattle.krb_text.specs.declared.form.Form.{Form}
@@ -49,6 +53,19 @@ pub refused-message : (input : MessageInput) (layered : Layered) (place : ℕ) (
 refused-message input layered place octets refusal path is same =
     same-path input layered (record { place = place + refusal.place; why = refusal.why }) path (refused_path input.profile octets refusal) same
     ∙ ap (judged_listing input layered place octets) (sym is)
+
+-- octets are a message, whose record was put
+pub puts-message : (input : MessageInput) (layered : Layered) (place : ℕ) (octets : List ℕ) (line : Option ℕ) (layers : List Layer) (old new : List ℕ) → line ≡ input.line → layers ≡ layered.layers → length octets < 2 ^ 31 → PutsMessage input.profile octets (message_line_from input.form (message_origin line layers)) old new true
+    → Puts old new (judged_listing input layered place octets (refusal_of input.profile octets)) run.Clean
+puts-message input layered place octets line layers old new is_line is_layers short put =
+    subst (λ (found : Option Refusal). Puts old new (judged_listing input layered place octets found) run.Clean) (sym (whole_not_refused input.profile octets short put.0))
+    (put.1 ∙ (λ i. old ++ message_line_from input.form (message_origin (is_line i) (is_layers i)) (message_of_der octets)), refl)
+
+-- and none, if nothing was put
+pub read_never : (profile : Profile) (octets : List ℕ) (line : Message → List ℕ) (old new : List ℕ) → PutsMessage profile octets line old new false → refusal_of profile octets ≡ None → ⊥
+read_never profile octets line old new put none =
+    let w : IsWholeSlice (judgement profile) octets = whole_message profile octets none in
+    put.0 w.short w.whole
 
 -- a refusal is at an octet, or at the first place if there is none
 pub refusal-within : RefusalsAreInside → (profile : Profile) (octets : List ℕ) (refusal : Refusal) → refusal_of profile octets ≡ Some refusal → refusal.place ≤ length octets

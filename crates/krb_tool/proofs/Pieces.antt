@@ -1,13 +1,12 @@
 -- Pieces of a stream, whatever kind of lister lists it.
-use Rattle.std.proofs.Common.{◌≡◌, ℕ, ◌+◌, ◌-◌, ◌*◌, ◌^◌, ◌<◌, ◌≤◌, inl, inr, Bool, true, false, List, [], ◌++◌, length, take, drop, Option, refl, sym, ◌∙◌, ap, subst, arith, append-nil, append_assoc, length-append, length-drop, drop_at}
-use Rattle.std.proofs.lemmas.List.{drop-drop, take_all, take_at}
+use Rattle.std.proofs.Common.{◌≡◌, ℕ, ◌+◌, ◌-◌, ◌*◌, ◌^◌, ◌<◌, ◌≤◌, inl, inr, Bool, true, false, List, [], ◌++◌, length, take, drop, Option, refl, sym, ◌∙◌, ap, subst, arith, append-nil, append_assoc, length-append, length-drop}
+use Rattle.std.proofs.lemmas.List.{drop-drop, take_all}
 use Rattle.std.proofs.Math.Seq.{take-add}
-use Rattle.krb_frame.specs.Frame.{framed}
 use Rattle.krb_tool.specs.inner.Streams.{Taken, with_piece, Begins, GoesOn, IsNew, AcceptsPiece, Feeds, Clears, IsLast, EndsListing, Finishes}
 use Rattle.krb_tool.specs.inner.Pieces.{Kind, IsFed, Goes, TakesPiece, WaitsAfter, IsLastOf, listing_of}
 
 -- the octets used so far, and some more
-pub together : (piece rest stream : List ℕ) (used : ℕ) → rest ≡ drop (length piece - length rest) piece → (stream ++ take (length piece - length rest) piece) ++ take used rest ≡ stream ++ take (length piece - length rest + used) piece
+together : (piece rest stream : List ℕ) (used : ℕ) → rest ≡ drop (length piece - length rest) piece → (stream ++ take (length piece - length rest) piece) ++ take used rest ≡ stream ++ take (length piece - length rest + used) piece
 together piece rest stream used e =
     append_assoc stream (take (length piece - length rest) piece) (take used rest)
     ∙ ap (λ l. stream ++ (take (length piece - length rest) piece ++ take used l)) e
@@ -27,16 +26,6 @@ module _ {L Q E : Type 0} (kind : Kind L Q E) where
         few = omega (arith, length-drop used piece);
         listed = λ stream written h. subst (λ n. kind.HasListed new (stream ++ take n piece) written) (sym left) (listed stream written h);
       }
-
-  -- those of a frame, which is listed
-  pub IsFed-frame : (old new : L) (octets contents rest : List ℕ) → octets ≡ framed contents ++ rest → kind.request new ≡ kind.request old → kind.IsWaiting new → kind.count new ≡ kind.count old + 1 → ((stream written : List ℕ) → kind.HasListed old stream written → kind.HasListed new (stream ++ framed contents) written) → IsFed kind old octets rest new
-  IsFed-frame old new octets contents rest parts same waits one listed =
-      let size : length octets ≡ length (framed contents) + length rest = ap length parts ∙ length-append (framed contents) rest in
-      let prefix : take (length (framed contents)) octets ≡ framed contents = ap (take (length (framed contents))) parts ∙ take_at (framed contents) rest (length (framed contents)) refl in
-      let suffix : drop (length (framed contents)) octets ≡ rest = ap (drop (length (framed contents))) parts ∙ drop_at (framed contents) rest (length (framed contents)) refl in
-      subst (λ r. IsFed kind old octets r new) suffix
-      (IsFed-used old new octets (length (framed contents)) (omega (arith, size)) same waits (omega (arith, one))
-      (λ stream written h. subst (λ f. kind.HasListed new (stream ++ f) written) (sym prefix) (listed stream written h)))
 
   -- none was used
   pub IsFed-start : (lister : L) (piece : List ℕ) → kind.IsWaiting lister → IsFed kind lister piece piece lister
@@ -126,12 +115,6 @@ module _ {L Q E : Type 0} (kind : Kind L Q E) where
       -- a piece came
       pub Feeds-made : {old new : L} {piece : List ℕ} {goes_on : Bool} → length piece ≤ 65536 → TakesPiece kind old piece new goes_on → Feeds kind.rules (listing_of kind old) piece (listing_of kind new) goes_on
       Feeds-made {goes_on = goes_on} short f = λ request taken w. goes_on_after goes_on request taken short w.0 w.1 f
-
-  -- a piece came, and the lister accepts none after it
-  pub Feeds-stopped : {old new : L} {piece : List ℕ} → kind.request new ≡ kind.request old → ((taken : Taken) → WaitsAfter kind old taken → kind.Stops new (with_piece taken piece) × (kind.rules (kind.request new)).AreLines (taken.octets ++ piece) (taken.written ++ kind.text new)) → Feeds kind.rules (listing_of kind old) piece (listing_of kind new) false
-  Feeds-stopped {new = new} {piece = piece} same stops = λ request taken w.
-      let n = stops taken w.1 in
-      record { stops = (same ∙ w.0, n.0); lines = subst (λ r. (kind.rules r).AreLines (taken.octets ++ piece) (taken.written ++ kind.text new)) (same ∙ w.0) n.1 }
 
   -- the lines were written
   pub Clears-made : {old new : L} → kind.text new ≡ [] → kind.request new ≡ kind.request old → (kind.IsWaiting old → kind.IsWaiting new) → kind.count new ≡ kind.count old → ((stream written : List ℕ) → kind.HasListed old stream written → kind.HasListed new stream (written ++ kind.text old)) → Clears (listing_of kind old) (listing_of kind new)

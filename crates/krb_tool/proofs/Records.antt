@@ -1,27 +1,37 @@
 -- A run on records, one line after another.
-use Rattle.std.proofs.Common.{◌≡◌, ℕ, suc, List, [], ◌∷◌, ◌++◌, length, drop, Option, Some, None, Result, Ok, Err, refl, sym, ◌∙◌, ap, subst, arith, append-nil, append_assoc, length-append, drop_of_length-le, drop_at}
+use Rattle.std.proofs.Common.{◌≡◌, ℕ, suc, List, [], ◌∷◌, ◌++◌, length, drop, Option, Some, None, Result, Ok, Err, refl, sym, ◌∙◌, ap, ap₂, subst, arith, append-nil, append_assoc, length-append, drop_of_length-le, drop_at}
 use Rattle.std.proofs.lemmas.List.Concat.{flat_map-cons}
 use Rattle.std.specs.List.{flat_map}
 use Rattle.std.specs.Io.KnownBytes.{Appends}
 use Rattle.std.proofs.KnownBytes.{Appends-nil, Appends-trans}
+use Rattle.krb_file.specs.Fields.{Fault}
+use Rattle.krb_file.specs.Items.{Items, IsItem, EndsBy, FailsAfter}
+use Rattle.krb_file.specs.declared.fault.FileFault.{FileFault}
+use Rattle.krb_file.specs.declared.fault.FileFault.TheVariants as faults
+use Rattle.krb_file.specs.declared.field_path.FileItem.{FileItem}
+use Rattle.krb_text.specs.declared.form.Form.{Form}
+use Rattle.krb_tool.specs.Extents.{fault_line}
+use Rattle.krb_tool.specs.Paths.{file_path}
 use Rattle.krb_tool.specs.declared.run.RunEnd.{RunEnd}
 use Rattle.krb_tool.specs.declared.run.RunFault.{RunFault}
 use Rattle.krb_tool.specs.declared.run.RunFault.TheVariants as fault
 use Rattle.krb_tool.specs.Faults.{IsRead, IsWrite}
-use Rattle.krb_tool.specs.Files.{RecordListing, text_of, after_line, AppendsPrefix, ListsRecords}
-use Rattle.krb_tool.specs.inner.RecordRuns.{Adds, Moves, AddsLine, WritesBefore, left_of}
+use Rattle.krb_tool.specs.Files.{RecordListing, text_of, after_line, end_of, AppendsPrefix, ListsRecords}
+use Rattle.krb_tool.specs.inner.RecordRuns.{AddsRefusal, Moves, AddsLine, WritesBefore, left_of, AreLeft}
 
 -- ---- what is left of items, one after another
-module _ {A : Type 0} (line : A → List ℕ) (items : List A) (last : List ℕ) (end : RunEnd) where
-  pub item_left : (count : ℕ) (prefix suffix : List A) (item : A) → length prefix ≡ count → items ≡ prefix ++ item ∷ suffix → left_of line items count last end ≡ after_line (line item) (left_of line items (suc count) last end)
-  item_left count prefix suffix item counted parts =
-      let here : drop count items ≡ item ∷ suffix = ap (drop count) parts ∙ drop_at prefix (item ∷ suffix) count counted in
-      let there : drop (suc count) items ≡ suffix = ap (drop (suc count)) (parts ∙ sym (append_assoc prefix (item ∷ []) suffix)) ∙ drop_at (prefix ++ item ∷ []) suffix (suc count) (omega (arith, counted, length-append prefix (item ∷ []))) in
-      let lines : flat_map line (drop count items) ≡ line item ++ flat_map line (drop (suc count) items) = ap (flat_map line) here ∙ flat_map-cons line item suffix ∙ ap (λ (xs : List A). line item ++ flat_map line xs) (sym there) in
-      ap (λ (ls : List ℕ). let it : RecordListing = record { lines = ls; last = last; end = end } in it) lines
+module _ {A E : Type 0} (line : A → List ℕ) (last : ℕ → Result E Fault → List ℕ) (all : Items A (Result E Fault)) (count : ℕ) where
+  item_left : (item : A) → IsItem all count item → left_of line last all count ≡ after_line (line item) (left_of line last all (suc count))
+  item_left item is =
+      let here : drop count all.items ≡ item ∷ is.suffix = ap (drop count) is.parts ∙ drop_at is.prefix (item ∷ is.suffix) count is.counted in
+      let there : drop (suc count) all.items ≡ is.suffix = ap (drop (suc count)) (is.parts ∙ sym (append_assoc is.prefix (item ∷ []) is.suffix)) ∙ drop_at (is.prefix ++ item ∷ []) is.suffix (suc count) (omega (arith, is.counted, length-append is.prefix (item ∷ []))) in
+      let lines : flat_map line (drop count all.items) ≡ line item ++ flat_map line (drop (suc count) all.items) = ap (flat_map line) here ∙ flat_map-cons line item is.suffix ∙ ap (λ (xs : List A). line item ++ flat_map line xs) (sym there) in
+      ap (λ (ls : List ℕ). let it : RecordListing = record { lines = ls; last = last (length all.items) all.end; end = end_of all.end } in it) lines
 
-  pub none_left : (count : ℕ) → length items ≡ count → (left_of line items count last end).lines ≡ []
-  none_left count counted = ap (flat_map line) (drop_of_length-le items {i = count} (omega (arith, counted)))
+  none_left : (end : Result E Fault) → EndsBy all count end → left_of line last all count ≡ record { lines = []; last = last count end; end = end_of end }
+  none_left end ends =
+      ap (λ (ls : List ℕ). let it : RecordListing = record { lines = ls; last = last (length all.items) all.end; end = end_of all.end } in it) (ap (flat_map line) (drop_of_length-le all.items {i = count} (omega (arith, ends.counted))))
+      ∙ ap₂ (λ (n : ℕ) (e : Result E Fault). let it : RecordListing = record { lines = []; last = last n e; end = end_of e } in it) ends.counted ends.is
 
 -- ---- what a run has written
 -- What was written, then the text that is not written yet, and then what is left, are the listing.
@@ -130,19 +140,25 @@ module _ (IsLeft : RecordListing → Type 0) (all : RecordListing) (written_befo
       subst (λ (f : RunFault). ListsRecords all written_before after (Err f)) (sym w.0) (subst (λ (a : Option (List ℕ)). AppendsPrefix written_before a all.lines) (sym w.1) Listed-stops)
 
 -- ---- what a line makes of what is left
-module _ {A : Type 0} (line : A → List ℕ) (items : List A) (count : ℕ) (last : List ℕ) (end : RunEnd) (IsLeft : RecordListing → Type 0) (left : RecordListing) (is : left ≡ left_of line items count last end) (old new : List ℕ) (ended : Option RunEnd) where
-  pub item_added : (prefix suffix : List A) (item : A) → length prefix ≡ count → items ≡ prefix ++ item ∷ suffix → IsLeft (left_of line items (suc count) last end) → Adds (line item) None old new ended → AddsLine IsLeft left old new (Ok ended)
-  item_added prefix suffix item counted parts after adds =
-      subst (λ (e : Option RunEnd). AddsLine IsLeft left old new (Ok e)) (sym adds.0)
-      (line item, left_of line items (suc count) last end, adds.1, is ∙ item_left line items last end count prefix suffix item counted parts, after)
+module _ {A E : Type 0} (line : A → List ℕ) (last : ℕ → Result E Fault → List ℕ) (all : List ℕ → Items A (Result E Fault)) (Reads : List ℕ → ℕ → Type 0) (count : ℕ) (left : RecordListing) (is_left : AreLeft line last all Reads count left) (old new : List ℕ) where
+  pub item_added : (ReadsOn : List ℕ → ℕ → Type 0) (item : A) → ((file : List ℕ) → Reads file count → IsItem (all file) count item × ReadsOn file (suc count)) → new ≡ old ++ line item → AddsLine (AreLeft line last all ReadsOn (suc count)) left old new (Ok None)
+  item_added ReadsOn item promises added =
+      let given = promises is_left.file is_left.reads in
+      (line item, left_of line last (all is_left.file) (suc count), added, is_left.is ∙ item_left line last (all is_left.file) count item given.0, record { file = is_left.file; reads = given.1; is = refl })
 
-  pub last_added : (text : List ℕ) (stop : RunEnd) → length items ≡ count → last ≡ text → end ≡ stop → Adds text (Some stop) old new ended → AddsLine IsLeft left old new (Ok ended)
-  last_added text stop counted decided stops adds =
-      subst (λ (e : Option RunEnd). AddsLine IsLeft left old new (Ok e)) (sym adds.0) (
-        adds.1 ∙ ap (λ (t : List ℕ). old ++ t) (sym (ap (λ (l : RecordListing). l.last) is ∙ decided)),
-        ap (λ (l : RecordListing). l.lines) is ∙ none_left line items last end count counted,
-        sym (ap (λ (l : RecordListing). l.end) is ∙ stops),
+  pub end_added : (end : Result E Fault) → ((file : List ℕ) → Reads file count → EndsBy (all file) count end) → new ≡ old ++ last count end → AddsLine (λ l. ⊥) left old new (Ok (Some (end_of end)))
+  end_added end promises added =
+      let is = is_left.is ∙ none_left line last (all is_left.file) count end (promises is_left.file is_left.reads) in (
+        added ∙ ap (λ (l : RecordListing). old ++ l.last) (sym is),
+        ap (λ (l : RecordListing). l.lines) is,
+        ap (λ (l : RecordListing). l.end) (sym is),
       )
+
+  pub refusal_added : (item : FileItem) (form : Form) → ((f : Fault) → last count (Err f) ≡ fault_line form f (file_path item f.field)) → (e : FileFault) → ((file : List ℕ) → Reads file count → FailsAfter (λ f. Err f) (all file) count e) → (ended : RunEnd) → AddsRefusal item form e old new ended → AddsLine (λ l. ⊥) left old new (Ok (Some ended))
+  refusal_added item form line faults.Read promises ended adds = absurd adds
+  refusal_added item form line faults.Memory promises ended adds = absurd adds
+  refusal_added item form line (faults.Refused fault) promises ended adds =
+      subst (λ (end : RunEnd). AddsLine (λ l. ⊥) left old new (Ok (Some end))) (sym adds.0) (end_added (Err fault) promises (adds.1 ∙ ap (λ (l : List ℕ). old ++ l) (sym (line fault))))
 
 -- a write failed
 pub write-fault : (all : RecordListing) (written_before after : Option (List ℕ)) (e : RunFault) → IsWrite e → AppendsPrefix written_before after (text_of all) → ListsRecords all written_before after (Err e)

@@ -17,11 +17,10 @@ use Rattle.krb_msg.specs.Judgement.{Outcome, Open, Bad, Done, message_outcome, v
 use Rattle.krb_msg.specs.Laws.{AreMessage}
 use Rattle.krb_msg.specs.Stream.{End, Boundary, Within, Refused, Frames, ends, frame_and, frames}
 use Rattle.krb_msg.specs.Term.{Term}
-use Rattle.krb_msg.specs.Views.{message_der, message_of_der, IsInProfile}
+use Rattle.krb_msg.specs.Views.{message_der, message_of_der}
 use Rattle.krb_msg.specs.declared.message.Message.{Message}
 use Rattle.krb_msg.proofs.FramePrefixes.{frames-length, frames-short}
 use Rattle.krb_msg.proofs.Judged.{whole_is_message}
-use Rattle.krb_msg.proofs.MessageOfDer.{message_of_der_is_message}
 use Rattle.krb_msg.proofs.Streams.{IsMessage, IsParse, frames-parse}
 use Rattle.krb_frame.specs.Frame.{framed}
 use Rattle.krb_judge.specs.Parses.{refusal_of}
@@ -29,32 +28,20 @@ use Rattle.krb_judge.proofs.Slices.{message_in}
 use Rattle.krb_json.specs.Laws.{TextsAreJson, TextsComeBack}
 use Rattle.krb_json.specs.Lines.{message_text, line_spells}
 use Rattle.krb_json.specs.Unencrypted.{unencrypted_in}
-use Rattle.krb_tool.specs.Conversions.{Converted, after_text}
+use Rattle.krb_tool.specs.Conversions.{after_text}
 use Rattle.krb_tool.specs.Decoding as decoding
-use Rattle.krb_tool.specs.Decoding.{ending_at, line_and, lines_after, decoded, message_decoded, decoded_whole, AllAreEncrypted}
+use Rattle.krb_tool.specs.Decoding.{ending_at, line_and, decoded, message_decoded, decoded_whole, AllAreEncrypted}
 use Rattle.krb_tool.specs.Encoding as encoding
 use Rattle.krb_tool.specs.Encoding.{parts, without_empty_last, lines_of, is_blank_line, written_as, encoded_lines, encoded}
 use Rattle.krb_tool.specs.Laws.{StreamsComeBack, MessageComesBack, DecodedComesBack}
 use Rattle.krb_tool.specs.Paths.{found_path, refused_path}
-use Rattle.krb_tool.specs.inner.JsonLines.{octets_line}
-use Rattle.krb_tool.proofs.DecodedFrames.{decoded-all}
+use Rattle.krb_tool.specs.inner.JsonLines.{IsOfMessage, octets_line}
+use Rattle.krb_tool.proofs.DecodedFrames.{decoded-all, encrypted_all, of_message}
 use Rattle.krb_tool.proofs.EncodedLines.{read-step, message-step}
 use Rattle.krb_tool.proofs.SourceLineParts.{lines-empty}
 use Rattle.krb_tool.proofs.WholeRuns.{whole-long, whole-short}
 
 -- ---- all of a stream is decoded
-abbrev AreAllEncrypted : (contents : List (List ℕ)) (end : decoding.Ending) → Type 0
-AreAllEncrypted contents end = AllAreEncrypted contents × (end ≡ decoding.All)
-
-encrypted_first : (number : ℕ) (octets : List ℕ) (contents : List (List ℕ)) (end : decoding.Ending) (others : Converted decoding.Ending) (unencrypted : Option (List ℕ)) → (others.end ≡ decoding.All → AreAllEncrypted contents end) → unencrypted_in (message_of_der octets) ≡ unencrypted → (line_and number octets unencrypted others).end ≡ decoding.All → AreAllEncrypted (octets ∷ contents) end
-encrypted_first number octets contents end others None more u e = let m = more e in ((u, m.0), m.1)
-encrypted_first number octets contents end others (Some path) more u e = absurd cc
-
-encrypted_all : (before : ℕ) (contents : List (List ℕ)) (end : decoding.Ending) → (lines_after before contents end).end ≡ decoding.All → AreAllEncrypted contents end
-encrypted_all before [] end e = (tt, e)
-encrypted_all before (octets ∷ contents) end e =
-    encrypted_first (before + 1) octets contents end (lines_after (before + 1) contents end) (unencrypted_in (message_of_der octets)) (encrypted_all (before + 1) contents end) refl e
-
 at_boundary : (count : ℕ) (end : End) (path : Option (List ℕ)) → ending_at count end path ≡ decoding.All → end ≡ Boundary
 at_boundary count Boundary path e = refl
 at_boundary count (Within present) path e = absurd cc
@@ -114,13 +101,11 @@ both_are (octet ∷ first) second are = let rest = both_are first second are.1 i
 module _ (json : TextsAreJson) (back : TextsComeBack) (profile : Profile) (limit : ℕ) where
   comes_back : (octets : List ℕ) → AreMessage profile (length octets) octets → length octets ≤ limit → ComesBack profile limit octets
   comes_back octets m within =
-      let same : m.message ≡ message_of_der octets = sym (message_of_der_is_message profile m.message m.in_profile) ∙ ap message_of_der m.form in
-      let fits : IsInProfile profile (message_of_der octets) = subst (IsInProfile profile) same m.in_profile in
-      let form : message_der (message_of_der octets) ≡ octets = ap message_der (sym same) ∙ m.form in
+      let o : IsOfMessage profile octets = of_message profile octets m in
       record {
-        one_line = no_feed (text_of octets) (json profile (message_of_der octets) fits).printable;
-        spelled = back profile limit (message_of_der octets) fits (omega (arith, within, ap length form));
-        form = form;
+        one_line = no_feed (text_of octets) (json profile (message_of_der octets) o.in_profile).printable;
+        spelled = back profile limit (message_of_der octets) o.in_profile (omega (arith, within, ap length o.form));
+        form = o.form;
       }
 
   frame_back : (octets : List ℕ) → AreOctets octets → IsMessage (messages profile) limit octets → ComesBack profile limit octets
@@ -172,7 +157,7 @@ module _ (profile : Profile) (limit : ℕ) where
 -- whose contents are these
 stream_back : TextsAreJson → TextsComeBack → (profile : Profile) (limit : ℕ) (stream : List ℕ) → AreOctets stream → IsParse (messages profile) limit stream (frames (messages profile) limit stream) → AllAreEncrypted (frames (messages profile) limit stream).contents → (frames (messages profile) limit stream).end ≡ Boundary → encoded true profile limit (decoded profile limit stream).text ≡ record { text = stream; end = encoding.All }
 stream_back json back profile limit stream are parse encrypted boundary =
-    ap (encoded true profile limit) (decoded-all profile limit stream contents encrypted refl).0
+    ap (λ c. encoded true profile limit c.text) (decoded-all profile limit stream contents encrypted refl)
     ∙ text_back profile limit contents (all_come_back json back profile limit contents (subst AreOctets all are) parse.are_messages)
     ∙ ap (λ t. record { text = t; end = encoding.All }) (sym all)
   where

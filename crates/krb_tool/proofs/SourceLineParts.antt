@@ -62,15 +62,13 @@ join_ended (first ∷ []) last second = refl
 join_ended (first ∷ next ∷ ended) last second = ap (λ l. first ∷ l) (join_ended (next ∷ ended) last second)
 
 -- ---- lines
-pub ended_of-last : (ended : List (List ℕ)) (last : List ℕ) → ended_of (ended ++ last ∷ []) ≡ ended
-ended_of-last [] last = refl
-ended_of-last (first ∷ []) last = refl
-ended_of-last (first ∷ next ∷ ended) last = ap (λ l. first ∷ l) (ended_of-last (next ∷ ended) last)
+ended_of-from : (ended : List (List ℕ)) (first : List ℕ) (others : List (List ℕ)) → ended_of (ended ++ first ∷ others) ≡ ended ++ ended_of (first ∷ others)
+ended_of-from [] first others = refl
+ended_of-from (line ∷ []) first others = refl
+ended_of-from (line ∷ next ∷ ended) first others = ap (λ l. line ∷ l) (ended_of-from (next ∷ ended) first others)
 
-pub ended_of-line : (ended : List (List ℕ)) (line next : List ℕ) (others : List (List ℕ)) → ended_of (ended ++ line ∷ next ∷ others) ≡ ended ++ line ∷ ended_of (next ∷ others)
-ended_of-line [] line next others = refl
-ended_of-line (first ∷ []) line next others = refl
-ended_of-line (first ∷ second ∷ ended) line next others = ap (λ l. first ∷ l) (ended_of-line (second ∷ ended) line next others)
+pub ended_of-last : (ended : List (List ℕ)) (last : List ℕ) → ended_of (ended ++ last ∷ []) ≡ ended
+ended_of-last ended last = ended_of-from ended last [] ∙ append-nil ended
 
 keeps_first : (first next : List ℕ) (others : List (List ℕ)) → without_empty_last (first ∷ next ∷ others) ≡ first ∷ without_empty_last (next ∷ others)
 keeps_first [] next others = refl
@@ -92,21 +90,26 @@ keeps_last (octet ∷ last) some = refl
 pub lines-last : (ended : List (List ℕ)) (last : List ℕ) → (last ≡ [] → ⊥) → without_empty_last (ended ++ last ∷ []) ≡ ended ++ last ∷ []
 lines-last ended last some = lines-from ended last [] ∙ ap (λ l. ended ++ l) (keeps_last last some)
 
-pub lines-line : (ended : List (List ℕ)) (line next : List ℕ) (others : List (List ℕ)) → without_empty_last (ended ++ line ∷ next ∷ others) ≡ ended ++ line ∷ without_empty_last (next ∷ others)
-lines-line ended line next others = lines-from ended line (next ∷ others) ∙ ap (λ l. ended ++ l) (keeps_first line next others)
-
 -- ---- a text whose lines have ended, but for the last
 module _ (text : List ℕ) (ended : List (List ℕ)) (last : List ℕ) (all : parts text ≡ ended ++ last ∷ []) where
   parts_more : (more : List ℕ) → parts (text ++ more) ≡ ended ++ onto_last last (parts more)
   parts_more more = parts-append text more ∙ ap (λ found. join found (parts more)) all ∙ join_ended ended last (parts more)
 
   -- whatever comes
-  pub lines-more : (more : List ℕ) → (others : List (List ℕ)) × (lines_of (text ++ more) ≡ ended ++ others)
+  record HasMore (more : List ℕ) : Type 0 where
+    next : List ℕ
+    others : List (List ℕ)
+    is : parts (text ++ more) ≡ ended ++ next ∷ others
+
+  has_more : (more : List ℕ) → HasMore more
   unfolding onto_last
-  lines-more more =
-      let p = some_part more in
-      let is : parts (text ++ more) ≡ ended ++ (last ++ p.first) ∷ p.others = parts_more more ∙ ap (λ found. ended ++ onto_last last found) p.is in
-      (without_empty_last ((last ++ p.first) ∷ p.others), ap without_empty_last is ∙ lines-from ended (last ++ p.first) p.others)
+  has_more more = let p = some_part more in record { next = last ++ p.first; others = p.others; is = parts_more more ∙ ap (λ found. ended ++ onto_last last found) p.is }
+
+  pub lines-more : (more : List ℕ) → (others : List (List ℕ)) × (lines_of (text ++ more) ≡ ended ++ others)
+  lines-more more = let m = has_more more in (without_empty_last (m.next ∷ m.others), ap without_empty_last m.is ∙ lines-from ended m.next m.others)
+
+  pub ended_of-more : (more : List ℕ) → (others : List (List ℕ)) × (ended_of (parts (text ++ more)) ≡ ended ++ others)
+  ended_of-more more = let m = has_more more in (ended_of (m.next ∷ m.others), ap ended_of m.is ∙ ended_of-from ended m.next m.others)
 
   -- more octets of the line came
   pub parts_grow : (more : List ℕ) → parts more ≡ more ∷ [] → parts (text ++ more) ≡ ended ++ (last ++ more) ∷ []
@@ -117,23 +120,6 @@ module _ (text : List ℕ) (ended : List (List ℕ)) (last : List ℕ) (all : pa
   pub parts_end : (more : List ℕ) → parts (more ++ 10 ∷ []) ≡ more ∷ [] ∷ [] → parts (text ++ (more ++ 10 ∷ [])) ≡ (ended ++ (last ++ more) ∷ []) ++ [] ∷ []
   unfolding onto_last
   parts_end more e = parts_more (more ++ 10 ∷ []) ∙ ap (λ found. ended ++ onto_last last found) e ∙ sym (append_assoc ended ((last ++ more) ∷ []) ([] ∷ []))
-
--- A text has lines that ended, a line, and what comes after it.
-pub record HasLine (text : List ℕ) (ended : List (List ℕ)) (line : List ℕ) : Type 0 where
-  pub next : List ℕ
-  pub others : List (List ℕ)
-  pub is : parts text ≡ ended ++ line ∷ next ∷ others
-
--- whatever comes after a line that ended
-pub line_stays : (text : List ℕ) (ended : List (List ℕ)) (line : List ℕ) (more : List ℕ) → parts text ≡ (ended ++ line ∷ []) ++ [] ∷ [] → HasLine (text ++ more) ended line
-unfolding onto_last
-line_stays text ended line more all =
-    let p = some_part more in
-    record {
-      next = p.first;
-      others = p.others;
-      is = parts_more text (ended ++ line ∷ []) [] all more ∙ ap (λ found. (ended ++ line ∷ []) ++ onto_last [] found) p.is ∙ append_assoc ended (line ∷ []) (p.first ∷ p.others);
-    }
 
 -- ---- the first line feed
 -- A text has a line of so many octets, which ends.
@@ -176,3 +162,17 @@ no_feed text none = λ k d l. none_before text (length text) (omega arith) none 
 
 pub no_line : (text : List ℕ) → IsFirstByte (is_byte 10) text None → parts text ≡ text ∷ []
 no_line text none = slice_split_none (λ octet. octet == 10) text (no_feed text none)
+
+-- ---- octets, if there are any
+is_zero : (n : ℕ) → (n == 0) ≡ true → n ≡ 0
+is_zero n e = grind (arith, nat_tests)
+
+pub is_nothing : (octets : List ℕ) → (length octets == 0) ≡ true → octets ≡ []
+is_nothing [] e = refl
+is_nothing (octet ∷ octets) e = absurd (omega (arith, is_zero (length (octet ∷ octets)) e))
+
+pub is_something : (octets : List ℕ) → (length octets == 0) ≡ false → octets ≡ [] → ⊥
+is_something octets e none = never (ap (λ (l : List ℕ). length l == 0) (sym none) ∙ e)
+  where
+    never : true ≡ false → ⊥
+    never e = cc

@@ -93,12 +93,12 @@ module _ {Q E : Type 0} (rules : Q → Rules E) (left left' : Option (List ℕ))
       lines_prefix (rules request) had left' written_before written_after (r.come.octets ++ piece) r.come.written old.text (Consumes-trans had left left' r.come.octets piece r.taken given.taken) r.added (r.waits.begins.lines piece))
 
 -- a read failed
-pub FailsToRead-asked : {T Q E : Type 0} (r : Result T RunFault) (rules : Q → Rules E) (left left' : Option (List ℕ)) (asks : ℕ) (lister : Listing Q) → IfErr r IsRead → Keeps left left' → IfErr r (FailsToRead rules left asks lister left')
-FailsToRead-asked (Ok x) rules left left' asks lister is kept = tt
-FailsToRead-asked (Err (fault.Read e)) rules left left' asks lister is kept = λ request had written_before written_after r.
+pub FailsToRead-counted : {T Q E : Type 0} (r : Result T RunFault) (rules : Q → Rules E) (left left' : Option (List ℕ)) (asks : ℕ) (lister : Listing Q) → IfErr r IsRead → Keeps left left' → IfErr r (FailsToRead rules left asks lister left')
+FailsToRead-counted (Ok x) rules left left' asks lister is kept = tt
+FailsToRead-counted (Err (fault.Read e)) rules left left' asks lister is kept = λ request had written_before written_after r.
     lines_prefix (rules request) had left' written_before written_after (r.come.octets ++ []) r.come.written lister.text (subst (Consumes had left') (sym (append-nil r.come.octets)) (Consumes-kept had left left' r.come.octets r.taken kept)) r.added (r.waits.begins.lines [])
-FailsToRead-asked (Err (fault.Write e)) rules left left' asks lister is kept = absurd is
-FailsToRead-asked (Err fault.Memory) rules left left' asks lister is kept = absurd is
+FailsToRead-counted (Err (fault.Write e)) rules left left' asks lister is kept = absurd is
+FailsToRead-counted (Err fault.Memory) rules left left' asks lister is kept = absurd is
 
 -- ---- the lines of pieces are written
 module _ {Q E : Type 0} {rules : Rules E} {request : Q} {had left written_before written_after : Option (List ℕ)} {asks : ℕ} {lister : Listing Q} where

@@ -9,7 +9,7 @@ use Rattle.krb_ccache.specs.declared.value.Credential.{Credential}
 use Rattle.krb_ccache.specs.declared.value.FilePrincipal.{FilePrincipal}
 use Rattle.krb_ccache.specs.declared.value.Header.{Header}
 use Rattle.krb_ccache.specs.Laws.{UpgradeHoldsTheSame}
-use Rattle.krb_ccache.specs.Reading.{Items}
+use Rattle.krb_ccache.specs.Reading.{CacheItems}
 use Rattle.krb_ccache.specs.Spelling.{ccache, CcacheSpells, Spells3, upgraded}
 use Rattle.krb_ccache.specs.Streaming.{file_start, credentials, Holds}
 use Rattle.krb_text.specs.declared.form.Form.{Form}
@@ -22,7 +22,7 @@ ended : (e : Result ℕ Fault) → end_of e ≡ run.Clean → (size : ℕ) × (e
 ended (Ok size) clean = (size, refl)
 ended (Err f) clean = absurd cc
 
-clean-ends : (form : Form) (now : Option ℕ) (r : Result (Start × Source) Fault) (found : Items Credential) → (cache_listing form now r found).end ≡ run.Clean → (size : ℕ) × (found.end ≡ Ok size)
+clean-ends : (form : Form) (now : Option ℕ) (r : Result (Start × Source) Fault) (found : CacheItems Credential) → (cache_listing form now r found).end ≡ run.Clean → (size : ℕ) × (found.end ≡ Ok size)
 clean-ends form now (Err f) found clean = absurd cc
 clean-ends form now (Ok start) found clean = ended found.end clean
 
@@ -38,7 +38,7 @@ written_after-listed : (form : Form) (now : Option ℕ) (file : List ℕ) (cache
 unfolding ccache_listing
 written_after-listed form now file cache h =
     ap (λ (r : Result (Start × Source) Fault). cache_listing form now r (credentials field_limit file)) h.begins
-    ∙ ap (λ (found : Items Credential). cache_listing form now (Ok (h.start, h.after)) found) h.all
+    ∙ ap (λ (found : CacheItems Credential). cache_listing form now (Ok (h.start, h.after)) found) h.all
     ∙ ap₂ (λ (header : Header) (principal : FilePrincipal). after_line (cache_line form header principal) (credentials_listing form now (record { items = cache.credentials; end = Ok 0 }))) h.header h.principal
 
 pub listed-alike : UpgradeHoldsTheSame → (form : Form) (now : Option ℕ) (v : Cache3) (file other : List ℕ) → AreOctets file → Spells3 v file → CcacheSpells (upgraded v) other → (ccache_listing form now file).end ≡ run.Clean → ccache_listing form now other ≡ ccache_listing form now file

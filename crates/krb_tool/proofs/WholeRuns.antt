@@ -6,13 +6,9 @@ use Rattle.std.specs.Prelude.{nat_lt}
 use Rattle.std.proofs.lemmas.Bool.Decides.{nat_tests}
 use Rattle.krb_der.specs.Octets.{when}
 use Rattle.krb_der.specs.declared.profile.Profile.{Profile}
-use Rattle.krb_der.specs.declared.profile.Profile.TheVariants.{Lenient}
 use Rattle.krb_der.specs.declared.verdict.Refusal.{Refusal}
 use Rattle.krb_der.specs.declared.why.Why.TheVariants.{TooLong}
 use Rattle.krb_judge.specs.Parses.{refusal_of}
-use Rattle.krb_msg.specs.ViewValues.{IsMessageView}
-use Rattle.krb_msg.specs.Views.{message_der, IsInProfile}
-use Rattle.krb_msg.specs.declared.message_view.MessageView.{MessageView}
 use Rattle.krb_text.specs.Refusals.{path_in}
 use Rattle.krb_text.specs.Values.{Value, Absent, String, Field, if_there}
 use Rattle.krb_text.specs.declared.form.Form.TheVariants as forms
@@ -22,11 +18,6 @@ use Rattle.krb_tool.specs.Files.{AppendsPrefix, ReadsSome}
 use Rattle.krb_tool.specs.declared.whole_run.MessageLine.{MessageLine}
 use Rattle.krb_tool.specs.inner.Transfers.{ReturnsOctets}
 use Rattle.krb_tool.specs.inner.WholeRuns.{ReadsMost, converted_of}
-use Rattle.krb_tool.specs.inner.JsonLines.{IsOfMessage}
-
--- octets that are viewed as a message
-pub message_viewed : (octets : List ℕ) (view : MessageView) → IsMessageView octets view → IsOfMessage octets
-message_viewed octets view v = record { in_profile = subst (IsInProfile Lenient) v.read v.in_profile; form = ap message_der (sym v.read) ∙ v.form }
 
 -- ---- a message
 -- octets that are too many

@@ -3,17 +3,20 @@ use Rattle.std.specs.Prelude.{ℕ, ◌≡◌, List, [], ◌++◌, length, Option
 use Rattle.std.specs.List.{flat_map}
 use Rattle.std.specs.Io.KnownBytes.{Consumes, Appends, Keeps, IsAtEnd}
 use Rattle.krb_file.specs.Fields.{Source, Fault}
+use Rattle.krb_file.specs.Items.{Items}
+use Rattle.krb_file.specs.declared.field_path.FileItem.{FileItem}
+use Rattle.krb_file.specs.declared.field_path.FileItem.TheVariants as items
 use Rattle.krb_keytab.specs.declared.value.Stop.{Stop}
-use Rattle.krb_keytab.specs.Reading.{Items as Records, items as keytab_records}
+use Rattle.krb_keytab.specs.Reading.{Records, items as keytab_records}
 use Rattle.krb_ccache.specs.declared.value.Credential.{Credential}
 use Rattle.krb_ccache.specs.declared.reading.Start.{Start}
-use Rattle.krb_ccache.specs.Reading.{Items}
+use Rattle.krb_ccache.specs.Reading.{CacheItems}
 use Rattle.krb_ccache.specs.Streaming.{file_start, credentials}
 use Rattle.krb_text.specs.declared.form.Form.{Form}
 use Rattle.krb_tool.specs.Lines.{record_line, keytab_end_line}
 use Rattle.krb_tool.specs.Lines.{cache_line, credential_line, cache_end_line}
 use Rattle.krb_tool.specs.Extents.{fault_line}
-use Rattle.krb_tool.specs.Paths.{keytab_path, credential_path, field_path}
+use Rattle.krb_tool.specs.Paths.{file_path, field_path}
 use Rattle.krb_tool.specs.declared.file_run.FileText.{FileText}
 use Rattle.krb_tool.specs.declared.run.RunEnd.{RunEnd}
 use Rattle.krb_tool.specs.declared.run.RunEnd.TheVariants as run
@@ -60,27 +63,32 @@ refused_listing form refusal = record { lines = []; last = fault_line form refus
 abbrev pub field_limit : Option ℕ
 field_limit = Some 16777216
 
-abbrev pub keytab_last : Form → ℕ → Result (Stop × ℕ) Fault → List ℕ
-keytab_last form count (Ok end) = keytab_end_line form count end.0
-keytab_last form count (Err fault) = fault_line form fault (keytab_path count fault.field)
+-- the line of the end after `count` items, or of a refusal in the next item
+abbrev pub last_of : {E : Type 0} → (ℕ → E → List ℕ) → Form → (ℕ → FileItem) → ℕ → Result E Fault → List ℕ
+last_of end_line form item count (Ok end) = end_line count end
+last_of end_line form item count (Err fault) = fault_line form fault (file_path (item count) fault.field)
 
--- the lines of records, and the line of the end or of a refusal
+-- the lines of items, and the last line
+abbrev pub items_listing : {A E : Type 0} → (A → List ℕ) → (ℕ → Result E Fault → List ℕ) → Items A (Result E Fault) → RecordListing
+items_listing line last found = record { lines = flat_map line found.items; last = last (length found.items) found.end; end = end_of found.end }
+
+abbrev pub keytab_last : Form → ℕ → Result (Stop × ℕ) Fault → List ℕ
+keytab_last form = last_of (λ count end. keytab_end_line form count end.0) form (λ count. items.Record count)
+
 abbrev pub records_listing : Form → Records → RecordListing
-records_listing form found = record { lines = flat_map (λ r. record_line form r) found.records; last = keytab_last form (length found.records) found.end; end = end_of found.end }
+records_listing form = items_listing (λ r. record_line form r) (keytab_last form)
 
 unfoldable pub keytab_listing : Form → List ℕ → RecordListing
 keytab_listing form file = records_listing form (keytab_records field_limit file)
 
 abbrev pub ccache_last : Form → ℕ → Result ℕ Fault → List ℕ
-ccache_last form count (Ok size) = cache_end_line form count
-ccache_last form count (Err fault) = fault_line form fault (credential_path count fault.field)
+ccache_last form = last_of (λ count size. cache_end_line form count) form (λ count. items.Credential count)
 
--- the lines of credentials, and the line of the end or of a refusal
-abbrev pub credentials_listing : Form → Option ℕ → Items Credential → RecordListing
-credentials_listing form now found = record { lines = flat_map (λ c. credential_line form now c) found.items; last = ccache_last form (length found.items) found.end; end = end_of found.end }
+abbrev pub credentials_listing : Form → Option ℕ → CacheItems Credential → RecordListing
+credentials_listing form now = items_listing (λ c. credential_line form now c) (ccache_last form)
 
 -- the line of a cache before them, or the refusal of what is there
-abbrev pub cache_listing : Form → Option ℕ → Result (Start × Source) Fault → Items Credential → RecordListing
+abbrev pub cache_listing : Form → Option ℕ → Result (Start × Source) Fault → CacheItems Credential → RecordListing
 cache_listing form now (Err fault) found = refused_listing form fault
 cache_listing form now (Ok start) found = after_line (cache_line form start.0.header start.0.principal) (credentials_listing form now found)
 

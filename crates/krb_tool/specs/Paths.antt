@@ -1,10 +1,10 @@
 -- The field at fault of the frame with which a stream ends, and where that frame is; the field at fault of a message, and of a file.
 use Rattle.std.specs.Prelude.{ℕ, ◌+◌, List, [], length, take, drop, nat_lt, if◌then◌else◌, Option, Some, None}
 use Rattle.std.specs.Option.{option_map}
-use Rattle.krb_file.specs.Names.{field_text}
+use Rattle.krb_file.specs.Names.{path_text}
 use Rattle.krb_file.specs.declared.field_name.FileField.{FileField}
-use Rattle.krb_keytab.specs.Paths.{path_text as keytab_text}
-use Rattle.krb_ccache.specs.Paths.{path_text as credential_text}
+use Rattle.krb_file.specs.declared.field_path.FileItem.{FileItem}
+use Rattle.krb_file.specs.declared.field_path.FileItem.TheVariants as items
 use Rattle.krb_der.specs.Octets.{number}
 use Rattle.krb_der.specs.declared.profile.Profile.{Profile}
 use Rattle.krb_der.specs.declared.verdict.Refusal.{Refusal}
@@ -54,13 +54,10 @@ unfoldable pub ticket_refused_path : Profile → List ℕ → Refusal → Option
 ticket_refused_path profile octets refusal =
     if nat_lt 2147483647 (length octets) then None else Some (ticket_path profile (length octets) (take (refusal.place + 1) octets))
 
--- ---- The field at fault of a file, if there is one: after a number of records of a keytab, after a number of credentials of a cache, and before these or in a capture.
+-- ---- The field at fault of a file, if there is one, by the item that it is in; before the items and in a capture it is in none.
 
-unfoldable pub keytab_path : ℕ → Option FileField → Option (List ℕ)
-keytab_path records field = option_map (λ found. keytab_text (record { records = records; field = found })) field
+unfoldable pub file_path : FileItem → Option FileField → Option (List ℕ)
+file_path item field = option_map (λ found. path_text (record { item = item; field = found })) field
 
-unfoldable pub credential_path : ℕ → Option FileField → Option (List ℕ)
-credential_path credentials field = option_map (λ found. credential_text (record { credentials = credentials; field = found })) field
-
-unfoldable pub field_path : Option FileField → Option (List ℕ)
-field_path field = option_map field_text field
+abbrev pub field_path : Option FileField → Option (List ℕ)
+field_path field = file_path items.File field

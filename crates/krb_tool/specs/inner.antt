@@ -1,6 +1,8 @@
 pub mod Streams
 pub mod Pieces
+pub mod LineReaders
 pub mod Listers
+pub mod StreamLines
 pub mod Transfers
 pub mod FileRuns
 pub mod RecordRuns

@@ -7,11 +7,11 @@ ghost use Rattle.krb_tool.specs.Files.{ListsRecords};
 ghost use Rattle.krb_tool.specs.inner.CaptureRuns.{AddsCaptureEnd, AddsFileRefusal, IsCaptureLeft};
 
 use crate::extent::extent_of;
-use crate::file_path::field_path;
+use crate::file_path::file_path;
 use crate::record_run::{RecordLines, Watch, Watched, in_pieces, list_records};
 use crate::run::{RunEnd, RunFault};
 use krb_capture::{Capture, Rest};
-use krb_file::FileFault;
+use krb_file::{FileFault, FileItem};
 use krb_frame::Limit;
 use krb_packet::Packets;
 use krb_text::{Form, TextBuffer};
@@ -57,7 +57,7 @@ impl<R: Read> CaptureLines<'_, R> {
     {
         match fault {
             FileFault::Refused(refusal) => {
-                let path = field_path(alloc, self.form, refusal.field)?;
+                let path = file_path(alloc, self.form, FileItem::File, refusal.field)?;
                 let path = match &path {
                     None => None,
                     Some(path) => Some(path.as_str()),

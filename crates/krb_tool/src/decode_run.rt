@@ -6,7 +6,7 @@ ghost use Rattle.krb_tool.specs.Decoding.{Decodes, FailsToDecode};
 use crate::json_lines::{DecodeRequest, JsonLister};
 use crate::run::RunFault;
 use crate::stream_run::list_all;
-use crate::transfer::Asked;
+use crate::transfer::CountedReader;
 use krb_der::{Profile, Refusal};
 use krb_frame::Limit;
 use std::alloc::Global;
@@ -53,7 +53,7 @@ pub fn run_decode<R: Read, W: Write>(
     ensures decoded { IfOk result (Decodes profile limit (R.remaining reader.old) (R.remaining reader.new) (W.contents writer.old) (W.contents writer.new)) }
     ensures fault { OnErr result (FailsToDecode profile limit (R.remaining reader.old) (R.remaining reader.new) (W.contents writer.old) (W.contents writer.new)) }
 {
-    let mut asked = Asked::new(reader);
+    let mut counted = CountedReader::new(reader);
     let request = DecodeRequest { profile, limit };
-    list_all::<JsonLister, _, _>(alloc, request, &mut asked, writer)
+    list_all::<JsonLister, _, _>(alloc, request, &mut counted, writer)
 }

@@ -6,7 +6,7 @@ ghost use Rattle.krb_tool.specs.Encoding.{Encodes, FailsToEncode};
 use crate::json_reader::{EncodeRequest, JsonReader};
 use crate::run::RunFault;
 use crate::stream_run::list_all;
-use crate::transfer::Asked;
+use crate::transfer::CountedReader;
 use krb_der::Profile;
 use krb_frame::Limit;
 use krb_json::LineFault;
@@ -83,11 +83,11 @@ fn encode<R: Read, W: Write>(
     ensures encoded { IfOk result (Encodes is_framed profile limit (R.remaining reader.old) (R.remaining reader.new) (W.contents writer.old) (W.contents writer.new)) }
     ensures fault { OnErr result (FailsToEncode is_framed profile limit (R.remaining reader.old) (R.remaining reader.new) (W.contents writer.old) (W.contents writer.new)) }
 {
-    let mut asked = Asked::new(reader);
+    let mut counted = CountedReader::new(reader);
     let request = EncodeRequest {
         profile,
         limit,
         is_framed,
     };
-    list_all::<JsonReader, _, _>(alloc, request, &mut asked, writer)
+    list_all::<JsonReader, _, _>(alloc, request, &mut counted, writer)
 }

@@ -6,7 +6,7 @@ ghost use Rattle.krb_tool.specs.Files.{ReadsSome, FileListing, ListsFile, FailsF
 ghost use Rattle.krb_tool.specs.inner.FileRuns.{ReadsPrefix, IsOfReading, IsDecidedByPrefix, MatchesReader};
 
 use crate::run::{PIECE_OCTETS, RunEnd, RunFault};
-use crate::transfer::{Asked, write_all};
+use crate::transfer::{CountedReader, write_all};
 use krb_text::TextBuffer;
 use std::alloc::Global;
 use std::io::{Read, Write};
@@ -38,21 +38,21 @@ fn room(most: Option<usize>, kept: usize, count: usize) -> usize
 /// as the octets come.
 fn read_all<R: Read>(
     alloc: Global,
-    asked: &mut Asked<'_, R>,
+    counted: &mut CountedReader<'_, R>,
     most: Option<usize>,
 ) -> Result<Vec<u8>, RunFault>
-    requires open { asked.old.state ≡ reader.Open }
-    ensures same_reader { asked.new.reader.ghost_name ≡ asked.old.reader.ghost_name }
-    ensures prefix { IfOk result (λ file. ReadsPrefix (R.remaining asked.old.reader.now) (R.remaining asked.new.reader.now) most file.items) }
-    ensures ended { OnOk result (asked.new.state ≡ reader.Ended) }
-    ensures fault { IfErr result (IsOfReading asked.new.state) }
-    ensures taken { OnErr result (ReadsSome (R.remaining asked.old.reader.now) (R.remaining asked.new.reader.now)) }
-    ensures asks { asked.new.made ≤ 2 ^ 40 }
+    requires open { counted.old.state ≡ reader.Open }
+    ensures same_reader { counted.new.reader.ghost_name ≡ counted.old.reader.ghost_name }
+    ensures prefix { IfOk result (λ file. ReadsPrefix (R.remaining counted.old.reader.now) (R.remaining counted.new.reader.now) most file.items) }
+    ensures ended { OnOk result (counted.new.state ≡ reader.Ended) }
+    ensures fault { IfErr result (IsOfReading counted.new.state) }
+    ensures taken { OnErr result (ReadsSome (R.remaining counted.old.reader.now) (R.remaining counted.new.reader.now)) }
+    ensures asks { counted.new.made ≤ 2 ^ 40 }
 {
     let mut buffer = vec![in alloc; 0u8; PIECE_OCTETS]?;
     let mut file = Vec::new(alloc);
     'pieces: loop {
-        let count = asked.ask(buffer.as_mut_slice())?;
+        let count = counted.read(buffer.as_mut_slice())?;
         if count == 0 {
             return Ok(file);
         }
@@ -81,17 +81,17 @@ pub(crate) trait FileFormat {
 /// each.
 pub(crate) fn run_file<R: Read, W: Write, F: FileFormat>(
     alloc: Global,
-    asked: &mut Asked<'_, R>,
+    counted: &mut CountedReader<'_, R>,
     writer: &mut W,
     format: &F,
 ) -> Result<RunEnd, RunFault>
-    requires open { asked.old.state ≡ reader.Open }
-    ensures same_reader { asked.new.reader.ghost_name ≡ asked.old.reader.ghost_name }
-    ensures listed { IfOk result (ListsFile (F.Lists format.now) (R.remaining asked.old.reader.now) (R.remaining asked.new.reader.now) (W.contents writer.old) (W.contents writer.new)) }
-    ensures fault { IfErr result (FailsFile (F.Lists format.now) (R.remaining asked.old.reader.now) (R.remaining asked.new.reader.now) (W.contents writer.old) (W.contents writer.new)) }
-    ensures decided { IfErr result (MatchesReader asked.new.state) }
+    requires open { counted.old.state ≡ reader.Open }
+    ensures same_reader { counted.new.reader.ghost_name ≡ counted.old.reader.ghost_name }
+    ensures listed { IfOk result (ListsFile (F.Lists format.now) (R.remaining counted.old.reader.now) (R.remaining counted.new.reader.now) (W.contents writer.old) (W.contents writer.new)) }
+    ensures fault { IfErr result (FailsFile (F.Lists format.now) (R.remaining counted.old.reader.now) (R.remaining counted.new.reader.now) (W.contents writer.old) (W.contents writer.new)) }
+    ensures decided { IfErr result (MatchesReader counted.new.state) }
 {
-    let file = read_all(alloc, asked, format.most())?;
+    let file = read_all(alloc, counted, format.most())?;
     let listed = format.list(alloc, file.as_slice())?;
     write_all(writer, listed.text.octets())?;
     Ok(listed.end)

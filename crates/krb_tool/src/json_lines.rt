@@ -1,34 +1,29 @@
 //! The messages of a stream as lines of JSON.
 
-ghost use Rattle.std.specs.Prelude.{◌≡◌, ◌+◌, ◌<◌, ◌≤◌, ◌^◌, length, [], IfErr, IfOk, IfSome, OnOk, IsSome, None};
-ghost use Rattle.std.specs.Option.{option_map};
-ghost use Rattle.krb_der.specs.declared.verdict.Verdict.TheVariants.{Whole};
-ghost use Rattle.krb_msg.specs.Grammar.{messages};
-ghost use Rattle.krb_msg.specs.Judgement.{judgement};
-ghost use Rattle.krb_msg.specs.Views.{message_of_der};
+ghost use Rattle.std.specs.Prelude.{◌≡◌, ◌+◌, ◌<◌, ◌^◌, length, [], IfErr, IfOk, IsSome, OnOk, None};
 ghost use Rattle.krb_json.specs.Unencrypted.{unencrypted_in};
-ghost use Rattle.krb_frame.specs.Decoding.{found, status_of, borrowed};
-ghost use Rattle.krb_frame.specs.Passes.{passed};
-ghost use Rattle.krb_frame.specs.declared.decoder.Status.TheVariants as status;
+ghost use Rattle.krb_msg.specs.Grammar.{messages};
+ghost use Rattle.krb_msg.specs.Views.{message_of_der};
+ghost use Rattle.krb_frame.specs.Decoding.{found};
 ghost use Rattle.krb_tool.specs.Decoding.{ending_of, ending_at};
 ghost use Rattle.krb_tool.specs.Paths.{frame_path};
 ghost use Rattle.krb_tool.specs.declared.run.RunFault.TheVariants as fault;
+ghost use Rattle.krb_tool.specs.inner.JsonLines.{AddsLine, IsOfMessage, PutsLine, ReceivesEntry, json_lines};
+ghost use Rattle.krb_tool.specs.inner.Listers.{lister_kind};
 ghost use Rattle.krb_tool.specs.inner.Pieces.{listing_of};
-ghost use Rattle.krb_tool.specs.inner.JsonLines.{IsOfMessage, AddsLine, PutsLine, PutsPassed, PutsReady, decoding};
 
 use crate::decode_run::DecodeEnd;
 use crate::fault_path::frame_path;
+use crate::listing::start_stream;
 use crate::run::RunFault;
 use crate::stream_run::ListStream;
-use krb_der::Profile;
-use krb_frame::{Decoder, Limit, Status};
+use krb_der::{Memory, Profile, Refusal};
+use krb_frame::{Decoder, Delivered, Limit, Receiver, SkippingDecoder};
 use krb_json::{put_text, unencrypted_path};
+use krb_msg::view_message_in;
 use krb_text::Form;
 use std::alloc::Global;
 use std::mem;
-
-/// The number of octets of a frame's length.
-const LENGTH_OCTETS: usize = 4;
 
 /// The lines of messages that are not written yet, the number of messages that have a line, and the
 /// path in the message after them, if that is not encrypted.
@@ -55,122 +50,44 @@ impl JsonLines {
         }
     }
 
-    /// Adds the line of the message that octets are judged to be, or keeps the path if it is not
-    /// encrypted, as [`put_message`](JsonLines::put_message) does.
-    fn put(&mut self, octets: &[u8]) -> Result<bool, RunFault>
+    /// Adds the line of the message whose DER octets are. If it is not encrypted it has no line, and
+    /// the path is kept.
+    pub(crate) fn put_message(&mut self, octets: &[u8]) -> Result<(), Memory>
         requires short { length octets.now < 2 ^ 31 }
-        requires whole { judgement Profile.Lenient (length octets.now) octets.now ≡ Whole }
-        requires few { self.old.messages + 1 < 2 ^ 64 }
-        ensures put { IfOk result (PutsLine octets.now self.old self.new) }
-        ensures fault { IfErr result (λ e. e ≡ fault.Memory) }
-    {
-        self.put_message(octets)
-    }
-
-    /// Adds the line of the message whose DER octets are, and returns true. If it is not encrypted it
-    /// has no line: keeps the path and returns false.
-    pub(crate) fn put_message(&mut self, octets: &[u8]) -> Result<bool, RunFault>
-        requires short { length octets.now < 2 ^ 31 }
-        requires message { IsOfMessage octets.now }
-        requires few { self.old.messages + 1 < 2 ^ 64 }
-        ensures put { IfOk result (PutsLine octets.now self.old self.new) }
-        ensures fault { IfErr result (λ e. e ≡ fault.Memory) }
+        requires message { IsOfMessage Profile.Lenient octets.now }
+        ensures { OnOk result (PutsLine octets.now self.old self.new) }
     {
         match unencrypted_path(self.alloc, octets)? {
             Some(path) => {
                 self.unencrypted = Some(path);
-                Ok(false)
+                Ok(())
             }
-            None => {
-                self.add_line(octets)?;
-                Ok(true)
-            }
+            None => self.add_line(octets),
         }
     }
 
-    /// Adds the line of an encrypted message.
-    fn add_line(&mut self, octets: &[u8]) -> Result<(), RunFault>
+    /// Adds the line of a message, and counts it.
+    fn add_line(&mut self, octets: &[u8]) -> Result<(), Memory>
         requires short { length octets.now < 2 ^ 31 }
-        requires message { IsOfMessage octets.now }
-        requires encrypted { unencrypted_in (message_of_der octets.now) ≡ None }
-        requires few { self.old.messages + 1 < 2 ^ 64 }
-        ensures added { OnOk result (AddsLine octets.now self.old self.new) }
-        ensures fault { IfErr result (λ e. e ≡ fault.Memory) }
+        requires message { IsOfMessage Profile.Lenient octets.now }
+        ensures { OnOk result (AddsLine octets.now self.old self.new) }
     {
         let lines = mem::replace(&mut self.text, Vec::new(self.alloc));
         self.text = put_text(self.alloc, lines, octets)?;
         self.text.push(b'\n')?;
-        self.messages += 1;
+        self.messages = self.messages.saturating_add(1);
         Ok(())
     }
-}
 
-/// What a decoding is asked for: the profile of the messages, and the greatest length of a frame.
-#[derive(Drop)]
-pub(crate) struct DecodeRequest {
-    pub profile: Profile,
-    pub limit: Limit,
-}
-
-/// A lister of a stream, up to its end, its first refusal, or its first message that is not encrypted:
-/// what allocates for it, its decoder, and the lines.
-#[derive(Drop)]
-pub(crate) struct JsonLister {
-    alloc: Global,
-    decoder: Decoder,
-    lines: JsonLines,
-}
-
-impl JsonLister {
-    /// Adds the lines of the frames that are whole at the beginning of a piece, and returns the
-    /// octets after them, with which no frame more is passed, or nothing if one of them is not
-    /// encrypted.
-    fn put_passed<'p>(&mut self, piece: &'p [u8]) -> Result<Option<&'p [u8]>, RunFault>
-        requires waits { status_of (messages self.old.decoder.profile) self.old.decoder ≡ status.More }
-        requires short { length piece.now ≤ 65536 }
-        requires few { self.old.lines.messages + length piece.now < 2 ^ 64 }
-        ensures fed { IfOk result (λ rest. PutsPassed self.old piece.now self.new (option_map (λ octets. octets.now) rest)) }
-        ensures passes { IfOk result (λ rest. IfSome rest (λ octets. passed self.new.decoder octets.now ≡ None)) }
-        ensures fault { IfErr result (λ e. e ≡ fault.Memory) }
+    /// Returns how a run ends all of whose messages are encrypted, by its decoder.
+    fn stream_end(&self, decoder: &Decoder) -> Result<DecodeEnd, Memory>
+        ensures { IfOk result (λ ended. ending_of ended ≡ ending_at self.now.messages (found (messages decoder.now.profile) decoder.now).end (frame_path decoder.now.profile decoder.now.octets)) }
     {
-        let mut rest = piece;
-        while let Some(passed) = self.decoder.pass(rest) {
-            let size = rest.len() - passed.rest.len();
-            if !self.lines.put(&rest[LENGTH_OCTETS..size])? {
-                return Ok(None);
-            }
-            rest = passed.rest;
-        }
-        Ok(Some(rest))
-    }
-
-    /// Adds the line of the frame that is ready, or keeps the path if its message is not encrypted, and
-    /// clears the frame. Returns whether it is encrypted.
-    fn put_ready(&mut self) -> Result<bool, RunFault>
-        requires few { self.old.lines.messages + 1 < 2 ^ 64 }
-        requires ready { IsSome (borrowed (messages self.old.decoder.profile) self.old.decoder) }
-        ensures put { IfOk result (PutsReady self.old self.new) }
-        ensures fault { IfErr result (λ e. e ≡ fault.Memory) }
-    {
-        let Some(framed) = self.decoder.ready() else {
-            return Ok(true);
-        };
-        let is_encrypted = self.lines.put(framed.octets())?;
-        self.decoder.next();
-        Ok(is_encrypted)
-    }
-
-    /// Returns how a run ends all of whose messages are encrypted.
-    fn stream_end(&self) -> Result<DecodeEnd, RunFault>
-        ensures ended { IfOk result (λ ended. ending_of ended ≡ ending_at self.now.lines.messages (found (messages self.now.decoder.profile) self.now.decoder).end (frame_path self.now.decoder.profile self.now.decoder.octets)) }
-        ensures fault { IfErr result (λ e. e ≡ fault.Memory) }
-    {
-        match self.decoder.finish() {
+        match decoder.finish() {
             Ok(()) => Ok(DecodeEnd::Clean),
             Err(refusal) => {
-                let profile = self.decoder.profile();
-                let path = frame_path(self.alloc, Form::NamedLines, profile, &self.decoder)?;
-                let messages = self.lines.messages;
+                let path = frame_path(self.alloc, Form::NamedLines, decoder.profile(), decoder)?;
+                let messages = self.messages;
                 Ok(DecodeEnd::Refused {
                     messages,
                     refusal,
@@ -181,41 +98,72 @@ impl JsonLister {
     }
 }
 
+impl Receiver for JsonLines {
+    ghost Receives = { ReceivesEntry };
+
+    ghost IsFull = { λ lines. IsSome lines.unencrypted };
+
+    fn receive_contents(&mut self, profile: Profile, contents: &[u8]) -> Result<bool, Memory> {
+        let Some(_) = view_message_in(profile, contents) else {
+            return Ok(false);
+        };
+        if self.unencrypted.is_some() {
+            return Ok(true);
+        }
+        self.put_message(contents)?;
+        Ok(true)
+    }
+
+    fn receive_refusal(
+        &mut self,
+        _refusal: Refusal,
+        _decoder: &Decoder,
+        _size: u64,
+    ) -> Result<(), Memory> {
+        Ok(())
+    }
+
+    fn is_full(&self) -> bool {
+        self.unencrypted.is_some()
+    }
+}
+
+/// What a decoding is asked for: the profile of the messages, and the greatest length of a frame.
+#[derive(Drop)]
+pub(crate) struct DecodeRequest {
+    pub profile: Profile,
+    pub limit: Limit,
+}
+
+/// A lister of a stream, up to its end, its first refusal, or its first message that is not
+/// encrypted: its decoder, and the lines.
+#[derive(Drop)]
+pub(crate) struct JsonLister {
+    decoder: SkippingDecoder,
+    lines: JsonLines,
+}
+
 impl ListStream for JsonLister {
     type Request = DecodeRequest;
 
     type End = DecodeEnd;
 
-    ghost rules = { decoding.rules };
+    ghost rules = { json_lines.rules };
 
-    ghost listing = { listing_of decoding };
+    ghost listing = { λ lister. listing_of (lister_kind json_lines) (record { decoder = lister.decoder; lines = lister.lines }) };
 
     fn new(alloc: Global, request: DecodeRequest) -> JsonLister {
         JsonLister {
-            alloc,
-            decoder: Decoder::with_profile(alloc, request.limit, request.profile),
+            decoder: start_stream(alloc, request.limit, request.profile),
             lines: JsonLines::new(alloc),
         }
     }
 
     fn feed(&mut self, piece: &[u8]) -> Result<bool, RunFault> {
-        let mut rest = piece;
-        'frames: loop {
-            let Some(after) = self.put_passed(rest)? else {
-                return Ok(false);
-            };
-            let fed = self.decoder.feed(after);
-            rest = &after[fed.used..];
-            match fed.status {
-                Status::More => return Ok(true),
-                Status::Refused(_) => return Ok(false),
-                Status::Memory => return Err(RunFault::Memory),
-                Status::Ready => {
-                    if !self.put_ready()? {
-                        return Ok(false);
-                    }
-                }
-            }
+        let delivered = self.decoder.deliver(piece, false, &mut self.lines)?;
+        match delivered {
+            Delivered::UpTo(_) => Ok(!self.lines.is_full()),
+            Delivered::Stopped(_) => Ok(false),
         }
     }
 
@@ -233,7 +181,7 @@ impl ListStream for JsonLister {
                 message: self.lines.messages + 1,
                 path,
             }),
-            None => self.stream_end(),
+            None => Ok(self.lines.stream_end(self.decoder.decoder())?),
         }
     }
 }

@@ -1,13 +1,14 @@
 //! Lines of JSON as messages.
 
-ghost use Rattle.std.specs.Prelude.{◌≡◌, ◌+◌, ◌++◌, ◌<◌, ◌^◌, ◌&&◌, not, length, [], IfErr, IfOk, OnOk, None};
-ghost use Rattle.krb_tool.specs.Encoding.{written_as, ending_of};
+ghost use Rattle.std.specs.Prelude.{◌≡◌, ◌+◌, ◌++◌, ◌<◌, ◌^◌, ◌&&◌, not, false, [], length, IfErr, IfOk, OnOk, None};
+ghost use Rattle.krb_tool.specs.Encoding.{is_blank_line, written_as, ending_of};
 ghost use Rattle.krb_tool.specs.declared.run.RunFault.TheVariants as fault;
+ghost use Rattle.krb_tool.specs.inner.EncodedLines.{IsFound, TakesLine, json_reading, rest_of};
+ghost use Rattle.krb_tool.specs.inner.LineReaders.{line_rules, reader_kind};
 ghost use Rattle.krb_tool.specs.inner.Pieces.{listing_of};
-ghost use Rattle.krb_tool.specs.inner.EncodedLines.{EndsLine, ReadsLine, IsFound, EndsLast, ending_by, encoding};
 
 use crate::encode_run::EncodeEnd;
-use crate::lines::{is_blank_line, line_length};
+use crate::lines::{ReadLines, end_lines, feed_lines, is_blank_line};
 use crate::run::RunFault;
 use crate::stream_run::ListStream;
 use krb_der::Profile;
@@ -42,27 +43,12 @@ pub(crate) struct JsonReader {
 }
 
 impl JsonReader {
-    /// Ends the line, which is counted: adds the message that it spells. Returns whether the line is
-    /// not at fault.
-    fn end_line(&mut self) -> Result<bool, RunFault>
-        requires few { self.old.lines + 1 < 2 ^ 64 }
-        ensures ended { IfOk result (EndsLine self.old self.new) }
-        ensures cleared { OnOk result (self.new.line.items ≡ []) }
-        ensures counted { OnOk result (self.new.lines ≡ self.old.lines + 1) }
-        ensures fault { IfErr result (λ e. e ≡ fault.Memory) }
-    {
-        let is_read = self.take_line()?;
-        self.lines += 1;
-        self.line.clear();
-        Ok(is_read)
-    }
-
     /// Passes over the line if it is blank, and else adds the message that it spells, if one may
     /// come, or keeps its fault. Returns whether the line is not at fault.
     fn take_line(&mut self) -> Result<bool, RunFault>
+        requires open { self.old.fault ≡ None }
         requires few { self.old.lines + 1 < 2 ^ 64 }
-        ensures ended { IfOk result (EndsLine self.old self.new) }
-        ensures counted { OnOk result (self.new.lines ≡ self.old.lines) }
+        ensures taken { IfOk result (TakesLine self.old self.new) }
         ensures fault { IfErr result (λ e. e ≡ fault.Memory) }
     {
         if is_blank_line(self.line.as_slice()) {
@@ -86,9 +72,11 @@ impl JsonReader {
     /// Adds the message that the line spells, or keeps its fault. Returns whether it is not at
     /// fault.
     fn add_message(&mut self) -> Result<bool, RunFault>
+        requires open { self.old.fault ≡ None }
+        requires some { is_blank_line self.old.line.items ≡ false }
+        requires next { (not self.old.request.is_framed && self.old.came) ≡ false }
         requires few { self.old.lines + 1 < 2 ^ 64 }
-        ensures read { IfOk result (ReadsLine self.old self.new) }
-        ensures counted { OnOk result (self.new.lines ≡ self.old.lines) }
+        ensures taken { IfOk result (TakesLine self.old self.new) }
         ensures fault { IfErr result (λ e. e ≡ fault.Memory) }
     {
         lines_spell_messages();
@@ -114,21 +102,9 @@ impl JsonReader {
         }
     }
 
-    /// Ends the last line if it is not empty, unless a line before it is at fault.
-    fn end_last_line(&mut self) -> Result<(), RunFault>
-        requires few { self.old.fault ≡ None → self.old.lines + 1 < 2 ^ 64 }
-        ensures ended { OnOk result (EndsLast self.old self.new) }
-        ensures fault { IfErr result (λ e. e ≡ fault.Memory) }
-    {
-        if self.fault.is_none() && !self.line.is_empty() {
-            self.end_line()?;
-        }
-        Ok(())
-    }
-
     /// Returns how a run ends after the last line.
     fn take_end(&mut self) -> EncodeEnd
-        ensures end { ending_of result ≡ ending_by self.old }
+        ensures end { ending_of result ≡ (rest_of self.old []).end }
         ensures text { self.new.text ≡ self.old.text }
     {
         match self.fault.take() {
@@ -162,14 +138,33 @@ fn put_message(text: &mut Vec<u8>, is_framed: bool, octets: &[u8]) -> Result<(),
     text.extend_from_slice(octets)
 }
 
+impl ReadLines for JsonReader {
+    ghost kind = { json_reading };
+
+    fn add(&mut self, octets: &[u8]) -> Result<(), RunFault> {
+        Ok(self.line.extend_from_slice(octets)?)
+    }
+
+    fn end_line(&mut self) -> Result<bool, RunFault> {
+        let is_read = self.take_line()?;
+        self.lines += 1;
+        self.line.clear();
+        Ok(is_read)
+    }
+
+    fn has_line(&self) -> bool {
+        self.fault.is_none() && !self.line.is_empty()
+    }
+}
+
 impl ListStream for JsonReader {
     type Request = EncodeRequest;
 
     type End = EncodeEnd;
 
-    ghost rules = { encoding.rules };
+    ghost rules = { line_rules json_reading };
 
-    ghost listing = { listing_of encoding };
+    ghost listing = { listing_of (reader_kind json_reading) };
 
     fn new(alloc: Global, request: EncodeRequest) -> JsonReader {
         JsonReader {
@@ -185,16 +180,7 @@ impl ListStream for JsonReader {
     }
 
     fn feed(&mut self, piece: &[u8]) -> Result<bool, RunFault> {
-        let mut rest = piece;
-        'lines: while let Some(end) = line_length(rest) {
-            self.line.extend_from_slice(&rest[..end])?;
-            rest = &rest[end + 1..];
-            if !self.end_line()? {
-                return Ok(false);
-            }
-        }
-        self.line.extend_from_slice(rest)?;
-        Ok(true)
+        feed_lines(self, piece)
     }
 
     fn text(&self) -> &[u8] {
@@ -206,7 +192,7 @@ impl ListStream for JsonReader {
     }
 
     fn finish(&mut self) -> Result<EncodeEnd, RunFault> {
-        self.end_last_line()?;
+        end_lines(self)?;
         Ok(self.take_end())
     }
 }

@@ -1,19 +1,20 @@
 //! A run over messages that the lines of a text spell, one in each line.
 
-ghost use Rattle.std.specs.Prelude.{◌≡◌, ◌+◌, ◌++◌, ◌<◌, ◌^◌, [], length, take, IfOk, IfErr, OnOk, OnErr};
+ghost use Rattle.std.specs.Prelude.{◌≡◌, ◌+◌, ◌<◌, ◌^◌, IfOk, IfErr, OnOk, OnErr};
 ghost use Rattle.krb_tool.specs.MessageLines.{ListsLines, FailsLines, end_of, is_passed};
 ghost use Rattle.krb_tool.specs.declared.run.RunFault.TheVariants as fault;
-ghost use Rattle.krb_tool.specs.inner.MessageLines.{AddsOctets, EndsLine, EndsLast, PutsLine, lines_kind};
+ghost use Rattle.krb_tool.specs.inner.LineReaders.{line_rules, reader_kind};
+ghost use Rattle.krb_tool.specs.inner.MessageLines.{PutsLine, message_lines};
 ghost use Rattle.krb_tool.specs.inner.Pieces.{listing_of};
 
-use crate::lines::{is_blank_line, line_length};
+use crate::lines::{ReadLines, end_lines, feed_lines, is_blank_line};
 use crate::message_input::{MOST_INPUT, MessageInput};
 use crate::run::{RunEnd, RunFault};
 use crate::stream_run::{ListStream, list_all};
-use crate::transfer::Asked;
+use crate::transfer::CountedReader;
 use krb_der::Profile;
 use krb_text::{Form, TextBuffer, put_counted_stream_end};
-use std::alloc::{AllocError, Global};
+use std::alloc::Global;
 use std::io::{Read, Write};
 
 /// What was seen of a text: how many lines, how many octets these have with their line feeds, and
@@ -47,34 +48,6 @@ pub(crate) struct LineLister {
 }
 
 impl LineLister {
-    /// Adds octets to the line that has not ended.
-    fn add(&mut self, octets: &[u8]) -> Result<(), AllocError>
-        requires few { self.old.size + length octets.now < 2 ^ 64 }
-        ensures added { OnOk result (AddsOctets self.old octets.now self.new) }
-    {
-        let room = (MOST_INPUT + 1).saturating_sub(self.line.len());
-        let kept = octets.len().min(room);
-        self.line.extend_from_slice(&octets[..kept])?;
-        self.size += octets.len() as u64;
-        Ok(())
-    }
-
-    /// Ends the line, whose record is added, and counts it.
-    fn end_line(&mut self) -> Result<(), RunFault>
-        requires few { self.old.seen.octets + self.old.size + 1 < 2 ^ 64 }
-        requires lines { self.old.seen.lines + 1 < 2 ^ 64 }
-        requires records { self.old.seen.messages + self.old.seen.refused + 1 < 2 ^ 64 }
-        ensures ended { OnOk result (EndsLine self.old self.new) }
-        ensures fault { IfErr result (λ e. e ≡ fault.Memory) }
-    {
-        self.put_line()?;
-        self.seen.lines += 1;
-        self.seen.octets += self.size + 1;
-        self.size = 0;
-        self.line.clear();
-        Ok(())
-    }
-
     /// Returns whether the line is passed over.
     fn is_passed(&self) -> bool
         ensures { result ≡ is_passed self.now.line.items }
@@ -104,19 +77,30 @@ impl LineLister {
         }
         Ok(())
     }
+}
 
-    /// Ends the last line if it is not empty.
-    fn end_last_line(&mut self) -> Result<(), RunFault>
-        requires few { self.old.seen.octets + self.old.size + 1 < 2 ^ 64 }
-        requires lines { self.old.seen.lines + 1 < 2 ^ 64 }
-        requires records { self.old.seen.messages + self.old.seen.refused + 1 < 2 ^ 64 }
-        ensures ended { OnOk result (EndsLast self.old self.new) }
-        ensures fault { IfErr result (λ e. e ≡ fault.Memory) }
-    {
-        if !self.line.is_empty() {
-            self.end_line()?;
-        }
+impl ReadLines for LineLister {
+    ghost kind = { message_lines };
+
+    fn add(&mut self, octets: &[u8]) -> Result<(), RunFault> {
+        let room = (MOST_INPUT + 1).saturating_sub(self.line.len());
+        let kept = octets.len().min(room);
+        self.line.extend_from_slice(&octets[..kept])?;
+        self.size += octets.len() as u64;
         Ok(())
+    }
+
+    fn end_line(&mut self) -> Result<bool, RunFault> {
+        self.put_line()?;
+        self.seen.lines += 1;
+        self.seen.octets += self.size + 1;
+        self.size = 0;
+        self.line.clear();
+        Ok(true)
+    }
+
+    fn has_line(&self) -> bool {
+        !self.line.is_empty()
     }
 }
 
@@ -136,9 +120,9 @@ impl ListStream for LineLister {
 
     type End = RunEnd;
 
-    ghost rules = { lines_kind.rules };
+    ghost rules = { line_rules message_lines };
 
-    ghost listing = { listing_of lines_kind };
+    ghost listing = { listing_of (reader_kind message_lines) };
 
     fn new(alloc: Global, request: LinesRequest) -> LineLister {
         LineLister {
@@ -157,14 +141,7 @@ impl ListStream for LineLister {
     }
 
     fn feed(&mut self, piece: &[u8]) -> Result<bool, RunFault> {
-        let mut rest = piece;
-        'lines: while let Some(end) = line_length(rest) {
-            self.add(&rest[..end])?;
-            rest = &rest[end + 1..];
-            self.end_line()?;
-        }
-        self.add(rest)?;
-        Ok(true)
+        feed_lines(self, piece)
     }
 
     fn text(&self) -> &[u8] {
@@ -176,7 +153,7 @@ impl ListStream for LineLister {
     }
 
     fn finish(&mut self) -> Result<RunEnd, RunFault> {
-        self.end_last_line()?;
+        end_lines(self)?;
         let Seen {
             messages,
             refused,
@@ -206,7 +183,7 @@ pub fn run_lines_in<R: Read, W: Write>(
     ensures listed { IfOk result (ListsLines form profile (R.remaining reader.old) (R.remaining reader.new) (W.contents writer.old) (W.contents writer.new)) }
     ensures fault { OnErr result (FailsLines form profile (R.remaining reader.old) (R.remaining reader.new) (W.contents writer.old) (W.contents writer.new)) }
 {
-    let mut asked = Asked::new(reader);
+    let mut counted = CountedReader::new(reader);
     let request = LinesRequest { form, profile };
-    list_all::<LineLister, _, _>(alloc, request, &mut asked, writer)
+    list_all::<LineLister, _, _>(alloc, request, &mut counted, writer)
 }

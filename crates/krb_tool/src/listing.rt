@@ -3,19 +3,29 @@
 ghost use Rattle.std.specs.Prelude.{◌≡◌, IfErr, IfOk, OnOk};
 ghost use Rattle.krb_tool.specs.GoingOn.{counted_run_end};
 ghost use Rattle.krb_tool.specs.declared.run.RunFault.TheVariants as fault;
+ghost use Rattle.krb_tool.specs.inner.Listers.{IsStart, lister_kind};
 ghost use Rattle.krb_tool.specs.inner.Pieces.{listing_of};
-ghost use Rattle.krb_tool.specs.inner.Listers.{AddsRefused, ListsEntry, PutsClosing, frames_kind};
+ghost use Rattle.krb_tool.specs.inner.StreamLines.{AddsRefused, ListsEntry, PutsClosing, stream_lines};
 
 use crate::fault_path::{frame_extent, frame_path};
 use crate::run::{RunEnd, RunFault};
 use crate::stream_run::{ListStream, Request};
 use krb_der::{Memory, Profile, Refusal};
-use krb_frame::{Decoder, Delivered, Receiver, SkippingDecoder};
-use krb_msg::MessageView;
+use krb_frame::{Decoder, Delivered, Limit, Receiver, SkippingDecoder};
 use krb_text::{
-    TextBuffer, put_counted_stream_end, put_message_view, put_stream_end, put_stream_refusal,
+    TextBuffer, put_counted_stream_end, put_message_in, put_stream_end, put_stream_refusal,
 };
 use std::alloc::Global;
+
+/// The number of octets of a frame's length.
+const LENGTH_OCTETS: u64 = 4;
+
+/// Returns the decoder of a stream with no octets yet.
+pub(crate) fn start_stream(alloc: Global, limit: Limit, profile: Profile) -> SkippingDecoder
+    ensures { IsStart profile limit result }
+{
+    SkippingDecoder::new(Decoder::with_profile(alloc, limit, profile))
+}
 
 /// The lines of a stream that are not written yet, with what allocates for them and what they are
 /// asked for, the numbers of messages and of refused frames so far, and where the current frame
@@ -77,11 +87,14 @@ impl Receiver for StreamLines {
 
     ghost IsFull = { λ lines. ⊥ };
 
-    fn receive_message(&mut self, message: &MessageView<'_>, size: u64) -> Result<(), Memory> {
-        put_message_view(&mut self.text, self.request.form, message)?;
+    fn receive_contents(&mut self, profile: Profile, contents: &[u8]) -> Result<bool, Memory> {
+        if !put_message_in(&mut self.text, self.request.form, profile, contents)? {
+            return Ok(false);
+        }
         self.messages = self.messages.saturating_add(1);
+        let size = LENGTH_OCTETS + contents.len() as u64;
         self.offset = self.offset.saturating_add(size);
-        Ok(())
+        Ok(true)
     }
 
     fn receive_refusal(
@@ -112,14 +125,13 @@ impl ListStream for Lister {
 
     type End = RunEnd;
 
-    ghost rules = { frames_kind.rules };
+    ghost rules = { stream_lines.rules };
 
-    ghost listing = { listing_of frames_kind };
+    ghost listing = { λ lister. listing_of (lister_kind stream_lines) (record { decoder = lister.decoder; lines = lister.lines }) };
 
     fn new(alloc: Global, request: Request) -> Lister {
-        let decoder = Decoder::with_profile(alloc, request.limit, request.profile);
         Lister {
-            decoder: SkippingDecoder::new(decoder),
+            decoder: start_stream(alloc, request.limit, request.profile),
             lines: StreamLines {
                 alloc,
                 request,

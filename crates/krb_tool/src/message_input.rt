@@ -161,19 +161,18 @@ impl MessageInput {
         ensures put { IfOk result (Puts text.old text.new (judged_listing self.now (layered_of layered.now) place octets.now (refusal_of self.now.profile octets.now))) }
         ensures fault { IfErr result (λ e. e ≡ RunFault.Memory) }
     {
-        match read_message_in(self.profile, octets) {
-            Ok(message) => {
-                put_message_from(text, self.form, &self.origin(layered.layers), &message)?;
-                Ok(RunEnd::Clean)
-            }
-            Err(refusal) => {
-                refusals_are_inside();
-                let path = refused_path(alloc, self.form, self.profile, octets, refusal)?;
-                let place = place + refusal.place;
-                let why = refusal.why;
-                self.put_refusal(text, layered, Refusal { place, why }, &path)
-            }
+        let origin = self.origin(layered.layers);
+        if put_message_from(text, self.form, &origin, self.profile, octets)? {
+            return Ok(RunEnd::Clean);
         }
+        let Err(refusal) = read_message_in(self.profile, octets) else {
+            unreachable!()
+        };
+        refusals_are_inside();
+        let path = refused_path(alloc, self.form, self.profile, octets, refusal)?;
+        let place = place + refusal.place;
+        let why = refusal.why;
+        self.put_refusal(text, layered, Refusal { place, why }, &path)
     }
 
     /// Appends the record of octets that are judged as a Ticket.

@@ -7,7 +7,7 @@ ghost use Rattle.krb_tool.specs.Messages.{IsMessageListing, octets_listing};
 use crate::file_run::{FileFormat, FileText, run_file};
 use crate::message_input::{MOST_INPUT, MessageInput};
 use crate::run::{RunEnd, RunFault};
-use crate::transfer::Asked;
+use crate::transfer::CountedReader;
 use krb_der::Profile;
 use krb_input::Spelling;
 use krb_text::{Form, TextBuffer};
@@ -84,6 +84,7 @@ pub fn run_message_in<R: Read, W: Write>(
     ensures listed { IfOk result (ListsFile (IsMessageListing form profile) (R.remaining reader.old) (R.remaining reader.new) (W.contents writer.old) (W.contents writer.new)) }
     ensures fault { IfErr result (FailsFile (IsMessageListing form profile) (R.remaining reader.old) (R.remaining reader.new) (W.contents writer.old) (W.contents writer.new)) }
 {
-    let mut asked = Asked::new(reader);
-    run_file(alloc, &mut asked, writer, &SpelledMessage { form, profile })
+    let mut counted = CountedReader::new(reader);
+    let message = SpelledMessage { form, profile };
+    run_file(alloc, &mut counted, writer, &message)
 }

@@ -3,21 +3,19 @@
 ghost use Rattle.std.specs.Prelude.{◌≡◌, ◌≢◌, ◌++◌, ℕ, suc, List, [], None, Some, IfErr, IfOk, OnErr, OnOk, string_bytes};
 ghost use Rattle.std.specs.Io.Buffered.{reader_remaining};
 ghost use Rattle.std.specs.Option.{option_map};
-ghost use Rattle.krb_tool.specs.Lines.{record_line, keytab_end_line, cache_line, credential_line, cache_end_line};
 ghost use Rattle.krb_tool.specs.Extents.{fault_line};
-ghost use Rattle.krb_tool.specs.declared.run.RunEnd.TheVariants as run;
 ghost use Rattle.krb_tool.specs.Faults.{IsRead, IsWrite};
 ghost use Rattle.krb_tool.specs.Files.{RecordListing, after_line, keytab_listing, ccache_listing, AppendsPrefix, ListsRecords};
-ghost use Rattle.krb_tool.specs.inner.RecordRuns.{Adds, AddsRefusal, AddsLine, Moves, WritesBefore, AreRecordsLeft, AreCredentialsLeft, IsRefusal};
+ghost use Rattle.krb_tool.specs.inner.RecordRuns.{AddsRefusal, AddsLine, Moves, WritesBefore, AreRecordsLeft, AreCredentialsLeft};
 ghost use Rattle.std.specs.Io.KnownBytes.{Appends};
 
 use crate::extent::extent_of;
-use crate::file_path::{credential_path, field_path, keytab_path};
+use crate::file_path::file_path;
 use crate::run::{PIECE_OCTETS, RunEnd, RunFault};
 use crate::transfer::{MOST_ASKS, too_many_reads, write_all};
-use krb_ccache::{Credential, Credentials, FilePrincipal, Header};
-use krb_file::{FileFault, FileRefusal, Limit};
-use krb_keytab::{Next, Record, Records, Stop};
+use krb_ccache::Credentials;
+use krb_file::{FileFault, FileItem, FileRefusal, Limit};
+use krb_keytab::{Next, Records};
 use krb_list::{put_cache, put_cache_end, put_credential, put_keytab_end, put_record};
 use krb_text::{Form, TextBuffer, put_file_refusal};
 use std::alloc::Global;
@@ -106,29 +104,6 @@ pub(crate) trait RecordLines {
         ensures kept { IfErr result (λ e. IsRead e → text.new ≡ text.old) };
 }
 
-/// Appends the line of a record.
-fn add_record(text: &mut TextBuffer, form: Form, item: &Record) -> Result<(), RunFault>
-    ensures line { OnOk result (text.new ≡ text.old ++ record_line form item.now) }
-    ensures fault { IfErr result (λ e. e ≡ RunFault.Memory) }
-{
-    put_record(text, form, item)?;
-    Ok(())
-}
-
-/// Appends the line of the end of a keytab.
-fn put_stop(
-    text: &mut TextBuffer,
-    form: Form,
-    count: u64,
-    stop: &Stop,
-) -> Result<Option<RunEnd>, RunFault>
-    ensures line { IfOk result (Adds (keytab_end_line form count stop.now) (Some run.Clean) text.old text.new) }
-    ensures fault { IfErr result (λ e. e ≡ RunFault.Memory) }
-{
-    put_keytab_end(text, form, count, stop)?;
-    Ok(Some(RunEnd::Clean))
-}
-
 /// The lines of a keytab.
 #[derive(Drop)]
 struct KeytabLines<'a, R: Read> {
@@ -148,14 +123,18 @@ impl<R: Read> RecordLines for KeytabLines<'_, R> {
     ) -> Result<Option<RunEnd>, RunFault> {
         match self.records.next_record(alloc) {
             Ok(Next::Item(record)) => {
-                add_record(text, self.form, &record)?;
+                put_record(text, self.form, &record)?;
                 self.records.give_back(record);
                 Ok(None)
             }
-            Ok(Next::Done(stop)) => put_stop(text, self.form, count, &stop),
+            Ok(Next::Done(stop)) => {
+                put_keytab_end(text, self.form, count, &stop)?;
+                Ok(Some(RunEnd::Clean))
+            }
             Err(fault) => {
-                let path = keytab_path(alloc, self.form, count, fault.field())?;
-                put_fault(text, self.form, fault, &path, self.watch)
+                let item = FileItem::Record(count);
+                let ended = put_fault(alloc, text, self.form, item, fault, self.watch)?;
+                Ok(Some(ended))
             }
         }
     }
@@ -180,86 +159,28 @@ fn put_refusal(
     Ok(())
 }
 
-/// Appends the line of a refusal with the path of the field at fault, which ends the run. Other
-/// faults have no line.
+/// Appends the line of a refusal in this item, which ends the run. Other faults have no line.
 fn put_fault(
+    alloc: Global,
     text: &mut TextBuffer,
     form: Form,
+    item: FileItem,
     fault: FileFault,
-    path: &Option<String>,
     watch: &Watch,
-) -> Result<Option<RunEnd>, RunFault>
-    ensures refused { IfOk result (AddsRefusal (λ _. option_map string_bytes path.now) form fault text.old text.new) }
+) -> Result<RunEnd, RunFault>
+    ensures refused { IfOk result (AddsRefusal item form fault text.old text.new) }
     ensures fault { IfErr result (λ e. IsWrite e → ⊥) }
     ensures kept { IfErr result (λ e. IsRead e → text.new ≡ text.old) }
 {
     match fault {
         FileFault::Refused(refusal) => {
-            put_refusal(text, form, refusal, path)?;
-            Ok(Some(RunEnd::Refused))
+            let path = file_path(alloc, form, item, refusal.field)?;
+            put_refusal(text, form, refusal, &path)?;
+            Ok(RunEnd::Refused)
         }
         FileFault::Read => Err(RunFault::Read(watch.error())),
         FileFault::Memory => Err(RunFault::Memory),
     }
-}
-
-/// A file that is at fault before its records.
-#[derive(Clone, Copy)]
-struct NoLines<'a> {
-    form: Form,
-    fault: FileFault,
-    watch: &'a Watch,
-}
-
-impl RecordLines for NoLines<'_> {
-    ghost IsLeft = { λ lines _ left. IsRefusal lines.form lines.fault left };
-
-    fn put_next(
-        &mut self,
-        alloc: Global,
-        _count: u64,
-        text: &mut TextBuffer,
-    ) -> Result<Option<RunEnd>, RunFault> {
-        let path = field_path(alloc, self.form, self.fault.field())?;
-        put_fault(text, self.form, self.fault, &path, self.watch)
-    }
-}
-
-/// Appends the line of a cache.
-fn put_first(
-    text: &mut TextBuffer,
-    form: Form,
-    header: &Header,
-    principal: &FilePrincipal,
-) -> Result<(), RunFault>
-    ensures line { OnOk result (text.new ≡ text.old ++ cache_line form header.now principal.now) }
-    ensures fault { IfErr result (λ e. e ≡ RunFault.Memory) }
-{
-    put_cache(text, form, header, principal)?;
-    Ok(())
-}
-
-/// Appends the line of a credential.
-fn put_one(
-    text: &mut TextBuffer,
-    form: Form,
-    credential: &Credential,
-    now: Option<u32>,
-) -> Result<(), RunFault>
-    ensures line { OnOk result (text.new ≡ text.old ++ credential_line form now credential.now) }
-    ensures fault { IfErr result (λ e. e ≡ RunFault.Memory) }
-{
-    put_credential(text, form, credential, now)?;
-    Ok(())
-}
-
-/// Appends the line of the end of a cache.
-fn put_end(text: &mut TextBuffer, form: Form, count: u64) -> Result<Option<RunEnd>, RunFault>
-    ensures line { IfOk result (Adds (cache_end_line form count) (Some run.Clean) text.old text.new) }
-    ensures fault { IfErr result (λ e. e ≡ RunFault.Memory) }
-{
-    put_cache_end(text, form, count)?;
-    Ok(Some(RunEnd::Clean))
 }
 
 /// The lines of the credentials of a cache, at a time in seconds since 1970 if there is one.
@@ -282,14 +203,18 @@ impl<R: Read + Drop> RecordLines for CredentialLines<'_, R> {
     ) -> Result<Option<RunEnd>, RunFault> {
         match self.credentials.next_credential(alloc) {
             Ok(Some(credential)) => {
-                put_one(text, self.form, &credential, self.now)?;
+                put_credential(text, self.form, &credential, self.now)?;
                 self.credentials.give_back(credential);
                 Ok(None)
             }
-            Ok(None) => put_end(text, self.form, count),
+            Ok(None) => {
+                put_cache_end(text, self.form, count)?;
+                Ok(Some(RunEnd::Clean))
+            }
             Err(fault) => {
-                let path = credential_path(alloc, self.form, count, fault.field())?;
-                put_fault(text, self.form, fault, &path, self.watch)
+                let item = FileItem::Credential(count);
+                let ended = put_fault(alloc, text, self.form, item, fault, self.watch)?;
+                Ok(Some(ended))
             }
         }
     }
@@ -439,7 +364,7 @@ pub fn run_ccache_in<R: Read, W: Write>(
     let mut text = TextBuffer::new(alloc);
     match Credentials::start(alloc, reader, Limit::DEFAULT) {
         Ok(credentials) => {
-            put_first(
+            put_cache(
                 &mut text,
                 form,
                 credentials.header(),
@@ -453,12 +378,12 @@ pub fn run_ccache_in<R: Read, W: Write>(
             };
             list_records(alloc, &mut lines, &mut text, watch, writer)
         }
-        Err(fault) => list_records(
-            alloc,
-            &mut NoLines { form, fault, watch },
-            &mut text,
-            watch,
-            writer,
-        ),
+        Err(fault) => match put_fault(alloc, &mut text, form, FileItem::File, fault, watch) {
+            Ok(ended) => {
+                write_all(writer, text.octets())?;
+                Ok(ended)
+            }
+            Err(fault) => write_before(writer, &mut text, fault),
+        },
     }
 }

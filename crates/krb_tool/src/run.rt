@@ -7,7 +7,7 @@ ghost use Rattle.krb_tool.specs.declared.run.RunFault.TheVariants as fault;
 
 use crate::listing::Lister;
 use crate::stream_run::{Request, list_all};
-use crate::transfer::Asked;
+use crate::transfer::CountedReader;
 use krb_der::{Memory, Profile};
 use krb_frame::Limit;
 use krb_text::Form;
@@ -122,12 +122,12 @@ pub fn run_stream_in<R: Read, W: Write>(
     ensures listed { IfOk result (ListsStream keep_going form profile limit (R.remaining reader.old) (R.remaining reader.new) (W.contents writer.old) (W.contents writer.new)) }
     ensures fault { IfErr result (FailsStream keep_going form profile limit (R.remaining reader.old) (R.remaining reader.new) (W.contents writer.old) (W.contents writer.new)) }
 {
-    let mut asked = Asked::new(reader);
+    let mut counted = CountedReader::new(reader);
     let request = Request {
         form,
         profile,
         limit,
         keep_going,
     };
-    list_all::<Lister, _, _>(alloc, request, &mut asked, writer)
+    list_all::<Lister, _, _>(alloc, request, &mut counted, writer)
 }

@@ -5,7 +5,7 @@ ghost use Rattle.krb_tool.specs.declared.transfer.ReaderState.TheVariants as rea
 ghost use Rattle.krb_tool.specs.inner.Streams.{Rules, Listing, IsNew, AcceptsPiece, Feeds, Clears, MayFinish, Finishes, ListsBy, FailsBy, Reads, FailsToRead};
 
 use crate::run::{PIECE_OCTETS, RunFault};
-use crate::transfer::{Asked, write_all};
+use crate::transfer::{CountedReader, write_all};
 use krb_der::Profile;
 use krb_frame::Limit;
 use krb_text::Form;
@@ -67,19 +67,19 @@ pub(crate) trait ListStream: Drop {
 /// which it does not after its end.
 fn feed_next<L: ListStream, R: Read>(
     lister: &mut L,
-    asked: &mut Asked<'_, R>,
+    counted: &mut CountedReader<'_, R>,
     buffer: &mut [u8],
 ) -> Result<bool, RunFault>
     requires waits { AcceptsPiece (L.listing lister.old) }
-    requires open { asked.old.state ≡ reader.Open }
+    requires open { counted.old.state ≡ reader.Open }
     requires size { length buffer.old ≡ 65536 }
-    ensures same_reader { asked.new.reader.ghost_name ≡ asked.old.reader.ghost_name }
-    ensures counted { OnOk result (asked.new.made ≡ asked.old.made + 1) }
-    ensures open { IfOk result (λ goes_on. IsTrue goes_on → asked.new.state ≡ reader.Open) }
-    ensures fed { IfOk result (Reads L.rules (R.remaining asked.old.reader.now) asked.old.made (L.listing lister.old) (R.remaining asked.new.reader.now) asked.new.made (L.listing lister.new)) }
-    ensures fault { IfErr result (FailsToRead L.rules (R.remaining asked.old.reader.now) asked.old.made (L.listing lister.old) (R.remaining asked.new.reader.now)) }
+    ensures same_reader { counted.new.reader.ghost_name ≡ counted.old.reader.ghost_name }
+    ensures counted { OnOk result (counted.new.made ≡ counted.old.made + 1) }
+    ensures open { IfOk result (λ goes_on. IsTrue goes_on → counted.new.state ≡ reader.Open) }
+    ensures fed { IfOk result (Reads L.rules (R.remaining counted.old.reader.now) counted.old.made (L.listing lister.old) (R.remaining counted.new.reader.now) counted.new.made (L.listing lister.new)) }
+    ensures fault { IfErr result (FailsToRead L.rules (R.remaining counted.old.reader.now) counted.old.made (L.listing lister.old) (R.remaining counted.new.reader.now)) }
 {
-    let count = asked.ask(buffer)?;
+    let count = counted.read(buffer)?;
     if count == 0 {
         return Ok(false);
     }
@@ -91,19 +91,19 @@ fn feed_next<L: ListStream, R: Read>(
 pub(crate) fn list_all<L: ListStream, R: Read, W: Write>(
     alloc: Global,
     request: L::Request,
-    asked: &mut Asked<'_, R>,
+    counted: &mut CountedReader<'_, R>,
     writer: &mut W,
 ) -> Result<L::End, RunFault>
-    requires none { asked.old.made ≡ 0 }
-    requires open { asked.old.state ≡ reader.Open }
-    ensures same_reader { asked.new.reader.ghost_name ≡ asked.old.reader.ghost_name }
-    ensures listed { IfOk result (ListsBy (L.rules request) (R.remaining asked.old.reader.now) (R.remaining asked.new.reader.now) (W.contents writer.old) (W.contents writer.new)) }
-    ensures fault { IfErr result (FailsBy (L.rules request) (R.remaining asked.old.reader.now) (R.remaining asked.new.reader.now) (W.contents writer.old) (W.contents writer.new)) }
-    ensures asks { asked.new.made ≤ 2 ^ 40 }
+    requires none { counted.old.made ≡ 0 }
+    requires open { counted.old.state ≡ reader.Open }
+    ensures same_reader { counted.new.reader.ghost_name ≡ counted.old.reader.ghost_name }
+    ensures listed { IfOk result (ListsBy (L.rules request) (R.remaining counted.old.reader.now) (R.remaining counted.new.reader.now) (W.contents writer.old) (W.contents writer.new)) }
+    ensures fault { IfErr result (FailsBy (L.rules request) (R.remaining counted.old.reader.now) (R.remaining counted.new.reader.now) (W.contents writer.old) (W.contents writer.new)) }
+    ensures asks { counted.new.made ≤ 2 ^ 40 }
 {
     let mut lister = L::new(alloc, request);
     let mut buffer = vec![in alloc; 0u8; PIECE_OCTETS]?;
-    'pieces: while feed_next(&mut lister, asked, buffer.as_mut_slice())? {
+    'pieces: while feed_next(&mut lister, counted, buffer.as_mut_slice())? {
         write_all(writer, lister.text())?;
         lister.clear_text();
     }

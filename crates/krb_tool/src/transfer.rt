@@ -29,35 +29,34 @@ pub(crate) enum ReaderState {
     Failed,
 }
 
-/// A reader, and how often it was asked. It has the only borrow of the reader, so a run can read by
-/// [`ask`](Asked::ask) alone.
+/// A reader, and how many reads were made. It has the only borrow of the reader, so a run can read
+/// by [`read`](CountedReader::read) alone.
 #[derive(Drop)]
-pub(crate) struct Asked<'a, R> {
+pub(crate) struct CountedReader<'a, R> {
     reader: &'a mut R,
     made: u64,
     state: ReaderState,
     pub ghost few: { made ≤ 2 ^ 40 },
 }
 
-impl<'a, R: Read> Asked<'a, R> {
-    /// Returns a reader that was not asked yet.
-    pub(crate) fn new(reader: &'a mut R) -> Asked<'a, R>
+impl<'a, R: Read> CountedReader<'a, R> {
+    /// Returns a reader of which nothing was read yet.
+    pub(crate) fn new(reader: &'a mut R) -> CountedReader<'a, R>
         ensures same_reader { result.reader.ghost_name ≡ reader.entry.ghost_name }
         ensures untouched { result.reader.now ≡ reader.old }
         ensures none { result.made ≡ 0 }
         ensures open { result.state ≡ ReaderState.Open }
     {
-        Asked {
+        CountedReader {
             reader,
             made: 0,
             state: ReaderState::Open,
         }
     }
 
-    /// Asks the reader for a piece of its octets, and returns how many came, 0 at its end. A read
-    /// that fails is a fault, and so is one ask more than [`MOST_ASKS`]. The reader may not be
-    /// asked again after its end or a fault.
-    pub(crate) fn ask(&mut self, buffer: &mut [u8]) -> Result<usize, RunFault>
+    /// Reads a piece of the octets, and returns how many came, 0 at the end. A read that fails is a
+    /// fault, and so is one more than [`MOST_ASKS`]. No read may follow the end or a fault.
+    pub(crate) fn read(&mut self, buffer: &mut [u8]) -> Result<usize, RunFault>
         requires open { self.old.state ≡ ReaderState.Open }
         requires room { 0 < length buffer.old }
         ensures same_reader { self.new.reader.ghost_name ≡ self.old.reader.ghost_name }

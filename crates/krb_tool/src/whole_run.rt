@@ -14,7 +14,7 @@ use crate::decode_run::DecodeEnd;
 use crate::fault_path::refused_path;
 use crate::json_lines::JsonLines;
 use crate::run::{PIECE_OCTETS, RunFault};
-use crate::transfer::{Asked, write_all};
+use crate::transfer::{CountedReader, write_all};
 use krb_der::{Profile, Refusal, Why};
 use krb_frame::Limit;
 use krb_judge::read_message_in;
@@ -44,24 +44,24 @@ pub fn run_decode_unframed<R: Read, W: Write>(
     ensures decoded { IfOk result (DecodesWhole profile limit (R.remaining reader.old) (R.remaining reader.new) (W.contents writer.old) (W.contents writer.new)) }
     ensures fault { OnErr result (FailsToDecodeWhole profile limit (R.remaining reader.old) (R.remaining reader.new) (W.contents writer.old) (W.contents writer.new)) }
 {
-    let mut asked = Asked::new(reader);
-    decode_source(alloc, profile, &mut asked, writer, limit)
+    let mut counted = CountedReader::new(reader);
+    decode_source(alloc, profile, &mut counted, writer, limit)
 }
 
 /// Decodes the one message that is all that a reader has.
 fn decode_source<R: Read, W: Write>(
     alloc: Global,
     profile: Profile,
-    asked: &mut Asked<'_, R>,
+    counted: &mut CountedReader<'_, R>,
     writer: &mut W,
     limit: Limit,
 ) -> Result<DecodeEnd, RunFault>
-    requires open { asked.old.state ≡ reader.Open }
-    ensures same_reader { asked.new.reader.ghost_name ≡ asked.old.reader.ghost_name }
-    ensures decoded { IfOk result (DecodesWhole profile limit (R.remaining asked.old.reader.now) (R.remaining asked.new.reader.now) (W.contents writer.old) (W.contents writer.new)) }
-    ensures fault { OnErr result (FailsToDecodeWhole profile limit (R.remaining asked.old.reader.now) (R.remaining asked.new.reader.now) (W.contents writer.old) (W.contents writer.new)) }
+    requires open { counted.old.state ≡ reader.Open }
+    ensures same_reader { counted.new.reader.ghost_name ≡ counted.old.reader.ghost_name }
+    ensures decoded { IfOk result (DecodesWhole profile limit (R.remaining counted.old.reader.now) (R.remaining counted.new.reader.now) (W.contents writer.old) (W.contents writer.new)) }
+    ensures fault { OnErr result (FailsToDecodeWhole profile limit (R.remaining counted.old.reader.now) (R.remaining counted.new.reader.now) (W.contents writer.old) (W.contents writer.new)) }
 {
-    let octets = read_most(alloc, asked, limit.get() as usize + 1)?;
+    let octets = read_most(alloc, counted, limit.get() as usize + 1)?;
     let line = decode_message(alloc, profile, limit, octets.as_slice())?;
     write_all(writer, line.text.as_slice())?;
     Ok(line.end)
@@ -70,19 +70,19 @@ fn decode_source<R: Read, W: Write>(
 /// Reads what a reader has, `most` octets of it if it has more.
 fn read_most<R: Read>(
     alloc: Global,
-    asked: &mut Asked<'_, R>,
+    counted: &mut CountedReader<'_, R>,
     most: usize,
 ) -> Result<Vec<u8>, RunFault>
-    requires open { asked.old.state ≡ reader.Open }
-    ensures same_reader { asked.new.reader.ghost_name ≡ asked.old.reader.ghost_name }
-    ensures read { IfOk result (λ octets. ReadsMost (R.remaining asked.old.reader.now) (R.remaining asked.new.reader.now) most octets.items) }
-    ensures taken { OnErr result (ReadsSome (R.remaining asked.old.reader.now) (R.remaining asked.new.reader.now)) }
+    requires open { counted.old.state ≡ reader.Open }
+    ensures same_reader { counted.new.reader.ghost_name ≡ counted.old.reader.ghost_name }
+    ensures read { IfOk result (λ octets. ReadsMost (R.remaining counted.old.reader.now) (R.remaining counted.new.reader.now) most octets.items) }
+    ensures taken { OnErr result (ReadsSome (R.remaining counted.old.reader.now) (R.remaining counted.new.reader.now)) }
 {
     let mut buffer = vec![in alloc; 0u8; PIECE_OCTETS]?;
     let mut octets = Vec::new(alloc);
     'pieces: while octets.len() < most {
         buffer.truncate(most - octets.len());
-        let count = asked.ask(buffer.as_mut_slice())?;
+        let count = counted.read(buffer.as_mut_slice())?;
         if count == 0 {
             return Ok(octets);
         }
@@ -133,16 +133,20 @@ fn refused(alloc: Global, refusal: Refusal, path: Option<String>) -> MessageLine
 /// Returns the line of the message whose DER octets are, or no line if it is not encrypted.
 fn put_message(alloc: Global, octets: &[u8]) -> Result<MessageLine, RunFault>
     requires short { length octets.now < 2 ^ 31 }
-    requires message { IsOfMessage octets.now }
+    requires message { IsOfMessage Profile.Lenient octets.now }
     ensures put { IfOk result (λ line. converted_of line ≡ line_and 1 octets.now (unencrypted_in (message_of_der octets.now)) (record { text = []; end = All })) }
     ensures fault { IfErr result (λ e. e ≡ RunFault.Memory) }
 {
     let mut lines = JsonLines::new(alloc);
     lines.put_message(octets)?;
-    let text = lines.text;
-    let end = match lines.unencrypted {
-        Some(path) => DecodeEnd::Unencrypted { message: 1, path },
-        None => DecodeEnd::Clean,
-    };
-    Ok(MessageLine { text, end })
+    match lines.unencrypted.take() {
+        Some(path) => Ok(MessageLine {
+            text: lines.text,
+            end: DecodeEnd::Unencrypted { message: 1, path },
+        }),
+        None => Ok(MessageLine {
+            text: lines.text,
+            end: DecodeEnd::Clean,
+        }),
+    }
 }

@@ -1,136 +1,87 @@
--- What a lister that decodes does with a stream.
-use Rattle.std.specs.Prelude.{ℕ, ◌≡◌, ◌+◌, ◌*◌, ◌≤◌, ◌⊎◌, Bool, true, false, List, [], ◌∷◌, ◌++◌, length, take, Option, Some, None, string_bytes}
-use Rattle.std.specs.List.{flat_map}
+-- What the lines of messages are that are written as JSON.
+use Rattle.std.specs.Prelude.{ℕ, ◌≡◌, ◌+◌, ◌≤◌, ◌<◌, ◌^◌, false, List, [], ◌∷◌, ◌++◌, length, Option, Some, None, IsSome, string_bytes}
 use Rattle.std.specs.Option.{option_map}
-use Rattle.krb_der.specs.declared.profile.Profile.TheVariants.{Lenient}
-use Rattle.krb_der.specs.declared.verdict.Refusal.{Refusal}
-use Rattle.krb_msg.specs.Grammar.{messages as grammar}
-use Rattle.krb_msg.specs.Stream.{Refused, frames}
+use Rattle.krb_der.specs.declared.profile.Profile.{Profile}
 use Rattle.krb_msg.specs.Views.{message_der, message_of_der, IsInProfile}
-use Rattle.krb_frame.specs.Decoding.{Decoding, found, status_of, borrowed}
-use Rattle.krb_frame.specs.Decoded.{HasDecoded}
-use Rattle.krb_frame.specs.Feeds.{Clears}
-use Rattle.krb_frame.specs.declared.decoder.Status.TheVariants as status
+use Rattle.krb_frame.specs.Deliveries.{contents_in}
+use Rattle.krb_frame.specs.GoingOn.{Entry, Contents, Fault}
 use Rattle.krb_json.specs.Lines.{line_of}
 use Rattle.krb_json.specs.Unencrypted.{unencrypted_in}
-use Rattle.krb_tool.specs.Listing.{StopsInPiece}
-use Rattle.krb_tool.specs.Decoding.{decoded, AllAreEncrypted, GoesOn, ending_of}
+use Rattle.krb_tool.specs.Conversions.{Converted, after_text}
+use Rattle.krb_tool.specs.Decoding.{Ending, Unencrypted, decoded, lines_after, GoesOn, ending_of}
 use Rattle.krb_tool.specs.inner.Conversions.{conversion_rules}
-use Rattle.krb_tool.specs.inner.Pieces.{NeedsMore, Kind, IsFed}
-use Rattle.krb_tool.specs.inner.Streams.{Rules, Taken}
+use Rattle.krb_tool.specs.inner.Listers.{LinesKind}
 use Rattle.krb_tool.specs.declared.decode_run.DecodeEnd.{DecodeEnd}
 use Rattle.krb_tool.specs.declared.json_lines.DecodeRequest.{DecodeRequest}
 use Rattle.krb_tool.specs.declared.json_lines.JsonLines.{JsonLines}
-use Rattle.krb_tool.specs.declared.json_lines.JsonLister.{JsonLister}
 
--- ---- lines
--- octets are the DER of a message
-pub record IsOfMessage (octets : List ℕ) : Type 0 where
-  pub in_profile : IsInProfile Lenient (message_of_der octets)
+-- ---- a message
+-- octets are the DER of a message of a profile
+pub record IsOfMessage (profile : Profile) (octets : List ℕ) : Type 0 where
+  pub in_profile : IsInProfile profile (message_of_der octets)
   pub form : message_der (message_of_der octets) ≡ octets
 
 -- the line of the message that octets are
 abbrev pub octets_line : List ℕ → List ℕ
 octets_line octets = line_of (message_of_der octets)
 
--- The message is encrypted. Its line was added, and it is counted.
+-- The line of a message was added, and it is counted, unless there are too many.
 pub record AddsLine (octets : List ℕ) (old new : JsonLines) : Type 0 where
-  pub encrypted : unencrypted_in (message_of_der octets) ≡ None
-  pub line : new.text.items ≡ old.text.items ++ octets_line octets
-  pub counted : new.messages ≡ old.messages + 1
+  pub text : new.text.items ≡ old.text.items ++ octets_line octets
+  pub messages : old.messages + 1 < 2 ^ 64 → new.messages ≡ old.messages + 1
+  pub few : new.messages ≤ old.messages + 1
   pub same : new.unencrypted ≡ old.unencrypted
 
--- The message is not encrypted. The path is kept, and nothing else changed.
-pub record KeepsPath (octets : List ℕ) (old new : JsonLines) : Type 0 where
-  pub path : List ℕ
-  pub unencrypted : unencrypted_in (message_of_der octets) ≡ Some path
+-- The path was kept at which a message is not encrypted, and nothing else changed.
+pub record KeepsPath (path : List ℕ) (old new : JsonLines) : Type 0 where
   pub kept : option_map string_bytes new.unencrypted ≡ Some path
   pub text : new.text.items ≡ old.text.items
   pub messages : new.messages ≡ old.messages
 
-abbrev pub PutsLine : List ℕ → JsonLines → JsonLines → Bool → Type 0
-PutsLine octets old new true = AddsLine octets old new
-PutsLine octets old new false = KeepsPath octets old new
+abbrev pub PutsBy : (unencrypted : Option (List ℕ)) → List ℕ → JsonLines → JsonLines → Type 0
+PutsBy None octets old new = AddsLine octets old new
+PutsBy (Some path) octets old new = KeepsPath path old new
 
--- the message of the frame that is ready was put, and its frame is cleared
-pub record PutsReady (old new : JsonLister) (is_encrypted : Bool) : Type 0 where
-  pub contents : List ℕ
-  pub is_ready : borrowed (grammar old.decoder.profile) old.decoder ≡ Some contents
-  pub put : PutsLine contents old.lines new.lines is_encrypted
-  pub cleared : Clears (grammar old.decoder.profile) old.decoder new.decoder true
+abbrev pub PutsLine : List ℕ → JsonLines → JsonLines → Type 0
+PutsLine octets old new = PutsBy (unencrypted_in (message_of_der octets)) octets old new
 
--- ---- a stream
--- The frames that the decoder cleared of a stream are encrypted messages. Their lines are in what was written and then in the text, and they are counted.
-pub record HasListed (lister : JsonLister) (stream written : List ℕ) : Type 0 where
-  pub contents : List (List ℕ)
-  pub decoded : HasDecoded (grammar lister.decoder.profile) lister.decoder stream contents
-  pub encrypted : AllAreEncrypted contents
-  pub lines : written ++ lister.lines.text.items ≡ flat_map octets_line contents
-  pub counted : lister.lines.messages ≡ length contents
-  pub none : lister.lines.unencrypted ≡ None
+-- ---- the frames of a stream
+-- the lines of other contents, after a number of messages, and of how the stream ends: none after a message that is not encrypted
+abbrev pub rest_by : (unencrypted : Option (List ℕ)) → (messages : ℕ) → (contents : List (List ℕ)) → Ending → Converted Ending
+rest_by None messages contents end = lines_after messages contents end
+rest_by (Some path) messages contents end = record { text = []; end = Unencrypted (messages + 1) path }
 
-abbrev pub request_of : Decoding → DecodeRequest
-request_of decoding = record { profile = decoding.profile; limit = decoding.limit }
+abbrev pub rest_of : JsonLines → (contents : List (List ℕ)) → Ending → Converted Ending
+rest_of lines contents end = rest_by (option_map string_bytes lines.unencrypted) lines.messages contents end
 
--- The next frame, of the octets that come and of those that the decoder has, is not encrypted.
-pub record MeetsUnencrypted (old : JsonLister) (octets : List ℕ) (new : JsonLister) : Type 0 where
-  pub used : ℕ
-  pub within : used ≤ length octets
-  pub contents : List ℕ
-  pub keeps : KeepsPath contents old.lines new.lines
-  pub same : request_of new.decoder ≡ request_of old.decoder
-  pub decoded : (stream : List ℕ) (cleared : List (List ℕ)) → HasDecoded (grammar old.decoder.profile) old.decoder stream cleared → HasDecoded (grammar new.decoder.profile) new.decoder (stream ++ take used octets) (cleared ++ contents ∷ [])
+-- the message of the next frame was received
+pub record ReceivesMessage (octets : List ℕ) (old new : JsonLines) : Type 0 where
+  pub added : List ℕ
+  pub text : new.text.items ≡ old.text.items ++ added
+  pub rest : old.messages + 1 < 2 ^ 64 → (contents : List (List ℕ)) (end : Ending) → rest_of old (octets ∷ contents) end ≡ after_text added (rest_of new contents end)
+  pub counted : old.messages + 1 < 2 ^ 64 → new.unencrypted ≡ None → (old.unencrypted ≡ None) × (new.messages ≡ old.messages + 1)
+  pub few : new.messages ≤ old.messages + 1
 
--- An octet of the last piece is refused. The frames before it are listed, and the octets of the frame that were used end with it. The rest of the piece was not used.
-pub record IsRefusedAfter (lister : JsonLister) (taken : Taken) : Type 0 where
-  pub stream : List ℕ
-  pub listed : HasListed lister stream taken.written
-  pub rest : List ℕ
-  pub parts : taken.octets ≡ stream ++ rest
-  pub same_frames : frames (grammar lister.decoder.profile) lister.decoder.limit taken.octets ≡ frames (grammar lister.decoder.profile) lister.decoder.limit stream
-  pub none : (found (grammar lister.decoder.profile) lister.decoder).contents ≡ []
-  pub refusal : Refusal
-  pub end : (found (grammar lister.decoder.profile) lister.decoder).end ≡ Refused refusal.place refusal.why
-  pub stops : StopsInPiece (GoesOn lister.decoder.profile lister.decoder.limit) taken.octets
+-- nothing is written of a frame that is refused
+abbrev pub ReceivesEntry : JsonLines → Entry → JsonLines → Type 0
+ReceivesEntry old (Contents contents) new = ReceivesMessage contents old new
+ReceivesEntry old (Fault place reason prefix) new = new ≡ old
 
--- A frame of the last piece is not encrypted. The frames before it are listed. The rest of the piece was not used.
-pub record IsUnencryptedAfter (lister : JsonLister) (taken : Taken) : Type 0 where
-  pub before : List (List ℕ)
-  pub contents : List ℕ
-  pub others : List (List ℕ)
-  pub all : (frames (grammar lister.decoder.profile) lister.decoder.limit taken.octets).contents ≡ before ++ contents ∷ others
-  pub encrypted : AllAreEncrypted before
-  pub path : List ℕ
-  pub unencrypted : unencrypted_in (message_of_der contents) ≡ Some path
-  pub kept : option_map string_bytes lister.lines.unencrypted ≡ Some path
-  pub lines : taken.written ++ lister.lines.text.items ≡ flat_map octets_line before
-  pub counted : lister.lines.messages ≡ length before
-  pub few : lister.lines.messages ≤ 65536 * taken.pieces
-  pub stops : StopsInPiece (GoesOn lister.decoder.profile lister.decoder.limit) taken.octets
+-- These frames are listed. Whatever frames follow, their lines are what was written and then the text, and then those of the others.
+pub record HasLines (profile : Profile) (lines : JsonLines) (frames : List Entry) (written : List ℕ) : Type 0 where
+  pub goes_on : (contents : List (List ℕ)) (end : Ending) → lines_after 0 (contents_in frames ++ contents) end ≡ after_text (written ++ lines.text.items) (rest_of lines contents end)
+  pub counted : lines.unencrypted ≡ None → lines.messages ≡ length (contents_in frames)
 
-abbrev pub decoding_rules : DecodeRequest → Rules DecodeEnd
-decoding_rules request = conversion_rules (decoded request.profile request.limit) (GoesOn request.profile request.limit) ending_of
-
-abbrev pub decoding : Kind JsonLister DecodeRequest DecodeEnd
-decoding = record {
-  rules = decoding_rules;
-  request = λ lister. request_of lister.decoder;
-  text = λ lister. lister.lines.text.items;
-  count = λ lister. lister.lines.messages;
-  HasListed = HasListed;
-  IsWaiting = λ lister. NeedsMore lister.decoder;
-  IsRefused = λ lister. (refusal : Refusal) × (status_of (grammar lister.decoder.profile) lister.decoder ≡ status.Refused refusal);
-  Stops = λ lister taken. IsRefusedAfter lister taken ⊎ IsUnencryptedAfter lister taken;
+abbrev pub json_lines : LinesKind JsonLines DecodeRequest DecodeEnd
+json_lines = record {
+  rules = λ request. conversion_rules (decoded request.profile request.limit) (GoesOn request.profile request.limit) ending_of;
+  request = λ lines profile limit. record { profile = profile; limit = limit };
+  keeps_going = λ lines. false;
+  text = λ lines. lines.text.items;
+  count = λ lines. lines.messages;
+  size = λ lines. 0;
+  Receives = ReceivesEntry;
+  IsFull = λ lines. IsSome lines.unencrypted;
+  HasLines = HasLines;
+  AsksAfter = λ request octets. GoesOn request.profile request.limit octets;
 }
-
--- ---- a piece
--- frames of a piece are listed, and then comes one that is not encrypted
-pub record StopsInside (old : JsonLister) (piece : List ℕ) (new : JsonLister) : Type 0 where
-  pub between : JsonLister
-  pub rest : List ℕ
-  pub fed : IsFed decoding old piece rest between
-  pub meets : MeetsUnencrypted between rest new
-
-abbrev pub PutsPassed : JsonLister → List ℕ → JsonLister → Option (List ℕ) → Type 0
-PutsPassed old piece new (Some rest) = IsFed decoding old piece rest new
-PutsPassed old piece new None = StopsInside old piece new

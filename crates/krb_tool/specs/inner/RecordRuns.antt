@@ -5,19 +5,19 @@ use Rattle.std.specs.Io.KnownBytes.{Appends}
 use Rattle.krb_file.specs.FieldReaders.{Cursor}
 use Rattle.krb_file.specs.declared.fault.FileFault.{FileFault}
 use Rattle.krb_file.specs.declared.fault.FileFault.TheVariants as faults
-use Rattle.krb_file.specs.declared.field_name.FileField.{FileField}
-use Rattle.krb_keytab.specs.Reading.{Items as Records, items as keytab_records}
+use Rattle.krb_file.specs.Fields.{Fault}
+use Rattle.krb_file.specs.Items.{Items}
+use Rattle.krb_file.specs.declared.field_path.FileItem.{FileItem}
+use Rattle.krb_keytab.specs.Reading.{items as keytab_records}
 use Rattle.krb_keytab.specs.Streaming.{Reads as ReadsRecords}
 use Rattle.krb_keytab.specs.declared.records.State.{State as RecordsState}
-use Rattle.krb_ccache.specs.declared.value.Credential.{Credential}
 use Rattle.krb_ccache.specs.declared.reading.Start.{Start}
-use Rattle.krb_ccache.specs.Reading.{Items}
 use Rattle.krb_ccache.specs.Streaming.{Reads as ReadsCredentials, credentials}
 use Rattle.krb_ccache.specs.declared.credentials.State.{State as CredentialsState}
 use Rattle.krb_text.specs.declared.form.Form.{Form}
-use Rattle.krb_tool.specs.Lines.{record_line}
-use Rattle.krb_tool.specs.Lines.{credential_line}
+use Rattle.krb_tool.specs.Lines.{record_line, credential_line}
 use Rattle.krb_tool.specs.Extents.{fault_line}
+use Rattle.krb_tool.specs.Paths.{file_path}
 use Rattle.krb_tool.specs.declared.run.RunEnd.{RunEnd}
 use Rattle.krb_tool.specs.declared.run.RunEnd.TheVariants as run
 use Rattle.krb_tool.specs.declared.run.RunFault.{RunFault}
@@ -30,15 +30,11 @@ AddsLine IsLeft left old new (Ok None) = (line : List ℕ) × (others : RecordLi
 AddsLine IsLeft left old new (Ok (Some ended)) = (new ≡ old ++ left.last) × (left.lines ≡ []) × (ended ≡ left.end)
 AddsLine IsLeft left old new (Err fault) = Unit {0}
 
--- A line was added, and the run ends so, or goes on.
-abbrev pub Adds : List ℕ → Option RunEnd → List ℕ → List ℕ → Option RunEnd → Type 0
-Adds line wanted old new ended = (ended ≡ wanted) × (new ≡ old ++ line)
-
--- The line of a refusal was added, with the path that the field at fault has, which ends the run.
-abbrev pub AddsRefusal : (Option FileField → Option (List ℕ)) → Form → FileFault → List ℕ → List ℕ → Option RunEnd → Type 0
-AddsRefusal path form (faults.Refused fault) old new ended = Adds (fault_line form fault (path fault.field)) (Some run.Refused) old new ended
-AddsRefusal path form faults.Read old new ended = ⊥
-AddsRefusal path form faults.Memory old new ended = ⊥
+-- The line of a refusal in this item was added, which ends the run.
+abbrev pub AddsRefusal : FileItem → Form → FileFault → List ℕ → List ℕ → RunEnd → Type 0
+AddsRefusal item form (faults.Refused fault) old new ended = (ended ≡ run.Refused) × (new ≡ old ++ fault_line form fault (file_path item fault.field))
+AddsRefusal item form faults.Read old new ended = ⊥
+AddsRefusal item form faults.Memory old new ended = ⊥
 
 -- a prefix of a text was written, and the rest is kept
 abbrev pub Moves : Option (List ℕ) → Option (List ℕ) → List ℕ → List ℕ → Type 0
@@ -54,26 +50,21 @@ WritesBefore (faulty.Write error) written_before written_after old new (Err last
 WritesBefore faulty.Memory written_before written_after old new (Err last) = (last ≡ faulty.Memory) × (written_after ≡ written_before)
 
 -- what is left after `count` items
-abbrev pub left_of : {A : Type 0} → (A → List ℕ) → List A → ℕ → List ℕ → RunEnd → RecordListing
-left_of line items count last end = record { lines = flat_map line (drop count items); last = last; end = end }
+abbrev pub left_of : {A E : Type 0} → (A → List ℕ) → (ℕ → Result E Fault → List ℕ) → Items A (Result E Fault) → ℕ → RecordListing
+left_of line last all count = record { lines = flat_map line (drop count all.items); last = last (length all.items) all.end; end = end_of all.end }
 
-abbrev pub records_left : Form → ℕ → Records → RecordListing
-records_left form count found = left_of (λ r. record_line form r) found.records count (keytab_last form (length found.records) found.end) (end_of found.end)
-
-abbrev pub credentials_left : Form → Option ℕ → ℕ → Items Credential → RecordListing
-credentials_left form now count found = left_of (λ c. credential_line form now c) found.items count (ccache_last form (length found.items) found.end) (end_of found.end)
-
--- A reader returned the first `count` records of a file, and this is left of its listing.
-pub record AreRecordsLeft (form : Form) (written_before : Cursor) (state : RecordsState) (count : ℕ) (left : RecordListing) : Type 0 where
+-- A reader returned the first `count` items of a file, and this is left of its listing.
+pub record AreLeft {A E : Type 0} (line : A → List ℕ) (last : ℕ → Result E Fault → List ℕ) (all : List ℕ → Items A (Result E Fault)) (Reads : List ℕ → ℕ → Type 0) (count : ℕ) (left : RecordListing) : Type 0 where
   pub file : List ℕ
-  pub reads : ReadsRecords field_limit written_before state file count
-  pub is : left ≡ records_left form count (keytab_records field_limit file)
+  pub reads : Reads file count
+  pub is : left ≡ left_of line last (all file) count
 
--- The same of credentials, at a time if there is one.
-pub record AreCredentialsLeft (form : Form) (written_before : Cursor) (start : Start) (state : CredentialsState) (now : Option ℕ) (count : ℕ) (left : RecordListing) : Type 0 where
-  pub file : List ℕ
-  pub reads : ReadsCredentials field_limit written_before start state file count
-  pub is : left ≡ credentials_left form now count (credentials field_limit file)
+abbrev pub AreRecordsLeft : Form → Cursor → RecordsState → ℕ → RecordListing → Type 0
+AreRecordsLeft form cursor state = AreLeft (λ r. record_line form r) (keytab_last form) (keytab_records field_limit) (λ file count. ReadsRecords field_limit cursor state file count)
+
+-- the same of credentials, at a time if there is one
+abbrev pub AreCredentialsLeft : Form → Cursor → Start → CredentialsState → Option ℕ → ℕ → RecordListing → Type 0
+AreCredentialsLeft form cursor start state now = AreLeft (λ c. credential_line form now c) (ccache_last form) (credentials field_limit) (λ file count. ReadsCredentials field_limit cursor start state file count)
 
 -- if a file is refused, the line of the refusal is what is left
 abbrev pub IsRefusal : Form → FileFault → RecordListing → Type 0

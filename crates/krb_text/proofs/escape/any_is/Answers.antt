@@ -1,5 +1,5 @@
 use Rattle.std.proofs.Common.{nat_eq}
-use Rattle.krb_text.proofs.Lanes.{any_lane}
+use Rattle.krb_msg.proofs.Lanes.{any_lane}
 use Rattle.krb_text.proofs.escape.any_is.Goals as goal
 
 pub returns : goal.returns

@@ -1,7 +1,8 @@
 use Rattle.std.proofs.Common.{length, ◌-◌, arith}
 use Rattle.std.proofs.lemmas.Simd.{length-chunk}
 use Rattle.krb_text.specs.inner.Strings.{is_plain_in}
-use Rattle.krb_text.proofs.Lanes.{ends_all, last_of}
+use Rattle.krb_msg.proofs.Lanes.{last_of}
+use Rattle.krb_text.proofs.Lanes.{ends_all}
 use Rattle.krb_text.proofs.escape.are_ends_plain.Goals as goal
 
 pub are_all_plain-requires-2 : goal.are_all_plain-requires-2

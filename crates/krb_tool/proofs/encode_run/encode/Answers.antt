@@ -5,7 +5,9 @@ use Rattle.krb_tool.proofs.ConversionRuns.{Converts-listed, ConvertsInPart-faile
 use Rattle.krb_tool.proofs.encode_run.encode.Goals as goal
 
 pub returns-clause-encoded : goal.returns-clause-encoded
+unfolding encoded
 returns-clause-encoded g c = let listed = IfOk-weaker c.list_all.result _ _ (Converts-listed (encoded c.args.is_framed c.args.profile c.args.limit) (GoesOn c.args.is_framed c.args.profile c.args.limit) ending_of _ _ _ _) c.list_all.ensures.listed in search rules
 
 pub returns-clause-fault : goal.returns-clause-fault
+unfolding encoded
 returns-clause-fault g c = let failed = ConvertsInPart-failed (encoded c.args.is_framed c.args.profile c.args.limit) (GoesOn c.args.is_framed c.args.profile c.args.limit) ending_of _ _ _ _ c.list_all.result c.list_all.ensures.fault in search rules

@@ -5,22 +5,22 @@ use Rattle.krb_tool.proofs.Files.{KeepsPrefix-start, KeepsPrefix-fed, ReadsPrefi
 use Rattle.krb_tool.proofs.file_run.read_all.Goals as goal
 
 pub pieces-init : goal.pieces-init
-pieces-init g c = (c.in_ok-buffer.ensures.len, c.requires.open, refl, rw c.new-file.ensures.items (KeepsPrefix-start (g.R.Read.remaining c.args.asked.now.reader.now) c.args.most))
+pieces-init g c = (c.in_ok-buffer.ensures.len, c.requires.open, refl, rw c.new-file.ensures.items (KeepsPrefix-start (g.R.Read.remaining c.args.counted.now.reader.now) c.args.most))
 
 pub returns-then-count-eq0-clause-prefix : goal.returns-then-count-eq0-clause-prefix
 returns-then-count-eq0-clause-prefix g c =
-    let none : take c.in_ok-count.count c.ask.new.buffer ≡ [] = ap (λ n. take n c.ask.new.buffer) c.if-count-eq0.true in
+    let none : take c.in_ok-count.count c.read.new.buffer ≡ [] = ap (λ n. take n c.read.new.buffer) c.if-count-eq0.true in
     let room : 0 < length c.as_mut_slice.result.now = omega arith in
     ReadsPrefix-made _ _ _ _ _ _ _ c.pieces.invariant.3 c.in_ok-count.ensures.given none room
 
 pub pieces-preserved : goal.pieces-preserved
 pieces-preserved g c =
-    let full : length c.ask.new.buffer ≡ c.pieces.buffer.len = omega arith in
-    let same : c.ask.new.buffer ≡ c.deref.result.now = written-slice _ _ _ _ c.deref.ensures.value full in
+    let full : length c.read.new.buffer ≡ c.pieces.buffer.len = omega arith in
+    let same : c.read.new.buffer ≡ c.deref.result.now = written-slice _ _ _ _ c.deref.ensures.value full in
     let given = rw same at c.in_ok-count.ensures.given in
     let whole : c.in_ok-count.count ≤ length c.deref.result.now = omega (arith, c.in_ok-count.ensures.count, ap (λ (l : List ℕ). length l) same) in
     let kept = KeepsPrefix-fed _ _ _ _ _ _ _ _ _ c.pieces.invariant.3 given.taken whole (omega arith) c.room-kept.ensures.few c.room-kept.ensures.within c.room-kept.ensures.all in
-    (c.pieces.invariant.0, c.in_ok-count.ensures.goes_on c.if-count-eq0.false, c.ask.ensures.same_reader ∙ c.pieces.invariant.2, rw c.in_ok-extend_from_slice.ensures.items kept)
+    (c.pieces.invariant.0, c.in_ok-count.ensures.goes_on c.if-count-eq0.false, c.read.ensures.same_reader ∙ c.pieces.invariant.2, rw c.in_ok-extend_from_slice.ensures.items kept)
 
 pub returns-in_err-count-clause-taken : goal.returns-in_err-count-clause-taken
 returns-in_err-count-clause-taken g c = some-taken _ _ _ _ (Consumes-kept _ _ _ _ c.pieces.invariant.3.taken c.in_err-count.ensures.kept)

@@ -5,7 +5,7 @@ use Rattle.krb_tool.proofs.file_run.read_all.Given as goal
 
 -- what came so far is in the vector, up to the number of octets that are kept
 abbrev pub invariant-pieces : goal.invariant-pieces
-invariant-pieces g l = (vec_len l.buffer ≡ 65536) × (l.asked.state ≡ reader.Open) × (l.asked.reader.ghost_name ≡ l.initial.asked.reader.ghost_name) × KeepsPrefix (g.R.Read.remaining l.initial.asked.reader.now) (g.R.Read.remaining l.asked.reader.now) l.most l.file.items
+invariant-pieces g l = (vec_len l.buffer ≡ 65536) × (l.counted.state ≡ reader.Open) × (l.counted.reader.ghost_name ≡ l.initial.counted.reader.ghost_name) × KeepsPrefix (g.R.Read.remaining l.initial.counted.reader.now) (g.R.Read.remaining l.counted.reader.now) l.most l.file.items
 
 abbrev pub decreases-pieces : goal.decreases-pieces
-decreases-pieces g l = 2 ^ 40 - l.asked.made
+decreases-pieces g l = 2 ^ 40 - l.counted.made

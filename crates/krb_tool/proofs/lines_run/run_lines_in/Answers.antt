@@ -5,7 +5,9 @@ use Rattle.krb_tool.proofs.ConversionRuns.{Converts-listed, ConvertsInPart-faile
 use Rattle.krb_tool.proofs.lines_run.run_lines_in.Goals as goal
 
 pub returns-clause-listed : goal.returns-clause-listed
+unfolding lines_listed
 returns-clause-listed g c = let listed = IfOk-weaker c.list_all.result _ _ (Converts-listed (lines_listed c.args.form c.args.profile) (λ read. Unit {0}) (λ end. end) _ _ _ _) c.list_all.ensures.listed in search rules
 
 pub returns-clause-fault : goal.returns-clause-fault
+unfolding lines_listed
 returns-clause-fault g c = let failed = ConvertsInPart-failed (lines_listed c.args.form c.args.profile) (λ read. Unit {0}) (λ end. end) _ _ _ _ c.list_all.result c.list_all.ensures.fault in search rules

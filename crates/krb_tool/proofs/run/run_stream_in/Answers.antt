@@ -1,6 +1,6 @@
 use Rattle.std.proofs.Common.{rules}
 use Rattle.std.proofs.lemmas.Result.{IfErr-weaker, IfOk-weaker}
-use Rattle.krb_tool.proofs.ListedPieces.{ListsStream-listed, FailsStream-failed}
+use Rattle.krb_tool.proofs.Listings.{ListsStream-listed, FailsStream-failed}
 use Rattle.krb_tool.proofs.run.run_stream_in.Goals as goal
 
 pub returns-clause-listed : goal.returns-clause-listed

@@ -17,7 +17,7 @@ pieces-init g c = record {
 }
 
 pub feed_next-requires-clause-waits : goal.feed_next-requires-clause-waits
-feed_next-requires-clause-waits g c = AcceptsPiece-runs c.pieces.invariant.runs c.pieces.asked.few
+feed_next-requires-clause-waits g c = AcceptsPiece-runs c.pieces.invariant.runs c.pieces.counted.few
 
 pub returns-in_err-feed_next-clause-fault : goal.returns-in_err-feed_next-clause-fault
 returns-in_err-feed_next-clause-fault g c =
@@ -32,7 +32,7 @@ returns-in_err-write_all-clause-fault g c =
 
 pub pieces-smaller : goal.pieces-smaller
 pieces-smaller g c =
-    let few : c.feed_next.new.asked.made ≤ 2 ^ 40 = c.feed_next.new.asked.few in
+    let few : c.feed_next.new.counted.made ≤ 2 ^ 40 = c.feed_next.new.counted.few in
     omega (arith, c.in_ok-feed_next.ensures.counted)
 
 pub pieces-preserved : goal.pieces-preserved
@@ -48,7 +48,7 @@ pieces-preserved g c =
 
 -- ---- the end
 pub finish-requires : goal.finish-requires
-finish-requires g c = MayFinish-over (is_over _ c.if-branch.false (c.in_ok-feed_next.ensures.fed _ _ _ _ c.pieces.invariant.runs)) c.feed_next.new.asked.few
+finish-requires g c = MayFinish-over (is_over _ c.if-branch.false (c.in_ok-feed_next.ensures.fed _ _ _ _ c.pieces.invariant.runs)) c.feed_next.new.counted.few
 
 pub returns-in_err-ended-clause-fault : goal.returns-in_err-ended-clause-fault
 returns-in_err-ended-clause-fault g c =

@@ -4,7 +4,8 @@ use Rattle.std.specs.Option.{option_map}
 use Rattle.std.specs.Prelude.{None, Some, string_bytes}
 use Rattle.krb_tool.specs.Decoding.{Refusing, ending_of}
 use Rattle.krb_tool.specs.Paths.{refused_path}
-use Rattle.krb_tool.proofs.WholeRuns.{message_viewed, whole-long, whole-short, is_long, is_short, same_path}
+use Rattle.krb_tool.proofs.DecodedFrames.{message_viewed}
+use Rattle.krb_tool.proofs.WholeRuns.{whole-long, whole-short, is_long, is_short, same_path}
 use Rattle.krb_tool.proofs.whole_run.decode_message.Goals as goal
 
 pub returns-then-octets-get-clause-decoded : goal.returns-then-octets-get-clause-decoded

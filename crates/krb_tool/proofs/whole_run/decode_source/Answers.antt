@@ -20,7 +20,7 @@ returns-in_err-write_all-clause-fault g c =
 
 pub returns-clause-decoded : goal.returns-clause-decoded
 returns-clause-decoded g c =
-    let read = subst (λ n. ReadsMost (g.R.Read.remaining c.args.asked.now.reader.now) (g.R.Read.remaining c.read_most.new.asked.reader.now) (n + 1) c.in_ok-octets.octets.items) c.get.ensures.value c.in_ok-octets.ensures.read in
+    let read = subst (λ n. ReadsMost (g.R.Read.remaining c.args.counted.now.reader.now) (g.R.Read.remaining c.read_most.new.counted.reader.now) (n + 1) c.in_ok-octets.octets.items) c.get.ensures.value c.in_ok-octets.ensures.read in
     let line = subst (λ o. converted_of c.in_ok-line.line ≡ decoded_whole c.args.profile c.args.limit o) c.as_slice.ensures.value c.in_ok-line.ensures.decoded in
     let written = subst (Appends (g.W.Write.contents c.args.writer.now) (g.W.Write.contents c.write_all.new.writer)) c.as_slice-2.ensures.value c.in_ok-write_all.ensures.all in
     DecodesWhole-made c.args.profile c.args.limit _ _ _ _ c.in_ok-octets.octets.items c.in_ok-line.line read written line

@@ -7,9 +7,9 @@ use Rattle.krb_tool.proofs.whole_run.read_most.Given as goal
 abbrev pub invariant-pieces : goal.invariant-pieces
 invariant-pieces g l = record {
   room : 0 < vec_len l.buffer;
-  opens : l.asked.state ≡ reader.Open;
-  same_reader : l.asked.reader.ghost_name ≡ l.initial.asked.reader.ghost_name;
-  taken : Consumes (g.R.Read.remaining l.initial.asked.reader.now) (g.R.Read.remaining l.asked.reader.now) l.octets.items;
+  opens : l.counted.state ≡ reader.Open;
+  same_reader : l.counted.reader.ghost_name ≡ l.initial.counted.reader.ghost_name;
+  taken : Consumes (g.R.Read.remaining l.initial.counted.reader.now) (g.R.Read.remaining l.counted.reader.now) l.octets.items;
   few : length l.octets.items ≤ l.most;
 }
 

@@ -1,6 +1,6 @@
-use Rattle.std.proofs.Common.{refl}
-use Rattle.krb_msg.proofs.FieldViews.{match_map}
+use Rattle.krb_msg.specs.declared.view.items.ItemsView.{ItemsView}
+use Rattle.krb_text.proofs.Items.{first_number}
 use Rattle.krb_text.proofs.list.Int32Listed.next_number.Goals as goal
 
 pub returns : goal.returns
-returns c = match_map _ _ _ _ _ (λ none. none) (λ x p. record { value = x.0; first = p.0; same = refl }) c.next_item.ensures
+returns c = first_number (λ (rest : ItemsView). rest.octets.now) c.args.items.octets.now c.next_item.result c.next_item.ensures

@@ -1,5 +1,6 @@
-use Rattle.krb_msg.proofs.FieldViews.{match_map}
+use Rattle.krb_msg.specs.declared.view.items.ItemsView.{ItemsView}
+use Rattle.krb_text.proofs.Items.{first_type}
 use Rattle.krb_text.proofs.list.PaDataListed.next_number.Goals as goal
 
 pub returns : goal.returns
-returns c = match_map _ _ _ _ _ (λ none. none) (λ x p. record { value = p.value; first = p.first; same = p.same }) c.next_type.ensures
+returns c = first_type (λ (rest : ItemsView). rest.octets.now) c.args.items.octets.now c.next_type.result c.next_type.ensures

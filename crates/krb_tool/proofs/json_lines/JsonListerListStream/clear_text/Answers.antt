@@ -1,17 +1,14 @@
-use Rattle.std.proofs.Common.{◌++◌, refl, ap, ◌∙◌, append-nil}
-use Rattle.krb_tool.specs.inner.JsonLines.{decoding}
-use Rattle.krb_tool.proofs.Pieces.{Clears-made}
+use Rattle.std.proofs.Common.{◌++◌, refl, sym, ap, ◌∙◌, append-nil}
+use Rattle.krb_tool.specs.Conversions.{after_text}
+use Rattle.krb_tool.specs.inner.JsonLines.{json_lines, rest_of}
+use Rattle.krb_tool.proofs.ListedPieces.{clears}
 use Rattle.krb_tool.proofs.json_lines.JsonListerListStream.clear_text.Goals as goal
 
 pub returns : goal.returns
 returns c =
-    let text = c.args.self.now.lines.text.items in
-    Clears-made decoding c.clear.ensures.items refl (λ w. w) refl
-    (λ stream written h. record {
-      contents = h.contents;
-      decoded = h.decoded;
-      encrypted = h.encrypted;
-      lines = ap (λ l. (written ++ text) ++ l) c.clear.ensures.items ∙ append-nil (written ++ text) ∙ h.lines;
+    let old = c.args.self.now.lines in
+    clears json_lines c.args.self.now.decoder old (record old { text = c.clear.new.self }) c.clear.ensures.items refl (λ profile limit. refl) (λ full. full) refl
+    (λ profile frames written h. record {
+      goes_on = λ contents end. h.goes_on contents end ∙ ap (λ t. after_text t (rest_of old contents end)) (sym (ap (λ l. (written ++ old.text.items) ++ l) c.clear.ensures.items ∙ append-nil (written ++ old.text.items)));
       counted = h.counted;
-      none = h.none;
     })

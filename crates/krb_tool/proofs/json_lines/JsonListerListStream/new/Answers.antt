@@ -1,28 +1,17 @@
-use Rattle.std.proofs.Common.{◌≡◌, [], sym, ◌∙◌, ap, subst, arith}
-use Rattle.krb_msg.specs.Grammar.{messages}
-use Rattle.krb_frame.specs.Decoding.{status_of}
-use Rattle.krb_frame.specs.Decoded.{HasDecoded}
-use Rattle.krb_frame.proofs.DecoderFrames.{more-nothing}
-use Rattle.krb_tool.specs.inner.JsonLines.{request_of, decoding}
-use Rattle.krb_tool.proofs.Pieces.{IsNew-made}
-use Rattle.krb_tool.proofs.DecodedPieces.{Begins-waits}
+use Rattle.std.proofs.Common.{refl, sym, option_map}
+use Rattle.std.specs.Prelude.{string_bytes}
+use Rattle.krb_tool.specs.Conversions.{after_text}
+use Rattle.krb_tool.specs.inner.JsonLines.{json_lines, rest_by}
+use Rattle.krb_tool.proofs.DecodedFrames.{json_listed, none_full}
+use Rattle.krb_tool.proofs.ListedPieces.{is_new}
 use Rattle.krb_tool.proofs.json_lines.JsonListerListStream.new.Goals as goal
 
 pub returns : goal.returns
 returns c =
-    let nothing = c.with_profile.ensures.nothing in
-    let profile : c.with_profile.result.profile ≡ c.args.request.profile = ap (λ d. d.profile) nothing in
-    IsNew-made decoding Begins-waits (ap request_of nothing)
+    let lines = c.new.ensures in
+    is_new json_lines json_listed (record { decoder = c.start_stream.result; lines = c.new.result }) c.args.request c.args.request.profile c.args.request.limit c.start_stream.ensures refl
     (record {
-      listed = record {
-        contents = [];
-        decoded = subst (λ p. HasDecoded (messages p) c.with_profile.result [] []) (sym profile) c.with_profile.ensures.decoded;
-        encrypted = tt;
-        lines = c.new.ensures.text;
-        counted = c.new.ensures.messages;
-        none = c.new.ensures.none;
-      };
-      waits = ap (λ d. status_of (messages d.profile) d) nothing ∙ more-nothing (messages c.args.request.profile) c.args.request.profile c.args.request.limit _ _;
-      few = omega (arith, c.new.ensures.messages);
-      short = omega arith;
+      goes_on = λ contents end. λ i. after_text (sym lines.text i) (rest_by (option_map string_bytes (sym lines.none i)) (sym lines.messages i) contents end);
+      counted = λ none. lines.messages;
     })
+    (none_full c.new.result lines.none) lines.messages

@@ -1,10 +1,10 @@
-use Rattle.krb_tool.specs.inner.EncodedLines.{encoding}
-use Rattle.krb_tool.proofs.Pieces.{Finishes-made}
-use Rattle.krb_tool.proofs.EncodedLines.{ends-last}
+use Rattle.std.proofs.Common.{◌∙◌, ap}
+use Rattle.krb_tool.specs.inner.EncodedLines.{json_reading}
+use Rattle.krb_tool.proofs.EncodedLines.{rest-nothing}
+use Rattle.krb_tool.proofs.LineReaders.{finishes}
 use Rattle.krb_tool.proofs.json_reader.JsonReaderListStream.finish.Goals as goal
 
 pub returns-clause-finished : goal.returns-clause-finished
 returns-clause-finished c =
-    let old = c.args.self.now in
-    let new = c.take_end.new.self in
-    Finishes-made encoding old new c.take_end.result (ends-last old c.end_last_line.new.self new c.take_end.result c.in_ok-end_last_line.ensures.ended c.take_end.ensures.end c.take_end.ensures.text)
+    let between = c.end_lines.new.lines in
+    finishes json_reading c.args.self.now between c.take_end.new.self c.take_end.result c.in_ok-end_lines.ensures.ended (ap (λ t. t.items) c.take_end.ensures.text ∙ rest-nothing between) c.take_end.ensures.end

@@ -1,15 +1,12 @@
-use Rattle.std.proofs.Common.{refl, arith}
-use Rattle.krb_tool.specs.inner.MessageLines.{lines_kind}
-use Rattle.krb_tool.proofs.Pieces.{IsNew-made}
-use Rattle.krb_tool.proofs.MessageLines.{Begins-waits, HasListed-start}
+use Rattle.std.proofs.Common.{refl, sym, arith}
+use Rattle.krb_tool.specs.Conversions.{after_text}
+use Rattle.krb_tool.specs.MessageLines.{none_seen}
+use Rattle.krb_tool.specs.inner.MessageLines.{message_lines, records_from}
+use Rattle.krb_tool.proofs.LineReaders.{is_new}
 use Rattle.krb_tool.proofs.lines_run.LineListerListStream.new.Goals as goal
 
 pub returns : goal.returns
 returns c =
-    IsNew-made lines_kind Begins-waits refl
-    (record {
-      listed = HasListed-start _ c.new.ensures.items refl c.new-2.ensures refl;
-      waits = record { lines = omega arith; records = omega arith };
-      few = omega arith;
-      short = omega arith;
-    })
+    is_new message_lines _ c.args.request refl (record { kept = c.new.ensures.items; size = refl })
+    (λ lines. λ i. after_text (sym c.new-2.ensures i) (records_from c.args.request none_seen lines))
+    (record { lines = omega arith; records = omega arith }, tt) refl

@@ -1,21 +1,18 @@
 use Rattle.std.proofs.Common.{◌++◌, refl, ap, ◌∙◌, append-nil}
-use Rattle.krb_tool.specs.inner.Listers.{frames_kind}
-use Rattle.krb_tool.proofs.Pieces.{Clears-made}
+use Rattle.krb_tool.specs.inner.StreamLines.{stream_lines}
+use Rattle.krb_tool.proofs.ListedPieces.{clears}
 use Rattle.krb_tool.proofs.listing.ListerListStream.clear_text.Goals as goal
 
 pub returns : goal.returns
 returns c =
-    Clears-made frames_kind c.clear.ensures refl (λ w. w) refl
-    (λ stream written h. record {
+    let old = c.args.self.now.lines in
+    clears stream_lines c.args.self.now.decoder old (record old { text = c.clear.new.self }) c.clear.ensures refl (λ profile limit. refl) (λ full. full) refl
+    (λ profile frames written h. record {
       listed = h.listed;
-      goes_on = h.goes_on;
-      known = h.known;
-      whole = h.whole;
-      profile = h.profile;
-      lines = ap (λ l. (written ++ c.args.self.now.lines.text) ++ l) c.clear.ensures ∙ append-nil (written ++ c.args.self.now.lines.text) ∙ h.lines;
+      are = h.are;
+      same_profile = h.same_profile;
+      text = ap (λ l. (written ++ old.text) ++ l) c.clear.ensures ∙ append-nil (written ++ old.text) ∙ h.text;
       messages = h.messages;
       refused = h.refused;
       offset = h.offset;
-      within = h.within;
-      short = h.short;
     })
