@@ -16,7 +16,7 @@ use krb_der::Memory;
 use krb_file::FileWhy;
 use krb_frame::Limit;
 use krb_packet::{Contents, Datagram, Ends, Fragment, Fragments, Packet, Segment, contents_of};
-use krb_text::{CaptureCounts, Extent, Form, TextBuffer};
+use krb_text::{CaptureCounts, Extent, Form, TextBuffer, Transport};
 use std::alloc::Global;
 
 /// What was found in the packets of a capture so far. It allocates for the fragments of datagrams
@@ -187,7 +187,9 @@ impl Capture {
         let Some(service) = Service::between(self.port, datagram.source, datagram.target) else {
             return Ok(());
         };
-        let origin = self.last.over_udp(datagram.source, datagram.target);
+        let origin = self
+            .last
+            .over(Transport::Udp, datagram.source, datagram.target);
         list_datagram(service, &datagram.payload, &origin, &mut self.listing)
     }
 

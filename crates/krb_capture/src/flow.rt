@@ -1,7 +1,6 @@
 //! Flows, and what they carry.
 
 ghost use Rattle.std.specs.Prelude.{◌≡◌};
-ghost use Rattle.krb_text.specs.declared.origin.Transport.TheVariants as transports;
 ghost use Rattle.krb_capture.specs.Flows.{due_with, flow_between, origin_of, service_of};
 
 use krb_packet::{Endpoint, Packet};
@@ -79,29 +78,16 @@ impl Due {
         }
     }
 
-    /// Returns the origin of records of a flow of UDP.
-    pub(crate) fn over_udp(self, source: Endpoint, target: Endpoint) -> Origin
-        ensures { result ≡ origin_of self transports.Udp source target }
+    /// Returns the origin of records of a flow over a transport.
+    pub(crate) fn over(self, transport: Transport, source: Endpoint, target: Endpoint) -> Origin
+        ensures { result ≡ origin_of self transport source target }
     {
         Origin {
             packet: self.packet,
             time: self.time,
-            transport: Transport::Udp,
+            transport,
             source,
             target,
-        }
-    }
-
-    /// Returns the origin of records of a flow of TCP.
-    pub(crate) fn over_tcp(self, flow: Flow) -> Origin
-        ensures { result ≡ origin_of self transports.Tcp flow.source flow.target }
-    {
-        Origin {
-            packet: self.packet,
-            time: self.time,
-            transport: Transport::Tcp,
-            source: flow.source,
-            target: flow.target,
         }
     }
 }

@@ -15,7 +15,7 @@ use krb_der::Memory;
 use krb_flow::{Beginning, Direction, End, Had};
 use krb_frame::Limit;
 use krb_packet::Segment;
-use krb_text::Origin;
+use krb_text::{Origin, Transport};
 use std::alloc::Global;
 use std::marker::Model;
 
@@ -162,7 +162,7 @@ impl Sending {
         ensures step { IfOk result (λ stepped. stepped.step ≡ step_of self.old.direction.state segment.now) }
         ensures found { IfOk result (λ stepped. (limit : ℕ) (sent : Sent) → Represents self.old limit sent → Sends self.new limit (after_segment sent segment.now) stepped.left (origin_of due transports.Tcp self.old.flow.source self.old.flow.target) (segment_found limit sent segment.now) listing.old listing.new) }
     {
-        let origin = due.over_tcp(self.flow);
+        let origin = due.over(Transport::Tcp, self.flow.source, self.flow.target);
         let taken = self.direction.take(self.alloc, segment, waited)?;
         self.list_end(taken.before, &origin, listing)?;
         self.begin(taken.begins, &origin, listing)?;
@@ -188,7 +188,7 @@ impl Sending {
         ensures flow { self.new.flow ≡ self.old.flow }
         ensures found { IfOk result (λ rest. (limit : ℕ) (sent : Sent) (found : List Found) → RepresentsBut self.old limit sent (Some left) found → Sends self.new limit sent rest (origin_of due transports.Tcp self.old.flow.source self.old.flow.target) found listing.old listing.new) }
     {
-        let origin = due.over_tcp(self.flow);
+        let origin = due.over(Transport::Tcp, self.flow.source, self.flow.target);
         self.list_left(left, &origin, listing)
     }
 
@@ -276,7 +276,7 @@ impl Sending {
         ensures flow { self.new.flow ≡ self.old.flow }
         ensures found { OnOk result ((limit : ℕ) (sent : Sent) → Represents self.old limit sent → listing.new ≡ with_all (origin_of due transports.Tcp self.old.flow.source self.old.flow.target) (last_found limit sent) listing.old) }
     {
-        let origin = due.over_tcp(self.flow);
+        let origin = due.over(Transport::Tcp, self.flow.source, self.flow.target);
         let end = self.direction.end();
         self.list_end(end, &origin, listing)
     }

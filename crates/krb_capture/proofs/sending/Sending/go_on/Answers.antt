@@ -8,7 +8,7 @@ returns-clause-found c = IfOk-weaker c.list_left.result _ _
     (λ rest k limit sent found r.
     let t = k limit r.took.stream r.took.took in
     let same = c.list_left.ensures.same in
-    subst (λ o. Sends c.list_left.new.self limit sent rest o found c.args.listing.now c.list_left.new.listing) c.over_tcp-origin.ensures
+    subst (λ o. Sends c.list_left.new.self limit sent rest o found c.args.listing.now c.list_left.new.listing) c.over-origin.ensures
     (record {
       listed = t.listed;
       left = t.left;

@@ -11,7 +11,7 @@ use Rattle.krb_capture.proofs.sending.Sending.take.Goals as goal
 pub returns-clause-found : goal.returns-clause-found
 returns-clause-found c = λ limit sent s.
     let n = c.args.self.now.limit in
-    let origin = c.over_tcp-origin.result in
+    let origin = c.over-origin.result in
     let rest = c.in_ok-left.left in
     let began = c.in_ok-begin.ensures.same in
     let same = c.in_ok-left.ensures.same in
@@ -34,7 +34,7 @@ returns-clause-found c = λ limit sent s.
       took = subst (λ o. TookSome c.list.new.self.frames n (stream_at o.begins sent.stream ++ o.octets) rest listed.left) outcome listed.took;
     } in
     subst (λ n. Sends c.list.new.self n (after_segment sent c.args.segment.now) rest (origin_of c.args.due transports.Tcp c.args.self.now.flow.source c.args.self.now.flow.target) (segment_found n sent c.args.segment.now) c.args.listing.now c.list.new.listing) s.limit_is
-    (subst (λ o. Sends c.list.new.self n (after_segment sent c.args.segment.now) rest o (segment_found n sent c.args.segment.now) c.args.listing.now c.list.new.listing) c.over_tcp-origin.ensures
+    (subst (λ o. Sends c.list.new.self n (after_segment sent c.args.segment.now) rest o (segment_found n sent c.args.segment.now) c.args.listing.now c.list.new.listing) c.over-origin.ensures
     (record {
       listed = listed.listed;
       left = listed.left;
