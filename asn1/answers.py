@@ -1,33 +1,54 @@
 """krb_msg/proofs: the answers of functions that list a type or its fields, and of those by cases of a kind."""
 
 from kinds import file, messages_of
-from model import back, is_plain, mapped
+from model import back, fixed_value, is_plain, mapped
 from module import Basic, Sequence
 from structs import may_have_notes, noted_in_view, noted_of_value
 from tables import count_of_rows
-from text import BY, brought, fill, path, record
-from values import known, parts_in
+from text import BY, brought, fill, pairs, path, record
+from values import known, parts_in, seen_value
 
 
-def lists_answer(it):
-    """What is known of the fields of a view, as a record of what is known of them in pairs."""
-    rows, fits = [], ""
+def valid(it, those, fits):
+    """What is known of a view, of what is known of its fields in pairs."""
+    facts = {}
     for at, field in enumerate(it.kept):
         if known(field, ""):
-            fact = path("l", at)
-            if isinstance(field.type, Basic) and field.type.form == "micros" and not field.optional:
-                seen = path("c.args.seen.now", at)
-                fact = f"subst (λ number. pos 0 ≤ℤ number) (sym (to_z-of_z w64 {seen} fits)) {fact}"
-                fits += f"    let fits : FitsSigned w64 {seen} = search rules in\n"
-            rows.append(f"{field.rust} = {fact};\n")
-    goals = f"use Rattle.krb_msg.proofs.{it.term}.{it.rust}View.of_fields.Goals as goal\n\npub returns-clause-lists : goal.returns-clause-lists\n"
-    if not fits:
-        return f"{goals}returns-clause-lists c = λ l. record {{\n" + "".join(f"  {row}" for row in rows) + "}\n"
-    uses = """use Rattle.std.proofs.Common.{sym, subst, pos, w64, FitsSigned, rules}
-use Rattle.std.specs.Prelude.{◌≤ℤ◌}
-use Rattle.std.proofs.lemmas.Int.{to_z-of_z}
-"""
-    return f"{uses}{goals}returns-clause-lists c = λ l.\n{fits}    record {{\n" + "".join(f"      {row}" for row in rows) + "    }\n"
+            facts[field.rust] = path(those, at)
+            if field.rust in fits and field.type.form == "micros":
+                facts[field.rust] = f"subst (λ number. pos 0 ≤ℤ number) {fits[field.rust]} {facts[field.rust]}"
+    if len(facts) > 2:
+        return f"record {{ {'; '.join(f'{name} = {fact}' for name, fact in facts.items())} }}"
+    return ", ".join(facts.values())
+
+
+def view_answer(it):
+    """That a view is made of those of the fields. A number is kept as what its 64 bits say, and one that may be left out is mapped to itself."""
+    form, values, fits, lets = "c.in-Some.ensures.0", [], {}, ""
+    for field in it.fields:
+        seen = f"c.in-Some.{'rest.' * (it.cut is not None and field in it.kept[it.cut :])}{field.rust}"
+        value = fixed_value(field) if field.is_fixed else seen_value(field, seen)
+        if value == seen and not field.optional:
+            lets += f"    let fits_{field.rust} : FitsSigned w64 {seen} = search rules in\n"
+            fits[field.rust] = f"(sym (to_z-of_z w64 {seen} fits_{field.rust}))"
+            value = f"{fits[field.rust]} i"
+        values.append(f"option_map_id {seen} i" if value == seen else value)
+    if any(value.endswith(" i") for value in values):
+        form = f"subst (AreContents {it.term} c.args.contents.now) (λ i. {pairs(values, 'tt')}) {form}"
+    homes = [
+        ("Rattle.std.proofs.Common", "pos subst sym w64 FitsSigned rules".split()),
+        ("Rattle.std.specs.Prelude", ["◌≤ℤ◌"]),
+        ("Rattle.std.specs.Option", ["option_map"]),
+        ("Rattle.std.proofs.lemmas.Int", ["to_z-of_z"]),
+        ("Rattle.std.proofs.lemmas.Iterator.Adapters", ["option_map_id"]),
+        ("Rattle.krb_msg.specs.Grammar", sorted({it.term} | {field.part.term for field in it.kept if field.is_list})),
+        ("Rattle.krb_msg.specs.Viewed", ["AreContents", "items_of"]),
+        ("Rattle.krb_msg.specs.Types", [f"{part.term}_view_value" for part in parts_in(it) if isinstance(part, Sequence)]),
+        ("Rattle.krb_msg.specs.Basic", ["flags_of_view"]),
+    ]
+    function, given = (f"{it.rust}.view", "g c") if it.is_parametric else (f"{it.rust}ViewImpl.view", "c")
+    body = f"returns {given} ={chr(10) + lets + '   ' if lets else ''} ({form}, ({valid(it, 'c.in-Some.ensures.1', fits)}))\n"
+    return f"{brought(body, homes)}use Rattle.krb_msg.proofs.{it.term}.{function}.Goals as goal\n\npub returns : goal.returns\n{body}"
 
 
 def copied_part(field, call):
@@ -92,15 +113,14 @@ def type_answers(it):
     """The answers of a type, by their paths below its name."""
     names = {}
     if it.is_parametric:
-        names = {f"{it.rust}/{name}": f"two_{name}" for name in ("put", "size", "view")}
+        names = {f"{it.rust}/{name}": f"two_{name}" for name in ("put", "size")}
     elif not is_plain(it):
-        names = {f"{it.rust}ViewImpl/view": "view", f"{it.rust}Der/size": "size"}
+        names = {f"{it.rust}Der/size": "size"}
         names[f"{it.rust}Der/put"] = "put" if it.application is None else "put_tagged"
-    if it.cut:
-        names["CutRestOwnedViewFields/view_fields"] = "cut_view"
     made = {name: fill(f"answers/{template}.antt", type=it.term, Type=it.rust) for name, template in names.items()}
+    if it.is_parametric or not is_plain(it):
+        made[f"{it.rust}/view" if it.is_parametric else f"{it.rust}ViewImpl/view"] = view_answer(it)
     if it.cut:
-        made[f"{it.rust}View/of_fields"] = lists_answer(it)
         made[f"{it.rust}Noted/notes"] = notes_answer(it, "Noted", noted_of_value, "self")
         made[f"{it.rust}NotedView/notes"] = notes_answer(it, "NotedView", noted_in_view, "seen")
     if any(field.is_list for field in it.kept):

@@ -1,8 +1,8 @@
 """krb_msg/src: a file for each type, with its struct, its view, the description of its fields, and its copy."""
 
-from model import is_plain, option, owned, viewed
+from model import option, owned, viewed
 from module import Basic, Sequence
-from text import an, brought, doc, fill, nested, pairs, path
+from text import an, brought, doc, fill, nested, pairs
 
 FIELDS = "Application Borrowed Cut Encode EncodeFields End FieldOf Fixed Noted NotedView Optional Owned Required Sequence View ViewFields optional_notes optional_view_notes"
 BASIC = "Der Flags Int32 KString KerberosTime Many Memory Micros Octets Wide32"
@@ -131,70 +131,48 @@ def layout_function(it):
     return fill("layout.rt", type=it.term, number=number, argument=argument, numbers=numbers, value=rest + value)
 
 
-def seen_type(name, text, fields, end="()"):
-    return f"/// {text}\ntype {name}<'a> = {pairs([option(it, viewed(it.type)) for it in fields], end)};\n"
-
-
-def of_fields(view, seen, clauses, made, number="", first="", others=""):
-    """The view by the views of the fields."""
-    words = {f"clause_{at}": clause for at, clause in enumerate(clauses)}
-    return fill("of_fields.rt", View=view, Seen=seen, made=", ".join(made), number=number, first=first, others=others, **words)
-
-
 def cut_views(it):
     after = halves(it)[1]
-    fields, kept = "⟦<Rest<Owned> as ViewFields<'static>>⟧", "⟦<Cut<Rest<Owned>> as ViewFields<'static>>⟧"
-    clauses = (
-        f"values {{ {kept}.values result ≡ {fields}.values seen.now }}",
-        f"lists {{ {fields}.IsValid seen.now → {kept}.IsValid result }}",
-    )
-    made = [f"{field.rust}: {path('seen', at)}" for at, field in enumerate(after)]
+    names = [field.rust for field in after]
     return fill(
         "cut_view.rt",
         views=rows(after, viewed, ""),
-        rest_seen=seen_type("RestSeen", "The views of these fields.", after),
-        seen=seen_type("Seen", "The views of all fields.", it.kept[: it.cut], "RestView<'a>"),
-        of_fields=of_fields("RestView", "RestSeen", clauses, made),
-        those=pairs([f"seen.{field.rust}" for field in after], "tt"),
+        seen=pairs(names, "()"),
+        made=f"RestView {{ {', '.join(names)} }}",
+        those=pairs([f"seen.{name}" for name in names], "tt"),
     )
-
-
-def view_of_fields(it):
-    number, numbers, argument = ("<const N: u8>", ", N", " N") if it.is_parametric else ("", "", "")
-    layout = f"⟦<Layout<Owned{numbers}> as View<'static>>⟧"
-    clauses = (
-        f"value {{ {it.term}_view_value{argument} result ≡ {layout}.value seen.now }}",
-        f"lists {{ {layout}.IsValid seen.now → IsValid{it.rust} result }}",
-    )
-    first = f"let rest = &seen{'.1' * it.cut};\n" if it.cut else ""
-    kept = it.kept[: it.cut] if it.cut else it.kept
-    after = it.kept[len(kept) :]
-    made = [f"{field.rust}: {path('seen', at)}" for at, field in enumerate(kept)]
-    made += [f"{field.rust}: rest.{field.rust}" for field in after]
-    others = fill("two_view.rt", type=it.term, Type=it.rust, noted=noted(it, noted_in_view, "self")) if it.is_parametric else ""
-    return of_fields(f"{it.rust}View", "Seen", clauses, made, number, first, others)
 
 
 def view_impl(it, layout, seen, made):
-    """How a view is made of the views of the fields."""
+    """How a view is made of the views of the fields; and one that is a call, of what the call returns, word by word."""
     tag = 0x30 if it.application is None else 0x60 + it.application
-    inlined = "never" if it.note("not inlined") is not None else "always"
-    words = {"tag": f"{tag:02X}", "inlined": inlined, "layout": layout, "seen": seen, "made": made}
-    return fill("view.rt", type=it.term, Type=it.rust, term=term_name(it), **words)
+    words = {"type": it.term, "Type": it.rust, "term": term_name(it), "layout": layout}
+    text, call, why = "", f"{layout}::view", ""
+    if it.note("not inlined") is not None:
+        text, call = fill("view_by_call.rt", seen=seen, made=made, **words), f"{it.rust}View::of_contents"
+        why = "        // Word by word: what a call returned whole stays in memory, and words go to registers.\n"
+        again = [f"{field.rust}: {word_by_word(field)}" for field in it.kept]
+        seen, made = "seen", f"{it.rust}View {{ {', '.join(again)} }}"
+    return text + fill("view.rt", tag=f"{tag:02X}", call=call, seen=seen, why=why, made=made, **{name: words[name] for name in ("type", "Type", "term")})
+
+
+def word_by_word(field):
+    """A field of a view that a call returned, such that the compiler may keep each word of it in a register."""
+    return f"ItemsView {{ octets: &*seen.{field.rust}.octets }}" if field.is_list else f"seen.{field.rust}"
 
 
 def in_one_step(it):
     """The views of the fields, and the view that has them."""
-    names = [field.rust for field in it.kept]
-    return pairs(names, "()"), f"{it.rust}View {{ {', '.join(names)} }}"
+    kept = it.kept[: it.cut] if it.cut else it.kept
+    names, after = [field.rust for field in kept], [f"{field.rust}: rest.{field.rust}" for field in it.kept[len(kept) :]]
+    return pairs(names, "rest" if after else "()"), f"{it.rust}View {{ {', '.join(names + after)} }}"
 
 
 def view_impls(it):
     """The impls of the view: how it is made, noted and copied."""
-    seen, made = in_one_step(it) if is_plain(it) else ("seen", f"{it.rust}View::of_fields(&seen)")
     notes = noted(it, noted_in_view, "seen")
     uses = fill("view_uses.rt", type=it.term, Type=it.rust, seen="seen" if "seen" in notes else "_seen", noted=notes, copy=copy(it))
-    return f"{view_impl(it, 'Layout::<Owned>', seen, made)}\n{uses}"
+    return f"{view_impl(it, 'Layout::<Owned>', *in_one_step(it))}\n{uses}"
 
 
 def noted_of_value(field, value):
@@ -231,13 +209,14 @@ def copy(it):
 def struct_file(module, it):
     parts = [structs(it), layouts(it)]
     if it.is_parametric:
-        parts.append(fill("two.rt", type=it.term, Type=it.rust, layout=layout_function(it), noted=noted(it, noted_of_value, "self"), copy=copy(it)))
+        seen, made = in_one_step(it)
+        parts.append(fill("two.rt", type=it.term, Type=it.rust, layout=layout_function(it), noted=noted(it, noted_of_value, "self"), seen=seen, made=made, copy=copy(it)))
+        parts.append(fill("two_view.rt", type=it.term, Type=it.rust, noted=noted(it, noted_in_view, "self")))
     else:
         parts.append(f"impl {it.rust} {{\n{layout_function(it)}}}\n")
     parts += [fill("cut.rt")] if it.cut else []
     parts += [] if it.is_parametric else [fill("der.rt", type=it.term, Type=it.rust, term=term_name(it), noted=noted(it, noted_of_value, "self"))]
-    parts += [cut_views(it)] if it.cut else [] if is_plain(it) else [seen_type("Seen", "The views of its fields.", it.kept)]
-    parts += [] if is_plain(it) else [view_of_fields(it)]
+    parts += [cut_views(it)] if it.cut else []
     parts += [] if it.is_parametric else [view_impls(it)]
     parts += [fill("list_copy.rt", about=doc(made.about), type=it.term, Type=it.rust, term=term_name(it)) for made in module.lists if made.item is it]
     body = "\n".join(parts)

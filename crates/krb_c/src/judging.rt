@@ -9,6 +9,7 @@ ghost use Rattle.krb_c.specs.inner.Frames.{after_length};
 
 use crate::numbers::{limit_of, profile_of};
 use krb_der::{Profile, Refusal, Why, why_number};
+use krb_frame::HIGH_BIT;
 use krb_judge::{Verdict, judge_in};
 use krb_tool::Limit;
 
@@ -17,9 +18,6 @@ pub(crate) const MOST_OCTETS: usize = 2147483647;
 
 /// The number of octets of a frame's length (RFC 4120, 7.2.2).
 const LENGTH_OCTETS: usize = 4;
-
-/// The least number of a frame's length of which the high bit is set.
-const HIGH_BIT: u32 = 1 << 31;
 
 /// What C is told if nothing is decided yet.
 const MORE: u32 = 255;

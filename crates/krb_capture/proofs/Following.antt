@@ -1,5 +1,5 @@
 -- What a capture keeps after what is found is listed.
-use Rattle.std.proofs.Common.{◌≡◌, ◌⊎◌, inl, inr, ℕ, List, [], ◌∷◌, ◌++◌, Option, Some, None, Box, refl, sym, ◌∙◌, ap, subst, append_assoc, append-nil}
+use Rattle.std.proofs.Common.{◌≡◌, ◌⊎◌, inl, inr, ℕ, Bool, List, [], ◌∷◌, ◌++◌, Option, Some, None, Box, refl, sym, ◌∙◌, ap, subst, append_assoc, append-nil}
 use Rattle.std.specs.declared.alloc.Global.{Global}
 use Rattle.krb_packet.specs.Fragments.{unread}
 use Rattle.krb_packet.specs.declared.contents.Contents.{Contents}
@@ -18,7 +18,7 @@ use Rattle.krb_capture.specs.Captures.{Finding, HasFollowed, Progress, Settings,
 use Rattle.krb_capture.specs.Datagrams.{datagram_found}
 use Rattle.krb_capture.specs.Directions.{HoldsTable, Table, followed, last_of}
 use Rattle.krb_capture.specs.Flows.{origin_of, service_of}
-use Rattle.krb_capture.specs.Found.{Written, counted, totals, with_all}
+use Rattle.krb_capture.specs.Found.{IsFullIf, Written, counted, totals, with_all}
 use Rattle.krb_capture.specs.Rests.{Follows, HasFollowedBut, HoldsSome, Lists}
 use Rattle.krb_capture.specs.declared.capture.Capture.{Capture}
 use Rattle.krb_capture.specs.declared.directions.Rest.{Rest}
@@ -113,21 +113,24 @@ segment-lists old new settings progress service segment rest h s f p g e =
     (subst (λ x. Lists new settings (found-in settings progress (followed settings.limit x.packet service segment progress.table).table (over_tcp x (followed settings.limit x.packet service segment progress.table).found)) rest old.listing.text new.listing.text) h.last
     (lists-some old new settings progress (followed settings.limit old.last.packet service segment progress.table).table rest (over_tcp old.last (followed settings.limit old.last.packet service segment progress.table).found) h f p g e))
 
--- the text is written elsewhere
-pub lists-text : (one other : Capture) (settings : Settings) (taken : Taken) (rest : Option (Box Rest Global)) (before after : List ℕ) → Lists one settings taken rest before after → other.port ≡ one.port → other.fragments ≡ one.fragments → other.directions ≡ one.directions → other.last ≡ one.last → other.listing.form ≡ one.listing.form → other.listing.counts ≡ one.listing.counts → Lists other settings taken rest before after
-lists-text one other settings taken rest before after l p g d e f c = record {
+-- the listing gets another text for a call, and then its own again
+pub lent : (capture : Capture) (settings : Settings) (progress : Progress) (listing : Written) (text : List ℕ) → listing ≡ record capture.listing { text = text } → HasFollowed capture settings progress → HasFollowed (record capture { listing = listing }) settings progress
+lent capture settings progress listing text is h = record { port = h.port; form = ap (λ w. w.form) is ∙ h.form; fragments = h.fragments; table = h.table; last = h.last; counts = ap (λ w. w.counts) is ∙ h.counts }
+
+pub given_back : (capture : Capture) (listing : Written) (has_failed : Bool) (settings : Settings) (taken : Taken) (rest : Option (Box Rest Global)) (given before own after : List ℕ) → listing ≡ record capture.listing { text = own } → given ≡ before → after ≡ capture.listing.text → Lists capture settings taken rest given capture.listing.text → Lists (record capture { listing = listing; has_failed = has_failed }) settings taken rest before after
+given_back capture listing has_failed settings taken rest given before own after is first last l = record {
   listed = l.listed;
   left = l.left;
   parts = l.parts;
-  text = l.text;
-  full = l.full;
+  text = last ∙ l.text ∙ ap (λ t. t ++ lines_of settings.form l.listed) first;
+  full = subst (λ t. IsFullIf rest t) (sym last) l.full;
   followed = record {
-    port = p ∙ l.followed.port;
-    form = f ∙ l.followed.form;
-    fragments = g ∙ l.followed.fragments;
-    table = subst (λ x. HoldsSome x settings.limit taken.progress.table other.last rest l.left) (sym d) (subst (λ x. HoldsSome one.directions settings.limit taken.progress.table x rest l.left) (sym e) l.followed.table);
-    last = e ∙ l.followed.last;
-    counts = ap (λ x. counted_each l.left x) c ∙ l.followed.counts;
+    port = l.followed.port;
+    form = ap (λ w. w.form) is ∙ l.followed.form;
+    fragments = l.followed.fragments;
+    table = l.followed.table;
+    last = l.followed.last;
+    counts = ap (λ w. counted_each l.left w.counts) is ∙ l.followed.counts;
   };
 }
 

@@ -1,8 +1,8 @@
 -- What is found in the frames of messages, by what is known of their decoder.
-use Rattle.std.proofs.Common.{◌≡◌, ℕ, ◌+◌, ◌-◌, ◌^◌, ◌≤◌, inl, inr, true, false, List, [], ◌∷◌, ◌++◌, length, take, drop, Some, None, refl, sym, ◌∙◌, ap, ap₂, subst, arith, append_assoc, append-nil, drop_at}
+use Rattle.std.proofs.Common.{◌≡◌, ℕ, ◌+◌, ◌^◌, ◌≤◌, true, false, List, [], ◌∷◌, ◌++◌, length, take, drop, None, refl, sym, ◌∙◌, ap, ap₂, arith, append_assoc, append-nil, drop_at}
 use Rattle.std.specs.Prelude.{cond, not, ◌&&◌, ◌||◌, nat_le, nat_lt, if◌then◌else◌}
 use Rattle.std.specs.List.{AllByRecursion, list_any}
-use Rattle.std.proofs.lemmas.Bool.{cases_lt, lt-leb, le-leb, lt-ltb, le-ltb}
+use Rattle.std.proofs.lemmas.Bool.{lt-leb, le-leb, lt-ltb, le-ltb}
 use Rattle.krb_der.specs.Octets.{number}
 use Rattle.krb_der.specs.declared.profile.Profile.TheVariants.{Lenient}
 use Rattle.krb_der.specs.declared.verdict.Refusal.{Refusal}
@@ -10,7 +10,7 @@ use Rattle.krb_der.specs.declared.why.Why.TheVariants as why
 use Rattle.krb_msg.specs.Grammar.{messages}
 use Rattle.krb_msg.specs.Stream.{End, Boundary, Within, Refused}
 use Rattle.krb_frame.specs.Decoding.{found, status_at, status_of, AreOfOne}
-use Rattle.krb_frame.specs.GoingOn.{Entry, Contents, Fault, Skipping, GoesOn, entries, last_entry, rest_of, rest_at, rest_to_come}
+use Rattle.krb_frame.specs.GoingOn.{Entry, Contents, Fault, Skipping, GoesOn, entries, last_entry, rest_to_come}
 use Rattle.krb_frame.specs.declared.decoder.Status.TheVariants as status
 use Rattle.krb_frame.proofs.Ends.{refused_end}
 use Rattle.krb_frame.proofs.Skips.{IsLast, entries-waiting, entries-last}
@@ -102,15 +102,6 @@ found-more limit s stream w l more =
     ∙ ap (λ n. entries_found 0 w.before ++ (framed_entries (after_entries 0 w.before) (entries (messages Lenient) n (s.current.octets ++ drop s.skipped more))).found) l
 
 -- ---- a frame whose length is not known
-unknown_big : (size used : ℕ) → rest_of size used ≡ None → 2 ^ 31 ≤ size
-unknown_big size used e = elim (cases_lt size (2 ^ 31)) [
-  | inl h ↦ absurd (no (sym (rw (lt-leb (2 ^ 31) size h) refl) ∙ e))
-  | inr h ↦ h
-]
-  where
-    no : Some (4 + size - used) ≡ None → ⊥
-    no e = cc
-
 abbrev entry_at : End → List ℕ → Entry
 entry_at Boundary octets = Fault 0 why.Truncated octets
 entry_at (Within present) octets = Fault present why.Truncated octets
@@ -141,7 +132,7 @@ framed-last limit s stream before refusal l done g st none more =
     ap (λ n. framed_entries 0 (entries (messages Lenient) n (stream ++ more))) (sym l)
     ∙ ap (framed_entries 0) (last.last more)
     ∙ framed-before 0 before (Fault 3 why.HighBit octets ∷ []) done
-    ∙ ap (before_frames (entries_found 0 before)) (last_frame (after_entries 0 before) octets four big)
+    ∙ ap (before_frames (entries_found 0 before)) (last_frame (after_entries 0 before) octets last.four last.big)
     ∙ ap (λ e. before_frames (entries_found 0 before) (alone (after_entries 0 before) e)) same
   where
     octets : List ℕ
@@ -155,9 +146,3 @@ framed-last limit s stream before refusal l done g st none more =
 
     same : Fault 3 why.HighBit octets ≡ Fault refusal.place refusal.why octets
     same = ap (λ e. entry_at e octets) (sym last.end ∙ ended.1)
-
-    four : length octets ≡ 3 + 1
-    four = subst (λ c. AreOfOne octets c (Refused 3 why.HighBit)) ended.0 (subst (AreOfOne octets (found (messages Lenient) s.current).contents) last.end g.one)
-
-    big : 2 ^ 31 ≤ number (take 4 octets)
-    big = unknown_big (number (take 4 octets)) (length octets) (sym (ap (λ t. rest_at t octets) st) ∙ none)

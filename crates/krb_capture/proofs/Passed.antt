@@ -121,28 +121,25 @@ pub keeps-found : (taker : PasswordFrames) (stream : List ℕ) (k : Keeps taker 
 keeps-found taker stream k = ap (λ (f : Framed). f.found) (keeps-framed taker stream k) ∙ append-nil k.before
 
 -- ---- the next frame is listed if it is whole or refused
-module _ (old : PasswordFrames) (stream : List ℕ) (h : Holds old stream) (origin : Origin) (before : Written) where
-  abbrev pub s : List ℕ
-  s = old.octets.items
+-- it is neither
+pub next-kept : (old : PasswordFrames) (stream : List ℕ) (h : Holds old old.octets.items stream) (origin : Origin) (before : Written) → IsPart old.limit old.octets.items → ListsNext old old old.octets.items stream h origin before before
+next-kept old stream h origin before p = record {
+  limit = refl;
+  state = subst (λ b. KeepsUnless b old stream) (sym h.goes) keeps;
+  listed = ap (λ l. with_all origin l before) (sym (drop_all (length h.before) (passwords old.limit stream).found (omega (arith, ap length (keeps-found old stream keeps)))));
+}
+  where
+    keeps : Keeps old stream
+    keeps = record {
+      before = h.before;
+      goes_on = λ more. h.goes_on more ∙ ap (λ n. before_frames h.before (passwords_framed old.limit old.offset (old.octets.items ++ drop n more))) (sym h.none_skipped);
+      partial = p;
+      alone = inl h.none_skipped;
+    }
 
-  -- it is neither
-  pub next-kept : IsPart old.limit s → ListsNext old old stream h origin before before
-  next-kept p = record {
-    limit = refl;
-    state = subst (λ b. KeepsUnless b old stream) (sym h.goes) keeps;
-    listed = ap (λ l. with_all origin l before) (sym (drop_all (length h.before) (passwords old.limit stream).found (omega (arith, ap length (keeps-found old stream keeps)))));
-  }
-    where
-      keeps : Keeps old stream
-      keeps = record {
-        before = h.before;
-        goes_on = λ more. h.goes_on more ∙ ap (λ n. before_frames h.before (passwords_framed old.limit old.offset (s ++ drop n more))) (sym h.none_skipped);
-        partial = p;
-        alone = inl h.none_skipped;
-      }
-
+module _ (old : PasswordFrames) (s stream : List ℕ) (h : Holds old s stream) (origin : Origin) (before : Written) where
   -- these are found, and then octets are skipped
-  pub next-passed : (new : PasswordFrames) (xs : List Found) (count : ℕ) (after : Written) → new.limit ≡ old.limit → new.is_over ≡ false → new.skipped ≡ count → new.octets.items ≡ [] → ((more : List ℕ) → passwords_framed old.limit old.offset (s ++ more) ≡ before_frames xs (passwords_framed old.limit new.offset (drop count more))) → after ≡ with_all origin xs before → ListsNext old new stream h origin before after
+  pub next-passed : (new : PasswordFrames) (xs : List Found) (count : ℕ) (after : Written) → new.limit ≡ old.limit → new.is_over ≡ false → new.skipped ≡ count → new.octets.items ≡ [] → ((more : List ℕ) → passwords_framed old.limit old.offset (s ++ more) ≡ before_frames xs (passwords_framed old.limit new.offset (drop count more))) → after ≡ with_all origin xs before → ListsNext old new s stream h origin before after
   next-passed new xs count after l o k i each w = record {
     limit = l;
     state = subst (λ b. KeepsUnless b new stream) (sym o) keeps;
@@ -167,7 +164,7 @@ module _ (old : PasswordFrames) (stream : List ℕ) (h : Holds old stream) (orig
       found = ap (drop (length h.before)) (ap (λ n. (passwords n stream).found) (sym l) ∙ keeps-found new stream keeps) ∙ drop_at h.before xs (length h.before) refl
 
   -- its length is not known
-  pub next-stopped : (new : PasswordFrames) (x : Found) (after : Written) → new.limit ≡ old.limit → new.is_over ≡ true → ((more : List ℕ) → passwords_framed old.limit old.offset (s ++ more) ≡ record { found = x ∷ []; partial = []; offset = old.offset; over = true }) → after ≡ with_all origin (x ∷ []) before → ListsNext old new stream h origin before after
+  pub next-stopped : (new : PasswordFrames) (x : Found) (after : Written) → new.limit ≡ old.limit → new.is_over ≡ true → ((more : List ℕ) → passwords_framed old.limit old.offset (s ++ more) ≡ record { found = x ∷ []; partial = []; offset = old.offset; over = true }) → after ≡ with_all origin (x ∷ []) before → ListsNext old new s stream h origin before after
   next-stopped new x after l o each w = record {
     limit = l;
     state = subst (λ b. KeepsUnless b new stream) (sym o) (subst (λ n. IsOver services.Passwords n stream) (sym l) (λ more. (ap (λ (f : Framed). f.found) (all more ∙ sym at), ap (λ (f : Framed). f.over) (all more))));

@@ -1,5 +1,5 @@
 -- What becomes of a frame whose length is there.
-use Rattle.std.proofs.Common.{◌≡◌, ℕ, ◌+◌, ◌<◌, ◌≤◌, ◌⊎◌, inl, inr, Bool, true, false, List, [], ◌∷◌, length, take, drop, Some, None, refl, sym, ◌∙◌, ap, ap₂, subst, arith}
+use Rattle.std.proofs.Common.{◌≡◌, ℕ, ◌+◌, ◌<◌, ◌≤◌, inl, inr, Bool, true, false, List, [], ◌∷◌, length, take, drop, Some, None, refl, sym, ◌∙◌, ap, ap₂, subst, arith}
 use Rattle.std.specs.Prelude.{Option, nat_lt, if◌then◌else◌}
 use Rattle.std.proofs.lemmas.Bool.{ltb-true, ltb-false}
 use Rattle.krb_der.specs.Octets.{number}
@@ -8,7 +8,7 @@ use Rattle.krb_der.specs.declared.why.Why.TheVariants as why
 use Rattle.krb_frame.specs.Frame.{length_fault}
 use Rattle.krb_text.specs.declared.origin.Origin.{Origin}
 use Rattle.krb_capture.specs.Found.{Written, with_all, with_found}
-use Rattle.krb_capture.specs.Passed.{Holds, ListsContents, ListsContentsIf, ListsNext, PassesOver, frame_length}
+use Rattle.krb_capture.specs.Passed.{AreOfOne, Holds, ListsContents, ListsContentsIf, ListsNext, PassesOver, frame_length}
 use Rattle.krb_capture.specs.Passwords.{password_found}
 use Rattle.krb_capture.specs.Streams.{after_frame, before_frames, extent_at, frame_of, length_found, passwords_framed}
 use Rattle.krb_capture.specs.Taken.{IsAllowed}
@@ -33,7 +33,7 @@ none_by false size e = absurd cc
 pub length_none : (octets : List ℕ) → frame_length octets ≡ None → length octets < 4
 length_none octets e = ltb-true (length octets) 4 (none_by (nat_lt (length octets) 4) (number (take 4 octets)) e)
 
-module _ (old new : PasswordFrames) (n : ℕ) (origin : Origin) (before after : Written) (e : frame_length old.octets.items ≡ Some n) (stream : List ℕ) (h : Holds old stream) where
+module _ (old new : PasswordFrames) (n : ℕ) (origin : Origin) (before after : Written) (e : frame_length old.octets.items ≡ Some n) (stream : List ℕ) (h : Holds old old.octets.items stream) where
   abbrev pub octets : List ℕ
   octets = old.octets.items
 
@@ -42,9 +42,9 @@ module _ (old new : PasswordFrames) (n : ℕ) (origin : Origin) (before after : 
 
   -- of a frame that is refused for its length nothing else came
   alone : (IsAllowed old.limit n → ⊥) → length octets ≡ 4
-  alone never = by h.few
+  alone never = by h.one
     where
-      by : (length octets ≤ 4) ⊎ (IsAllowed old.limit (number (take 4 octets)) × (length octets ≤ 4 + number (take 4 octets))) → length octets ≡ 4
+      by : AreOfOne old.limit octets → length octets ≡ 4
       by (inl few) = omega (arith, few, four)
       by (inr p) = absurd (never (subst (IsAllowed old.limit) (length_is octets n e) p.0))
 
@@ -55,24 +55,24 @@ module _ (old new : PasswordFrames) (n : ℕ) (origin : Origin) (before after : 
   pub extent_is : extent_at old.offset octets ≡ frame_of old.offset (number (take 4 octets))
   extent_is = let size : number (take 4 octets) ≡ n = length_is octets n e in λ i. record { at = old.offset; length = (e ∙ ap Some (sym size)) i }
 
-  pub whole-high : (reason : Why) → reason ≡ why.HighBit → length_fault old.limit n ≡ Some reason → new.limit ≡ old.limit → new.is_over ≡ true → after ≡ with_found origin (length_found (extent_at old.offset octets) reason) before → ListsNext old new stream h origin before after
+  pub whole-high : (reason : Why) → reason ≡ why.HighBit → length_fault old.limit n ≡ Some reason → new.limit ≡ old.limit → new.is_over ≡ true → after ≡ with_found origin (length_found (extent_at old.offset octets) reason) before → ListsNext old new octets stream h origin before after
   whole-high reason is fault l o w =
-      next-stopped old stream h origin before new (length_found (frame_of old.offset (number (take 4 octets))) why.HighBit) after l o (λ more. next-high old.limit old.offset octets four more (fault_is why.HighBit (fault ∙ ap Some is)))
+      next-stopped old octets stream h origin before new (length_found (frame_of old.offset (number (take 4 octets))) why.HighBit) after l o (λ more. next-high old.limit old.offset octets four more (fault_is why.HighBit (fault ∙ ap Some is)))
       (w ∙ ap₂ (λ x r. with_found origin (length_found x r) before) extent_is is)
 
   -- and where the next one is
   next_is : (count : ℕ) → PassesOver old n count new → new.offset ≡ after_frame old.offset (number (take 4 octets))
   next_is count p = p.offset ∙ ap (after_frame old.offset) (sym (length_is octets n e))
 
-  pub whole-refused : (reason : Why) → (reason ≡ why.HighBit → ⊥) → length_fault old.limit n ≡ Some reason → PassesOver old n n new → after ≡ with_found origin (length_found (extent_at old.offset octets) reason) before → ListsNext old new stream h origin before after
+  pub whole-refused : (reason : Why) → (reason ≡ why.HighBit → ⊥) → length_fault old.limit n ≡ Some reason → PassesOver old n n new → after ≡ with_found origin (length_found (extent_at old.offset octets) reason) before → ListsNext old new octets stream h origin before after
   whole-refused reason never fault p w =
       let size : number (take 4 octets) ≡ n = length_is octets n e in
       let none : length octets ≡ 4 = alone (λ a. let same : Some reason ≡ None = sym fault ∙ allowed-no_fault old.limit n a in absurd cc) in
-      next-passed old stream h origin before new (length_found (frame_of old.offset (number (take 4 octets))) reason ∷ []) (number (take 4 octets)) after p.limit (p.is_over ∙ h.goes) (p.skipped ∙ sym size) p.octets
+      next-passed old octets stream h origin before new (length_found (frame_of old.offset (number (take 4 octets))) reason ∷ []) (number (take 4 octets)) after p.limit (p.is_over ∙ h.goes) (p.skipped ∙ sym size) p.octets
       (λ more. next-refused old.limit old.offset octets four more reason never (fault_is reason fault) none ∙ ap (λ k. before_frames (length_found (frame_of old.offset (number (take 4 octets))) reason ∷ []) (passwords_framed old.limit k (drop (number (take 4 octets)) more))) (sym (next_is n p)))
       (w ∙ ap (λ x. with_found origin (length_found x reason) before) extent_is)
 
-  pub whole-contents : IsAllowed old.limit n → ListsContents old n new origin before after → ListsNext old new stream h origin before after
+  pub whole-contents : IsAllowed old.limit n → ListsContents old n new origin before after → ListsNext old new octets stream h origin before after
   whole-contents a c = by (nat_lt (length octets) (4 + n)) refl c
     where
       size : number (take 4 octets) ≡ n
@@ -81,23 +81,23 @@ module _ (old new : PasswordFrames) (n : ℕ) (origin : Origin) (before after : 
       allowed : IsAllowed old.limit (number (take 4 octets))
       allowed = subst (IsAllowed old.limit) (sym size) a
 
-      most : (length octets ≤ 4) ⊎ (IsAllowed old.limit (number (take 4 octets)) × (length octets ≤ 4 + number (take 4 octets))) → length octets ≤ 4 + n
+      most : AreOfOne old.limit octets → length octets ≤ 4 + n
       most (inl few) = omega (arith, few)
       most (inr p) = omega (arith, p.1, size)
 
-      by : (b : Bool) → nat_lt (length octets) (4 + n) ≡ b → ListsContentsIf b old n new origin before after → ListsNext old new stream h origin before after
+      by : (b : Bool) → nat_lt (length octets) (4 + n) ≡ b → ListsContentsIf b old n new origin before after → ListsNext old new octets stream h origin before after
       by true t l =
           let open_at : length octets < 4 + number (take 4 octets) = omega (arith, ltb-true (length octets) (4 + n) t, size) in
-          let kept : ListsNext old old stream h origin before before = next-kept old stream h origin before (inr (allowed, four, open_at)) in
-          subst (λ w. ListsNext old new stream h origin before w) (sym l.1) (subst (λ t. ListsNext old t stream h origin before before) (sym l.0) kept)
+          let kept : ListsNext old old octets stream h origin before before = next-kept old stream h origin before (inr (allowed, four, open_at)) in
+          subst (λ w. ListsNext old new octets stream h origin before w) (sym l.1) (subst (λ t. ListsNext old t octets stream h origin before before) (sym l.0) kept)
       by false t l =
-          let all : length octets ≡ 4 + number (take 4 octets) = omega (arith, ltb-false (length octets) (4 + n) t, most h.few, size) in
-          next-passed old stream h origin before new (password_found (frame_of old.offset (number (take 4 octets))) 4 (drop 4 octets)) 0 after l.passes.limit (l.passes.is_over ∙ h.goes) l.passes.skipped l.passes.octets
+          let all : length octets ≡ 4 + number (take 4 octets) = omega (arith, ltb-false (length octets) (4 + n) t, most h.one, size) in
+          next-passed old octets stream h origin before new (password_found (frame_of old.offset (number (take 4 octets))) 4 (drop 4 octets)) 0 after l.passes.limit (l.passes.is_over ∙ h.goes) l.passes.skipped l.passes.octets
           (λ more. next-whole old.limit old.offset octets four more allowed all ∙ ap (λ k. before_frames (password_found (frame_of old.offset (number (take 4 octets))) 4 (drop 4 octets)) (passwords_framed old.limit k more)) (sym (next_is 0 l.passes)))
           (l.listed ∙ ap (λ k. with_all origin (password_found (frame_of old.offset k) 4 (drop 4 octets)) before) (sym size))
 
 -- none of it came
-pub whole-none : (old : PasswordFrames) (origin : Origin) (w : Written) → frame_length old.octets.items ≡ None → (stream : List ℕ) (h : Holds old stream) → ListsNext old old stream h origin w w
+pub whole-none : (old : PasswordFrames) (origin : Origin) (w : Written) → frame_length old.octets.items ≡ None → (stream : List ℕ) (h : Holds old old.octets.items stream) → ListsNext old old old.octets.items stream h origin w w
 whole-none old origin w e stream h = next-kept old stream h origin w (inl (length_none old.octets.items e))
 
 pub is_none : (o : Option ℕ) → ((n : ℕ) → o ≡ Some n → ⊥) → o ≡ None

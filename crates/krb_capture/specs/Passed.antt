@@ -14,26 +14,34 @@ pub record TakesPasswords (old new : PasswordFrames) (octets : List ℕ) (origin
   pub took : (limit : ℕ) (stream : List ℕ) → TookPasswords old limit stream → TookPasswords new limit (stream ++ octets)
   pub listed : (limit : ℕ) (stream : List ℕ) → TookPasswords old limit stream → after ≡ with_all origin (found_with services.Passwords limit stream octets) before
 
--- The octets of the next frame are kept: at most those of its length, or at most all of it; what was found before it was listed.
-pub record Holds (taker : PasswordFrames) (stream : List ℕ) : Type 0 where
+-- octets of a frame: at most those of its length, or at most all of it
+abbrev pub AreOfOne : ℕ → List ℕ → Type 0
+AreOfOne limit octets = (length octets ≤ 4) ⊎ (IsAllowed limit (number (take 4 octets)) × (length octets ≤ 4 + number (take 4 octets)))
+
+-- These octets of the next frame are there; what was found before it was listed.
+pub record Holds (taker : PasswordFrames) (octets stream : List ℕ) : Type 0 where
   pub goes : taker.is_over ≡ false
   pub none_skipped : taker.skipped ≡ 0
   pub before : List Found
-  pub goes_on : (more : List ℕ) → passwords taker.limit (stream ++ more) ≡ before_frames before (passwords_framed taker.limit taker.offset (taker.octets.items ++ more))
-  pub few : (length taker.octets.items ≤ 4) ⊎ (IsAllowed taker.limit (number (take 4 taker.octets.items)) × (length taker.octets.items ≤ 4 + number (take 4 taker.octets.items)))
+  pub goes_on : (more : List ℕ) → passwords taker.limit (stream ++ more) ≡ before_frames before (passwords_framed taker.limit taker.offset (octets ++ more))
+  pub one : AreOfOne taker.limit octets
 
 -- that frame was listed if it is whole or refused
-pub record ListsNext (old new : PasswordFrames) (stream : List ℕ) (h : Holds old stream) (origin : Origin) (before after : Written) : Type 0 where
+pub record ListsNext (old new : PasswordFrames) (octets stream : List ℕ) (h : Holds old octets stream) (origin : Origin) (before after : Written) : Type 0 where
   pub limit : new.limit ≡ old.limit
   pub state : KeepsUnless new.is_over new stream
   pub listed : after ≡ with_all origin (drop (length h.before) (passwords old.limit stream).found) before
 
 abbrev pub ListsWhole : PasswordFrames → PasswordFrames → Origin → Written → Written → Type 0
-ListsWhole old new origin before after = (stream : List ℕ) (h : Holds old stream) → ListsNext old new stream h origin before after
+ListsWhole old new origin before after = (stream : List ℕ) (h : Holds old old.octets.items stream) → ListsNext old new old.octets.items stream h origin before after
 
 -- the length of a frame, if its octets are there
 abbrev pub frame_length : List ℕ → Option ℕ
 frame_length octets = if nat_lt (length octets) 4 then None else Some (number (take 4 octets))
+
+-- the number of its octets, or of those of its length
+abbrev pub frame_end : List ℕ → ℕ
+frame_end octets = if nat_lt (length octets) 4 then 4 else 4 + number (take 4 octets)
 
 -- nothing of the frame after one of n octets is kept, and octets before it are skipped
 pub record PassesOver (old : PasswordFrames) (n count : ℕ) (new : PasswordFrames) : Type 0 where
@@ -44,14 +52,14 @@ pub record PassesOver (old : PasswordFrames) (n count : ℕ) (new : PasswordFram
   pub offset : new.offset ≡ after_frame old.offset n
 
 -- the contents of a frame that is whole were listed
-pub record ListsContentsOf (old : PasswordFrames) (n : ℕ) (new : PasswordFrames) (origin : Origin) (before after : Written) : Type 0 where
+pub record ListsContentsOf (old : PasswordFrames) (n : ℕ) (contents : List ℕ) (new : PasswordFrames) (origin : Origin) (before after : Written) : Type 0 where
   pub passes : PassesOver old n 0 new
-  pub listed : after ≡ with_all origin (password_found (frame_of old.offset n) 4 (drop 4 old.octets.items)) before
+  pub listed : after ≡ with_all origin (password_found (frame_of old.offset n) 4 contents) before
 
 -- if it is not whole nothing changes
 abbrev pub ListsContentsIf : Bool → PasswordFrames → ℕ → PasswordFrames → Origin → Written → Written → Type 0
 ListsContentsIf true old n new origin before after = (new ≡ old) × (after ≡ before)
-ListsContentsIf false old n new origin before after = ListsContentsOf old n new origin before after
+ListsContentsIf false old n new origin before after = ListsContentsOf old n (drop 4 old.octets.items) new origin before after
 
 abbrev pub ListsContents : PasswordFrames → ℕ → PasswordFrames → Origin → Written → Written → Type 0
 ListsContents old n new origin before after = ListsContentsIf (nat_lt (length old.octets.items) (4 + n)) old n new origin before after

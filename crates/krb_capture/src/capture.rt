@@ -70,7 +70,9 @@ impl Capture {
         if self.has_failed {
             return Err(Memory);
         }
-        let taken = self.take_packet(packet, text);
+        self.listing.swap_text(text);
+        let taken = self.take_packet(packet);
+        self.listing.swap_text(text);
         self.has_failed = taken.is_err();
         taken
     }
@@ -90,41 +92,22 @@ impl Capture {
         if self.has_failed {
             return Err(Memory);
         }
-        let gone = self.list_rest(rest, text);
-        self.has_failed = gone.is_err();
-        gone
-    }
-
-    /// Appends records of the last packet to a text.
-    fn list_rest(
-        &mut self,
-        rest: Box<Rest>,
-        text: &mut TextBuffer,
-    ) -> Result<Option<Box<Rest>>, Memory>
-        ensures { IfOk result (λ next. (settings : Settings) (progress : Progress) (left : List Finding) → HasFollowedBut self.old settings progress (Some rest) left → Lists self.new settings (record { found = left; progress = progress }) next text.old text.new) }
-    {
         self.listing.swap_text(text);
         let gone = self
             .directions
             .go_on_with(rest, self.last, &mut self.listing);
         self.listing.swap_text(text);
+        self.has_failed = gone.is_err();
         gone
     }
 
-    /// Takes the next packet, and appends the records that are due with it to a text.
-    fn take_packet(
-        &mut self,
-        packet: &Packet,
-        text: &mut TextBuffer,
-    ) -> Result<Option<Box<Rest>>, Memory>
-        ensures { IfOk result (λ rest. (settings : Settings) (progress : Progress) → HasFollowed self.old settings progress → Lists self.new settings (packet_taken settings packet.now progress) rest text.old text.new) }
+    /// Counts a packet, and lists what it carries.
+    fn take_packet(&mut self, packet: &Packet) -> Result<Option<Box<Rest>>, Memory>
+        ensures { IfOk result (λ rest. (settings : Settings) (progress : Progress) → HasFollowed self.old settings progress → Lists self.new settings (packet_taken settings packet.now progress) rest self.old.listing.text self.new.listing.text) }
     {
-        self.listing.swap_text(text);
         self.last = Due::with(packet);
         self.listing.count_packet();
-        let taken = self.take_contents(contents_of(packet));
-        self.listing.swap_text(text);
-        taken
+        self.take_contents(contents_of(packet))
     }
 
     /// Lists what a packet carries.
@@ -223,19 +206,10 @@ impl Capture {
         if self.has_failed {
             return Err(Memory);
         }
-        let finished = self.list_end(text);
-        self.has_failed = finished.is_err();
-        finished
-    }
-
-    /// Appends the records that are due at the end of the file to a text.
-    fn list_end(&mut self, text: &mut TextBuffer) -> Result<bool, Memory>
-        ensures listed { OnOk result ((settings : Settings) (progress : Progress) → HasFollowed self.old settings progress → text.new ≡ text.old ++ end_text settings progress) }
-        ensures clean { IfOk result (λ clean. (settings : Settings) (progress : Progress) → HasFollowed self.old settings progress → clean ≡ is_clean (all_counts (end_taken settings progress).progress)) }
-    {
         self.listing.swap_text(text);
         let finished = self.put_end();
         self.listing.swap_text(text);
+        self.has_failed = finished.is_err();
         finished
     }
 
@@ -269,25 +243,10 @@ impl Capture {
         if self.has_failed {
             return Err(Memory);
         }
-        let refused = self.list_refusal(place, why, path, extent, text);
-        self.has_failed = refused.is_err();
-        refused
-    }
-
-    /// Appends the records that are due at the fault of a file to a text.
-    fn list_refusal(
-        &mut self,
-        place: u64,
-        why: FileWhy,
-        path: Option<&str>,
-        extent: Extent,
-        text: &mut TextBuffer,
-    ) -> Result<(), Memory>
-        ensures { OnOk result ((settings : Settings) (progress : Progress) → HasFollowed self.old settings progress → text.new ≡ text.old ++ refusal_text settings progress place why (option_copied path.entry) extent) }
-    {
         self.listing.swap_text(text);
         let refused = self.put_refusal(place, why, path, extent);
         self.listing.swap_text(text);
+        self.has_failed = refused.is_err();
         refused
     }
 

@@ -1,10 +1,10 @@
 //! Frames whose contents are messages that change passwords.
 
-ghost use Rattle.std.specs.Prelude.{◌≡◌, ◌<◌, ◌≤◌, ℕ, false, List, [], ◌∷◌, ◌++◌, length, take, IfOk, OnOk};
+ghost use Rattle.std.specs.Prelude.{◌≡◌, ◌+◌, ◌^◌, ◌<◌, ◌≤◌, ℕ, false, List, [], ◌++◌, length, take, IfOk, OnOk};
 ghost use Rattle.std.specs.Option.{option_copied};
 ghost use Rattle.krb_capture.specs.Found.{IsFull, with_all, with_found};
 ghost use Rattle.krb_capture.specs.Streams.{cut_refusal, extent_at, found_with, length_found, open_path};
-ghost use Rattle.krb_capture.specs.Passed.{ListsContents, ListsWhole, PassesOver, TakesPasswords, frame_length};
+ghost use Rattle.krb_capture.specs.Passed.{ListsContents, ListsContentsOf, ListsWhole, PassesOver, TakesPasswords, frame_end, frame_length};
 ghost use Rattle.krb_capture.specs.Taken.{TookPasswords};
 ghost use Rattle.krb_capture.specs.declared.flow.Service.TheVariants as services;
 
@@ -12,7 +12,7 @@ use crate::listing::{Listing, and_more};
 use crate::message_frames::extent_of;
 use crate::password::list_password;
 use krb_der::{Memory, Refusal, Why};
-use krb_frame::{Limit, length_fault};
+use krb_frame::{Limit, first_frame, length_fault};
 use krb_text::{Extent, Origin};
 use std::alloc::Global;
 
@@ -63,30 +63,86 @@ impl PasswordFrames {
     {
         let mut count = 0;
         while count < octets.len() && !listing.is_full() {
-            self.take_octet(octets[count], origin, listing)?;
-            count += 1;
+            count += self.take_some(&octets[count..], origin, listing)?;
         }
         Ok(count)
     }
 
-    /// Takes the next octet, and lists the frame that is whole with it or refused.
-    fn take_octet(
+    /// Takes the first ones of some octets, and lists the frame that is whole with them or refused.
+    /// Returns how many it took. A frame that lies whole there is not copied.
+    fn take_some(
         &mut self,
-        octet: u8,
+        octets: &[u8],
         origin: &Origin,
         listing: &mut Listing,
-    ) -> Result<(), Memory>
-        ensures { OnOk result (TakesPasswords self.old self.new (octet ∷ []) origin.now listing.old listing.new) }
+    ) -> Result<usize, Memory>
+        requires { 0 < length octets.now }
+        ensures some { IfOk result (λ count. (0 < count) × (count ≤ length octets.now)) }
+        ensures took { IfOk result (λ count. TakesPasswords self.old self.new (take count octets.now) origin.now listing.old listing.new) }
     {
         if self.is_over {
-            return Ok(());
+            return Ok(octets.len());
         }
         if self.skipped > 0 {
-            self.skipped -= 1;
-            return Ok(());
+            let count = octets.len().min(self.skipped as usize);
+            self.skipped -= count as u32;
+            return Ok(count);
         }
-        self.octets.push(octet)?;
-        self.list_whole(origin, listing)
+        if self.octets.is_empty() {
+            if let Some(frame) = first_frame(self.limit, octets) {
+                return self.list_lent(frame.contents, origin, listing);
+            }
+        }
+        self.keep_some(octets, origin, listing)
+    }
+
+    /// Lists a frame that lies whole in the octets that are taken, and begins the next one. Returns
+    /// how many octets it has.
+    fn list_lent(
+        &mut self,
+        contents: &[u8],
+        origin: &Origin,
+        listing: &mut Listing,
+    ) -> Result<usize, Memory>
+        requires { length contents.now < 2 ^ 31 }
+        ensures { IfOk result (λ count. (count ≡ 4 + length contents.now) × ListsContentsOf self.old (length contents.now) contents.now self.new origin.now listing.old listing.new) }
+    {
+        let size = contents.len() as u32;
+        let extent = extent_of(self.offset, Some(size));
+        list_password(contents, LENGTH as u32, extent, origin, listing)?;
+        self.pass_over(size, 0);
+        Ok(LENGTH + contents.len())
+    }
+
+    /// Keeps octets up to the end of the frame or, while that is not known, of its length, and
+    /// lists the frame if it is whole then or refused. Returns how many it kept.
+    fn keep_some(
+        &mut self,
+        octets: &[u8],
+        origin: &Origin,
+        listing: &mut Listing,
+    ) -> Result<usize, Memory>
+        requires some { 0 < length octets.now }
+        requires goes { self.old.is_over ≡ false }
+        requires none_skipped { self.old.skipped ≡ 0 }
+        ensures some { IfOk result (λ count. (0 < count) × (count ≤ length octets.now)) }
+        ensures took { IfOk result (λ count. TakesPasswords self.old self.new (take count octets.now) origin.now listing.old listing.new) }
+    {
+        let missing = self.end().saturating_sub(self.octets.len());
+        let count = missing.max(1).min(octets.len());
+        self.octets.extend_from_slice(&octets[..count])?;
+        self.list_whole(origin, listing)?;
+        Ok(count)
+    }
+
+    /// Returns how many octets the frame has or, while that is not known, its length.
+    fn end(&self) -> usize
+        ensures { result ≡ frame_end self.now.octets.items }
+    {
+        match self.length() {
+            Some(size) => LENGTH + size as usize,
+            None => LENGTH,
+        }
     }
 
     /// Lists the frame if it is whole or refused, and begins the next one.

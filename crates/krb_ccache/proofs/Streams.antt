@@ -4,14 +4,14 @@ use Rattle.std.specs.Prelude.{IfErr}
 use Rattle.krb_file.specs.Fields.{Source, source_of, Fault, Reader, limited, IsStreamFaultIn}
 use Rattle.krb_file.specs.FieldReaders.{Cursor, source_at, HasRead, FailsBy}
 use Rattle.krb_file.specs.declared.fault.FileFault.{FileFault}
+use Rattle.krb_file.specs.declared.progress.Progress.{Progress}
+use Rattle.krb_file.specs.declared.progress.Progress.TheVariants as states
 use Rattle.krb_file.specs.declared.fault.FileFault.TheVariants as faults
 use Rattle.krb_file.proofs.Fields.{failed, err_is}
 use Rattle.krb_file.proofs.FieldReaders.{some_rest}
 use Rattle.krb_file.proofs.Items.{goes_on, item_given, end_given as items-end_given, fault_given as items-fault_given, gave_none, fault_in_file}
 use Rattle.krb_file.specs.Items.{IsItem, EndsBy, FailsAfter}
 use Rattle.krb_ccache.specs.declared.value.Credential.{Credential}
-use Rattle.krb_ccache.specs.declared.credentials.State.{State}
-use Rattle.krb_ccache.specs.declared.credentials.State.TheVariants as states
 use Rattle.krb_ccache.specs.declared.reading.Start.{Start}
 use Rattle.krb_ccache.specs.Reading.{credential_at, one_enctype, next_at, start_at, CacheItems, items_after}
 use Rattle.krb_ccache.specs.Streaming.{file_start, credentials_of, credentials, Reads, ReturnsNext}
@@ -25,7 +25,7 @@ use Rattle.krb_ccache.proofs.Items.{items_after-fault}
 abbrev pub unread : Option ℕ → Option (List ℕ) → Cursor
 unread limit left = record { ahead = []; left = left; place = 0; bounds = limited limit }
 
-start_read : (limit : Option ℕ) (file : List ℕ) (start : Start) (new : Cursor) → HasRead (start_at (3 ∷ 4 ∷ [])) start (unread limit (Some file)) new → Reads limit new start states.Open file 0
+start_read : (limit : Option ℕ) (file : List ℕ) (start : Start) (new : Cursor) → HasRead (start_at (3 ∷ 4 ∷ [])) start (unread limit (Some file)) new → Reads limit new start (states.Open (tt {0})) file 0
 start_read limit file start new read =
     let now = some_rest new in
     let first = read.from now.rest now.there in
@@ -38,11 +38,11 @@ start_read limit file start new read =
       gave = ([], goes_on (start_at (3 ∷ 4 ∷ [])) limit all (credentials_of limit) (λ s. refl) (credentials limit file) (unread limit (Some file)) [] [] none start new (items_after (credential_at one_enctype start.version) limit) read (λ t. refl), refl);
     }
 
-pub starts : (limit : Option ℕ) (file : List ℕ) (known : Option (List ℕ)) (start : Start) (new : Cursor) → known ≡ Some file → HasRead (start_at (3 ∷ 4 ∷ [])) start (unread limit known) new → Reads limit new start states.Open file 0
+pub starts : (limit : Option ℕ) (file : List ℕ) (known : Option (List ℕ)) (start : Start) (new : Cursor) → known ≡ Some file → HasRead (start_at (3 ∷ 4 ∷ [])) start (unread limit known) new → Reads limit new start (states.Open (tt {0})) file 0
 starts limit file known start new is read = start_read limit file start new (subst (λ (k : Option (List ℕ)). HasRead (start_at (3 ∷ 4 ∷ [])) start (unread limit k) new) is read)
 
 -- ---- the credentials
-module _ (limit : Option ℕ) (file : List ℕ) (count : ℕ) (start : Start) (state : State) (old new : Cursor) (reads : Reads limit old start state file count) where
+module _ (limit : Option ℕ) (file : List ℕ) (count : ℕ) (start : Start) (state : Progress (Unit {0}) (Unit {0})) (old new : Cursor) (reads : Reads limit old start state file count) where
   -- the next credential, what it leaves, and its law
   abbrev next : Reader (Option Credential)
   next = next_at one_enctype start.version
@@ -85,6 +85,6 @@ credentials_inside limit file f (Ok (start, after)) begins e =
     let p = items_after-fault (credential_at one_enctype start.version) (Steps-credential one_enctype start.version) limit after f e in
     omega (arith, m.same, p.upto)
 
-pub refusal_in_file : (limit : Option ℕ) (file : List ℕ) (count : ℕ) (given : Result (Option Credential) FileFault) (cursor : Cursor) (start : Start) (state : State) → ReturnsNext limit file count given cursor start state → IfErr given (IsStreamFaultIn file)
+pub refusal_in_file : (limit : Option ℕ) (file : List ℕ) (count : ℕ) (given : Result (Option Credential) FileFault) (cursor : Cursor) (start : Start) (state : Progress (Unit {0}) (Unit {0})) → ReturnsNext limit file count given cursor start state → IfErr given (IsStreamFaultIn file)
 refusal_in_file limit file count (Ok answered) cursor start state answer = tt
 refusal_in_file limit file count (Err fault) cursor start state answer = fault_in_file (λ f. Err f) (credentials limit file) count file fault (λ f e. credentials_inside limit file f (file_start limit file) refl e) answer

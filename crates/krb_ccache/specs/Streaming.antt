@@ -5,10 +5,10 @@ use Rattle.krb_file.specs.FieldReaders.{Cursor}
 use Rattle.krb_file.specs.Items.{no_items, IsItem, EndsBy, FailsAfter, GaveFirst}
 use Rattle.krb_file.specs.declared.fault.FileFault.{FileFault}
 use Rattle.krb_file.specs.declared.fault.FileFault.TheVariants as faults
+use Rattle.krb_file.specs.declared.progress.Progress.{Progress}
+use Rattle.krb_file.specs.declared.progress.Progress.TheVariants as states
 use Rattle.krb_ccache.specs.declared.value.Ccache.{Ccache}
 use Rattle.krb_ccache.specs.declared.value.Credential.{Credential}
-use Rattle.krb_ccache.specs.declared.credentials.State.{State}
-use Rattle.krb_ccache.specs.declared.credentials.State.TheVariants as states
 use Rattle.krb_ccache.specs.declared.reading.Start.{Start}
 use Rattle.krb_ccache.specs.Reading.{credential_at, one_enctype, start_at, CacheItems, items_after}
 
@@ -39,8 +39,8 @@ pub record Holds (limit : Option ℕ) (file : List ℕ) (cache : Ccache) : Type 
 -- ---- readers of credentials
 
 -- The reader returned the first `count` credentials of a file with this start, and goes on.
-pub record Reads (limit : Option ℕ) (cursor : Cursor) (start : Start) (state : State) (file : List ℕ) (count : ℕ) : Type 0 where
-  pub is_open : state ≡ states.Open
+pub record Reads (limit : Option ℕ) (cursor : Cursor) (start : Start) (state : Progress (Unit {0}) (Unit {0})) (file : List ℕ) (count : ℕ) : Type 0 where
+  pub is_open : state ≡ states.Open (tt {0})
   pub after : Source
   pub begins : file_start limit file ≡ Ok (start, after)
   pub gave : GaveFirst (items_after (credential_at one_enctype start.version) limit) (credentials limit file) limit cursor count
@@ -52,7 +52,7 @@ FailsStart limit file faults.Read = Unit {0}
 FailsStart limit file faults.Memory = Unit {0}
 
 -- What a call returns after `count` credentials were returned: the next one, after which one more is returned; if there is none, none at the end of the file, or the fault. Else the device failed or memory ran out.
-abbrev pub ReturnsNext : Option ℕ → List ℕ → ℕ → Result (Option Credential) FileFault → Cursor → Start → State → Type 0
+abbrev pub ReturnsNext : Option ℕ → List ℕ → ℕ → Result (Option Credential) FileFault → Cursor → Start → Progress (Unit {0}) (Unit {0}) → Type 0
 ReturnsNext limit file count (Ok (Some credential)) cursor start state = IsItem (credentials limit file) count credential × Reads limit cursor start state file (suc count)
 ReturnsNext limit file count (Ok None) cursor start state = EndsBy (credentials limit file) count (Ok cursor.place)
 ReturnsNext limit file count (Err fault) cursor start state = FailsAfter (λ refusal. Err refusal) (credentials limit file) count fault

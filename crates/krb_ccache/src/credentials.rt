@@ -1,28 +1,17 @@
 //! Reading caches credential by credential.
 
 ghost use Rattle.std.specs.Prelude.{◌≡◌, ℕ, List, [], None, Some, Ok, Err, IfOk, IfErr, OnOk};
-ghost use Rattle.krb_ccache.specs.declared.credentials.State.TheVariants as states;
 ghost use Rattle.krb_file.specs.declared.fault.FileFault.{FileFault as FaultValue};
+ghost use Rattle.krb_file.specs.declared.progress.Progress.TheVariants as states;
 ghost use Rattle.krb_file.specs.Fields.{IsStreamFaultIn};
 ghost use Rattle.krb_file.specs.FieldReaders.{Stays};
 ghost use Rattle.krb_ccache.specs.Streaming.{Reads, FailsStart, ReturnsNext};
 
 use crate::reading::{Start, beginning, next};
 use crate::value::{Credential, FilePrincipal, Header};
-use krb_file::{FileFault, Limit, StreamReader};
+use krb_file::{FileFault, Limit, Progress, StreamReader};
 use std::alloc::Global;
 use std::io::Read;
-
-/// The progress of a reader of credentials. It is public for contracts alone.
-#[derive(Clone, Copy)]
-pub enum State {
-    /// Any number of credentials was read.
-    Open,
-    /// The credentials ended.
-    Done,
-    /// There was a fault.
-    Failed(FileFault),
-}
 
 /// A reader of the credentials of a cache, one after another. It reads no octet after the
 /// credential that it returns. It keeps no credential that it returned, and allocates by the octets
@@ -31,7 +20,7 @@ pub enum State {
 pub struct Credentials<R: Read> {
     reader: StreamReader<R>,
     start: Start,
-    state: State,
+    state: Progress<(), ()>,
 }
 
 impl<R: Read + Drop> Credentials<R> {
@@ -51,7 +40,7 @@ impl<R: Read + Drop> Credentials<R> {
         Ok(Credentials {
             reader,
             start,
-            state: State::Open,
+            state: Progress::Open(()),
         })
     }
 
@@ -90,16 +79,16 @@ impl<R: Read + Drop> Credentials<R> {
         // No octet after what is returned was read, if none was read ahead before.
         ensures fetched { OnOk result (self.old.reader.ahead ≡ [] → self.new.reader.ahead ≡ []) }
         ensures same_start { self.new.start ≡ self.old.start }
-        ensures ends { result ≡ Ok None → self.new.state ≡ states.Done }
+        ensures ends { result ≡ Ok None → self.new.state ≡ states.Done (tt {0}) }
         // After the end or a fault nothing more is read.
-        ensures ended { self.old.state ≡ states.Done → (result ≡ Ok None) × (self.new.state ≡ states.Done) × (self.new.reader ≡ self.old.reader) }
+        ensures ended { self.old.state ≡ states.Done (tt {0}) → (result ≡ Ok None) × (self.new.state ≡ states.Done (tt {0})) × (self.new.reader ≡ self.old.reader) }
         ensures failed { (fault : FaultValue) → self.old.state ≡ states.Failed fault → (result ≡ Err fault) × (self.new.state ≡ states.Failed fault) × (self.new.reader ≡ self.old.reader) }
         ensures fails { IfErr result (λ fault. self.new.state ≡ states.Failed fault) }
     {
         match self.state {
-            State::Open => self.read_next(alloc),
-            State::Done => Ok(None),
-            State::Failed(fault) => Err(fault),
+            Progress::Open(()) => self.read_next(alloc),
+            Progress::Done(()) => Ok(None),
+            Progress::Failed(fault) => Err(fault),
         }
     }
 
@@ -132,17 +121,17 @@ impl<R: Read + Drop> Credentials<R> {
         ensures refused { (file : List ℕ) (limit : ℕ) (given : ℕ) → Reads (Some limit) self.old.reader self.old.start self.old.state file given → IfErr result (IsStreamFaultIn file) }
         ensures stays { OnOk result (Stays self.old.reader self.new.reader) }
         ensures same_start { self.new.start ≡ self.old.start }
-        ensures ends { result ≡ Ok None → self.new.state ≡ states.Done }
+        ensures ends { result ≡ Ok None → self.new.state ≡ states.Done (tt {0}) }
         ensures fails { IfErr result (λ fault. self.new.state ≡ states.Failed fault) }
     {
         match next(alloc, self.start.version, &mut self.reader) {
             Ok(Some(credential)) => Ok(Some(credential)),
             Ok(None) => {
-                self.state = State::Done;
+                self.state = Progress::Done(());
                 Ok(None)
             }
             Err(fault) => {
-                self.state = State::Failed(fault);
+                self.state = Progress::Failed(fault);
                 Err(fault)
             }
         }

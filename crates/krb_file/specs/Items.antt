@@ -4,6 +4,8 @@ use Rattle.krb_file.specs.Fields.{Source, Fault, limited}
 use Rattle.krb_file.specs.FieldReaders.{Cursor, MayRemain, source_at}
 use Rattle.krb_file.specs.declared.fault.FileFault.{FileFault}
 use Rattle.krb_file.specs.declared.fault.FileFault.TheVariants as faults
+use Rattle.krb_file.specs.declared.progress.Progress.{Progress}
+use Rattle.krb_file.specs.declared.progress.Progress.TheVariants as progress
 
 -- The items before the end or the first fault; and that end or fault.
 pub record Items (A E : Type 0) : Type 0 where
@@ -46,3 +48,9 @@ pub record Gave {A E : Type 0} (left : Source → Items A E) (all : Items A E) (
 -- the reader returned the first `count` items
 abbrev pub GaveFirst : {A E : Type 0} → (Source → Items A E) → Items A E → Option ℕ → Cursor → ℕ → Type 0
 GaveFirst {A} left all limit cursor count = (given : List A) × Gave left all limit cursor given × (length given ≡ count)
+
+-- The reader returned the first `count` items and goes on, where what is left of them follows from what it keeps.
+abbrev pub GoesOn : {O X A E : Type 0} → (O → Source → Items A E) → Items A E → Option ℕ → Cursor → Progress O X → ℕ → Type 0
+GoesOn left all limit cursor (progress.Open kept) count = GaveFirst (left kept) all limit cursor count
+GoesOn left all limit cursor (progress.Done end) count = ⊥
+GoesOn left all limit cursor (progress.Failed fault) count = ⊥

@@ -26,6 +26,7 @@ mod field_name;
 mod field_path;
 mod field_reader;
 mod part;
+mod progress;
 mod slice_reader;
 mod stream_reader;
 
@@ -41,5 +42,6 @@ pub use part::{
     Count16, Count32, Counted16, Counted32, Each, GREATEST_FILE, Listed, Measured, Part, Plain,
     Strings16, Then,
 };
+pub use progress::Progress;
 pub use slice_reader::SliceReader;
 pub use stream_reader::StreamReader;

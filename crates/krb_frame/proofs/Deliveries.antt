@@ -14,7 +14,7 @@ use Rattle.krb_frame.specs.Frame.{framed, frame_length}
 use Rattle.krb_frame.specs.GoingOn.{Entry, Contents, Fault, Skipping, GoesOn, FeedsAfter, IsClear, ClearsEntry, GivesUp, Skips, entries_size, rest_to_come}
 use Rattle.krb_frame.specs.inner.Deliveries.{Completes, CompletesEntry, CompletesWith, DeliversFrame, DeliversNext, DeliversOne}
 use Rattle.krb_frame.specs.inner.Phases.{HasFrame}
-use Rattle.krb_frame.specs.inner.Wholes.{BeginWith}
+use Rattle.krb_frame.specs.Wholes.{BeginWith}
 use Rattle.krb_frame.specs.declared.delivery.Next.{Next}
 use Rattle.krb_frame.specs.declared.delivery.Next.TheVariants as next
 use Rattle.krb_frame.specs.declared.decoder.Fed.{Fed}
@@ -80,7 +80,7 @@ module _ (old new : Skipping) (piece : List ℕ) (fed : Fed) (f : FeedsAfter (me
           omega (arith, n, some, fed_within, length-take fed.used piece)
 
 -- ---- several frames
-all_both : (P : Entry → Type 0) (xs ys : List Entry) → AllByRecursion P xs → AllByRecursion P ys → AllByRecursion P (xs ++ ys)
+pub all_both : (P : Entry → Type 0) (xs ys : List Entry) → AllByRecursion P xs → AllByRecursion P ys → AllByRecursion P (xs ++ ys)
 all_both P [] ys p q = q
 all_both P (x ∷ xs) ys p q = (p.0, all_both P xs ys p.1 q)
 
@@ -88,12 +88,12 @@ all_parts : (P : Entry → Type 0) (xs ys : List Entry) → AllByRecursion P (xs
 all_parts P [] ys p = (tt, p)
 all_parts P (x ∷ xs) ys p = let others = all_parts P xs ys p.1 in ((p.0, others.0), others.1)
 
-contents_in-append : (xs ys : List Entry) → contents_in (xs ++ ys) ≡ contents_in xs ++ contents_in ys
+pub contents_in-append : (xs ys : List Entry) → contents_in (xs ++ ys) ≡ contents_in xs ++ contents_in ys
 contents_in-append [] ys = refl
 contents_in-append (Contents contents ∷ xs) ys = ap (λ l. contents ∷ l) (contents_in-append xs ys)
 contents_in-append (Fault place reason prefix ∷ xs) ys = contents_in-append xs ys
 
-entries_size-append : (xs ys : List Entry) → entries_size (xs ++ ys) ≡ entries_size xs + entries_size ys
+pub entries_size-append : (xs ys : List Entry) → entries_size (xs ++ ys) ≡ entries_size xs + entries_size ys
 entries_size-append [] ys = omega arith
 entries_size-append (x ∷ xs) ys = omega (arith, entries_size-append xs ys)
 

@@ -266,6 +266,8 @@ entries-waiting messages s stream before g w =
 -- A frame is refused whose length is not known: whatever comes, it is the last one.
 pub record IsLast (messages : List Term) (s : Skipping) (stream : List ℕ) (before : List Entry) : Type 0 where
   pub end : (found messages s.current).end ≡ Refused 3 why.HighBit
+  pub four : length s.current.octets ≡ 3 + 1
+  pub big : 2 ^ 31 ≤ number (take 4 s.current.octets)
   pub last : (more : List ℕ) → entries messages s.current.limit (stream ++ more) ≡ before ++ Fault 3 why.HighBit s.current.octets ∷ []
 
 unknown_length : (size used : ℕ) → rest_of size used ≡ None → 2 ^ 31 ≤ size
@@ -281,10 +283,12 @@ pub entries-last : (messages : List Term) (s : Skipping) (stream : List ℕ) (be
 unfolding found
 entries-last messages s stream before refusal g st none = record {
   end = ap (λ x. x.end) high;
+  four = four_octets;
+  big = big;
   last = λ more.
       g.goes_on more
       ∙ ap (λ n. before ++ entries messages d.limit (d.octets ++ drop n more)) (nothing_skipped messages s g.alone four)
-      ∙ ap (λ l. before ++ l) (entries-unknown messages d.limit d.octets 3 why.HighBit four last high big more);
+      ∙ ap (λ l. before ++ l) (entries-unknown messages d.limit d.octets 3 why.HighBit four four_octets high big more);
 }
   where
     d : Decoding
@@ -307,5 +311,5 @@ entries-last messages s stream before refusal g st none = record {
     high : frames messages d.limit d.octets ≡ ends (Refused 3 why.HighBit)
     high = frames-high messages d.limit d.octets n four refl big
 
-    last : length d.octets ≡ 3 + 1
-    last = subst (λ x. AreOfOne d.octets x.contents x.end) high g.one
+    four_octets : length d.octets ≡ 3 + 1
+    four_octets = subst (λ x. AreOfOne d.octets x.contents x.end) high g.one

@@ -16,7 +16,7 @@ use Rattle.krb_frame.specs.Decoded.{HasDecoded, after_frames}
 use Rattle.krb_frame.specs.Frame.{framed, frame_length, length_fault}
 use Rattle.krb_frame.specs.GoingOn.{Entry, Contents, GoesOn, IsClear, Skipping, entries}
 use Rattle.krb_frame.specs.inner.Phases.{HasFrame}
-use Rattle.krb_frame.specs.inner.Wholes.{BeginWith}
+use Rattle.krb_frame.specs.Wholes.{BeginWith}
 use Rattle.krb_frame.proofs.DecoderFrames.{found-frame, from_be_bytes-number}
 use Rattle.krb_frame.proofs.Feeding.{counted-more}
 use Rattle.krb_frame.proofs.GoingOn.{entries-frame}

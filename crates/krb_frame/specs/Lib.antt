@@ -2,6 +2,7 @@ pub mod Decoding
 pub mod Decoded
 pub mod Feeds
 pub mod Frame
+pub mod Wholes
 pub mod GoingOn
 pub mod Deliveries
 pub mod Calls

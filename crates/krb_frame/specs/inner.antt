@@ -1,3 +1,2 @@
 pub mod Phases
-pub mod Wholes
 pub mod Deliveries

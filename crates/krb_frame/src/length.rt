@@ -6,7 +6,7 @@ ghost use Rattle.krb_frame.specs.Frame.{length_fault};
 use krb_der::{Limit, Why};
 
 /// The bit of a frame's length that is reserved (RFC 4120, 7.2.2).
-pub(crate) const HIGH_BIT: u32 = 1 << 31;
+pub const HIGH_BIT: u32 = 1 << 31;
 
 /// Returns why the length of a frame is refused, if it is (RFC 4120, 7.2.2): its high bit is set
 /// (`HighBit`), or it is greater than the limit (`TooLong`), or 0 (`Empty`), in this order.

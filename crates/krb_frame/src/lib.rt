@@ -9,7 +9,8 @@
 //!   [`SkippingDecoder`] has the calls above, too.
 //! - [`SkippingDecoder::deliver`] delivers the frames of a piece to a [`Receiver`], one after
 //!   another, with or without going on after a refusal, and copies none that lies in the piece.
-//! - [`frame`] returns a message as a frame; [`length_fault`] says why a length is refused.
+//! - [`frame`] returns a message as a frame; [`length_fault`] says why a length is refused, and
+//!   [`first_frame`] returns the frame with which octets begin, whatever its contents are.
 //!
 //! Nothing here reads or writes: the caller has the pieces. A decoder keeps at most the octets of
 //! one frame, and no frame may be longer than its [`Limit`]. Why octets of a message are refused is
@@ -36,6 +37,7 @@ pub use delivery::Delivered;
 pub use framed::Framed;
 pub use framing::frame;
 pub use krb_der::Limit;
-pub use length::length_fault;
+pub use length::{HIGH_BIT, length_fault};
 pub use receiver::Receiver;
 pub use skipping::SkippingDecoder;
+pub use whole::{WholeFrame, first_frame};

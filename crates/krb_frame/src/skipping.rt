@@ -32,7 +32,7 @@ ghost use Rattle.krb_frame.specs.Decoded.{HasDecoded};
 ghost use Rattle.krb_frame.specs.Decoding.{borrowed, finish_of};
 ghost use Rattle.krb_frame.specs.GoingOn.{Contents, GoesOn, FeedsAfter, IsClear, ClearsEntry, Skips};
 ghost use Rattle.krb_frame.specs.inner.Deliveries.{CompletesEntry};
-ghost use Rattle.krb_frame.specs.inner.Wholes.{BeginWith, HaveNoFrame};
+ghost use Rattle.krb_frame.specs.Wholes.{BeginWith, HaveNoFrame};
 
 impl SkippingDecoder {
     /// Goes on with the stream that a decoder has decoded.

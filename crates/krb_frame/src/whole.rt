@@ -1,7 +1,7 @@
 //! Frames that lie whole in a piece of a stream.
 
 ghost use Rattle.std.specs.Prelude.{MatchOption};
-ghost use Rattle.krb_frame.specs.inner.Wholes.{BeginWith, HaveNoFrame};
+ghost use Rattle.krb_frame.specs.Wholes.{BeginWith, HaveNoFrame};
 
 use crate::decoder::LENGTH_OCTETS;
 use crate::length::length_fault;
@@ -9,16 +9,16 @@ use krb_der::Limit;
 
 /// A frame that is all there, whose length is accepted.
 #[derive(Clone, Copy)]
-pub(crate) struct WholeFrame<'p> {
+pub struct WholeFrame<'p> {
     /// Its contents, which may be no message.
-    pub(crate) contents: &'p [u8],
+    pub contents: &'p [u8],
     /// The octets after the frame.
-    pub(crate) rest: &'p [u8],
+    pub rest: &'p [u8],
 }
 
 /// Returns the frame with which octets begin, if it is all there and its length is accepted.
 #[inline(always)]
-pub(crate) fn first_frame(limit: Limit, octets: &[u8]) -> Option<WholeFrame<'_>>
+pub fn first_frame(limit: Limit, octets: &[u8]) -> Option<WholeFrame<'_>>
     ensures { MatchOption result (HaveNoFrame limit octets.now) (λ frame. BeginWith limit octets.now frame.contents.now frame.rest.now) }
 {
     let (announced, after) = octets.split_first_chunk::<LENGTH_OCTETS>()?;

@@ -1,5 +1,5 @@
 -- A record is read to its end: no octet that was fetched for it stays ahead.
-use Rattle.std.proofs.Common.{◌≡◌, ℕ, ◌+◌, ◌≤◌, Bool, ℤ, pos, negsuc, Result, Ok, Err, [], ◌∷◌, ◌∙◌, ap, subst, arith}
+use Rattle.std.proofs.Common.{◌≡◌, ℕ, ◌+◌, ◌≤◌, Bool, false, ℤ, pos, negsuc, Result, Ok, Err, [], ◌∷◌, ◌∙◌, ap, subst, arith}
 use Rattle.std.proofs.lemmas.Int.{to_z-of_z}
 use Rattle.std.specs.Int.RustNames.{FitsSigned}
 use lib.IntN.{nat_abs}
@@ -15,7 +15,7 @@ use Rattle.krb_file.proofs.Reaching.{ToEnd, ToEnd-then, ToEnd-made, ToEnd-called
 use Rattle.krb_keytab.specs.declared.value.Entry.{Entry}
 use Rattle.krb_keytab.specs.Reading.{entry_at, content_size, announced_by, announced}
 use Rattle.krb_keytab.specs.Streaming.{announced_after, announced_in}
-use Rattle.krb_keytab.specs.declared.records.State.TheVariants as states
+use Rattle.krb_file.specs.declared.progress.Progress.TheVariants as states
 
 ToEnd-entry : ToEnd entry_at
 ToEnd-entry =
@@ -103,12 +103,12 @@ version_least : (read : Result (ℕ × Source) Fault) (bounds : Bounds) → 2 �
 version_least (Err fault) bounds = omega arith
 version_least (Ok read) bounds = omega arith
 
-pub version_keeps : (old new : Cursor) → FetchesTo (old.place + 2) old new → FetchesToAnnounced (announced_in states.Start) old new
-version_keeps old new within = keeps_least (announced_in states.Start) 2 old new (λ bounds s. version_least (version_at (2 ∷ []) bounds s) bounds) within
+pub version_keeps : (old new : Cursor) → FetchesTo (old.place + 2) old new → FetchesToAnnounced (announced_in (states.Open false)) old new
+version_keeps old new within = keeps_least (announced_in (states.Open false)) 2 old new (λ bounds s. version_least (version_at (2 ∷ []) bounds s) bounds) within
 
-pub opened_keeps : (version : ℕ) (old mid new : Cursor) → HasRead (version_at (2 ∷ [])) version old mid → Stays old mid → FetchesToAnnounced announced mid new → FetchesToAnnounced (announced_in states.Start) old new
+pub opened_keeps : (version : ℕ) (old mid new : Cursor) → HasRead (version_at (2 ∷ [])) version old mid → Stays old mid → FetchesToAnnounced announced mid new → FetchesToAnnounced (announced_in (states.Open false)) old new
 opened_keeps version old mid new read stays keeps =
-    keeps_then (announced_in states.Start) announced 2 (version_at (2 ∷ [])) version old mid new read stays
+    keeps_then (announced_in (states.Open false)) announced 2 (version_at (2 ∷ [])) version old mid new read stays
     (goes_to 2 (version_at (2 ∷ [])) version old mid (Exactly-version (2 ∷ [])) read)
     (λ bounds s t e. ap (λ (r : Result (ℕ × Source) Fault). announced_after r bounds) e) keeps
 

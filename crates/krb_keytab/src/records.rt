@@ -1,33 +1,20 @@
 //! Reading keytabs record by record.
 
-ghost use Rattle.std.specs.Prelude.{◌≡◌, ℕ, List, [], Some, Ok, Err, IfErr, OnOk, OnErr};
+ghost use Rattle.std.specs.Prelude.{◌≡◌, ℕ, true, List, [], Some, Ok, Err, IfErr, OnOk, OnErr};
 ghost use Rattle.krb_file.specs.Fields.{IsStreamFaultIn};
 ghost use Rattle.krb_file.specs.FieldReaders.{Stays, FetchesToAnnounced};
 ghost use Rattle.krb_keytab.specs.Reading.{announced};
 ghost use Rattle.krb_keytab.specs.declared.value.Stop.{Stop as StopValue};
 ghost use Rattle.krb_keytab.specs.declared.reading.Next.TheVariants as nexts;
-ghost use Rattle.krb_keytab.specs.declared.records.State.TheVariants as states;
 ghost use Rattle.krb_file.specs.declared.fault.FileFault.{FileFault as FaultValue};
+ghost use Rattle.krb_file.specs.declared.progress.Progress.TheVariants as states;
 ghost use Rattle.krb_keytab.specs.Streaming.{Reads, ReturnsNext, announced_in};
 
 use crate::reading::{Next, record};
 use crate::value::{Entry, Record, Stop};
-use krb_file::{FieldReader, FileFault, Limit, StreamReader};
+use krb_file::{FieldReader, FileFault, Limit, Progress, StreamReader};
 use std::alloc::Global;
 use std::io::Read;
-
-/// The progress of a reader of records. It is public for contracts alone.
-#[derive(Clone, Copy)]
-pub enum State {
-    /// Nothing was read.
-    Start,
-    /// The version was read, and any number of records.
-    Open,
-    /// The records ended.
-    Done(Stop),
-    /// There was a fault.
-    Failed(FileFault),
-}
 
 /// A reader of the records of a keytab, one after another. It reads no octet after the record that
 /// it returns and, at a fault, none after the end of the record by its length. It keeps no record
@@ -35,7 +22,8 @@ pub enum State {
 #[derive(Drop)]
 pub struct Records<R: Read> {
     reader: StreamReader<R>,
-    state: State,
+    /// While it is open it keeps whether the version was read.
+    state: Progress<bool, Stop>,
 }
 
 impl<R: Read> Records<R> {
@@ -49,7 +37,7 @@ impl<R: Read> Records<R> {
         let reader = StreamReader::new(reader, limit);
         Records {
             reader,
-            state: State::Start,
+            state: Progress::Open(false),
         }
     }
 
@@ -74,16 +62,16 @@ impl<R: Read> Records<R> {
         ensures fails { IfErr result (λ fault. self.new.state ≡ states.Failed fault) }
     {
         match self.state {
-            State::Start => match self.reader.version(&[2]) {
+            Progress::Open(has_begun) if has_begun => self.read_next(alloc),
+            Progress::Open(_) => match self.reader.version(&[2]) {
                 Ok(_) => self.read_next(alloc),
                 Err(fault) => {
-                    self.state = State::Failed(fault);
+                    self.state = Progress::Failed(fault);
                     Err(fault)
                 }
             },
-            State::Open => self.read_next(alloc),
-            State::Done(stop) => Ok(Next::Done(stop)),
-            State::Failed(fault) => Err(fault),
+            Progress::Done(stop) => Ok(Next::Done(stop)),
+            Progress::Failed(fault) => Err(fault),
         }
     }
 
@@ -109,7 +97,7 @@ impl<R: Read> Records<R> {
 
     /// Returns the next record after the version.
     fn read_next(&mut self, alloc: Global) -> Result<Next, FileFault>
-        ensures next { (file : List ℕ) (limit : ℕ) (given : ℕ) → Reads (Some limit) self.old.reader states.Open file given → ReturnsNext (Some limit) file given result self.new.reader self.new.state }
+        ensures next { (file : List ℕ) (limit : ℕ) (given : ℕ) → Reads (Some limit) self.old.reader (states.Open true) file given → ReturnsNext (Some limit) file given result self.new.reader self.new.state }
         ensures stays { OnOk result (Stays self.old.reader self.new.reader) }
         ensures announced { OnErr result (FetchesToAnnounced announced self.old.reader self.new.reader) }
         ensures ends { (stop : StopValue) → result ≡ Ok (nexts.Done stop) → self.new.state ≡ states.Done stop }
@@ -118,16 +106,16 @@ impl<R: Read> Records<R> {
         let begin = self.reader.place();
         match record(alloc, &mut self.reader) {
             Ok(Next::Item(item)) => {
-                self.state = State::Open;
+                self.state = Progress::Open(true);
                 Ok(Next::Item(item))
             }
             Ok(Next::Done(stop)) => {
-                self.state = State::Done(stop);
+                self.state = Progress::Done(stop);
                 Ok(Next::Done(stop))
             }
             Err(fault) => {
                 let fault = fault.begun_at(begin);
-                self.state = State::Failed(fault);
+                self.state = Progress::Failed(fault);
                 Err(fault)
             }
         }

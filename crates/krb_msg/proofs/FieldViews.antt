@@ -1,5 +1,5 @@
 -- Views of fields, of items and of scalars.
-use Rattle.std.proofs.Common.{◌≡◌, ℕ, get_or, ◌+◌, ◌<◌, ◌≤◌, ℤ, pos, negsuc, true, false, not, List, [], ◌∷◌, ◌++◌, length, Option, Some, None, MatchOption, refl, sym, ap, ◌∙◌, subst, arith, eq-eqb, eqb-true}
+use Rattle.std.proofs.Common.{◌≡◌, ℕ, get_or, ◌+◌, ◌<◌, ◌≤◌, ℤ, pos, negsuc, true, false, not, List, [], ◌∷◌, ◌++◌, length, Option, Some, None, MatchOption, IfSome, refl, sym, ap, ◌∙◌, subst, arith, eq-eqb, eqb-true}
 use Rattle.std.specs.Prelude.{◌≤ℤ◌}
 use Rattle.std.proofs.lemmas.Bool.{not-true, true≢false}
 use Rattle.std.proofs.lemmas.Int.{ints}
@@ -24,6 +24,15 @@ match_map (Some a) P P' Q Q' f g m = g a m
 pub match_both : {A : Type 0} (o : Option A) (P P' : Type 0) (Q Q' R : A → Type 0) → (P → P') → ((a : A) → Q a → Q' a) → ((a : A) → Q a → R a) → MatchOption o P Q → MatchOption o P' (λ a. Q' a × R a)
 match_both None P P' Q Q' R f g h m = f m
 match_both (Some a) P P' Q Q' R f g h m = (g a m, h a m)
+
+-- of a result that is there alone
+pub match_some : {A : Type 0} (o : Option A) (P : Type 0) (Q Q' : A → Type 0) → ((a : A) → Q a → Q' a) → MatchOption o P Q → IfSome o Q'
+match_some None P Q Q' f m = tt
+match_some (Some a) P Q Q' f m = f a m
+
+pub match_some_more : {A : Type 0} (o : Option A) (Q Q' : A → Type 0) → ((a : A) → Q a → Q' a) → IfSome o Q → IfSome o Q'
+match_some_more None Q Q' f m = tt
+match_some_more (Some a) Q Q' f m = f a m
 
 pub match_none : {A : Type 0} (o : Option A) (P : Type 0) (Q : A → Type 0) → o ≡ None → P → MatchOption o P Q
 match_none o P Q e p = subst (λ r. MatchOption r P Q) (sym e) p

@@ -20,15 +20,6 @@ pub is_length : (first size : ℕ) (digits rest octets : List ℕ) → AreOctets
 is_length first size digits rest octets a f p h n large e =
     rw (f, e, n, length_octets-long (number digits) (omega (arith, n, large)), spelled-number 256 digits (omega arith) a (shortest digits a p h)) refl
 
--- a length of two digits
-pub is_two_length : (first size : ℕ) (octets : List ℕ) → AreOctets octets → 2 ≤ length octets → first ≡ 130 → get_or octets 0 0 ≢ 0 → size ≡ get_or octets 0 0 * 256 + get_or octets 1 0 → first ∷ octets ≡ length_octets size ++ take (length octets - 2) (drop 2 octets)
-is_two_length first size [] a h f lead n = absurd (omega (arith, h))
-is_two_length first size (high ∷ []) a h f lead n = absurd (omega (arith, h))
-is_two_length first size (high ∷ low ∷ octets) a h f lead n =
-    let e : suc (suc (length octets)) - 2 ≡ length octets = omega arith in
-    let rest : octets ≡ take (suc (suc (length octets)) - 2) octets = sym (ap (λ k. take k octets) e ∙ take_all (length octets) octets (omega arith)) in
-    is_length first size (high ∷ low ∷ []) (take (suc (suc (length octets)) - 2) octets) (high ∷ low ∷ octets) (a.0, (a.1.0, tt)) f (omega arith) lead (omega (arith, n)) (omega (arith, n, lead)) (ap (λ l. high ∷ low ∷ l) rest)
-
 -- ---- and one that is not
 -- the parts of a long length
 pub record LongLength (first : ℕ) (octets : List ℕ) (size : ℕ) (rest : List ℕ) : Type 0 where
@@ -121,6 +112,26 @@ long_not tag first octet octets others contents size e f short inner rest i =
 pub long_is : (tag first octet : ℕ) (octets others contents : List ℕ) (size : ℕ) → octets ≡ first ∷ octet ∷ others → first ≡ tag → octet ∷ others ≡ length_octets size ++ contents → (prefix suffix : List ℕ) → length prefix ≡ size → contents ≡ prefix ++ suffix → octets ≡ item tag prefix ++ suffix
 long_is tag first octet octets others contents size e t f prefix suffix n c =
     e ∙ ap (λ o. o ∷ octet ∷ others) t ∙ is_item tag octet size others prefix suffix contents f c n
+
+-- an item whose length has three octets, and one whose length has two
+pub is_wide : (tag size : ℕ) (octets : List ℕ) → AreOctets octets → 4 ≤ length octets → get_or octets 0 0 ≡ tag → get_or octets 1 0 ≡ 130 → get_or octets 2 0 ≢ 0 → size ≡ get_or octets 2 0 * 256 + get_or octets 3 0 → (prefix suffix : List ℕ) → length prefix ≡ size → take (length octets - 4) (drop 4 octets) ≡ prefix ++ suffix → octets ≡ item tag prefix ++ suffix
+is_wide tag size [] a h t f lead n prefix suffix k c = absurd (omega (arith, h))
+is_wide tag size (first ∷ []) a h t f lead n prefix suffix k c = absurd (omega (arith, h))
+is_wide tag size (first ∷ form ∷ []) a h t f lead n prefix suffix k c = absurd (omega (arith, h))
+is_wide tag size (first ∷ form ∷ high ∷ []) a h t f lead n prefix suffix k c = absurd (omega (arith, h))
+is_wide tag size (first ∷ form ∷ high ∷ low ∷ rest) a h t f lead n prefix suffix k c =
+    let e : suc (suc (suc (suc (length rest)))) - 4 ≡ length rest = omega arith in
+    let l = is_length form size (high ∷ low ∷ []) rest (high ∷ low ∷ rest) (a.1.1.0, (a.1.1.1.0, tt)) f (omega arith) lead (omega (arith, n)) (omega (arith, n, lead)) refl in
+    ap (λ o. o ∷ form ∷ high ∷ low ∷ rest) t ∙ is_item tag form size (high ∷ low ∷ rest) prefix suffix rest l (sym (ap (λ m. take m rest) e ∙ take_all (length rest) rest (omega arith)) ∙ c) k
+
+pub is_less_wide : (tag size : ℕ) (octets : List ℕ) → AreOctets octets → 3 ≤ length octets → get_or octets 0 0 ≡ tag → get_or octets 1 0 ≡ 129 → 128 ≤ size → size ≡ get_or octets 2 0 → (prefix suffix : List ℕ) → length prefix ≡ size → take (length octets - 3) (drop 3 octets) ≡ prefix ++ suffix → octets ≡ item tag prefix ++ suffix
+is_less_wide tag size [] a h t f large n prefix suffix k c = absurd (omega (arith, h))
+is_less_wide tag size (first ∷ []) a h t f large n prefix suffix k c = absurd (omega (arith, h))
+is_less_wide tag size (first ∷ form ∷ []) a h t f large n prefix suffix k c = absurd (omega (arith, h))
+is_less_wide tag size (first ∷ form ∷ digit ∷ rest) a h t f large n prefix suffix k c =
+    let e : suc (suc (suc (length rest))) - 3 ≡ length rest = omega arith in
+    let l = is_length form size (digit ∷ []) rest (digit ∷ rest) (a.1.1.0, tt) f (omega arith) (omega (arith, n, large)) (omega (arith, n)) large refl in
+    ap (λ o. o ∷ form ∷ digit ∷ rest) t ∙ is_item tag form size (digit ∷ rest) prefix suffix rest l (sym (ap (λ m. take m rest) e ∙ take_all (length rest) rest (omega arith)) ∙ c) k
 
 -- ---- where contents are, by what is before them
 is_head : (form_of : List ℕ → List ℕ) (octets prefix contents rest : List ℕ) (before size : ℕ) → form_of contents ≡ prefix ++ contents → octets ≡ form_of contents ++ rest → before + length contents + length rest ≡ length octets → size ≡ length contents → IsHead form_of octets before size

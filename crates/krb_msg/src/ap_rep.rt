@@ -88,20 +88,6 @@ impl Noted for ApRep {
     }
 }
 
-/// The views of its fields.
-type Seen<'a> = (EncryptedDataView<'a>, ());
-
-impl<'a> ApRepView<'a> {
-    /// Returns the view by the views of the fields.
-    #[inline(always)]
-    fn of_fields(seen: &Seen<'a>) -> ApRepView<'a>
-        ensures value { ap_rep_view_value result ≡ ⟦<Layout<Owned> as View<'static>>⟧.value seen.now }
-        ensures lists { ⟦<Layout<Owned> as View<'static>>⟧.IsValid seen.now → IsValidApRep result }
-    {
-        ApRepView { enc_part: seen.0 }
-    }
-}
-
 impl<'a> View<'a> for ApRep {
     type Of = ApRepView<'a>;
 
@@ -120,10 +106,10 @@ impl<'a> View<'a> for ApRep {
 
     #[inline(always)]
     fn view(contents: &'a [u8]) -> Option<ApRepView<'a>> {
-        let Some(seen) = Layout::<Owned>::view(contents) else {
+        let Some((enc_part, ())) = Layout::<Owned>::view(contents) else {
             return None;
         };
-        Some(ApRepView::of_fields(&seen))
+        Some(ApRepView { enc_part })
     }
 }
 

@@ -119,24 +119,6 @@ impl Noted for ApReq {
     }
 }
 
-/// The views of its fields.
-type Seen<'a> = (FlagsView<'a>, (TicketView<'a>, (EncryptedDataView<'a>, ())));
-
-impl<'a> ApReqView<'a> {
-    /// Returns the view by the views of the fields.
-    #[inline(always)]
-    fn of_fields(seen: &Seen<'a>) -> ApReqView<'a>
-        ensures value { ap_req_view_value result ≡ ⟦<Layout<Owned> as View<'static>>⟧.value seen.now }
-        ensures lists { ⟦<Layout<Owned> as View<'static>>⟧.IsValid seen.now → IsValidApReq result }
-    {
-        ApReqView {
-            ap_options: seen.0,
-            ticket: seen.1.0,
-            authenticator: seen.1.1.0,
-        }
-    }
-}
-
 impl<'a> View<'a> for ApReq {
     type Of = ApReqView<'a>;
 
@@ -155,10 +137,15 @@ impl<'a> View<'a> for ApReq {
 
     #[inline(always)]
     fn view(contents: &'a [u8]) -> Option<ApReqView<'a>> {
-        let Some(seen) = Layout::<Owned>::view(contents) else {
+        let Some((ap_options, (ticket, (authenticator, ())))) = Layout::<Owned>::view(contents)
+        else {
             return None;
         };
-        Some(ApReqView::of_fields(&seen))
+        Some(ApReqView {
+            ap_options,
+            ticket,
+            authenticator,
+        })
     }
 }
 

@@ -15,7 +15,7 @@ use crate::copying::{FromView, copy_item_option};
 use crate::encrypted_data::{EncryptedData, EncryptedDataView};
 use crate::fields::{
     Application, Borrowed, Encode, End, FieldOf, Fixed, Noted, NotedView, Optional, Owned,
-    Required, Sequence, View, optional_notes, optional_view_notes,
+    Required, Sequence, optional_notes, optional_view_notes,
 };
 use crate::notes::{Notes, any_of};
 use crate::pa_data::PaData;
@@ -146,10 +146,18 @@ impl KdcRep {
         requires tags { has_octet_tags (ApplicationTerm N (kdc_rep N)) ≡ true }
         ensures { MatchOption result (IsNotWhole (ApplicationTerm N (kdc_rep N)) octets.now) (λ seen. IsViewOf (ApplicationTerm N (kdc_rep N)) octets.now (kdc_rep_view_value N seen) × IsValidKdcRep seen) }
     {
-        let Some(seen) = view_whole::<Layout<Owned, N>>(octets) else {
+        let Some((padata, (crealm, (cname, (ticket, (enc_part, ())))))) = view_whole::<
+            Layout<Owned, N>,
+        >(octets) else {
             return None;
         };
-        Some(KdcRepView::of_fields::<N>(&seen))
+        Some(KdcRepView {
+            padata,
+            crealm,
+            cname,
+            ticket,
+            enc_part,
+        })
     }
 
     /// Returns the value of a view of a message. Nothing is judged again, and each string of octets
@@ -169,34 +177,7 @@ impl KdcRep {
     }
 }
 
-/// The views of its fields.
-type Seen<'a> = (
-    Option<ItemsView<'a>>,
-    (
-        &'a [u8],
-        (
-            PrincipalNameView<'a>,
-            (TicketView<'a>, (EncryptedDataView<'a>, ())),
-        ),
-    ),
-);
-
 impl<'a> KdcRepView<'a> {
-    /// Returns the view by the views of the fields.
-    #[inline(always)]
-    fn of_fields<const N: u8>(seen: &Seen<'a>) -> KdcRepView<'a>
-        ensures value { kdc_rep_view_value N result ≡ ⟦<Layout<Owned, N> as View<'static>>⟧.value seen.now }
-        ensures lists { ⟦<Layout<Owned, N> as View<'static>>⟧.IsValid seen.now → IsValidKdcRep result }
-    {
-        KdcRepView {
-            padata: seen.0,
-            crealm: seen.1.0,
-            cname: seen.1.1.0,
-            ticket: seen.1.1.1.0,
-            enc_part: seen.1.1.1.1.0,
-        }
-    }
-
     /// Returns the notes that hold in a message.
     pub(crate) fn notes<const N: u8>(&self) -> Notes
         requires { IsValidKdcRep self.now }

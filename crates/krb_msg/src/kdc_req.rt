@@ -14,7 +14,7 @@ ghost use Rattle.krb_msg.specs.inner.Fitting.{IsSized};
 use crate::copying::{FromView, copy_item_option};
 use crate::fields::{
     Application, Borrowed, Encode, End, FieldOf, Fixed, Noted, NotedView, Optional, Owned,
-    Required, Sequence, View, optional_notes, optional_view_notes,
+    Required, Sequence, optional_notes, optional_view_notes,
 };
 use crate::kdc_req_body::{KdcReqBody, KdcReqBodyView};
 use crate::notes::{Notes, any_of};
@@ -105,10 +105,10 @@ impl KdcReq {
         requires tags { has_octet_tags (ApplicationTerm N (kdc_req N)) ≡ true }
         ensures { MatchOption result (IsNotWhole (ApplicationTerm N (kdc_req N)) octets.now) (λ seen. IsViewOf (ApplicationTerm N (kdc_req N)) octets.now (kdc_req_view_value N seen) × IsValidKdcReq seen) }
     {
-        let Some(seen) = view_whole::<Layout<Owned, N>>(octets) else {
+        let Some((padata, (body, ()))) = view_whole::<Layout<Owned, N>>(octets) else {
             return None;
         };
-        Some(KdcReqView::of_fields::<N>(&seen))
+        Some(KdcReqView { padata, body })
     }
 
     /// Returns the value of a view of a message. Nothing is judged again, and each string of octets
@@ -125,22 +125,7 @@ impl KdcReq {
     }
 }
 
-/// The views of its fields.
-type Seen<'a> = (Option<ItemsView<'a>>, (KdcReqBodyView<'a>, ()));
-
 impl<'a> KdcReqView<'a> {
-    /// Returns the view by the views of the fields.
-    #[inline(always)]
-    fn of_fields<const N: u8>(seen: &Seen<'a>) -> KdcReqView<'a>
-        ensures value { kdc_req_view_value N result ≡ ⟦<Layout<Owned, N> as View<'static>>⟧.value seen.now }
-        ensures lists { ⟦<Layout<Owned, N> as View<'static>>⟧.IsValid seen.now → IsValidKdcReq result }
-    {
-        KdcReqView {
-            padata: seen.0,
-            body: seen.1.0,
-        }
-    }
-
     /// Returns the notes that hold in a message.
     pub(crate) fn notes<const N: u8>(&self) -> Notes
         requires { IsValidKdcReq self.now }

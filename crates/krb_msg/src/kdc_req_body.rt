@@ -249,54 +249,6 @@ pub struct RestView<'a> {
     additional_tickets: Option<ItemsView<'a>>,
 }
 
-/// The views of these fields.
-type RestSeen<'a> = (
-    Option<&'a [u8]>,
-    (
-        i64,
-        (
-            ItemsView<'a>,
-            (
-                Option<ItemsView<'a>>,
-                (Option<EncryptedDataView<'a>>, (Option<ItemsView<'a>>, ())),
-            ),
-        ),
-    ),
-);
-
-/// The views of all fields.
-type Seen<'a> = (
-    FlagsView<'a>,
-    (
-        Option<PrincipalNameView<'a>>,
-        (
-            &'a [u8],
-            (
-                Option<PrincipalNameView<'a>>,
-                (Option<&'a [u8]>, (&'a [u8], RestView<'a>)),
-            ),
-        ),
-    ),
-);
-
-impl<'a> RestView<'a> {
-    /// Returns the view by the views of the fields.
-    #[inline(always)]
-    fn of_fields(seen: &RestSeen<'a>) -> RestView<'a>
-        ensures values { ⟦<Cut<Rest<Owned>> as ViewFields<'static>>⟧.values result ≡ ⟦<Rest<Owned> as ViewFields<'static>>⟧.values seen.now }
-        ensures lists { ⟦<Rest<Owned> as ViewFields<'static>>⟧.IsValid seen.now → ⟦<Cut<Rest<Owned>> as ViewFields<'static>>⟧.IsValid result }
-    {
-        RestView {
-            rtime: seen.0,
-            nonce: seen.1.0,
-            etype: seen.1.1.0,
-            addresses: seen.1.1.1.0,
-            enc_authorization_data: seen.1.1.1.1.0,
-            additional_tickets: seen.1.1.1.1.1.0,
-        }
-    }
-}
-
 impl<'a> ViewFields<'a> for Cut<Rest<Owned>> {
     type Of = RestView<'a>;
 
@@ -308,35 +260,22 @@ impl<'a> ViewFields<'a> for Cut<Rest<Owned>> {
 
     #[inline(always)]
     fn view_fields(octets: &'a [u8]) -> Option<RestView<'a>> {
-        let Some(seen) = Rest::<Owned>::view_fields(octets) else {
+        let Some(
+            (
+                rtime,
+                (nonce, (etype, (addresses, (enc_authorization_data, (additional_tickets, ()))))),
+            ),
+        ) = Rest::<Owned>::view_fields(octets) else {
             return None;
         };
-        Some(RestView::of_fields(&seen))
-    }
-}
-
-impl<'a> KdcReqBodyView<'a> {
-    /// Returns the view by the views of the fields.
-    #[inline(always)]
-    fn of_fields(seen: &Seen<'a>) -> KdcReqBodyView<'a>
-        ensures value { kdc_req_body_view_value result ≡ ⟦<Layout<Owned> as View<'static>>⟧.value seen.now }
-        ensures lists { ⟦<Layout<Owned> as View<'static>>⟧.IsValid seen.now → IsValidKdcReqBody result }
-    {
-        let rest = &seen.1.1.1.1.1.1;
-        KdcReqBodyView {
-            kdc_options: seen.0,
-            cname: seen.1.0,
-            realm: seen.1.1.0,
-            sname: seen.1.1.1.0,
-            from: seen.1.1.1.1.0,
-            till: seen.1.1.1.1.1.0,
-            rtime: rest.rtime,
-            nonce: rest.nonce,
-            etype: rest.etype,
-            addresses: rest.addresses,
-            enc_authorization_data: rest.enc_authorization_data,
-            additional_tickets: rest.additional_tickets,
-        }
+        Some(RestView {
+            rtime,
+            nonce,
+            etype,
+            addresses,
+            enc_authorization_data,
+            additional_tickets,
+        })
     }
 }
 
@@ -358,10 +297,25 @@ impl<'a> View<'a> for KdcReqBody {
 
     #[inline(always)]
     fn view(contents: &'a [u8]) -> Option<KdcReqBodyView<'a>> {
-        let Some(seen) = Layout::<Owned>::view(contents) else {
+        let Some((kdc_options, (cname, (realm, (sname, (from, (till, rest))))))) = Layout::<
+            Owned,
+        >::view(contents) else {
             return None;
         };
-        Some(KdcReqBodyView::of_fields(&seen))
+        Some(KdcReqBodyView {
+            kdc_options,
+            cname,
+            realm,
+            sname,
+            from,
+            till,
+            rtime: rest.rtime,
+            nonce: rest.nonce,
+            etype: rest.etype,
+            addresses: rest.addresses,
+            enc_authorization_data: rest.enc_authorization_data,
+            additional_tickets: rest.additional_tickets,
+        })
     }
 }
 

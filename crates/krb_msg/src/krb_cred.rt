@@ -104,23 +104,6 @@ impl Noted for KrbCred {
     }
 }
 
-/// The views of its fields.
-type Seen<'a> = (ItemsView<'a>, (EncryptedDataView<'a>, ()));
-
-impl<'a> KrbCredView<'a> {
-    /// Returns the view by the views of the fields.
-    #[inline(always)]
-    fn of_fields(seen: &Seen<'a>) -> KrbCredView<'a>
-        ensures value { krb_cred_view_value result ≡ ⟦<Layout<Owned> as View<'static>>⟧.value seen.now }
-        ensures lists { ⟦<Layout<Owned> as View<'static>>⟧.IsValid seen.now → IsValidKrbCred result }
-    {
-        KrbCredView {
-            tickets: seen.0,
-            enc_part: seen.1.0,
-        }
-    }
-}
-
 impl<'a> View<'a> for KrbCred {
     type Of = KrbCredView<'a>;
 
@@ -139,10 +122,10 @@ impl<'a> View<'a> for KrbCred {
 
     #[inline(always)]
     fn view(contents: &'a [u8]) -> Option<KrbCredView<'a>> {
-        let Some(seen) = Layout::<Owned>::view(contents) else {
+        let Some((tickets, (enc_part, ()))) = Layout::<Owned>::view(contents) else {
             return None;
         };
-        Some(KrbCredView::of_fields(&seen))
+        Some(KrbCredView { tickets, enc_part })
     }
 }
 

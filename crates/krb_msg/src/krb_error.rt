@@ -235,45 +235,6 @@ pub struct RestView<'a> {
     e_data: Option<&'a [u8]>,
 }
 
-/// The views of these fields.
-type RestSeen<'a> = (
-    Option<&'a [u8]>,
-    (
-        Option<PrincipalNameView<'a>>,
-        (
-            &'a [u8],
-            (
-                PrincipalNameView<'a>,
-                (Option<&'a [u8]>, (Option<&'a [u8]>, ())),
-            ),
-        ),
-    ),
-);
-
-/// The views of all fields.
-type Seen<'a> = (
-    Option<&'a [u8]>,
-    (Option<i64>, (&'a [u8], (i64, (i64, RestView<'a>)))),
-);
-
-impl<'a> RestView<'a> {
-    /// Returns the view by the views of the fields.
-    #[inline(always)]
-    fn of_fields(seen: &RestSeen<'a>) -> RestView<'a>
-        ensures values { ⟦<Cut<Rest<Owned>> as ViewFields<'static>>⟧.values result ≡ ⟦<Rest<Owned> as ViewFields<'static>>⟧.values seen.now }
-        ensures lists { ⟦<Rest<Owned> as ViewFields<'static>>⟧.IsValid seen.now → ⟦<Cut<Rest<Owned>> as ViewFields<'static>>⟧.IsValid result }
-    {
-        RestView {
-            crealm: seen.0,
-            cname: seen.1.0,
-            realm: seen.1.1.0,
-            sname: seen.1.1.1.0,
-            e_text: seen.1.1.1.1.0,
-            e_data: seen.1.1.1.1.1.0,
-        }
-    }
-}
-
 impl<'a> ViewFields<'a> for Cut<Rest<Owned>> {
     type Of = RestView<'a>;
 
@@ -285,34 +246,19 @@ impl<'a> ViewFields<'a> for Cut<Rest<Owned>> {
 
     #[inline(always)]
     fn view_fields(octets: &'a [u8]) -> Option<RestView<'a>> {
-        let Some(seen) = Rest::<Owned>::view_fields(octets) else {
+        let Some((crealm, (cname, (realm, (sname, (e_text, (e_data, ()))))))) = Rest::<
+            Owned,
+        >::view_fields(octets) else {
             return None;
         };
-        Some(RestView::of_fields(&seen))
-    }
-}
-
-impl<'a> KrbErrorView<'a> {
-    /// Returns the view by the views of the fields.
-    #[inline(always)]
-    fn of_fields(seen: &Seen<'a>) -> KrbErrorView<'a>
-        ensures value { krb_error_view_value result ≡ ⟦<Layout<Owned> as View<'static>>⟧.value seen.now }
-        ensures lists { ⟦<Layout<Owned> as View<'static>>⟧.IsValid seen.now → IsValidKrbError result }
-    {
-        let rest = &seen.1.1.1.1.1;
-        KrbErrorView {
-            ctime: seen.0,
-            cusec: seen.1.0,
-            stime: seen.1.1.0,
-            susec: seen.1.1.1.0,
-            error_code: seen.1.1.1.1.0,
-            crealm: rest.crealm,
-            cname: rest.cname,
-            realm: rest.realm,
-            sname: rest.sname,
-            e_text: rest.e_text,
-            e_data: rest.e_data,
-        }
+        Some(RestView {
+            crealm,
+            cname,
+            realm,
+            sname,
+            e_text,
+            e_data,
+        })
     }
 }
 
@@ -334,10 +280,24 @@ impl<'a> View<'a> for KrbError {
 
     #[inline(always)]
     fn view(contents: &'a [u8]) -> Option<KrbErrorView<'a>> {
-        let Some(seen) = Layout::<Owned>::view(contents) else {
+        let Some((ctime, (cusec, (stime, (susec, (error_code, rest)))))) = Layout::<Owned>::view(
+            contents,
+        ) else {
             return None;
         };
-        Some(KrbErrorView::of_fields(&seen))
+        Some(KrbErrorView {
+            ctime,
+            cusec,
+            stime,
+            susec,
+            error_code,
+            crealm: rest.crealm,
+            cname: rest.cname,
+            realm: rest.realm,
+            sname: rest.sname,
+            e_text: rest.e_text,
+            e_data: rest.e_data,
+        })
     }
 }
 

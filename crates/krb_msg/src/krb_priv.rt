@@ -88,20 +88,6 @@ impl Noted for KrbPriv {
     }
 }
 
-/// The views of its fields.
-type Seen<'a> = (EncryptedDataView<'a>, ());
-
-impl<'a> KrbPrivView<'a> {
-    /// Returns the view by the views of the fields.
-    #[inline(always)]
-    fn of_fields(seen: &Seen<'a>) -> KrbPrivView<'a>
-        ensures value { krb_priv_view_value result ≡ ⟦<Layout<Owned> as View<'static>>⟧.value seen.now }
-        ensures lists { ⟦<Layout<Owned> as View<'static>>⟧.IsValid seen.now → IsValidKrbPriv result }
-    {
-        KrbPrivView { enc_part: seen.0 }
-    }
-}
-
 impl<'a> View<'a> for KrbPriv {
     type Of = KrbPrivView<'a>;
 
@@ -120,10 +106,10 @@ impl<'a> View<'a> for KrbPriv {
 
     #[inline(always)]
     fn view(contents: &'a [u8]) -> Option<KrbPrivView<'a>> {
-        let Some(seen) = Layout::<Owned>::view(contents) else {
+        let Some((enc_part, ())) = Layout::<Owned>::view(contents) else {
             return None;
         };
-        Some(KrbPrivView::of_fields(&seen))
+        Some(KrbPrivView { enc_part })
     }
 }
 

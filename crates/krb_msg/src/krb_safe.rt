@@ -103,23 +103,6 @@ impl Noted for KrbSafe {
     }
 }
 
-/// The views of its fields.
-type Seen<'a> = (KrbSafeBodyView<'a>, (ChecksumView<'a>, ()));
-
-impl<'a> KrbSafeView<'a> {
-    /// Returns the view by the views of the fields.
-    #[inline(always)]
-    fn of_fields(seen: &Seen<'a>) -> KrbSafeView<'a>
-        ensures value { krb_safe_view_value result ≡ ⟦<Layout<Owned> as View<'static>>⟧.value seen.now }
-        ensures lists { ⟦<Layout<Owned> as View<'static>>⟧.IsValid seen.now → IsValidKrbSafe result }
-    {
-        KrbSafeView {
-            body: seen.0,
-            cksum: seen.1.0,
-        }
-    }
-}
-
 impl<'a> View<'a> for KrbSafe {
     type Of = KrbSafeView<'a>;
 
@@ -138,10 +121,10 @@ impl<'a> View<'a> for KrbSafe {
 
     #[inline(always)]
     fn view(contents: &'a [u8]) -> Option<KrbSafeView<'a>> {
-        let Some(seen) = Layout::<Owned>::view(contents) else {
+        let Some((body, (cksum, ()))) = Layout::<Owned>::view(contents) else {
             return None;
         };
-        Some(KrbSafeView::of_fields(&seen))
+        Some(KrbSafeView { body, cksum })
     }
 }
 

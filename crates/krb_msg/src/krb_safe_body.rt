@@ -139,39 +139,6 @@ impl Noted for KrbSafeBody {
     }
 }
 
-/// The views of its fields.
-type Seen<'a> = (
-    &'a [u8],
-    (
-        Option<&'a [u8]>,
-        (
-            Option<i64>,
-            (
-                Option<i64>,
-                (HostAddressView<'a>, (Option<HostAddressView<'a>>, ())),
-            ),
-        ),
-    ),
-);
-
-impl<'a> KrbSafeBodyView<'a> {
-    /// Returns the view by the views of the fields.
-    #[inline(always)]
-    fn of_fields(seen: &Seen<'a>) -> KrbSafeBodyView<'a>
-        ensures value { krb_safe_body_view_value result ≡ ⟦<Layout<Owned> as View<'static>>⟧.value seen.now }
-        ensures lists { ⟦<Layout<Owned> as View<'static>>⟧.IsValid seen.now → IsValidKrbSafeBody result }
-    {
-        KrbSafeBodyView {
-            user_data: seen.0,
-            timestamp: seen.1.0,
-            usec: seen.1.1.0,
-            seq_number: seen.1.1.1.0,
-            s_address: seen.1.1.1.1.0,
-            r_address: seen.1.1.1.1.1.0,
-        }
-    }
-}
-
 impl<'a> View<'a> for KrbSafeBody {
     type Of = KrbSafeBodyView<'a>;
 
@@ -190,10 +157,18 @@ impl<'a> View<'a> for KrbSafeBody {
 
     #[inline(always)]
     fn view(contents: &'a [u8]) -> Option<KrbSafeBodyView<'a>> {
-        let Some(seen) = Layout::<Owned>::view(contents) else {
+        let Some((user_data, (timestamp, (usec, (seq_number, (s_address, (r_address, ()))))))) =
+            Layout::<Owned>::view(contents) else {
             return None;
         };
-        Some(KrbSafeBodyView::of_fields(&seen))
+        Some(KrbSafeBodyView {
+            user_data,
+            timestamp,
+            usec,
+            seq_number,
+            s_address,
+            r_address,
+        })
     }
 }
 

@@ -6,7 +6,6 @@ ghost use Rattle.krb_der.specs.declared.profile.Profile.TheVariants.{Lenient};
 ghost use Rattle.krb_msg.specs.Notes.{notes_of};
 ghost use Rattle.krb_msg.specs.Realm.{realm_of};
 ghost use Rattle.krb_msg.specs.Views.{IsInProfile, kind_of};
-ghost use Rattle.krb_msg.specs.declared.message.Kind.TheVariants as kind;
 ghost use Rattle.krb_msg.specs.ViewValues.{BeginAs, IsMessageView, IsNoMessage, IsValidMessage, message_of_view};
 
 use crate::ap_rep::{ApRep, ApRepView};
@@ -144,125 +143,15 @@ pub(crate) fn view_of_kind(kind: Kind, octets: &[u8]) -> Option<MessageView<'_>>
     ensures { MatchOption result (IsNoMessage octets.now) (λ m. IsMessageView octets.now m) }
 {
     match kind {
-        Kind::AsReq => view_as_req(octets),
-        Kind::AsRep => view_as_rep(octets),
-        Kind::TgsReq => view_tgs_req(octets),
-        Kind::TgsRep => view_tgs_rep(octets),
-        Kind::ApReq => view_ap_req(octets),
-        Kind::ApRep => view_ap_rep(octets),
-        Kind::KrbSafe => view_krb_safe(octets),
-        Kind::KrbPriv => view_krb_priv(octets),
-        Kind::KrbCred => view_krb_cred(octets),
-        Kind::KrbError => view_krb_error(octets),
+        Kind::AsReq => Some(MessageView::AsReq(AsReqKind::view(octets)?)),
+        Kind::AsRep => Some(MessageView::AsRep(AsRepKind::view(octets)?)),
+        Kind::TgsReq => Some(MessageView::TgsReq(TgsReqKind::view(octets)?)),
+        Kind::TgsRep => Some(MessageView::TgsRep(TgsRepKind::view(octets)?)),
+        Kind::ApReq => Some(MessageView::ApReq(ApReqKind::view(octets)?)),
+        Kind::ApRep => Some(MessageView::ApRep(ApRepKind::view(octets)?)),
+        Kind::KrbSafe => Some(MessageView::KrbSafe(KrbSafeKind::view(octets)?)),
+        Kind::KrbPriv => Some(MessageView::KrbPriv(KrbPrivKind::view(octets)?)),
+        Kind::KrbCred => Some(MessageView::KrbCred(KrbCredKind::view(octets)?)),
+        Kind::KrbError => Some(MessageView::KrbError(KrbErrorKind::view(octets)?)),
     }
-}
-
-/// Returns a view of the AS-REQ that octets are, if they are one.
-fn view_as_req(octets: &[u8]) -> Option<MessageView<'_>>
-    requires { BeginAs kind.AsReq octets.now }
-    ensures { MatchOption result (IsNoMessage octets.now) (λ m. IsMessageView octets.now m) }
-{
-    let Some(m) = AsReqKind::view(octets) else {
-        return None;
-    };
-    Some(MessageView::AsReq(m))
-}
-
-/// Returns a view of the AS-REP that octets are, if they are one.
-fn view_as_rep(octets: &[u8]) -> Option<MessageView<'_>>
-    requires { BeginAs kind.AsRep octets.now }
-    ensures { MatchOption result (IsNoMessage octets.now) (λ m. IsMessageView octets.now m) }
-{
-    let Some(m) = AsRepKind::view(octets) else {
-        return None;
-    };
-    Some(MessageView::AsRep(m))
-}
-
-/// Returns a view of the TGS-REQ that octets are, if they are one.
-fn view_tgs_req(octets: &[u8]) -> Option<MessageView<'_>>
-    requires { BeginAs kind.TgsReq octets.now }
-    ensures { MatchOption result (IsNoMessage octets.now) (λ m. IsMessageView octets.now m) }
-{
-    let Some(m) = TgsReqKind::view(octets) else {
-        return None;
-    };
-    Some(MessageView::TgsReq(m))
-}
-
-/// Returns a view of the TGS-REP that octets are, if they are one.
-fn view_tgs_rep(octets: &[u8]) -> Option<MessageView<'_>>
-    requires { BeginAs kind.TgsRep octets.now }
-    ensures { MatchOption result (IsNoMessage octets.now) (λ m. IsMessageView octets.now m) }
-{
-    let Some(m) = TgsRepKind::view(octets) else {
-        return None;
-    };
-    Some(MessageView::TgsRep(m))
-}
-
-/// Returns a view of the AP-REQ that octets are, if they are one.
-fn view_ap_req(octets: &[u8]) -> Option<MessageView<'_>>
-    requires { BeginAs kind.ApReq octets.now }
-    ensures { MatchOption result (IsNoMessage octets.now) (λ m. IsMessageView octets.now m) }
-{
-    let Some(m) = ApReqKind::view(octets) else {
-        return None;
-    };
-    Some(MessageView::ApReq(m))
-}
-
-/// Returns a view of the AP-REP that octets are, if they are one.
-fn view_ap_rep(octets: &[u8]) -> Option<MessageView<'_>>
-    requires { BeginAs kind.ApRep octets.now }
-    ensures { MatchOption result (IsNoMessage octets.now) (λ m. IsMessageView octets.now m) }
-{
-    let Some(m) = ApRepKind::view(octets) else {
-        return None;
-    };
-    Some(MessageView::ApRep(m))
-}
-
-/// Returns a view of the KRB-SAFE that octets are, if they are one.
-fn view_krb_safe(octets: &[u8]) -> Option<MessageView<'_>>
-    requires { BeginAs kind.KrbSafe octets.now }
-    ensures { MatchOption result (IsNoMessage octets.now) (λ m. IsMessageView octets.now m) }
-{
-    let Some(m) = KrbSafeKind::view(octets) else {
-        return None;
-    };
-    Some(MessageView::KrbSafe(m))
-}
-
-/// Returns a view of the KRB-PRIV that octets are, if they are one.
-fn view_krb_priv(octets: &[u8]) -> Option<MessageView<'_>>
-    requires { BeginAs kind.KrbPriv octets.now }
-    ensures { MatchOption result (IsNoMessage octets.now) (λ m. IsMessageView octets.now m) }
-{
-    let Some(m) = KrbPrivKind::view(octets) else {
-        return None;
-    };
-    Some(MessageView::KrbPriv(m))
-}
-
-/// Returns a view of the KRB-CRED that octets are, if they are one.
-fn view_krb_cred(octets: &[u8]) -> Option<MessageView<'_>>
-    requires { BeginAs kind.KrbCred octets.now }
-    ensures { MatchOption result (IsNoMessage octets.now) (λ m. IsMessageView octets.now m) }
-{
-    let Some(m) = KrbCredKind::view(octets) else {
-        return None;
-    };
-    Some(MessageView::KrbCred(m))
-}
-
-/// Returns a view of the KRB-ERROR that octets are, if they are one.
-fn view_krb_error(octets: &[u8]) -> Option<MessageView<'_>>
-    requires { BeginAs kind.KrbError octets.now }
-    ensures { MatchOption result (IsNoMessage octets.now) (λ m. IsMessageView octets.now m) }
-{
-    let Some(m) = KrbErrorKind::view(octets) else {
-        return None;
-    };
-    Some(MessageView::KrbError(m))
 }

@@ -89,6 +89,20 @@ impl Noted for PrincipalName {
     }
 }
 
+impl<'a> PrincipalNameView<'a> {
+    /// Returns a view of the item with these contents, if they are contents of one, by a call.
+    #[inline(never)]
+    fn of_contents(contents: &'a [u8]) -> Option<PrincipalNameView<'a>>
+        requires { length contents.now < 2 ^ 31 }
+        ensures { MatchOption result (AreNoContents principal_name contents.now) (λ seen. AreContents principal_name contents.now (principal_name_view_value seen) × IsValidPrincipalName seen) }
+    {
+        let Some((name_type, (name, ()))) = Layout::<Owned>::view(contents) else {
+            return None;
+        };
+        Some(PrincipalNameView { name_type, name })
+    }
+}
+
 impl<'a> View<'a> for PrincipalName {
     type Of = PrincipalNameView<'a>;
 
@@ -105,12 +119,18 @@ impl<'a> View<'a> for PrincipalName {
         0x30
     }
 
-    #[inline(never)]
+    #[inline(always)]
     fn view(contents: &'a [u8]) -> Option<PrincipalNameView<'a>> {
-        let Some((name_type, (name, ()))) = Layout::<Owned>::view(contents) else {
+        let Some(seen) = PrincipalNameView::of_contents(contents) else {
             return None;
         };
-        Some(PrincipalNameView { name_type, name })
+        // Word by word: what a call returned whole stays in memory, and words go to registers.
+        Some(PrincipalNameView {
+            name_type: seen.name_type,
+            name: ItemsView {
+                octets: &*seen.name.octets,
+            },
+        })
     }
 }
 

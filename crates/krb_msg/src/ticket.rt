@@ -113,27 +113,6 @@ impl Noted for Ticket {
     }
 }
 
-/// The views of its fields.
-type Seen<'a> = (
-    &'a [u8],
-    (PrincipalNameView<'a>, (EncryptedDataView<'a>, ())),
-);
-
-impl<'a> TicketView<'a> {
-    /// Returns the view by the views of the fields.
-    #[inline(always)]
-    fn of_fields(seen: &Seen<'a>) -> TicketView<'a>
-        ensures value { ticket_view_value result ≡ ⟦<Layout<Owned> as View<'static>>⟧.value seen.now }
-        ensures lists { ⟦<Layout<Owned> as View<'static>>⟧.IsValid seen.now → IsValidTicket result }
-    {
-        TicketView {
-            realm: seen.0,
-            sname: seen.1.0,
-            enc_part: seen.1.1.0,
-        }
-    }
-}
-
 impl<'a> View<'a> for Ticket {
     type Of = TicketView<'a>;
 
@@ -152,10 +131,14 @@ impl<'a> View<'a> for Ticket {
 
     #[inline(always)]
     fn view(contents: &'a [u8]) -> Option<TicketView<'a>> {
-        let Some(seen) = Layout::<Owned>::view(contents) else {
+        let Some((realm, (sname, (enc_part, ())))) = Layout::<Owned>::view(contents) else {
             return None;
         };
-        Some(TicketView::of_fields(&seen))
+        Some(TicketView {
+            realm,
+            sname,
+            enc_part,
+        })
     }
 }
 

@@ -4,6 +4,8 @@ use Rattle.krb_file.specs.Fields.{Source, Fault, limited, and_then, succeed, sou
 use Rattle.krb_file.specs.FieldReaders.{Cursor, HasRead, FailsBy}
 use Rattle.krb_file.specs.Items.{IsItem, EndsBy, FailsAfter}
 use Rattle.krb_file.specs.declared.fault.FileFault.{FileFault}
+use Rattle.krb_file.specs.declared.progress.Progress.{Progress}
+use Rattle.krb_file.specs.declared.progress.Progress.TheVariants as states
 use Rattle.krb_file.proofs.Items.{goes_on, item_given, end_given as items-end_given, fault_given as items-fault_given, gave_none, fault_in_file}
 use Rattle.krb_packet.specs.declared.packet.Packet.{Packet}
 use Rattle.krb_packet.specs.declared.format.Format.{Format}
@@ -11,11 +13,9 @@ use Rattle.krb_packet.specs.declared.format.Format.TheVariants as formats
 use Rattle.krb_packet.specs.declared.format.Next.{Next}
 use Rattle.krb_packet.specs.declared.format.Next.TheVariants as nexts
 use Rattle.krb_packet.specs.declared.pcap.Header.{Header}
-use Rattle.krb_packet.specs.declared.packets.State.{State}
-use Rattle.krb_packet.specs.declared.packets.State.TheVariants as states
 use Rattle.krb_packet.specs.Pcaps.{most_captured}
 use Rattle.krb_packet.specs.Captures.{packet_in, after_packet, next_in, Packets, packets_from, packets_within, packets_after, packets}
-use Rattle.krb_packet.specs.Streaming.{PacketsModel, Reads, ReadsFrom, ReturnsNext}
+use Rattle.krb_packet.specs.Streaming.{PacketsModel, Reads, ReturnsNext}
 use Rattle.krb_packet.proofs.InFile.{Within, later, Stops-step}
 use Rattle.krb_packet.proofs.Steps.{step_advances}
 use Rattle.krb_packet.proofs.Stepwise.{after_read, after-step}
@@ -53,15 +53,19 @@ pcap_step header count packet old new read = record {
   from = λ rest there. let a = read.from rest there in (a.0, a.1, ap (λ (r : Result (Option Packet × Source) Fault). and_then r (λ x. succeed (after_packet header x.0) old.bounds x.1)) a.2);
 }
 
+-- the same where the progress is known
+pub reads_as : (file : List ℕ) (count : ℕ) (model : PacketsModel) (state : Progress Format (Unit {0})) → model.state ≡ state → Reads model file count → Reads (record model { state = state }) file count
+reads_as file count model state is reads = subst (λ (s : Progress Format (Unit {0})). Reads (record model { state = s }) file count) is reads
+
 pub pcap_reads : (file : List ℕ) (count : ℕ) (header : Header) (model : PacketsModel) → model.state ≡ states.Open (formats.Pcap header) → Reads model file count → Reads (opening model.cursor (formats.Pcap header) model.count) file count
-pcap_reads file count header model is reads = subst (λ (s : State). ReadsFrom s model file count) is reads
+pcap_reads file count header model is reads = reads_as file count model (states.Open (formats.Pcap header)) is reads
 
 pub pcap_given : (file : List ℕ) (count : ℕ) (header : Header) (old new : PacketsModel) (x : Packet) → old.state ≡ states.Open (formats.Pcap header) → new.state ≡ old.state → new.count ≡ old.count + 1 → Reads old file count → HasRead (packet_in header old.count) (Some x) old.cursor new.cursor
     → IsItem (packets file) count x × Reads new file (suc count)
 pcap_given file count header old new x is same more reads read =
     let format = formats.Pcap header in
     let given = packet_given file count old.count format old.cursor (pcap_reads file count header old is reads) format x new.cursor (pcap_step header old.count (Some x) old.cursor new.cursor read) in
-    (given.0, subst (λ (s : State). ReadsFrom s new file (suc count)) (sym (same ∙ is)) (subst (λ (n : ℕ). Reads (opening new.cursor format n) file (suc count)) (sym more) given.1))
+    (given.0, rw (same ∙ is) (subst (λ (n : ℕ). Reads (opening new.cursor format n) file (suc count)) (sym more) given.1))
 
 -- ---- a refusal is at a place of the file or at its end
 from_within : (count : ℕ) (s : Source) (read : Result (Next × Source) Fault) (others : Format → ℕ → Source → Packets) (f : Fault)

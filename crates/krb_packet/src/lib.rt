@@ -38,6 +38,6 @@ pub use fragments::{Fragments, Reassembled};
 pub use interface::{Clock, Interface};
 pub use order::ByteOrder;
 pub use packet::{LinkType, Packet, Time, contents_of};
-pub use packets::{Packets, State};
+pub use packets::Packets;
 pub use payload::Payload;
 pub use pcap::{Form, Header, Precision};

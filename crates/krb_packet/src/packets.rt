@@ -3,29 +3,19 @@
 use crate::format::{Format, Next, next_step, packet};
 use crate::packet::Packet;
 use crate::pcap::{Header, MOST_CAPTURED};
-use krb_file::{FieldReader, FileFault, Limit, StreamReader};
+use krb_file::{FieldReader, FileFault, Limit, Progress, StreamReader};
 use std::alloc::Global;
 use std::io::Read;
 use std::marker::Model;
 use std::mem::replace;
-
-/// The progress of a reader of packets. It is public for contracts alone.
-#[derive(Drop)]
-pub enum State {
-    /// The file was read so far.
-    Open(Format),
-    /// The file ended.
-    Done,
-    /// There was a fault.
-    Failed(FileFault),
-}
 
 /// A reader of the packets of a capture file, one after another. It reads no octet after the
 /// packet that it returns, keeps none that it returned, and allocates by the octets that came.
 #[derive(Drop)]
 pub struct Packets<R: Read> {
     reader: StreamReader<R>,
-    state: State,
+    /// While it is open it keeps what was read of the format.
+    state: Progress<Format, ()>,
     /// How many packets were returned.
     count: u64,
 }
@@ -44,7 +34,7 @@ impl<R: Read> Model for Packets<R> {
 ghost use Rattle.std.specs.Prelude.{◌≡◌, ◌≤◌, ℕ, List, [], Some, None, Ok, Err, IfErr, IfSome, OnOk};
 ghost use Rattle.krb_file.specs.FieldReaders.{Stays};
 ghost use Rattle.krb_file.specs.Fields.{IsStreamFaultIn};
-ghost use Rattle.krb_packet.specs.declared.packets.State.TheVariants as states;
+ghost use Rattle.krb_file.specs.declared.progress.Progress.TheVariants as states;
 ghost use Rattle.krb_packet.specs.declared.format.Format.TheVariants as formats;
 ghost use Rattle.krb_file.specs.declared.fault.FileFault.{FileFault as FaultValue};
 ghost use Rattle.krb_packet.specs.Captures.{blocks_of};
@@ -60,7 +50,7 @@ impl<R: Read> Packets<R> {
         let limit = Limit::new(MOST_CAPTURED).unwrap();
         Packets {
             reader: StreamReader::new(reader, limit),
-            state: State::Open(Format::Unknown),
+            state: Progress::Open(Format::Unknown),
             count: 0,
         }
     }
@@ -75,20 +65,20 @@ impl<R: Read> Packets<R> {
         ensures refused { (file : List ℕ) (given : ℕ) → Reads self.old file given → IfErr result (IsStreamFaultIn file) }
         // No octet after what is returned was read, if none was read ahead before.
         ensures fetched { OnOk result (self.old.cursor.ahead ≡ [] → self.new.cursor.ahead ≡ []) }
-        ensures ends { result ≡ Ok None → self.new.state ≡ states.Done }
+        ensures ends { result ≡ Ok None → self.new.state ≡ states.Done (tt {0}) }
         ensures fails { IfErr result (λ fault. self.new.state ≡ states.Failed fault) }
         // After the end or a fault nothing more is read.
-        ensures ended { self.old.state ≡ states.Done → (result ≡ Ok None) × (self.new ≡ self.old) }
+        ensures ended { self.old.state ≡ states.Done (tt {0}) → (result ≡ Ok None) × (self.new ≡ self.old) }
         ensures failed { (fault : FaultValue) → self.old.state ≡ states.Failed fault → (result ≡ Err fault) × (self.new ≡ self.old) }
     {
         if let Some(header) = self.pcap_header() {
             return self.read_captured(header, alloc);
         }
-        match replace(&mut self.state, State::Done) {
-            State::Open(format) => self.read_next(format, alloc),
-            State::Done => Ok(None),
-            State::Failed(fault) => {
-                self.state = State::Failed(fault);
+        match replace(&mut self.state, Progress::Done(())) {
+            Progress::Open(format) => self.read_next(format, alloc),
+            Progress::Done(()) => Ok(None),
+            Progress::Failed(fault) => {
+                self.state = Progress::Failed(fault);
                 Err(fault)
             }
         }
@@ -108,7 +98,7 @@ impl<R: Read> Packets<R> {
         ensures { IfSome result (λ header. self.now.state ≡ states.Open (formats.Pcap header)) }
     {
         match &self.state {
-            State::Open(Format::Pcap(header)) => Some(*header),
+            Progress::Open(Format::Pcap(header)) => Some(*header),
             _ => None,
         }
     }
@@ -120,15 +110,15 @@ impl<R: Read> Packets<R> {
         requires { self.old.state ≡ states.Open (formats.Pcap header) }
         ensures next { (file : List ℕ) (given : ℕ) → Reads self.old file given → ReturnsNext file given result self.new }
         ensures stays { OnOk result (Stays self.old.cursor self.new.cursor) }
-        ensures ends { result ≡ Ok None → self.new.state ≡ states.Done }
+        ensures ends { result ≡ Ok None → self.new.state ≡ states.Done (tt {0}) }
         ensures fails { IfErr result (λ fault. self.new.state ≡ states.Failed fault) }
     {
         let start = self.reader.place();
         let read = packet(alloc, header, self.count, start, &mut self.reader);
         match &read {
             Ok(Some(_)) => self.count += 1,
-            Ok(None) => self.state = State::Done,
-            Err(fault) => self.state = State::Failed(*fault),
+            Ok(None) => self.state = Progress::Done(()),
+            Err(fault) => self.state = Progress::Failed(*fault),
         }
         read
     }
@@ -139,7 +129,7 @@ impl<R: Read> Packets<R> {
         requires { blocks_of format ≤ self.old.cursor.place }
         ensures next { (file : List ℕ) (given : ℕ) → Reads (record self.old { state = states.Open format }) file given → ReturnsNext file given result self.new }
         ensures stays { OnOk result (Stays self.old.cursor self.new.cursor) }
-        ensures ends { result ≡ Ok None → self.new.state ≡ states.Done }
+        ensures ends { result ≡ Ok None → self.new.state ≡ states.Done (tt {0}) }
         ensures fails { IfErr result (λ fault. self.new.state ≡ states.Failed fault) }
     {
         let mut format = format;
@@ -147,16 +137,16 @@ impl<R: Read> Packets<R> {
             match next_step(alloc, format, self.count, &mut self.reader) {
                 Ok(Next::NoPacket(passed)) => format = passed,
                 Ok(Next::Packet(packet, after)) => {
-                    self.state = State::Open(after);
+                    self.state = Progress::Open(after);
                     self.count += 1;
                     return Ok(Some(packet));
                 }
                 Ok(Next::End) => {
-                    self.state = State::Done;
+                    self.state = Progress::Done(());
                     return Ok(None);
                 }
                 Err(fault) => {
-                    self.state = State::Failed(fault);
+                    self.state = Progress::Failed(fault);
                     return Err(fault);
                 }
             }

@@ -14,6 +14,7 @@ ghost use Rattle.krb_text.specs.Values.{Named, Number, if_there, principal, encr
 ghost use Rattle.krb_text.specs.inner.Parts.{Tells, separator};
 
 use crate::field::put_closing;
+use crate::flags::FlagBits;
 use crate::form::Form;
 use crate::number::Numbered;
 use crate::part::{Clear, PartPlace, put_part_opening, view_judged};
@@ -21,7 +22,7 @@ use crate::put_field;
 use crate::record::HasRecord;
 use crate::shown::QuotedText;
 use crate::text_buffer::TextBuffer;
-use crate::viewed::{ABSENT, flags_of, optional_hex, optional_quoted, principal_of};
+use crate::viewed::{ABSENT, optional_hex, optional_quoted, principal_of};
 use krb_msg::{ApReq, ApReqView, EncryptedData, EncryptedDataView, Ticket};
 use krb_padata::{
     EtypeInfo2Entry, EtypeInfoEntry, KrbFastArmorView, PaForUser, PaFxFastReply, PaFxFastRequest,
@@ -121,7 +122,7 @@ impl<'a> Clear<'a> for PaPacOptions {
     #[tactic(auto, unfolding(crate::specs::Forms::part_text))]
     fn put_part(text: &mut TextBuffer, at: PartPlace, seen: &Self::Of) -> Result<(), AllocError> {
         put_part_opening(text, at, "PA-PAC-OPTIONS")?;
-        put_field!(text, at.form, "options": &flags_of(Registry::PacOptions, &seen.flags))?;
+        put_field!(text, at.form, "options": &FlagBits(Registry::PacOptions, &seen.flags))?;
         put_closing(text, at.form)
     }
 }

@@ -143,7 +143,6 @@ fn are_ends_plain(octets: &[u8], in_json: bool) -> bool
 
 /// Returns whether no octet needs an escape. Each is looked at, which costs less than to stop at
 /// the first that needs one: nearly none does.
-#[inline(never)]
 fn are_each_plain(octets: &[u8], in_json: bool) -> bool
     ensures { result ≡ list_all (is_plain_in in_json) octets.now }
 {
@@ -188,7 +187,7 @@ fn two_digits(octet: u8) -> [u8; 2]
 
 /// Returns the digits of four octets.
 #[inline(always)]
-fn eight_digits(octets: &[u8; 4]) -> [u8; 8]
+pub(crate) fn eight_digits(octets: &[u8; 4]) -> [u8; 8]
     ensures digits { result ≡ hex octets.now }
     ensures ascii { IsAscii result }
 {
@@ -245,6 +244,19 @@ fn put_each(line: &mut TextBuffer, octets: &[u8]) -> Result<(), AllocError>
     Ok(())
 }
 
+/// Appends fewer than 4 octets, or more than 32, each escaped if it needs to be.
+#[inline(never)]
+#[tactic(auto, using(crate::proofs::Escapes::escape_plain, crate::proofs::Escapes::ascii_plain))]
+fn put_any(line: &mut TextBuffer, octets: &[u8]) -> Result<(), AllocError>
+    ensures { OnOk result (line.new ≡ line.old ++ escape octets.now) }
+{
+    if are_each_plain(octets, false) {
+        line.push_ascii(octets)
+    } else {
+        put_each(line, octets)
+    }
+}
+
 /// Appends octets: 21 to 7E but `/`, `@` and `\` as they are, each other as `\x` and two
 /// hexadecimal digits in lower case. Different octets have different texts.
 #[inline(always)]
@@ -252,10 +264,12 @@ fn put_each(line: &mut TextBuffer, octets: &[u8]) -> Result<(), AllocError>
 pub fn put_escaped(line: &mut TextBuffer, octets: &[u8]) -> Result<(), AllocError>
     ensures { OnOk result (line.new ≡ line.old ++ escape octets.now) }
 {
-    // Nearly all names are plain, and one copy is faster than octet by octet.
-    if are_plain(octets, false) {
-        line.push_ascii(octets)
-    } else {
-        put_each(line, octets)
+    // An arm for each way to look at octets and copy them, so that one test chooses both.
+    match octets.len() {
+        4..8 if are_plain(octets, false) => line.push_ascii(octets),
+        8..16 if are_plain(octets, false) => line.push_ascii(octets),
+        16..=32 if are_plain(octets, false) => line.push_ascii(octets),
+        4..=32 => put_each(line, octets),
+        _ => put_any(line, octets),
     }
 }

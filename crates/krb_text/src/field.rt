@@ -46,10 +46,12 @@ pub fn put_field<T: Shown>(
 ) -> Result<(), AllocError>
     ensures { OnOk result (text.new ≡ text.old ++ labelled form label.now begin.now (T.shown value.now)) }
 {
-    match form {
-        Form::Lines => value.put_labelled(text, label, false),
-        Form::NamedLines => value.put_labelled(text, label, true),
-        Form::Json => value.put_members(text, begin),
+    match form.names() {
+        None => value.put_members(text, begin),
+        Some(names) => {
+            text.push_str(label)?;
+            value.put_text(text, names)
+        }
     }
 }
 

@@ -2,16 +2,18 @@
 
 ghost use Rattle.std.specs.Prelude.{◌≡◌, ◌++◌, ◌-◌, ◌*◌, ◌==◌, [], ◌∷◌, decimal, length, not, map, codes, true, MatchOption, OnOk};
 ghost use Rattle.std.specs.List.{flat_map, list_all};
+ghost use Rattle.krb_msg.specs.Basic.{flags_of_view};
 ghost use Rattle.krb_registry.specs.Rows.{number_and_name, rows};
 ghost use Rattle.krb_text.specs.Forms.{flags_object, is_set, json_character, named_flags_text, named_in, octet_at, plus_text, set_names, unnamed};
 ghost use Rattle.krb_text.specs.Text.{hex, joined, list_text};
 ghost use Rattle.krb_text.specs.Values.{Flags};
 ghost use Rattle.krb_text.specs.inner.Flags.{are_plain, name_item, names_set};
 
-use crate::escape::put_hex;
+use crate::escape::{eight_digits, put_hex};
 use crate::json::put_plain_string;
 use crate::shown::{Shown, put_begin};
 use crate::text_buffer::TextBuffer;
+use krb_msg::FlagsView;
 use krb_registry::{Registry, Row, rows};
 use std::alloc::AllocError;
 
@@ -212,13 +214,9 @@ fn put_name_list(
     object.push_str("]")
 }
 
-/// Flags of a registry: their octets, and how many low bits of the last octet are unused.
+/// Flags of a registry that are viewed.
 #[derive(Clone, Copy)]
-pub(crate) struct FlagBits<'a> {
-    pub(crate) registry: Registry,
-    pub(crate) unused: u8,
-    pub(crate) octets: &'a [u8],
-}
+pub(crate) struct FlagBits<'a>(pub(crate) Registry, pub(crate) &'a FlagsView<'a>);
 
 /// Appends how many flags there are.
 fn put_count(text: &mut TextBuffer, unused: u8, octets: &[u8]) -> Result<(), AllocError>
@@ -250,36 +248,51 @@ pub(crate) fn put_flags_object(
     object.push_str("}")
 }
 
+/// Appends the number of flags, `:` and their octets in hexadecimal, if they are four octets.
+#[inline(always)]
+fn put_32_bits(line: &mut TextBuffer, octets: &[u8; 4]) -> Result<(), AllocError>
+    ensures { OnOk result (line.new ≡ line.old ++ codes "32:" ++ hex octets.now) }
+{
+    line.push_str("32:")?;
+    line.push_ascii(&eight_digits(octets))
+}
+
 /// Appends the number of flags, `:` and their octets in hexadecimal.
 #[inline(always)]
 fn put_bits(line: &mut TextBuffer, unused: u8, octets: &[u8]) -> Result<(), AllocError>
     ensures { OnOk result (line.new ≡ line.old ++ decimal (8 * length octets.now - unused) ++ codes ":" ++ hex octets.now) }
 {
-    put_count(line, unused, octets)?;
-    line.push_str(":")?;
-    put_hex(line, octets)
+    match octets.split_first_chunk::<4>() {
+        Some((four, [])) if unused == 0 => put_32_bits(line, four),
+        _ => {
+            put_count(line, unused, octets)?;
+            line.push_str(":")?;
+            put_hex(line, octets)
+        }
+    }
 }
 
 /// The number of flags, `:` and their octets in hexadecimal, and with names `:` and those of the
 /// bits that are set.
 impl<'a> Shown for FlagBits<'a> {
-    ghost shown = { λ flags. Flags flags.registry (flags.unused, flags.octets.now) };
+    ghost shown = { λ flags. Flags flags.0 (flags_of_view flags.1.now) };
 
-    #[inline(always)]
+    #[inline(never)]
     #[tactic(auto, unfolding(crate::specs::Forms::value_text))]
     fn put_text(&self, line: &mut TextBuffer, names: bool) -> Result<(), AllocError> {
+        let FlagBits(registry, flags) = *self;
+        put_bits(line, flags.unused, flags.octets)?;
         if names {
-            put_bits(line, self.unused, self.octets)?;
             line.push_str(":")?;
-            put_named_flags(line, self.registry, self.octets)
+            put_named_flags(line, registry, flags.octets)
         } else {
-            put_bits(line, self.unused, self.octets)
+            Ok(())
         }
     }
 
     #[tactic(auto, unfolding(crate::specs::Forms::members, crate::specs::Forms::json_value, crate::specs::Forms::names_member))]
     fn put_members(&self, object: &mut TextBuffer, begin: &str) -> Result<(), AllocError> {
         put_begin(object, begin)?;
-        put_flags_object(object, self.registry, self.unused, self.octets)
+        put_flags_object(object, self.0, self.1.unused, self.1.octets)
     }
 }

@@ -1,5 +1,7 @@
 //! The forms in which records are printed.
 
+ghost use Rattle.std.specs.Prelude.{◌≡◌, MatchOption, if◌then◌else◌};
+
 /// How a record is printed.
 #[derive(Clone, Copy, PartialEq, Eq, Debug)]
 pub enum Form {
@@ -9,4 +11,18 @@ pub enum Form {
     NamedLines,
     /// An object of JSON (RFC 8259), with the names of numbers in members of their own.
     Json,
+}
+
+impl Form {
+    /// Returns whether a line has names, or nothing for an object.
+    #[inline(always)]
+    pub(crate) fn names(self) -> Option<bool>
+        ensures { MatchOption result (self ≡ Form.Json) (λ names. self ≡ if names then Form.NamedLines else Form.Lines) }
+    {
+        match self {
+            Form::Lines => Some(false),
+            Form::NamedLines => Some(true),
+            Form::Json => None,
+        }
+    }
 }

@@ -107,6 +107,7 @@ pub(crate) fn put_number_item(
 }
 
 /// Appends octets.
+#[inline(always)]
 pub(crate) fn put_octets_item(
     text: &mut TextBuffer,
     form: ItemForm,

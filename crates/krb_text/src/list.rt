@@ -86,55 +86,17 @@ fn put_numbers<'a, T: Listed<'a>>(
 
 /// Appends the numbers of items in brackets, with commas between them.
 #[inline(always)]
-fn put_number_list<'a, T: Listed<'a>>(
+fn put_list<'a, T: Listed<'a>>(
     text: &mut TextBuffer,
     form: ItemForm,
     items: ItemsView<'a>,
 ) -> Result<(), AllocError>
     requires { AreViewed T.View.term items.octets.now }
-    ensures { OnOk result (text.new ≡ text.old ++ list_text (λ item. number_item form (item_number T.View.term item)) (items_of T.View.term items.entry.octets.now)) }
+    ensures { OnOk result (text.new ≡ text.old ++ list_text (number_item form) (map (item_number T.View.term) (items_of T.View.term items.entry.octets.now))) }
 {
     text.push_str("[")?;
     put_numbers::<T>(text, form, items)?;
     text.push_str("]")
-}
-
-/// Appends numbers in brackets.
-#[inline(always)]
-fn put_plain_list<'a, T: Listed<'a>>(
-    text: &mut TextBuffer,
-    items: ItemsView<'a>,
-) -> Result<(), AllocError>
-    requires { AreViewed T.View.term items.octets.now }
-    ensures { OnOk result (text.new ≡ text.old ++ list_text signed_decimal (map (item_number T.View.term) (items_of T.View.term items.entry.octets.now))) }
-{
-    put_number_list::<T>(text, ItemForm::Line, items)
-}
-
-/// Appends numbers in brackets, each with `:` and its name, or `-` if it has none.
-#[inline(always)]
-fn put_named_list<'a, T: Listed<'a>>(
-    text: &mut TextBuffer,
-    registry: Registry,
-    items: ItemsView<'a>,
-) -> Result<(), AllocError>
-    requires { AreViewed T.View.term items.octets.now }
-    ensures { OnOk result (text.new ≡ text.old ++ list_text (number_text true registry) (map (item_number T.View.term) (items_of T.View.term items.entry.octets.now))) }
-{
-    put_number_list::<T>(text, ItemForm::Named(registry), items)
-}
-
-/// Appends the names of numbers in brackets, each a string, or null if there is none.
-#[inline(always)]
-fn put_name_list<'a, T: Listed<'a>>(
-    text: &mut TextBuffer,
-    registry: Registry,
-    items: ItemsView<'a>,
-) -> Result<(), AllocError>
-    requires { AreViewed T.View.term items.octets.now }
-    ensures { OnOk result (text.new ≡ text.old ++ list_text (name_string registry) (map (item_number T.View.term) (items_of T.View.term items.entry.octets.now))) }
-{
-    put_number_list::<T>(text, ItemForm::Name(registry), items)
 }
 
 /// Appends what a line shows of numbers of a registry.
@@ -150,9 +112,9 @@ fn put_numbers_text<'a, T: Listed<'a>>(
     ensures { OnOk result (line.new ≡ line.old ++ value_text names (Numbers registry (map (item_number T.View.term) (items_of T.View.term items.entry.octets.now)))) }
 {
     if names {
-        put_named_list::<T>(line, registry, items)
+        put_list::<T>(line, ItemForm::Named(registry), items)
     } else {
-        put_plain_list::<T>(line, items)
+        put_list::<T>(line, ItemForm::Line, items)
     }
 }
 
@@ -168,9 +130,9 @@ fn put_numbers_members<'a, T: Listed<'a>>(
     ensures { OnOk result (object.new ≡ object.old ++ members begin.now (Numbers registry (map (item_number T.View.term) (items_of T.View.term items.entry.octets.now)))) }
 {
     put_begin(object, begin)?;
-    put_plain_list::<T>(object, items)?;
+    put_list::<T>(object, ItemForm::Line, items)?;
     put_names_begin(object, begin)?;
-    put_name_list::<T>(object, registry, items)
+    put_list::<T>(object, ItemForm::Name(registry), items)
 }
 
 /// Returns how many items there are.
@@ -222,6 +184,7 @@ impl<'a> EncryptionTypes<'a> {
 impl<'a> Shown for EncryptionTypes<'a> {
     ghost shown = { λ numbers. Numbers EncryptionTypes numbers };
 
+    #[inline(never)]
     fn put_text(&self, line: &mut TextBuffer, names: bool) -> Result<(), AllocError> {
         put_numbers_text::<Int32>(line, names, Registry::EncryptionTypes, self.0)
     }
@@ -263,6 +226,7 @@ impl<'a> PaDataTypes<'a> {
 impl<'a> Shown for PaDataTypes<'a> {
     ghost shown = { λ numbers. Numbers PreAuthenticationData numbers };
 
+    #[inline(never)]
     fn put_text(&self, line: &mut TextBuffer, names: bool) -> Result<(), AllocError> {
         put_numbers_text::<PaData>(line, names, Registry::PreAuthenticationData, self.0)
     }

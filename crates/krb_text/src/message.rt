@@ -9,6 +9,7 @@ ghost use Rattle.krb_text.specs.MessageFields.{padata, kdc_req_fields, kdc_rep_f
 ghost use Rattle.krb_text.specs.Values.{Flags, Number, Numbers, String as Escaped, Word, count, if_there, principal, encrypted};
 
 use crate::field::put_closing;
+use crate::flags::FlagBits;
 use crate::form::Form;
 use crate::inside::put_list;
 use crate::list::EncryptionTypes;
@@ -17,9 +18,8 @@ use crate::record::HasRecord;
 use crate::shown::Text;
 use crate::text_buffer::TextBuffer;
 use crate::viewed::{
-    flags_of, optional_address_count, optional_micros_of, optional_principal_of,
-    optional_ticket_count, optional_time_of, optional_types_of, principal_of, ticket_count,
-    time_of,
+    optional_address_count, optional_micros_of, optional_principal_of, optional_ticket_count,
+    optional_time_of, optional_types_of, principal_of, ticket_count, time_of,
 };
 use krb_msg::{
     ApRepView, ApReqView, KdcRepView, KdcReqBodyView, KdcReqView, KrbCredView, KrbPrivView,
@@ -47,7 +47,7 @@ fn put_kdc_req_first_fields(
     put_field!(text, form, "realm": &Text(body.realm))?;
     put_field!(text, form, "client": &optional_principal_of(&body.cname, body.realm))?;
     put_field!(text, form, "server": &optional_principal_of(&body.sname, body.realm))?;
-    put_field!(text, form, "options": &flags_of(Registry::KdcOptions, &body.kdc_options))?;
+    put_field!(text, form, "options": &FlagBits(Registry::KdcOptions, &body.kdc_options))?;
     put_field!(text, form, "from": &optional_time_of(body.from))?;
     put_field!(text, form, "till": &time_of(body.till))?;
     put_field!(text, form, "rtime": &optional_time_of(body.rtime))
@@ -127,7 +127,7 @@ impl<'a> HasRecord for ApReqView<'a> {
     fn put_fields(&self, text: &mut TextBuffer, form: Form) -> Result<(), AllocError> {
         let ticket = &self.ticket;
         put_field!(text, form, "server": &principal_of(&ticket.sname, ticket.realm))?;
-        put_field!(text, form, "options": &flags_of(Registry::ApOptions, &self.ap_options))?;
+        put_field!(text, form, "options": &FlagBits(Registry::ApOptions, &self.ap_options))?;
         put_field!(text, form, "ticket": &ticket.enc_part)?;
         put_field!(text, form, "auth": &self.authenticator)
     }

@@ -75,22 +75,6 @@ impl Shown for Notes {
         }
     }
 
-    #[inline(always)]
-    #[tactic(auto, unfolding(crate::specs::Forms::value_text))]
-    fn put_labelled(
-        &self,
-        line: &mut TextBuffer,
-        label: &str,
-        names: bool,
-    ) -> Result<(), AllocError> {
-        if has_any(self) {
-            line.push_str(label)?;
-            self.put_text(line, names)
-        } else {
-            line.push_both(label, "[]")
-        }
-    }
-
     #[tactic(auto, unfolding(crate::specs::Forms::members, crate::specs::Forms::json_value, crate::specs::Forms::names_member))]
     fn put_members(&self, object: &mut TextBuffer, begin: &str) -> Result<(), AllocError> {
         put_begin(object, begin)?;

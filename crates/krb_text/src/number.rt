@@ -83,6 +83,7 @@ impl Encrypted {
 }
 
 /// Appends the version of a key, or `-`, with a `:` before it and one after it.
+#[inline(always)]
 fn put_kvno(line: &mut TextBuffer, kvno: Option<i64>) -> Result<(), AllocError>
     ensures { OnOk result (line.new ≡ line.old ++ codes ":" ++ or_dash signed_decimal kvno ++ codes ":") }
 {
@@ -145,6 +146,7 @@ fn put_encrypted_object(object: &mut TextBuffer, encrypted: &Encrypted) -> Resul
 impl Shown for Encrypted {
     ghost shown = { λ s. IsEncrypted s.etype s.kvno s.size };
 
+    #[inline(never)]
     #[tactic(auto, unfolding(crate::specs::Forms::value_text))]
     fn put_text(&self, line: &mut TextBuffer, names: bool) -> Result<(), AllocError> {
         put_named(line, names, Registry::EncryptionTypes, self.etype)?;

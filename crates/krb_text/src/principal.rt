@@ -255,6 +255,7 @@ fn put_principal_object<'a, C: Components>(
 impl<'a, C: Components> Shown for Principal<'a, C> {
     ghost shown = { λ p. IsPrincipal p.name_type (C.components p.components) p.realm.now };
 
+    #[inline(never)]
     #[tactic(auto, unfolding(crate::specs::Forms::value_text, crate::specs::Text::principal_text))]
     fn put_text(&self, line: &mut TextBuffer, _names: bool) -> Result<(), AllocError> {
         self.components

@@ -21,20 +21,6 @@ pub trait Shown {
     fn put_text(&self, line: &mut TextBuffer, names: bool) -> Result<(), AllocError>
         ensures { OnOk result (line.new ≡ line.old ++ value_text names (shown self.now)) };
 
-    /// Appends a label and then what a line shows of the value, as [`put_text`](Shown::put_text) does.
-    #[inline(always)]
-    fn put_labelled(
-        &self,
-        line: &mut TextBuffer,
-        label: &str,
-        names: bool,
-    ) -> Result<(), AllocError>
-        ensures { OnOk result (line.new ≡ line.old ++ label.now ++ value_text names (shown self.now)) }
-    {
-        line.push_str(label)?;
-        self.put_text(line, names)
-    }
-
     /// Appends the members of an object for the value: first that which `begin` and `":` begin, and
     /// then, if the value has names, that of the names. `begin` is `,"` and the name of the field.
     fn put_members(&self, object: &mut TextBuffer, begin: &str) -> Result<(), AllocError>
@@ -212,25 +198,12 @@ impl<'a> Shown for Plain<'a> {
 impl<T: Shown> Shown for Option<T> {
     ghost shown = { if_there T.shown };
 
+    #[inline(always)]
     #[tactic(auto, unfolding(crate::specs::Forms::value_text))]
     fn put_text(&self, line: &mut TextBuffer, names: bool) -> Result<(), AllocError> {
         match self {
             None => line.push_str("-"),
             Some(value) => value.put_text(line, names),
-        }
-    }
-
-    #[inline(always)]
-    #[tactic(auto, unfolding(crate::specs::Forms::value_text))]
-    fn put_labelled(
-        &self,
-        line: &mut TextBuffer,
-        label: &str,
-        names: bool,
-    ) -> Result<(), AllocError> {
-        match self {
-            None => line.push_both(label, "-"),
-            Some(value) => value.put_labelled(line, label, names),
         }
     }
 

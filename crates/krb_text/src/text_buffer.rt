@@ -35,6 +35,10 @@ impl Model for TextBuffer {
 /// The least number of octets that are allocated.
 const LEAST: usize = 256;
 
+/// The two digits of each number below 100.
+static PAIRS: [u8; 200] =
+    *b"00010203040506070809101112131415161718192021222324252627282930313233343536373839404142434445464748495051525354555657585960616263646566676869707172737475767778798081828384858687888990919293949596979899";
+
 /// Makes a vector longer, so that n octets fit after those that are used, which stay. Its length is
 /// at least doubled, so that the time of appending follows the octets that are appended.
 #[cold]
@@ -100,8 +104,7 @@ fn overwrite_ends<const N: usize>(to: &mut [u8], place: usize, octets: &[u8])
     overwrite_first::<N>(to, place + others, &octets[others..]);
 }
 
-/// Copies octets over others, from a place on. One, and 4 to 32, are copied without a call of
-/// `memcpy`.
+/// Copies octets over others, from a place on. 1 to 32 are copied without a call of `memcpy`.
 #[inline(always)]
 fn copy_at(to: &mut [u8], place: usize, octets: &[u8])
     requires { place + length octets.now ≤ length to.old }
@@ -109,6 +112,7 @@ fn copy_at(to: &mut [u8], place: usize, octets: &[u8])
 {
     match octets.len() {
         1 => to[place] = octets[0],
+        2..4 => overwrite_ends::<2>(to, place, octets),
         4..8 => overwrite_ends::<4>(to, place, octets),
         8..16 => overwrite_ends::<8>(to, place, octets),
         16..=32 => overwrite_ends::<16>(to, place, octets),
@@ -290,7 +294,8 @@ impl TextBuffer {
         requires { (10 ≤ number) × (number < 100) }
         ensures { OnOk result (self.new ≡ self.old ++ decimal number) }
     {
-        self.push_ascii(&[b'0' + number / 10, b'0' + number % 10])
+        let place = usize::from(number) * 2;
+        self.push_ascii(&[PAIRS[place], PAIRS[place + 1]])
     }
 
     /// Appends a number of three digits or more.

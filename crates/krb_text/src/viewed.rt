@@ -3,20 +3,19 @@
 ghost use Rattle.std.specs.Prelude.{◌≡◌, map, pos};
 ghost use Rattle.std.specs.Option.{option_map};
 ghost use Rattle.krb_der.specs.Scalars.{IsTimeFrom};
-ghost use Rattle.krb_msg.specs.Basic.{flags_of_view, micros_of};
+ghost use Rattle.krb_msg.specs.Basic.{micros_of};
 ghost use Rattle.krb_msg.specs.Grammar.{host_address, pa_data, ticket};
 ghost use Rattle.krb_msg.specs.Types.{IsValidPrincipalName, host_address_of, pa_data_of, principal_name_of, principal_name_of_view, principal_name_view_value, ticket_of};
 ghost use Rattle.krb_msg.specs.Term.{IfPresent};
 ghost use Rattle.krb_msg.specs.Viewed.{AreViewed, items_of};
 ghost use Rattle.krb_text.specs.Messages.{padata};
-ghost use Rattle.krb_text.specs.Values.{Flags, Hex, Number, Numbers, Principal as IsPrincipal, Quoted, Word, client, count, if_there, principal};
+ghost use Rattle.krb_text.specs.Values.{Hex, Number, Numbers, Principal as IsPrincipal, Quoted, Word, client, count, if_there, principal};
 ghost use Rattle.krb_registry.specs.declared.registry.Registry.TheVariants.{PreAuthenticationData};
 
-use crate::flags::FlagBits;
 use crate::list::{PaDataTypes, count_items};
 use crate::principal::{Principal, ViewedStrings};
 use crate::shown::{HexText, Plain, QuotedText};
-use krb_msg::{FlagsView, HostAddress, ItemsView, PrincipalNameView, Ticket};
+use krb_msg::{HostAddress, ItemsView, PrincipalNameView, Ticket};
 use krb_registry::Registry;
 
 /// What is not there.
@@ -65,18 +64,6 @@ pub(crate) fn client_of<'a>(
     match (name, realm) {
         (Some(name), Some(realm)) => Some(principal_of(name, realm)),
         _ => None,
-    }
-}
-
-/// Returns flags of a registry.
-#[inline(always)]
-pub(crate) fn flags_of<'a>(registry: Registry, flags: &FlagsView<'a>) -> FlagBits<'a>
-    ensures { Flags result.registry (result.unused, result.octets.now) ≡ Flags registry (flags_of_view flags.now) }
-{
-    FlagBits {
-        registry,
-        unused: flags.unused,
-        octets: flags.octets,
     }
 }
 
@@ -130,10 +117,7 @@ pub(crate) fn micros_of(micros: i64) -> u64
 pub(crate) fn optional_micros_of(micros: Option<i64>) -> Option<u64>
     ensures { result ≡ option_map micros_of micros }
 {
-    match micros {
-        None => None,
-        Some(micros) => Some(micros_of(micros)),
-    }
+    micros.map(micros_of)
 }
 
 /// Returns the types of pre-authentication data, if there are any.

@@ -5,7 +5,7 @@ use Rattle.krb_file.specs.FieldReaders.{Cursor}
 use Rattle.krb_file.specs.declared.fault.FileFault.{FileFault}
 use Rattle.krb_file.specs.declared.fault.FileFault.TheVariants as faults
 use Rattle.krb_file.specs.declared.field_path.FileItem.TheVariants as items
-use Rattle.krb_ccache.specs.declared.credentials.State.{State}
+use Rattle.krb_file.specs.declared.progress.Progress.{Progress}
 use Rattle.krb_ccache.specs.declared.reading.Start.{Start}
 use Rattle.krb_ccache.specs.Streaming.{Reads, FailsStart, credentials}
 use Rattle.krb_text.specs.declared.form.Form.{Form}
@@ -14,7 +14,7 @@ use Rattle.krb_tool.specs.declared.run.RunEnd.{RunEnd}
 use Rattle.krb_tool.specs.Files.{RecordListing, text_of, field_limit, after_line, credentials_listing, cache_listing, ccache_listing}
 use Rattle.krb_tool.specs.inner.RecordRuns.{AddsRefusal, IsRefusal}
 
-pub first_line : (form : Form) (now : Option ℕ) (file : List ℕ) (cursor : Cursor) (start : Start) (state : State) → Reads field_limit cursor start state file 0 → after_line (cache_line form start.header start.principal) (credentials_listing form now (credentials field_limit file)) ≡ ccache_listing form now file
+pub first_line : (form : Form) (now : Option ℕ) (file : List ℕ) (cursor : Cursor) (start : Start) (state : Progress (Unit {0}) (Unit {0})) → Reads field_limit cursor start state file 0 → after_line (cache_line form start.header start.principal) (credentials_listing form now (credentials field_limit file)) ≡ ccache_listing form now file
 unfolding ccache_listing
 first_line form now file cursor start state reads = ap (λ (r : Result (Start × Source) Fault). cache_listing form now r (credentials field_limit file)) (sym reads.begins)
 

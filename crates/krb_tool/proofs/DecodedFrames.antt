@@ -14,6 +14,7 @@ use Rattle.krb_msg.specs.Views.{message_der, message_of_der, IsInProfile}
 use Rattle.krb_msg.proofs.MessageOfDer.{message_of_der_is_message}
 use Rattle.krb_frame.specs.Deliveries.{IsMessage, contents_in}
 use Rattle.krb_frame.specs.GoingOn.{Entry, Contents, Fault, after_contents, entries, entry_size}
+use Rattle.krb_frame.proofs.Deliveries.{contents_in-append}
 use Rattle.krb_json.specs.Unencrypted.{unencrypted_in}
 use Rattle.krb_tool.specs.Conversions.{Converted, after_text}
 use Rattle.krb_tool.specs.Decoding.{Ending, All, Unencrypted, ending_at, ending_of, line_and, lines_after, decoded, AllAreEncrypted}
@@ -73,11 +74,6 @@ pub decoded-all : (profile : Profile) (limit : ℕ) (stream : List ℕ) (content
 decoded-all profile limit stream contents encrypted e = decoded-by profile limit stream contents e ∙ encrypted-lines 0 contents (stream_ending profile limit stream) encrypted
 
 -- ---- a frame is listed
-contents_in-append : (xs ys : List Entry) → contents_in (xs ++ ys) ≡ contents_in xs ++ contents_in ys
-contents_in-append [] ys = refl
-contents_in-append (Contents contents ∷ xs) ys = ap (λ l. contents ∷ l) (contents_in-append xs ys)
-contents_in-append (Fault place reason prefix ∷ xs) ys = contents_in-append xs ys
-
 not_some : {A : Type 0} {value : A} → None ≡ Some value → ⊥
 not_some e = cc
 

@@ -16,6 +16,7 @@ use Rattle.krb_frame.specs.Deliveries.{AreUsed, Delivers, DeliversBefore, Delive
 use Rattle.krb_frame.specs.GoingOn.{Entry, Fault, GoesOn, Skipping, after_contents, entries, entries_size, last_entry, next_entries}
 use Rattle.krb_frame.specs.declared.decoder.Status.TheVariants as status
 use Rattle.krb_frame.proofs.DecoderFrames.{more-nothing}
+use Rattle.krb_frame.proofs.Deliveries.{all_both, entries_size-append}
 use Rattle.krb_frame.proofs.Ends.{refused_end, refused_more}
 use Rattle.krb_frame.proofs.GoingOn.{entries-refused}
 use Rattle.krb_frame.proofs.Skips.{entries-waiting, entries-last}
@@ -31,14 +32,6 @@ use Rattle.krb_tool.proofs.Pieces.{Clears-made, Feeds-made, Finishes-made, IsNew
 -- the frames of octets, by the decoder of a lister
 abbrev pub entries_of : {S : Type 0} → FrameLister S → List ℕ → List Entry
 entries_of lister octets = entries (messages lister.decoder.current.profile) lister.decoder.current.limit octets
-
-all_both : (P : Entry → Type 0) (xs ys : List Entry) → AllByRecursion P xs → AllByRecursion P ys → AllByRecursion P (xs ++ ys)
-all_both P [] ys p q = q
-all_both P (x ∷ xs) ys p q = (p.0, all_both P xs ys p.1 q)
-
-entries_size-append : (xs ys : List Entry) → entries_size (xs ++ ys) ≡ entries_size xs + entries_size ys
-entries_size-append [] ys = omega arith
-entries_size-append (x ∷ xs) ys = omega (arith, entries_size-append xs ys)
 
 -- ---- while more is awaited
 more_not_refused : (contents : List (List ℕ)) (end : End) → status_at contents end ≡ status.More → IsNotRefused end

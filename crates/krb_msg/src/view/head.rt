@@ -68,11 +68,30 @@ fn long_item(tag: u8, octets: &[u8]) -> Option<(&[u8], &[u8])>
     requires { length octets.now < 2 ^ 31 }
     ensures { MatchOption result (HasNoItem tag octets.now) (λ (contents, rest). octets.now ≡ item tag contents.now ++ rest.now) }
 {
+    if let Some(found) = wide_item(tag, octets) {
+        return Some(found);
+    }
     let head = find_head(tag, octets);
     if head.before == 0 {
         None
     } else {
         Some(split_at_head(octets, head))
+    }
+}
+
+/// Returns the same as [`first_item`], if one or two octets after the first spell the length.
+#[inline(always)]
+fn wide_item(tag: u8, octets: &[u8]) -> Option<(&[u8], &[u8])>
+    ensures { IfSome result (λ (contents, rest). octets.now ≡ item tag contents.now ++ rest.now) }
+{
+    match octets {
+        [first, form, high, low, rest @ ..] if *form == 0x82 && *first == tag && *high != 0 => {
+            split(rest, usize::from(*high) * 256 + usize::from(*low))
+        }
+        [first, form, size, rest @ ..] if *form == 0x81 && *first == tag && *size >= 0x80 => {
+            split(rest, usize::from(*size))
+        }
+        _ => None,
     }
 }
 
@@ -158,6 +177,48 @@ fn find_heads(outer: u8, tag: u8, octets: &[u8]) -> Head
     ensures none { result.before ≡ 0 → HasNoField outer tag octets.now }
     ensures some { 0 < result.before → IsHead (λ contents. item outer (item tag contents)) octets.now result.before result.size }
 {
+    match wide_field(outer, tag, octets) {
+        Some((contents, rest)) => head_of(octets, contents, rest),
+        None => find_other_heads(outer, tag, octets),
+    }
+}
+
+/// Returns the same as [`first_field`], if one or two octets after the first spell each length.
+#[inline(always)]
+fn wide_field(outer: u8, tag: u8, octets: &[u8]) -> Option<(&[u8], &[u8])>
+    ensures { IfSome result (λ (contents, rest). octets.now ≡ item outer (item tag contents.now) ++ rest.now) }
+{
+    match octets {
+        [first, form, high, low, inner @ ..] if *form == 0x82 && *first == outer && *high != 0 => {
+            sized_item(tag, inner, usize::from(*high) * 256 + usize::from(*low))
+        }
+        [first, form, size, inner @ ..] if *form == 0x81 && *first == outer && *size >= 0x80 => {
+            sized_item(tag, inner, usize::from(*size))
+        }
+        _ => None,
+    }
+}
+
+/// Returns the same as [`wide_item`], if the item has a size.
+#[inline(always)]
+fn sized_item(tag: u8, octets: &[u8], size: usize) -> Option<(&[u8], &[u8])>
+    ensures { IfSome result (λ (contents, rest). (length (item tag contents.now) ≡ size) × (octets.now ≡ item tag contents.now ++ rest.now)) }
+{
+    let (contents, rest) = wide_item(tag, octets)?;
+    if octets.len() - rest.len() == size {
+        Some((contents, rest))
+    } else {
+        None
+    }
+}
+
+/// Returns the same as [`find_heads`], for other lengths.
+#[inline(never)]
+fn find_other_heads(outer: u8, tag: u8, octets: &[u8]) -> Head
+    requires { length octets.now < 2 ^ 31 }
+    ensures none { result.before ≡ 0 → HasNoField outer tag octets.now }
+    ensures some { 0 < result.before → IsHead (λ contents. item outer (item tag contents)) octets.now result.before result.size }
+{
     match any_field(outer, tag, octets) {
         Some((contents, rest)) => head_of(octets, contents, rest),
         None => Head { before: 0, size: 0 },
@@ -200,36 +261,11 @@ pub fn first_length(first: u8, octets: &[u8]) -> Option<(usize, &[u8])>
     if first < 0x80 {
         return Some((usize::from(first), octets));
     }
-    match short_length(first, octets) {
-        Some(found) => Some(found),
-        None => long_length(first, octets),
-    }
-}
-
-/// Returns the same as [`first_length`], if one or two octets after the first spell the length.
-#[inline(always)]
-fn short_length(first: u8, octets: &[u8]) -> Option<(usize, &[u8])>
-    ensures { IfSome result (λ (size, rest). first ∷ octets.now ≡ length_octets size ++ rest.now) }
-{
-    match octets {
-        [high, low, rest @ ..] if first == 0x82 && *high != 0 => {
-            Some((usize::from(*high) * 256 + usize::from(*low), rest))
-        }
-        [size, rest @ ..] if first == 0x81 && *size >= 0x80 => Some((usize::from(*size), rest)),
-        _ => None,
-    }
-}
-
-/// Returns a length of several octets, by its first octet and those after it, and what follows it.
-#[inline(always)]
-fn long_length(first: u8, octets: &[u8]) -> Option<(usize, &[u8])>
-    requires { 128 ≤ first }
-    ensures { MatchOption result (HasNoLength (first ∷ octets.now)) (λ (size, rest). first ∷ octets.now ≡ length_octets size ++ rest.now) }
-{
     find_length(first, octets)
 }
 
-/// Returns the same as [`long_length`], by a call.
+/// Returns a length of several octets, by its first octet and those after it, and what follows it,
+/// by a call.
 #[inline(never)]
 fn find_length(first: u8, octets: &[u8]) -> Option<(usize, &[u8])>
     requires { 128 ≤ first }

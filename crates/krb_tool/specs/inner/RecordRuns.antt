@@ -1,19 +1,19 @@
 -- What the parts of a run on the records of a file promise each other.
-use Rattle.std.specs.Prelude.{ℕ, ◌≡◌, List, [], ◌++◌, length, drop, Option, Some, None, Result, Ok, Err}
+use Rattle.std.specs.Prelude.{ℕ, Bool, ◌≡◌, List, [], ◌++◌, length, drop, Option, Some, None, Result, Ok, Err}
 use Rattle.std.specs.List.{flat_map}
 use Rattle.std.specs.Io.KnownBytes.{Appends}
 use Rattle.krb_file.specs.FieldReaders.{Cursor}
 use Rattle.krb_file.specs.declared.fault.FileFault.{FileFault}
 use Rattle.krb_file.specs.declared.fault.FileFault.TheVariants as faults
+use Rattle.krb_file.specs.declared.progress.Progress.{Progress}
 use Rattle.krb_file.specs.Fields.{Fault}
 use Rattle.krb_file.specs.Items.{Items}
 use Rattle.krb_file.specs.declared.field_path.FileItem.{FileItem}
 use Rattle.krb_keytab.specs.Reading.{items as keytab_records}
 use Rattle.krb_keytab.specs.Streaming.{Reads as ReadsRecords}
-use Rattle.krb_keytab.specs.declared.records.State.{State as RecordsState}
+use Rattle.krb_keytab.specs.declared.value.Stop.{Stop}
 use Rattle.krb_ccache.specs.declared.reading.Start.{Start}
 use Rattle.krb_ccache.specs.Streaming.{Reads as ReadsCredentials, credentials}
-use Rattle.krb_ccache.specs.declared.credentials.State.{State as CredentialsState}
 use Rattle.krb_text.specs.declared.form.Form.{Form}
 use Rattle.krb_tool.specs.Lines.{record_line, credential_line}
 use Rattle.krb_tool.specs.Extents.{fault_line}
@@ -59,11 +59,11 @@ pub record AreLeft {A E : Type 0} (line : A → List ℕ) (last : ℕ → Result
   pub reads : Reads file count
   pub is : left ≡ left_of line last (all file) count
 
-abbrev pub AreRecordsLeft : Form → Cursor → RecordsState → ℕ → RecordListing → Type 0
+abbrev pub AreRecordsLeft : Form → Cursor → Progress Bool Stop → ℕ → RecordListing → Type 0
 AreRecordsLeft form cursor state = AreLeft (λ r. record_line form r) (keytab_last form) (keytab_records field_limit) (λ file count. ReadsRecords field_limit cursor state file count)
 
 -- the same of credentials, at a time if there is one
-abbrev pub AreCredentialsLeft : Form → Cursor → Start → CredentialsState → Option ℕ → ℕ → RecordListing → Type 0
+abbrev pub AreCredentialsLeft : Form → Cursor → Start → Progress (Unit {0}) (Unit {0}) → Option ℕ → ℕ → RecordListing → Type 0
 AreCredentialsLeft form cursor start state now = AreLeft (λ c. credential_line form now c) (ccache_last form) (credentials field_limit) (λ file count. ReadsCredentials field_limit cursor start state file count)
 
 -- if a file is refused, the line of the refusal is what is left

@@ -5,10 +5,18 @@ use Rattle.krb_text.specs.Values.{Numbers}
 use Rattle.krb_text.specs.inner.Items.{item_number}
 use Rattle.krb_text.proofs.list.put_numbers_text.Goals as goal
 
+pub returns-then-names : goal.returns-then-names
+unfolding value_text
+returns-then-names g c =
+    subst
+    (λ names. OnOk c.put_list.result (c.put_list.new.text ≡ c.args.line.now ++ value_text names (Numbers c.args.registry (map (item_number g.T.View.term) (items_of g.T.View.term c.args.items.octets.now)))))
+    (sym c.if-names.true)
+    c.put_list.ensures
+
 pub returns-else-names : goal.returns-else-names
 unfolding value_text
 returns-else-names g c =
     subst
-    (λ names. OnOk c.put_plain_list.result (c.put_plain_list.new.text ≡ c.args.line.now ++ value_text names (Numbers c.args.registry (map (item_number g.T.View.term) (items_of g.T.View.term c.args.items.octets.now)))))
+    (λ names. OnOk c.put_list-else-names.result (c.put_list-else-names.new.text ≡ c.args.line.now ++ value_text names (Numbers c.args.registry (map (item_number g.T.View.term) (items_of g.T.View.term c.args.items.octets.now)))))
     (sym c.if-names.false)
-    c.put_plain_list.ensures
+    c.put_list-else-names.ensures

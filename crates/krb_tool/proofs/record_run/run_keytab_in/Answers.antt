@@ -1,14 +1,15 @@
-use Rattle.std.proofs.Common.{ℕ, List, refl, subst}
+use Rattle.std.proofs.Common.{ℕ, Bool, List, refl, subst}
 use Rattle.krb_tool.specs.Files.{after_line, field_limit, keytab_listing, ListsRecords}
 use Rattle.krb_file.specs.FieldReaders.{Cursor}
-use Rattle.krb_keytab.specs.declared.records.State.{State}
+use Rattle.krb_file.specs.declared.progress.Progress.{Progress}
+use Rattle.krb_keytab.specs.declared.value.Stop.{Stop}
 use Rattle.krb_keytab.specs.Streaming.{Reads}
 use Rattle.krb_text.specs.declared.form.Form.{Form}
 use Rattle.krb_tool.specs.inner.RecordRuns.{AreRecordsLeft}
 use Rattle.krb_tool.proofs.record_run.run_keytab_in.Goals as goal
 
 -- before the first record
-all_left : (form : Form) (file : List ℕ) (cursor : Cursor) (state : State) → Reads field_limit cursor state file 0 → AreRecordsLeft form cursor state 0 (keytab_listing form file)
+all_left : (form : Form) (file : List ℕ) (cursor : Cursor) (state : Progress Bool Stop) → Reads field_limit cursor state file 0 → AreRecordsLeft form cursor state 0 (keytab_listing form file)
 unfolding keytab_listing
 all_left form file cursor state reads = record { file = file; reads = reads; is = refl }
 

@@ -1,5 +1,5 @@
 use Rattle.std.proofs.Common.{Some, Err}
-use Rattle.krb_ccache.specs.declared.credentials.State.TheVariants as states
+use Rattle.krb_file.specs.declared.progress.Progress.TheVariants as states
 use Rattle.krb_ccache.proofs.Streams.{credential_given, end_given, fault_given, refusal_in_file}
 use Rattle.krb_ccache.proofs.credentials.Credentials.read_next.Goals as goal
 

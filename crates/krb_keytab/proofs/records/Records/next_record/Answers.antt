@@ -1,6 +1,7 @@
-use Rattle.std.proofs.Common.{Some, Err, subst}
-use Rattle.krb_keytab.specs.declared.records.State.{State}
-use Rattle.krb_keytab.specs.declared.records.State.TheVariants as states
+use Rattle.std.proofs.Common.{Bool, Some, Err, subst}
+use Rattle.krb_file.specs.declared.progress.Progress.{Progress}
+use Rattle.krb_file.specs.declared.progress.Progress.TheVariants as states
+use Rattle.krb_keytab.specs.declared.value.Stop.{Stop}
 use Rattle.krb_keytab.proofs.Streams.{opens, version_refused, refusal_in_file}
 use Rattle.krb_keytab.specs.Streaming.{Reads, announced_in}
 use Rattle.krb_keytab.proofs.Reaching.{version_keeps, same_keeps}
@@ -8,33 +9,33 @@ use Rattle.krb_keytab.proofs.records.Records.next_record.Goals as goal
 
 pub returns-in-Done-clause-next : goal.returns-in-Done-clause-next
 returns-in-Done-clause-next g c = λ file limit count reads.
-    absurd (subst (λ (s : State). Reads (Some limit) c.args.self.now.reader s file count) c.in-Done.is reads)
+    absurd (subst (λ (s : Progress Bool Stop). Reads (Some limit) c.args.self.now.reader s file count) c.in-Done.is reads)
 
 pub returns-in-Failed-clause-next : goal.returns-in-Failed-clause-next
 returns-in-Failed-clause-next g c = λ file limit count reads.
-    absurd (subst (λ (s : State). Reads (Some limit) c.args.self.now.reader s file count) c.in-Failed.is reads)
+    absurd (subst (λ (s : Progress Bool Stop). Reads (Some limit) c.args.self.now.reader s file count) c.in-Failed.is reads)
 
 pub returns-in-Failed-clause-refused : goal.returns-in-Failed-clause-refused
 returns-in-Failed-clause-refused g c = λ file limit count reads.
-    absurd (subst (λ (s : State). Reads (Some limit) c.args.self.now.reader s file count) c.in-Failed.is reads)
+    absurd (subst (λ (s : Progress Bool Stop). Reads (Some limit) c.args.self.now.reader s file count) c.in-Failed.is reads)
 
 pub returns-in-Ok-clause-refused : goal.returns-in-Ok-clause-refused
 returns-in-Ok-clause-refused g c = λ file limit count reads.
-    refusal_in_file (Some limit) file count c.read_next.result c.read_next.new.self.reader c.read_next.new.self.state
-    (c.read_next.ensures.next file limit count (opens (Some limit) file count c.args.self.now.reader c.version.new.self c.in-Ok.field-0 (subst (λ (s : State). Reads (Some limit) c.args.self.now.reader s file count) c.in-Start.is reads) c.in-Ok.ensures.read))
+    refusal_in_file (Some limit) file count c.read_next-in-Ok.result c.read_next-in-Ok.new.self.reader c.read_next-in-Ok.new.self.state
+    (c.read_next-in-Ok.ensures.next file limit count (opens (Some limit) file count c.args.self.now.reader c.version.new.self c.in-Ok.field-0 (subst (λ (s : Progress Bool Stop). Reads (Some limit) c.args.self.now.reader s file count) (rw c.if-has_begun.false at c.in-Open.is) reads) c.in-Ok.ensures.read))
 
 pub returns-in-Err-clause-refused : goal.returns-in-Err-clause-refused
 returns-in-Err-clause-refused g c = λ file limit count reads.
     refusal_in_file (Some limit) file count (Err c.in-Err.fault) c.version.new.self (states.Failed c.in-Err.fault)
-    (version_refused (Some limit) file count c.args.self.now.reader c.in-Err.fault (Unit {0}) (subst (λ (s : State). Reads (Some limit) c.args.self.now.reader s file count) c.in-Start.is reads) c.in-Err.ensures.read)
+    (version_refused (Some limit) file count c.args.self.now.reader c.in-Err.fault (Unit {0}) (subst (λ (s : Progress Bool Stop). Reads (Some limit) c.args.self.now.reader s file count) (rw c.if-has_begun.false at c.in-Open.is) reads) c.in-Err.ensures.read)
 
 pub returns-in-Open-clause-refused : goal.returns-in-Open-clause-refused
 returns-in-Open-clause-refused g c = λ file limit count reads.
-    refusal_in_file (Some limit) file count c.read_next-in-Open.result c.read_next-in-Open.new.self.reader c.read_next-in-Open.new.self.state
-    (c.read_next-in-Open.ensures.next file limit count (subst (λ (s : State). Reads (Some limit) c.args.self.now.reader s file count) c.in-Open.is reads))
+    refusal_in_file (Some limit) file count c.read_next.result c.read_next.new.self.reader c.read_next.new.self.state
+    (c.read_next.ensures.next file limit count (subst (λ (s : Progress Bool Stop). Reads (Some limit) c.args.self.now.reader s file count) (rw c.if-has_begun.true at c.in-Open.is) reads))
 
 pub returns-in-Err-clause-announced : goal.returns-in-Err-clause-announced
-returns-in-Err-clause-announced g c = rw c.in-Start.is (version_keeps c.args.self.now.reader c.version.new.self c.version.ensures.within)
+returns-in-Err-clause-announced g c = rw (c.in-Open.is, c.if-has_begun.false) (version_keeps c.args.self.now.reader c.version.new.self c.version.ensures.within)
 
 pub returns-in-Failed-clause-announced : goal.returns-in-Failed-clause-announced
 returns-in-Failed-clause-announced g c = same_keeps (announced_in c.args.self.now.state) c.args.self.now.reader

@@ -1,6 +1,6 @@
 use Rattle.std.proofs.Common.{◌≡◌, ◌+◌, Some, None, refl, sym, arith}
 use Rattle.krb_packet.specs.declared.format.Format.TheVariants as formats
-use Rattle.krb_packet.specs.declared.packets.State.TheVariants as states
+use Rattle.krb_file.specs.declared.progress.Progress.TheVariants as states
 use Rattle.krb_file.specs.Fields.{succeed}
 use Rattle.krb_packet.specs.Captures.{packet_in, after_packet}
 use Rattle.krb_packet.proofs.Options.{then_fails}

@@ -10,5 +10,5 @@ unfolding part_text
 returns c =
     on_ok_weaker
     c.put_closing.result
-    (part_of_one c.args.text.now (separator c.args.at.form (nat_lt 0 c.args.at.told)) (opening c.args.at.form (codes "PA-PAC-OPTIONS")) _ (closing c.args.at.form) c.in_ok-put_part_opening.ensures (rw c.flags_of.ensures at c.in_ok-put_field.ensures))
+    (part_of_one c.args.text.now (separator c.args.at.form (nat_lt 0 c.args.at.told)) (opening c.args.at.form (codes "PA-PAC-OPTIONS")) _ (closing c.args.at.form) c.in_ok-put_part_opening.ensures c.in_ok-put_field.ensures)
     c.put_closing.ensures
