@@ -1,9 +1,12 @@
 -- The shapes of times and of bit strings.
-use Rattle.std.proofs.Common.{◌≡◌, ℕ, zero, suc, ◌+◌, ◌-◌, ◌*◌, ◌/◌, ◌%◌, ◌^◌, ◌<◌, ◌≤◌, nat_eq, bit_and, false, List, [], ◌∷◌, length, get_or, refl, sym, ap, ◌∙◌, arith}
+use Rattle.std.proofs.Common.{◌≡◌, ℕ, zero, suc, ◌+◌, ◌-◌, ◌*◌, ◌/◌, ◌%◌, ◌^◌, ◌<◌, ◌≤◌, nat_eq, bit_and, true, false, List, [], ◌∷◌, length, take, get_or, refl, sym, ap, ◌∙◌, arith}
 use Rattle.std.proofs.Math.Pow.{mod-mod-pow}
 use Rattle.std.proofs.lemmas.Grind.{common_steps}
 use Rattle.std.proofs.lemmas.Nat.{mod-pow-add, pow_pos}
 use Rattle.std.proofs.lemmas.Nat.Bits.{shr_and_one}
+use Rattle.std.proofs.lemmas.Bool.Decides.{nat_tests}
+use Rattle.std.specs.Char.{is_ascii_digit}
+use Rattle.std.specs.List.{list_all}
 use Rattle.krb_der.specs.Octets.{AreBits, last_or_zero}
 use Rattle.krb_der.specs.Scalars.{IsTimeFrom}
 
@@ -23,6 +26,24 @@ length-time zero (last ∷ []) t = refl
 length-time zero (last ∷ more ∷ octets) t = absurd t
 length-time (suc n) [] t = absurd t
 length-time (suc n) (digit ∷ octets) t = omega (arith, length-time n octets t.2)
+
+pub is-time : (n : ℕ) (octets : List ℕ) → length octets ≡ suc n → list_all is_ascii_digit (take n octets) ≡ true → get_or octets n 0 ≡ 90 → IsTimeFrom n octets
+is-time zero [] l d z = absurd (omega (arith, l))
+is-time zero (last ∷ []) l d z = z
+is-time zero (last ∷ more ∷ octets) l d z = absurd (omega (arith, l))
+is-time (suc n) [] l d z = absurd (omega (arith, l))
+is-time (suc n) (digit ∷ octets) l d z =
+    let first : (48 ≤ digit) × (digit ≤ 57) = grind (arith, nat_tests, d) in
+    (first.0, first.1, is-time n octets (omega (arith, l)) (grind (arith, nat_tests, d)) z)
+
+pub time-is : (n : ℕ) (octets : List ℕ) → IsTimeFrom n octets → (list_all is_ascii_digit (take n octets) ≡ true) × (get_or octets n 0 ≡ 90)
+time-is zero [] t = absurd t
+time-is zero (last ∷ []) t = (refl, t)
+time-is zero (last ∷ more ∷ octets) t = absurd t
+time-is (suc n) [] t = absurd t
+time-is (suc n) (digit ∷ octets) t =
+    let rest : (list_all is_ascii_digit (take n octets) ≡ true) × (get_or octets n 0 ≡ 90) = time-is n octets t.2 in
+    (grind (arith, nat_tests, t.0, t.1, rest.0), rest.1)
 
 -- ---- bit strings
 pub last_octet : (octets : List ℕ) → 0 < length octets → get_or octets (length octets - 1) 0 ≡ last_or_zero octets
