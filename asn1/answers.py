@@ -114,7 +114,7 @@ def type_answers(it):
     names = {}
     if it.is_parametric:
         names = {f"{it.rust}/{name}": f"two_{name}" for name in ("put", "size")}
-    elif not is_plain(it):
+    else:
         names = {f"{it.rust}Der/size": "size"}
         names[f"{it.rust}Der/put"] = "put" if it.application is None else "put_tagged"
     made = {name: fill(f"answers/{template}.antt", type=it.term, Type=it.rust) for name, template in names.items()}
