@@ -3,7 +3,7 @@
 from kinds import file, messages_of
 from model import back, fixed_value, is_plain, mapped
 from module import Basic, Sequence
-from structs import may_have_notes, noted_in_view, noted_of_value
+from structs import is_call, may_have_notes, noted_in_view, noted_of_value
 from tables import count_of_rows
 from text import BY, brought, fill, pairs, path, record
 from values import known, parts_in, seen_value
@@ -22,9 +22,19 @@ def valid(it, those, fits):
     return ", ".join(facts.values())
 
 
+def again(field, seen, lets):
+    """A field of a view that a call returned, made again: a number in it is kept as what its 64 bits say."""
+    if isinstance(field.type, Sequence) and not field.optional:
+        return f"record {{ {'; '.join(f'{part.rust} = ' + again(part, f'{seen}.{part.rust}', lets) for part in field.type.kept)} }}"
+    if field.is_list or field.optional or field.type.form not in ("number", "micros"):
+        return seen
+    lets.append(f"    let fits_{len(lets)} : FitsSigned w64 {seen} = search rules in\n")
+    return f"(sym (to_z-of_z w64 {seen} fits_{len(lets) - 1}) i)"
+
+
 def view_answer(it):
     """That a view is made of those of the fields. A number is kept as what its 64 bits say, and one that may be left out is mapped to itself."""
-    form, values, fits, lets = "c.in-Some.ensures.0", [], {}, ""
+    form, values, fits, lets, numbers = "c.in-Some.ensures.0", [], {}, "", []
     for field in it.fields:
         seen = f"c.in-Some.{'rest.' * (it.cut is not None and field in it.kept[it.cut :])}{field.rust}"
         value = fixed_value(field) if field.is_fixed else seen_value(field, seen)
@@ -32,8 +42,11 @@ def view_answer(it):
             lets += f"    let fits_{field.rust} : FitsSigned w64 {seen} = search rules in\n"
             fits[field.rust] = f"(sym (to_z-of_z w64 {seen} fits_{field.rust}))"
             value = f"{fits[field.rust]} i"
+        if is_call(it) and not field.is_fixed and isinstance(field.type, Sequence):
+            value = f"{field.type.term}_view_value ({again(field, seen, numbers)})"
         values.append(f"option_map_id {seen} i" if value == seen else value)
-    if any(value.endswith(" i") for value in values):
+    lets += "".join(numbers)
+    if any(value.endswith(" i") for value in values) or numbers:
         form = f"subst (AreContents {it.term} c.args.contents.now) (λ i. {pairs(values, 'tt')}) {form}"
     homes = [
         ("Rattle.std.proofs.Common", "pos subst sym w64 FitsSigned rules".split()),

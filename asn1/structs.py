@@ -4,7 +4,7 @@ from model import option, owned, viewed
 from module import Basic, Sequence
 from text import an, brought, doc, fill, nested, pairs
 
-FIELDS = "Application Borrowed Cut Encode EncodeFields End FieldOf Fixed Noted NotedView Optional Owned Required Sequence View ViewFields optional_notes optional_view_notes"
+FIELDS = "Application Borrowed Cut Encode EncodeFields End FieldOf Fixed Noted NotedView Optional Owned Required Sequence View ViewFields optional_notes optional_view_notes view_by_call"
 BASIC = "Der Flags Int32 KString KerberosTime Many Memory Micros Octets Wide32"
 
 
@@ -143,29 +143,42 @@ def cut_views(it):
     )
 
 
+def is_call(it):
+    """Whether the view of a type is a call."""
+    return it.note("not inlined") is not None
+
+
 def view_impl(it, layout, seen, made):
-    """How a view is made of the views of the fields; and one that is a call, of what the call returns, word by word."""
+    """How a view is made of the views of the fields."""
     tag = 0x30 if it.application is None else 0x60 + it.application
-    words = {"type": it.term, "Type": it.rust, "term": term_name(it), "layout": layout}
-    text, call, why = "", f"{layout}::view", ""
-    if it.note("not inlined") is not None:
-        text, call = fill("view_by_call.rt", seen=seen, made=made, **words), f"{it.rust}View::of_contents"
-        why = "        // Word by word: what a call returned whole stays in memory, and words go to registers.\n"
-        again = [f"{field.rust}: {word_by_word(field)}" for field in it.kept]
-        seen, made = "seen", f"{it.rust}View {{ {', '.join(again)} }}"
-    return text + fill("view.rt", tag=f"{tag:02X}", call=call, seen=seen, why=why, made=made, **{name: words[name] for name in ("type", "Type", "term")})
+    call = f"view_by_call::<{layout.replace('::<', '<')}>" if is_call(it) else f"{layout}::view"
+    return fill("view.rt", tag=f"{tag:02X}", call=call, seen=seen, made=made, type=it.term, Type=it.rust, term=term_name(it))
 
 
-def word_by_word(field):
+def word_by_word(field, seen):
     """A field of a view that a call returned, such that the compiler may keep each word of it in a register."""
-    return f"ItemsView {{ octets: &*seen.{field.rust}.octets }}" if field.is_list else f"seen.{field.rust}"
+    if field.optional or viewed(field.type) in ("i64", "FlagsView<'a>"):
+        return seen
+    if field.is_list:
+        return f"ItemsView {{ octets: &*{seen}.octets }}"
+    if isinstance(field.type, Sequence):
+        return view_of(field.type, [word_by_word(part, f"{seen}.{part.rust}") for part in field.type.kept])
+    return f"&*{seen}"
+
+
+def view_of(it, values):
+    """The view that has these fields."""
+    fields = [name if name == value else f"{name}: {value}" for name, value in zip((field.rust for field in it.kept), values)]
+    return f"{it.rust}View {{ {', '.join(fields)} }}"
 
 
 def in_one_step(it):
-    """The views of the fields, and the view that has them."""
-    kept = it.kept[: it.cut] if it.cut else it.kept
-    names, after = [field.rust for field in kept], [f"{field.rust}: rest.{field.rust}" for field in it.kept[len(kept) :]]
-    return pairs(names, "rest" if after else "()"), f"{it.rust}View {{ {', '.join(names + after)} }}"
+    """The views of the fields, and the view that has them, of a call word by word."""
+    names = [field.rust for field in it.kept]
+    first = names[: it.cut]
+    values = first + [f"rest.{name}" for name in names[len(first) :]]
+    made = view_of(it, [word_by_word(field, value) for field, value in zip(it.kept, values)] if is_call(it) else values)
+    return pairs(first, "rest" if it.cut else "()"), made
 
 
 def view_impls(it):

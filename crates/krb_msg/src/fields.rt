@@ -10,7 +10,7 @@ mod view_notes;
 pub use encode::{Encode, EncodeFields};
 pub use notes::{Noted, optional_notes};
 use std::marker::PhantomData;
-pub(crate) use view::view_field;
+pub(crate) use view::{view_by_call, view_field};
 pub use view::{View, ViewFields};
 pub use view_notes::{NotedView, optional_view_notes};
 

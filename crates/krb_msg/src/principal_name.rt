@@ -10,7 +10,7 @@ ghost use Rattle.krb_msg.specs.inner.RoundTrips.{principal_name-back};
 
 use crate::copying::{FromView, copy_items};
 use crate::fields::{
-    Borrowed, Encode, End, FieldOf, Noted, NotedView, Owned, Required, Sequence, View,
+    Borrowed, Encode, End, FieldOf, Noted, NotedView, Owned, Required, Sequence, View, view_by_call,
 };
 use crate::item::Item;
 use crate::notes::{Notes, any_of};
@@ -89,20 +89,6 @@ impl Noted for PrincipalName {
     }
 }
 
-impl<'a> PrincipalNameView<'a> {
-    /// Returns a view of the item with these contents, if they are contents of one, by a call.
-    #[inline(never)]
-    fn of_contents(contents: &'a [u8]) -> Option<PrincipalNameView<'a>>
-        requires { length contents.now < 2 ^ 31 }
-        ensures { MatchOption result (AreNoContents principal_name contents.now) (λ seen. AreContents principal_name contents.now (principal_name_view_value seen) × IsValidPrincipalName seen) }
-    {
-        let Some((name_type, (name, ()))) = Layout::<Owned>::view(contents) else {
-            return None;
-        };
-        Some(PrincipalNameView { name_type, name })
-    }
-}
-
 impl<'a> View<'a> for PrincipalName {
     type Of = PrincipalNameView<'a>;
 
@@ -121,14 +107,13 @@ impl<'a> View<'a> for PrincipalName {
 
     #[inline(always)]
     fn view(contents: &'a [u8]) -> Option<PrincipalNameView<'a>> {
-        let Some(seen) = PrincipalNameView::of_contents(contents) else {
+        let Some((name_type, (name, ()))) = view_by_call::<Layout<Owned>>(contents) else {
             return None;
         };
-        // Word by word: what a call returned whole stays in memory, and words go to registers.
         Some(PrincipalNameView {
-            name_type: seen.name_type,
+            name_type,
             name: ItemsView {
-                octets: &*seen.name.octets,
+                octets: &*name.octets,
             },
         })
     }

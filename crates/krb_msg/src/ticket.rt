@@ -12,11 +12,12 @@ use crate::copying::FromView;
 use crate::encrypted_data::{EncryptedData, EncryptedDataView};
 use crate::fields::{
     Application, Borrowed, Encode, End, FieldOf, Fixed, Noted, NotedView, Owned, Required,
-    Sequence, View,
+    Sequence, View, view_by_call,
 };
 use crate::item::Item;
 use crate::notes::{Notes, any_of};
 use crate::principal_name::{PrincipalName, PrincipalNameView};
+use crate::view::items::ItemsView;
 use krb_der::{Der, KString, Memory};
 use std::alloc::Global;
 
@@ -131,13 +132,22 @@ impl<'a> View<'a> for Ticket {
 
     #[inline(always)]
     fn view(contents: &'a [u8]) -> Option<TicketView<'a>> {
-        let Some((realm, (sname, (enc_part, ())))) = Layout::<Owned>::view(contents) else {
+        let Some((realm, (sname, (enc_part, ())))) = view_by_call::<Layout<Owned>>(contents) else {
             return None;
         };
         Some(TicketView {
-            realm,
-            sname,
-            enc_part,
+            realm: &*realm,
+            sname: PrincipalNameView {
+                name_type: sname.name_type,
+                name: ItemsView {
+                    octets: &*sname.name.octets,
+                },
+            },
+            enc_part: EncryptedDataView {
+                etype: enc_part.etype,
+                kvno: enc_part.kvno,
+                cipher: &*enc_part.cipher,
+            },
         })
     }
 }

@@ -8,7 +8,7 @@ ghost use Rattle.krb_msg.specs.Shape.{is_unambiguous, are_unambiguous, has_octet
 ghost use Rattle.krb_msg.specs.Viewed.{AreContents, AreNoContents, AreFields, AreNoFields, BeginsWithValue, BeginsWithNoValue, MayBeginWithValue, IsMalformedField};
 
 use crate::fields::{Application, End, Fixed, Optional, Required, Sequence, Tagged};
-use crate::view::head::{first_field, only_item};
+use crate::view::head::{after_octet, first_field, only_item};
 use crate::view::scalars::Exactly;
 
 /// A type whose items are judged and viewed in place.
@@ -60,6 +60,18 @@ pub trait ViewFields<'a> {
         ensures { MatchOption result (AreNoFields fields octets.now) (λ seen. AreFields fields octets.now (values seen) × IsValid seen) };
 }
 
+/// Returns the view of an item, by a call. What a call returns whole stays in memory, and words go
+/// to registers, so its caller makes the view again word by word.
+#[inline(never)]
+pub(crate) fn view_by_call<'a, T: View<'a>>(contents: &'a [u8]) -> Option<T::Of>
+    requires short { length contents.now < 2 ^ 31 }
+    requires tags { has_octet_tags T.term ≡ true }
+    requires unambiguous { is_unambiguous T.term ≡ true }
+    ensures { MatchOption result (AreNoContents T.term contents.now) (λ seen. AreContents T.term contents.now (T.value seen) × T.IsValid seen) }
+{
+    T::view(contents)
+}
+
 /// Returns the field `[INDEX]` with which octets begin, and what follows it.
 #[inline(always)]
 pub(crate) fn view_field<'a, const INDEX: u8, T: View<'a>>(
@@ -77,6 +89,32 @@ pub(crate) fn view_field<'a, const INDEX: u8, T: View<'a>>(
         return None;
     };
     Some((seen, rest))
+}
+
+/// Returns what follows the field `[INDEX]` of a number with which octets begin.
+#[inline(always)]
+fn view_fixed<const INDEX: u8, const NUMBER: u8>(octets: &[u8]) -> Option<&[u8]>
+    requires short { length octets.now < 2 ^ 31 }
+    requires tags { has_octet_tags (TaggedTerm INDEX (exactly NUMBER)) ≡ true }
+    ensures { MatchOption result (BeginsWithNoValue (TaggedTerm INDEX (exactly NUMBER)) octets.now) (λ rest. BeginsWithValue (TaggedTerm INDEX (exactly NUMBER)) octets.now (pos NUMBER) rest.now) }
+{
+    match after_octet(0xA0 + INDEX, NUMBER, octets) {
+        Some(rest) if NUMBER < 0x80 => Some(rest),
+        _ => find_fixed::<INDEX, NUMBER>(octets),
+    }
+}
+
+/// Returns the same as [`view_fixed`], whatever the number is, by a call.
+#[inline(never)]
+fn find_fixed<const INDEX: u8, const NUMBER: u8>(octets: &[u8]) -> Option<&[u8]>
+    requires short { length octets.now < 2 ^ 31 }
+    requires tags { has_octet_tags (TaggedTerm INDEX (exactly NUMBER)) ≡ true }
+    ensures { MatchOption result (BeginsWithNoValue (TaggedTerm INDEX (exactly NUMBER)) octets.now) (λ rest. BeginsWithValue (TaggedTerm INDEX (exactly NUMBER)) octets.now (pos NUMBER) rest.now) }
+{
+    match view_field::<INDEX, Exactly<NUMBER>>(octets) {
+        Some((_, rest)) => Some(rest),
+        None => None,
+    }
 }
 
 /// Returns the field `[INDEX]`, if octets begin with its tag, and what follows it.
@@ -169,7 +207,7 @@ impl<'a, const INDEX: u8, const NUMBER: u8, F: ViewFields<'a>> ViewFields<'a>
 
     #[inline(always)]
     fn view_fields(octets: &'a [u8]) -> Option<F::Of> {
-        let Some((_, rest)) = view_field::<INDEX, Exactly<NUMBER>>(octets) else {
+        let Some(rest) = view_fixed::<INDEX, NUMBER>(octets) else {
             return None;
         };
         F::view_fields(rest)

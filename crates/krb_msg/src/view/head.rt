@@ -3,7 +3,7 @@
 //! Of most items and fields the lengths have one octet, which is read in place. The rarer forms are
 //! read by calls, which return where contents are: two numbers, in registers.
 
-ghost use Rattle.std.specs.Prelude.{◌≡◌, ◌+◌, ◌^◌, ◌<◌, ◌≤◌, ◌++◌, ◌∷◌, length, take, drop, MatchOption, IfSome};
+ghost use Rattle.std.specs.Prelude.{◌≡◌, ◌+◌, ◌^◌, ◌<◌, ◌≤◌, ◌++◌, ◌∷◌, [], length, take, drop, MatchOption, IfSome};
 ghost use Rattle.krb_der.specs.Octets.{item, length_octets};
 ghost use Rattle.krb_msg.specs.inner.Fields.{HasNoField, IsHead};
 ghost use Rattle.krb_msg.specs.Viewed.{HasNoItem, IsNoItem, HasNoLength};
@@ -152,6 +152,17 @@ fn short_field(outer: u8, tag: u8, octets: &[u8]) -> Option<(&[u8], &[u8])>
         split(rest, inner_size)
     } else {
         None
+    }
+}
+
+/// Returns what follows a field with which octets begin, of an INTEGER of one octet that is known.
+#[inline(always)]
+pub(crate) fn after_octet(outer: u8, number: u8, octets: &[u8]) -> Option<&[u8]>
+    ensures { IfSome result (λ rest. octets.now ≡ item outer (item 2 (number ∷ [])) ++ rest.now) }
+{
+    match octets {
+        [first, 3, 2, 1, octet, rest @ ..] if *first == outer && *octet == number => Some(rest),
+        _ => None,
     }
 }
 
