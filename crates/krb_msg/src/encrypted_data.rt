@@ -11,7 +11,7 @@ ghost use Rattle.krb_msg.specs.inner.RoundTrips.{encrypted_data-back};
 use crate::copying::{FromView, copy_option};
 use crate::fields::{
     Borrowed, Encode, End, FieldOf, Noted, NotedView, Optional, Owned, Required, Sequence, View,
-    optional_notes, optional_view_notes, view_by_call,
+    optional_notes, optional_view_notes,
 };
 use crate::item::Item;
 use crate::notes::{Notes, any_of};
@@ -118,13 +118,13 @@ impl<'a> View<'a> for EncryptedData {
 
     #[inline(always)]
     fn view(contents: &'a [u8]) -> Option<EncryptedDataView<'a>> {
-        let Some((etype, (kvno, (cipher, ())))) = view_by_call::<Layout<Owned>>(contents) else {
+        let Some((etype, (kvno, (cipher, ())))) = Layout::<Owned>::view(contents) else {
             return None;
         };
         Some(EncryptedDataView {
             etype,
             kvno,
-            cipher: &*cipher,
+            cipher,
         })
     }
 }
