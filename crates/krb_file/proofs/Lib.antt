@@ -8,3 +8,4 @@ pub mod Reaching
 pub mod Limits
 pub mod Zeros
 pub mod Stable
+pub mod Chains

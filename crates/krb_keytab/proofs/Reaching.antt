@@ -32,6 +32,13 @@ entry_stays size told entry old mid new same looks read stays =
     let far : mid.place + size ≤ new.place = goes_on size (within size entry_at) entry mid new (AtLeast-within size entry_at ToEnd-entry) read in
     looked told old mid new looks stays (omega (arith, same, far))
 
+-- the same at its end or at a fault
+pub entry_fetches : (most size told : ℕ) (old mid new : Cursor) → size ≡ most → told ≡ size → LooksAheadTo told old mid → FetchesTo (mid.place + size) mid new → FetchesTo (old.place + most) old new
+entry_fetches most size told old mid new is same looks within = λ far.
+    let first : fetched new ≤ fetched mid = within (omega (arith, looks.same, is, far)) in
+    let second : fetched mid ≤ fetched old = looks.within (omega (arith, looks.same, is, same, far, first)) in
+    omega (arith, first, second)
+
 -- a record after its length
 pub record_stays : (length : ℤ) (old mid some after new : Cursor) → LooksAheadTo 4 old mid → LooksAheadTo 1 mid some → HasRead (signed_at w32) length some after → Stays some after → Stays after new → Stays old new
 record_stays length old mid some after new looks more read first second =

@@ -2,6 +2,7 @@ use Rattle.std.specs.Int.{w8, w32}
 use Rattle.krb_file.specs.Fields.{called, number_at, counted_at}
 use Rattle.krb_file.specs.declared.field_name.FieldName.TheVariants as field
 use Rattle.krb_file.specs.declared.field_name.FilePart.TheVariants as parts
+use Rattle.krb_file.proofs.Chains.{read_none, read_from, read_then, read_after}
 use Rattle.krb_file.proofs.FieldReaders.{Stays-same, Stays-then}
 use Rattle.krb_file.proofs.Reaching.{AtLeast-called, AtLeast-number, AtLeast-counted, goes, same_goes, ◌then◌, looked}
 use Rattle.krb_ccache.specs.Reading.{typed_list_at}
@@ -24,3 +25,15 @@ returns-clause-stays g c =
     then goes 4 (called field.SecondTicket (counted_at w32)) (AtLeast-called 4 field.SecondTicket (counted_at w32) (AtLeast-counted w32)) c.in_ok-counted_field32-3.ensures.read c.in_ok-counted_field32-3.ensures.keeps.stays in
     Stays-then (Stays-same c.spare_octets-key.ensures.same) (Stays-then c.in_ok-counted_field32.ensures.keeps.stays
     (looked 37 (g.F.FieldReader.cursor c.counted_field32.new.self) (g.F.FieldReader.cursor c.look_ahead.new.self) (g.F.FieldReader.cursor c.counted_field32-3.new.self) c.look_ahead.ensures.looks after_key.stays after_key.on))
+
+pub returns-clause-read : goal.returns-clause-read
+returns-clause-read g c =
+    rw (c.new.ensures, c.new-2.ensures, c.new-3.ensures)
+    (read_from c.spare_octets-key.ensures.same (read_then (called field.Key (counted_at w32)) _ c.in_ok-counted_field32.ensures.read
+    (read_after c.in_ok-look_ahead.ensures.read
+    (read_then (called field.AuthTime (number_at w32)) _ c.in_ok-authtime.ensures.read (read_then (called field.StartTime (number_at w32)) _ c.in_ok-starttime.ensures.read
+    (read_then (called field.EndTime (number_at w32)) _ c.in_ok-endtime.ensures.read (read_then (called field.RenewTill (number_at w32)) _ c.in_ok-renew_till.ensures.read
+    (read_then (called field.IsSkey (number_at w8)) _ c.in_ok-is_skey.ensures.read (read_then (called field.TicketFlags (number_at w32)) _ c.in_ok-flags.ensures.read
+    (read_then (typed_list_at field.AddressCount parts.Address) _ c.in_ok-addresses.ensures.read (read_then (typed_list_at field.AuthdataCount parts.Authdata) _ c.in_ok-authdata.ensures.read
+    (read_from c.spare_octets-ticket.ensures.same (read_then (called field.Ticket (counted_at w32)) _ c.in_ok-counted_field32-2.ensures.read
+    (read_from c.spare_octets-second_ticket.ensures.same (read_then (called field.SecondTicket (counted_at w32)) _ c.in_ok-counted_field32-3.ensures.read read_none)))))))))))))))

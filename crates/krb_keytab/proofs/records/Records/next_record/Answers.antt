@@ -7,6 +7,18 @@ use Rattle.krb_keytab.specs.Streaming.{Reads, announced_in}
 use Rattle.krb_keytab.proofs.Reaching.{version_keeps, same_keeps}
 use Rattle.krb_keytab.proofs.records.Records.next_record.Goals as goal
 
+pub returns-in-Open-clause-next : goal.returns-in-Open-clause-next
+returns-in-Open-clause-next g c = λ file limit count reads.
+    c.read_next.ensures.next file limit count (subst (λ (s : Progress Bool Stop). Reads (Some limit) c.args.self.now.reader s file count) (rw c.if-has_begun.true at c.in-Open.is) reads)
+
+pub returns-in-Ok-clause-next : goal.returns-in-Ok-clause-next
+returns-in-Ok-clause-next g c = λ file limit count reads.
+    c.read_next-in-Ok.ensures.next file limit count (opens (Some limit) file count c.args.self.now.reader c.version.new.self c.in-Ok.field-0 (subst (λ (s : Progress Bool Stop). Reads (Some limit) c.args.self.now.reader s file count) (rw c.if-has_begun.false at c.in-Open.is) reads) c.in-Ok.ensures.read)
+
+pub returns-in-Err-clause-next : goal.returns-in-Err-clause-next
+returns-in-Err-clause-next g c = λ file limit count reads.
+    version_refused (Some limit) file count c.args.self.now.reader c.in-Err.fault (Unit {0}) (subst (λ (s : Progress Bool Stop). Reads (Some limit) c.args.self.now.reader s file count) (rw c.if-has_begun.false at c.in-Open.is) reads) c.in-Err.ensures.read
+
 pub returns-in-Done-clause-next : goal.returns-in-Done-clause-next
 returns-in-Done-clause-next g c = λ file limit count reads.
     absurd (subst (λ (s : Progress Bool Stop). Reads (Some limit) c.args.self.now.reader s file count) c.in-Done.is reads)
@@ -15,24 +27,21 @@ pub returns-in-Failed-clause-next : goal.returns-in-Failed-clause-next
 returns-in-Failed-clause-next g c = λ file limit count reads.
     absurd (subst (λ (s : Progress Bool Stop). Reads (Some limit) c.args.self.now.reader s file count) c.in-Failed.is reads)
 
-pub returns-in-Failed-clause-refused : goal.returns-in-Failed-clause-refused
-returns-in-Failed-clause-refused g c = λ file limit count reads.
-    absurd (subst (λ (s : Progress Bool Stop). Reads (Some limit) c.args.self.now.reader s file count) c.in-Failed.is reads)
+pub returns-in-Open-clause-refused : goal.returns-in-Open-clause-refused
+returns-in-Open-clause-refused g c = λ file limit count reads.
+    refusal_in_file (Some limit) file count c.read_next.result c.read_next.new.self.reader c.read_next.new.self.state (returns-in-Open-clause-next g c file limit count reads)
 
 pub returns-in-Ok-clause-refused : goal.returns-in-Ok-clause-refused
 returns-in-Ok-clause-refused g c = λ file limit count reads.
-    refusal_in_file (Some limit) file count c.read_next-in-Ok.result c.read_next-in-Ok.new.self.reader c.read_next-in-Ok.new.self.state
-    (c.read_next-in-Ok.ensures.next file limit count (opens (Some limit) file count c.args.self.now.reader c.version.new.self c.in-Ok.field-0 (subst (λ (s : Progress Bool Stop). Reads (Some limit) c.args.self.now.reader s file count) (rw c.if-has_begun.false at c.in-Open.is) reads) c.in-Ok.ensures.read))
+    refusal_in_file (Some limit) file count c.read_next-in-Ok.result c.read_next-in-Ok.new.self.reader c.read_next-in-Ok.new.self.state (returns-in-Ok-clause-next g c file limit count reads)
 
 pub returns-in-Err-clause-refused : goal.returns-in-Err-clause-refused
 returns-in-Err-clause-refused g c = λ file limit count reads.
-    refusal_in_file (Some limit) file count (Err c.in-Err.fault) c.version.new.self (states.Failed c.in-Err.fault)
-    (version_refused (Some limit) file count c.args.self.now.reader c.in-Err.fault (Unit {0}) (subst (λ (s : Progress Bool Stop). Reads (Some limit) c.args.self.now.reader s file count) (rw c.if-has_begun.false at c.in-Open.is) reads) c.in-Err.ensures.read)
+    refusal_in_file (Some limit) file count (Err c.in-Err.fault) c.version.new.self (states.Failed c.in-Err.fault) (returns-in-Err-clause-next g c file limit count reads)
 
-pub returns-in-Open-clause-refused : goal.returns-in-Open-clause-refused
-returns-in-Open-clause-refused g c = λ file limit count reads.
-    refusal_in_file (Some limit) file count c.read_next.result c.read_next.new.self.reader c.read_next.new.self.state
-    (c.read_next.ensures.next file limit count (subst (λ (s : Progress Bool Stop). Reads (Some limit) c.args.self.now.reader s file count) (rw c.if-has_begun.true at c.in-Open.is) reads))
+pub returns-in-Failed-clause-refused : goal.returns-in-Failed-clause-refused
+returns-in-Failed-clause-refused g c = λ file limit count reads.
+    absurd (subst (λ (s : Progress Bool Stop). Reads (Some limit) c.args.self.now.reader s file count) c.in-Failed.is reads)
 
 pub returns-in-Err-clause-announced : goal.returns-in-Err-clause-announced
 returns-in-Err-clause-announced g c = rw (c.in-Open.is, c.if-has_begun.false) (version_keeps c.args.self.now.reader c.version.new.self c.version.ensures.within)

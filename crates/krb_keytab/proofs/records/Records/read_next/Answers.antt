@@ -16,3 +16,12 @@ pub returns-in-Err-clause-next : goal.returns-in-Err-clause-next
 returns-in-Err-clause-next g c = λ file limit count reads.
     record_refused (Some limit) file count c.args.self.now.reader reads c.begun_at-fault.result (Unit {0})
     (fails_part next_record_at c.in-Err.fault c.begun_at-fault.result c.place-begin.result (Unit {0}) c.args.self.now.reader c.place-begin.ensures.value c.begun_at-fault.ensures c.in-Err.ensures.read)
+
+pub returns-in-Ok-Item-clause-stays : goal.returns-in-Ok-Item-clause-stays
+returns-in-Ok-Item-clause-stays g c = c.in-Ok-Item.ensures.stays
+
+pub returns-in-Ok-Done-clause-stays : goal.returns-in-Ok-Done-clause-stays
+returns-in-Ok-Done-clause-stays g c = c.in-Ok-Done.ensures.stays
+
+pub returns-in-Err-clause-announced : goal.returns-in-Err-clause-announced
+returns-in-Err-clause-announced g c = c.in-Err.ensures.keeps
