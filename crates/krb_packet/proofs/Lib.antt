@@ -12,6 +12,7 @@ pub mod Checking
 pub mod Skipping
 pub mod Reaching
 pub mod InFile
+pub mod InTurn
 pub mod Steps
 pub mod Stepwise
 pub mod Streams

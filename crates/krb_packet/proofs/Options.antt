@@ -1,15 +1,18 @@
 -- The options of an interface, read by a loop.
-use Rattle.std.proofs.Common.{◌≡◌, ℕ, suc, ◌+◌, ◌-◌, ◌<◌, ◌≤◌, Bool, true, false, Option, Some, None, Result, Ok, Err, List, [], refl, ap, ◌∙◌, subst, arith}
+use Rattle.std.proofs.Common.{◌≡◌, ℕ, suc, ◌+◌, ◌-◌, ◌<◌, ◌≤◌, ◌==◌, Bool, true, false, Option, Some, None, Result, Ok, Err, List, [], refl, ap, ◌∙◌, subst, arith}
+use Rattle.std.proofs.lemmas.Bool.Decides.{nat_tests}
 use Rattle.krb_der.specs.Octets.{when}
 use Rattle.krb_file.specs.Fields.{Source, Fault, Bounds, Reader, and_then, ◌>>=◌, succeed, is_at_end}
 use Rattle.krb_file.specs.FieldReaders.{Cursor, MayRemain, source_at, HasRead, FailsBy, Follows}
 use Rattle.krb_file.specs.declared.fault.FileFault.{FileFault}
 use Rattle.krb_file.specs.declared.fault.FileFault.TheVariants as faults
+use Rattle.krb_file.proofs.FieldReaders.{made_of}
 use Rattle.krb_packet.specs.declared.order.ByteOrder.{ByteOrder}
 use Rattle.krb_packet.specs.declared.interface.Options.{Options}
 use Rattle.krb_packet.specs.declared.interface.Setting.{Setting}
-use Rattle.krb_packet.specs.Numbers.{from_here}
-use Rattle.krb_packet.specs.Interfaces.{option_at, with_setting, after_setting, options_within}
+use Rattle.std.specs.Int.{w16}
+use Rattle.krb_packet.specs.Numbers.{from_here, number_in}
+use Rattle.krb_packet.specs.Interfaces.{value_at, setting_at, option_at, with_setting, after_setting, options_within}
 
 -- Reading on by the second reader returns what the first one returns from the beginning.
 pub record Continues {A : Type 0} (first second : Reader A) (old new : Cursor) : Type 0 where
@@ -81,6 +84,29 @@ continues_as first second third old new on same = record {
       let whose : second old.bounds s ≡ third old.bounds s = subst (λ (k : Bounds). second k s ≡ third k s) on.same_bounds (same rest) in
       (a.0, a.1, a.2 ∙ whose);
 }
+
+-- ---- one option: its code, the size of its value, and the value
+abbrev after_size : ByteOrder → ℕ → ℕ → Reader (Option Setting)
+after_size order code size = when (code == 0) (λ _. succeed None) (λ _. value_at order code size >>= λ setting. succeed (Some setting))
+
+module _ (order : ByteOrder) (code size : ℕ) (old mid new : Cursor) (first : HasRead (number_in w16 order) code old mid) (second : HasRead (number_in w16 order) size mid new) where
+  sized : Continues (setting_at order) (after_size order code size) old new
+  sized =
+      continues_then (setting_at order) (number_in w16 order) (after_size order code) size old mid new
+      (continues_then (setting_at order) (number_in w16 order) (λ n. number_in w16 order >>= after_size order n) code old old mid (continues_here (setting_at order) old) first)
+      second
+
+  pub option_ends : code ≡ 0 → HasRead (setting_at order) None old new
+  option_ends none = continues_read (setting_at order) (succeed None) None old new new (rw none at sized) (record { same_bounds = refl; from = λ rest there. (rest, there, refl) })
+
+  valued : (code ≡ 0 → ⊥) → Continues (setting_at order) (value_at order code size >>= λ setting. succeed (Some setting)) old new
+  valued some = let differs : (code == 0) ≡ false = grind (arith, nat_tests) in rw differs at sized
+
+  pub option_read : (code ≡ 0 → ⊥) → (setting : Setting) (after : Cursor) → HasRead (value_at order code size) setting new after → HasRead (setting_at order) (Some setting) old after
+  option_read some setting after read = continues_read (setting_at order) (value_at order code size >>= λ setting. succeed (Some setting)) (Some setting) old new after (valued some) (made_of (value_at order code size) Some setting new after read)
+
+  pub option_fails : (code ≡ 0 → ⊥) → (e : FileFault) (MayFail : Type 0) → FailsBy e (value_at order code size) MayFail new → FailsBy e (setting_at order) MayFail old
+  option_fails some e MayFail fails = continues_fails (setting_at order) (value_at order code size >>= λ setting. succeed (Some setting)) e MayFail old new (valued some) (then_fails (value_at order code size) (λ setting. succeed (Some setting)) e MayFail new fails)
 
 -- ---- options
 abbrev others : ℕ → ByteOrder → Options → Option Setting → Reader Options

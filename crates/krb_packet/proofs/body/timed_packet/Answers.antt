@@ -23,3 +23,7 @@ returns-in_err-original-clause-keeps g c = Keeps-then c.timestamp.ensures.keeps 
 pub returns-in_err-octets_field-clause-keeps : goal.returns-in_err-octets_field-clause-keeps
 returns-in_err-octets_field-clause-keeps g c =
     Keeps-then c.timestamp.ensures.keeps (Keeps-then c.field32.ensures.keeps (Keeps-then c.field32-2.ensures.keeps (Keeps-then (Keeps-same c.spare_octets-octets.ensures.same) c.octets_field.ensures.keeps)))
+
+pub returns-clause-keeps : goal.returns-clause-keeps
+returns-clause-keeps g c =
+    Keeps-then c.timestamp.ensures.keeps (Keeps-then c.field32.ensures.keeps (Keeps-then c.field32-2.ensures.keeps (Keeps-then (Keeps-same c.spare_octets-octets.ensures.same) c.octets_field.ensures.keeps)))

@@ -16,3 +16,9 @@ returns-in_err-field16-clause-read g c =
 
 pub returns-in_err-snaplen-clause-keeps : goal.returns-in_err-snaplen-clause-keeps
 returns-in_err-snaplen-clause-keeps g c = Keeps-then c.field16.ensures.keeps (Keeps-then c.field16-2.ensures.keeps c.field32.ensures.keeps)
+
+pub returns-in_err-options-clause-keeps : goal.returns-in_err-options-clause-keeps
+returns-in_err-options-clause-keeps g c = Keeps-then c.field16.ensures.keeps (Keeps-then c.field16-2.ensures.keeps (Keeps-then c.field32.ensures.keeps c.read_options.ensures.keeps))
+
+pub returns-clause-keeps : goal.returns-clause-keeps
+returns-clause-keeps g c = Keeps-then c.field16.ensures.keeps (Keeps-then c.field16-2.ensures.keeps (Keeps-then c.field32.ensures.keeps c.read_options.ensures.keeps))

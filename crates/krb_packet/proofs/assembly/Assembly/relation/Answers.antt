@@ -1,4 +1,4 @@
-use Rattle.std.proofs.Common.{◌≡◌, ◌+◌, ◌-◌, ◌<◌, ◌≤◌, ◌&&◌, true, false, length, map, get_or, sym, ap, ◌∙◌, rules}
+use Rattle.std.proofs.Common.{◌≡◌, ◌+◌, ◌-◌, ◌≤◌, ◌&&◌, true, false, length, map, sym, ap, ◌∙◌, rules}
 use Rattle.std.specs.Prelude.{nat_eq, nat_le}
 use Rattle.std.specs.List.{list_all, list_any}
 use Rattle.std.specs.Cmp.Lexicographic.{pointwise}
@@ -12,26 +12,22 @@ returns-then-eq c =
     let octets = c.self.inside.octets.items in
     let parts = c.self.inside.parts.items in
     let pieces : c.args.self.now.pieces ≡ map (piece_in octets) parts = ap (λ (p : Parts). p.pieces) (sym c.self.view_is) in
-    let sound : is_sound c.args.fragment.now ≡ true = search rules in
-    let place : c.place_of-place.result < length parts = search rules in
-    let there : get_or parts c.place_of-place.result c.in-Some.part ≡ c.in-Some.part = search rules in
-    let same : same_span (span_of c.args.fragment.now) c.in-Some.part.span ≡ true = search rules in
-    let equal : pointwise nat_eq c.args.fragment.now.payload.octets (octets_in octets c.in-Some.part) ≡ true = search rules in
-    copied c.args.self.now c.args.fragment.now sound (rw pieces (copy_there octets parts (piece_of c.args.fragment.now) c.place_of-place.result c.in-Some.part place there same equal))
+    let sound : is_sound c.args.fragment.now ≡ true = sym c.is_sound.ensures.value ∙ c.if-not-is_sound.false in
+    let found = rw (c.deref-2.ensures.value, c.span_of-span.ensures) at c.in-Some.ensures.same in
+    let equal : pointwise nat_eq c.args.fragment.now.payload.octets (octets_in octets c.in-Some.part) ≡ true = rw (c.octets-octets.ensures.value, c.octets_of.ensures, c.deref-in-Some.ensures.value) at (sym c.eq.ensures ∙ c.if-eq.true) in
+    copied c.args.self.now c.args.fragment.now sound (rw pieces (copy_there octets parts (piece_of c.args.fragment.now) c.place_of-place.result c.in-Some.part found.1 found.2 found.0 equal))
 
 pub returns-else-eq : goal.returns-else-eq
 returns-else-eq c =
     let octets = c.self.inside.octets.items in
     let parts = c.self.inside.parts.items in
     let pieces : c.args.self.now.pieces ≡ map (piece_in octets) parts = ap (λ (p : Parts). p.pieces) (sym c.self.view_is) in
-    let sound : is_sound c.args.fragment.now ≡ true = search rules in
-    let is : IsPlace c.place_of-place.result (span_of c.args.fragment.now) parts = search rules in
-    let place : c.place_of-place.result < length parts = search rules in
-    let there : get_or parts c.place_of-place.result c.in-Some.part ≡ c.in-Some.part = search rules in
-    let same : same_span (span_of c.args.fragment.now) c.in-Some.part.span ≡ true = search rules in
-    let differs : pointwise nat_eq c.args.fragment.now.payload.octets (octets_in octets c.in-Some.part) ≡ false = search rules in
-    refused c.args.self.now c.args.fragment.now sound (rw pieces (no_copy_there octets parts (piece_of c.args.fragment.now) c.place_of-place.result c.in-Some.part c.self.invariant is place there differs))
-    (no_fit_there octets parts c.args.self.now c.args.fragment.now c.place_of-place.result c.in-Some.part pieces place there same differs)
+    let sound : is_sound c.args.fragment.now ≡ true = sym c.is_sound.ensures.value ∙ c.if-not-is_sound.false in
+    let is : IsPlace c.place_of-place.result (span_of c.args.fragment.now) parts = rw (c.deref.ensures.value, c.span_of-span.ensures) at (c.place_of-place.ensures octets (rw c.deref.ensures.value c.self.invariant)) in
+    let found = rw (c.deref-2.ensures.value, c.span_of-span.ensures) at c.in-Some.ensures.same in
+    let differs : pointwise nat_eq c.args.fragment.now.payload.octets (octets_in octets c.in-Some.part) ≡ false = rw (c.octets-octets.ensures.value, c.octets_of.ensures, c.deref-in-Some.ensures.value) at (sym c.eq.ensures ∙ c.if-eq.false) in
+    refused c.args.self.now c.args.fragment.now sound (rw pieces (no_copy_there octets parts (piece_of c.args.fragment.now) c.place_of-place.result c.in-Some.part c.self.invariant is found.1 found.2 differs))
+    (no_fit_there octets parts c.args.self.now c.args.fragment.now c.place_of-place.result c.in-Some.part pieces found.1 found.2 found.0 differs)
 
 pub returns-then-fits : goal.returns-then-fits
 returns-then-fits c =
@@ -39,11 +35,11 @@ returns-then-fits c =
     let parts = c.self.inside.parts.items in
     let pieces : c.args.self.now.pieces ≡ map (piece_in octets) parts = ap (λ (p : Parts). p.pieces) (sym c.self.view_is) in
     let count : c.args.self.now.count ≡ length octets = ap (λ (p : Parts). p.count) (sym c.self.view_is) in
-    let sound : is_sound c.args.fragment.now ≡ true = search rules in
+    let sound : is_sound c.args.fragment.now ≡ true = sym c.is_sound.ensures.value ∙ c.if-not-is_sound.false in
     let end : c.args.fragment.now.offset + length c.args.fragment.now.payload.octets ≤ most_octets = search rules in
-    let is : IsPlace c.place_of-place.result (span_of c.args.fragment.now) parts = search rules in
-    let differs : list_any (λ part. same_span (span_of c.args.fragment.now) part.span) parts ≡ false = search rules in
-    let fit : (list_all (λ part. are_apart (span_of c.args.fragment.now) part.span) parts && agrees c.args.self.now (span_of c.args.fragment.now) && nat_le (length c.args.fragment.now.payload.octets) (most_octets - length octets)) ≡ true = search rules in
+    let is : IsPlace c.place_of-place.result (span_of c.args.fragment.now) parts = rw (c.deref.ensures.value, c.span_of-span.ensures) at (c.place_of-place.ensures octets (rw c.deref.ensures.value c.self.invariant)) in
+    let differs : list_any (λ part. same_span (span_of c.args.fragment.now) part.span) parts ≡ false = rw (c.deref-2.ensures.value, c.span_of-span.ensures) at (c.in_default.ensures.none octets (rw c.deref-2.ensures.value c.self.invariant)) in
+    let fit : (list_all (λ part. are_apart (span_of c.args.fragment.now) part.span) parts && agrees c.args.self.now (span_of c.args.fragment.now) && nat_le (length c.args.fragment.now.payload.octets) (most_octets - length octets)) ≡ true = rw (c.is_apart_from_all.ensures octets (rw c.deref-3.ensures.value c.self.invariant), c.agrees.ensures, c.octets-octets.ensures.value, c.len.ensures, c.self.inside.octets.ok.0, c.deref-3.ensures.value, c.span_of-span.ensures) at c.if-fits.true in
     is_new octets parts c.args.self.now c.args.fragment.now c.place_of-place.result c.self.invariant pieces is sound end differs (fits_is octets parts c.args.self.now c.args.fragment.now pieces count c.self.invariant.few ∙ fit)
 
 pub returns-else-fits : goal.returns-else-fits
@@ -52,7 +48,7 @@ returns-else-fits c =
     let parts = c.self.inside.parts.items in
     let pieces : c.args.self.now.pieces ≡ map (piece_in octets) parts = ap (λ (p : Parts). p.pieces) (sym c.self.view_is) in
     let count : c.args.self.now.count ≡ length octets = ap (λ (p : Parts). p.count) (sym c.self.view_is) in
-    let sound : is_sound c.args.fragment.now ≡ true = search rules in
-    let differs : list_any (λ part. same_span (span_of c.args.fragment.now) part.span) parts ≡ false = search rules in
-    let fit : (list_all (λ part. are_apart (span_of c.args.fragment.now) part.span) parts && agrees c.args.self.now (span_of c.args.fragment.now) && nat_le (length c.args.fragment.now.payload.octets) (most_octets - length octets)) ≡ false = search rules in
+    let sound : is_sound c.args.fragment.now ≡ true = sym c.is_sound.ensures.value ∙ c.if-not-is_sound.false in
+    let differs : list_any (λ part. same_span (span_of c.args.fragment.now) part.span) parts ≡ false = rw (c.deref-2.ensures.value, c.span_of-span.ensures) at (c.in_default.ensures.none octets (rw c.deref-2.ensures.value c.self.invariant)) in
+    let fit : (list_all (λ part. are_apart (span_of c.args.fragment.now) part.span) parts && agrees c.args.self.now (span_of c.args.fragment.now) && nat_le (length c.args.fragment.now.payload.octets) (most_octets - length octets)) ≡ false = rw (c.is_apart_from_all.ensures octets (rw c.deref-3.ensures.value c.self.invariant), c.agrees.ensures, c.octets-octets.ensures.value, c.len.ensures, c.self.inside.octets.ok.0, c.deref-3.ensures.value, c.span_of-span.ensures) at c.if-fits.false in
     refused c.args.self.now c.args.fragment.now sound (rw pieces (same_pieces octets parts (piece_of c.args.fragment.now) differs)) (fits_is octets parts c.args.self.now c.args.fragment.now pieces count c.self.invariant.few ∙ fit)

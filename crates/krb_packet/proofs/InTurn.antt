@@ -1,0 +1,23 @@
+-- Readers one after another: what they read, and the first fault.
+use Rattle.std.proofs.Common.{ℕ}
+use Rattle.krb_file.specs.Fields.{Bounds, Reader, ◌>>=◌}
+use Rattle.krb_file.specs.FieldReaders.{Cursor, HasRead, FailsBy}
+use Rattle.krb_file.specs.declared.fault.FileFault.{FileFault}
+use Rattle.krb_file.specs.declared.fault.FileFault.TheVariants as faults
+use Rattle.krb_packet.proofs.Options.{continues_here, continues_then, continues_read, fails_after}
+
+pub reads_on : {A B : Type 0} {one : Reader A} (next : A → Reader B) {v : A} {w : B} {old mid new : Cursor} → HasRead one v old mid → HasRead (next v) w mid new → HasRead (one >>= next) w old new
+reads_on {one = one} next {v = v} {w = w} {old = old} {mid = mid} {new = new} first second =
+    continues_read (one >>= next) (next v) w old mid new (continues_then (one >>= next) one next v old old mid (continues_here (one >>= next) old) first) second
+
+-- a reader that depends on what bounds the field, and on the place at which it begins
+pub reads_here : {A : Type 0} (reader : Bounds → ℕ → Reader A) {v : A} {old new : Cursor} → HasRead (reader old.bounds old.place) v old new → HasRead (λ bounds source. reader bounds source.place bounds source) v old new
+reads_here reader read = record { same_bounds = read.same_bounds; from = λ rest there. read.from rest there }
+
+pub fails_on : {A B : Type 0} {one : Reader A} (next : A → Reader B) {v : A} (e : FileFault) (MayFail : Type 0) {old mid : Cursor} → HasRead one v old mid → FailsBy e (next v) MayFail mid → FailsBy e (one >>= next) MayFail old
+fails_on {one = one} next {v = v} e MayFail {old = old} {mid = mid} read fails = fails_after one next v e MayFail old mid read fails
+
+pub fails_here : {A : Type 0} (reader : Bounds → ℕ → Reader A) (e : FileFault) (MayFail : Type 0) (old : Cursor) → FailsBy e (reader old.bounds old.place) MayFail old → FailsBy e (λ bounds source. reader bounds source.place bounds source) MayFail old
+fails_here reader faults.Memory MayFail old fails = tt
+fails_here reader faults.Read MayFail old fails = fails
+fails_here reader (faults.Refused fault) MayFail old fails = record { octets = fails.octets; there = fails.there; refused = fails.refused }
