@@ -20,7 +20,8 @@ use Rattle.krb_msg.specs.Grammar.{messages}
 use Rattle.krb_msg.specs.inner.Values.{der_begins, same_from_der}
 use Rattle.krb_msg.specs.Profiles.{profile_term}
 use Rattle.krb_msg.specs.Der.{IsDer}
-use Rattle.krb_msg.specs.ViewValues.{IsNoMessage}
+use Rattle.krb_msg.specs.declared.message_view.MessageView.{MessageView}
+use Rattle.krb_msg.specs.ViewValues.{IsMessageView, IsNoMessage}
 use Rattle.krb_msg.specs.Viewed.{IsNotWhole}
 use Rattle.krb_msg.proofs.ProfileValues.{lenient_der}
 use Rattle.krb_judge.specs.Parses.{refused, refusal_by, refusal_of, AreOf, AreOfValue, HasNoMessage}
@@ -94,6 +95,9 @@ whole_not_refused profile octets short whole = none_refused (judgement profile) 
 pub message_not_refused : {octets : List ℕ} (profile : Profile) (m : Message) → AreOf profile octets m → refusal_of profile octets ≡ None
 message_not_refused {octets = octets} profile m a =
     whole_not_refused profile octets (omega (arith, ap length a.form, a.in_profile.short)) (subst (λ l. judgement profile (length l) l ≡ verdict.Whole) a.form (message_is_whole profile m a.in_profile))
+
+pub view_not_refused : (octets : List ℕ) (seen : MessageView) → IsMessageView octets seen → refusal_of profiles.Lenient octets ≡ None
+view_not_refused octets seen v = whole_not_refused profiles.Lenient octets (omega (arith, ap length v.form, v.in_profile.short)) v.whole
 
 pub no_message : (profile : Profile) (octets : List ℕ) → AreOctets octets → HasNoMessage profile octets ↔ (refusal_of profile octets ≢ None)
 no_message profile octets a = (λ no e. let w = message_in profile octets a e in no w.message (record { in_profile = w.in_profile; form = w.form }), λ some m f. some (message_not_refused profile m f))
