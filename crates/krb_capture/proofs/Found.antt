@@ -70,7 +70,7 @@ no_path octets e = ap (λ l. if nat_lt most_octets (number (take 4 octets)) then
 pub same_path : (origin : Origin) (refusal : Refusal) (p q : Option (List ℕ)) (extent : Extent) (w : Written) → path_in w.form p ≡ path_in w.form q → with_found origin (Faulty refusal p extent) w ≡ with_found origin (Faulty refusal q extent) w
 same_path origin refusal p q extent w e =
     ap
-    (λ (fields : List Field). record { form = w.form; text = w.text ++ captured_line w.form origin (printed (codes "refused") (the (codes "place") (Number (pos refusal.place)) ∷ the (codes "why") (Reason (reason_number refusal.why) (reason_name refusal.why)) ∷ (fields ++ extent_in w.form extent))); counts = counted (Faulty refusal p extent) w.counts }) e
+    (λ (fields : List Field). record w { text = w.text ++ captured_line w.form origin (printed (codes "refused") (the (codes "place") (Number (pos refusal.place)) ∷ the (codes "why") (Reason (reason_number refusal.why) (reason_name refusal.why)) ∷ (fields ++ extent_in w.form extent))); counts = counted (Faulty refusal p extent) w.counts }) e
 
 pub refused_listed : (origin : Origin) (refusal : Refusal) (offset : ℕ) (octets : List ℕ) (form : Form) (shown path : Option (List ℕ)) (extent : Extent) (before after : Written) → form ≡ before.form → path_in form shown ≡ path_in form (frame_path octets) → path ≡ shown → extent ≡ extent_at offset octets → after ≡ with_found origin (Faulty refusal path extent) before → after ≡ with_found origin (entry_found offset (Fault refusal.place refusal.why octets)) before
 refused_listed origin refusal offset octets form shown path extent before after f e p x l =

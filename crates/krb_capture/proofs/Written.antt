@@ -1,5 +1,6 @@
 -- What is written of several findings.
 use Rattle.std.proofs.Common.{◌≡◌, Result, Ok, Err, OnOk, List, [], ◌∷◌, ◌++◌, refl, sym, ◌∙◌, ap, append-nil, append_assoc}
+use Rattle.krb_text.specs.declared.origin.Origin.{Origin}
 use Rattle.krb_text.specs.declared.origin.Transport.TheVariants as transports
 use Rattle.krb_capture.specs.Captures.{Finding, counted_each, lines_of, over_tcp, over_udp, with_each}
 use Rattle.krb_capture.specs.Directions.{in_flow}
@@ -38,6 +39,14 @@ text-each (x ∷ xs) w = text-each xs (with_found x.0 x.1 w) ∙ append_assoc w.
 pub counts-each : (xs : List Finding) (w : Written) → (with_each xs w).counts ≡ counted_each xs w.counts
 counts-each [] w = refl
 counts-each (x ∷ xs) w = counts-each xs (with_found x.0 x.1 w)
+
+pub name-each : (xs : List Finding) (w : Written) → (with_each xs w).text_name ≡ w.text_name
+name-each [] w = refl
+name-each (x ∷ xs) w = name-each xs (with_found x.0 x.1 w)
+
+pub name-all : (origin : Origin) (xs : List Found) (w : Written) → (with_all origin xs w).text_name ≡ w.text_name
+name-all origin [] w = refl
+name-all origin (x ∷ xs) w = name-all origin xs (with_found origin x w)
 
 -- of a flow by two names
 pub flow-found : (due : Due) (flow flow' : Flow) (xs : List Found) (l l0 : Written) → l ≡ with_all (origin_of due transports.Tcp flow.source flow.target) xs l0 → flow ≡ flow' → l ≡ with_each (over_tcp due (in_flow flow' xs)) l0

@@ -163,3 +163,9 @@ pub record HasFollowed (capture : Capture) (settings : Settings) (progress : Pro
   pub table : HoldsTable capture.directions settings.limit progress.table
   pub last : capture.last ≡ progress.last
   pub counts : capture.listing.counts ≡ progress.counts
+
+-- The directions that were open have ended, which is listed and counted.
+pub record HasEnded (capture : Capture) (settings : Settings) (taken : Taken) (before after : List ℕ) : Type 0 where
+  pub form : capture.listing.form ≡ settings.form
+  pub counts : totals (unread capture.fragments) capture.listing.counts ≡ all_counts taken.progress
+  pub text : after ≡ before ++ lines_of settings.form taken.found

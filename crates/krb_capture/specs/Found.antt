@@ -34,11 +34,12 @@ counted Joined counts = counts
 counted (Missing place octets path) counts = record counts { lost = and_more counts.lost 1 }
 counted (Password version ap rest) counts = counts
 
--- what is written of a capture, in a form, and what was counted in it
+-- what is written of a capture, in a form, and what was counted in it; and which text that is, by its name
 pub record Written : Type 0 where
   pub form : Form
   pub text : List ℕ
   pub counts : CaptureCounts
+  pub text_name : ℕ
 
 -- the text has 64 KiB, so that it is to be written before more is listed
 abbrev pub IsFull : List ℕ → Type 0
@@ -50,15 +51,11 @@ IsFullIf None text = Unit {0}
 IsFullIf (Some left) text = IsFull text
 
 abbrev pub with_found : Origin → Found → Written → Written
-with_found origin found written = record { form = written.form; text = written.text ++ found_line written.form origin found; counts = counted found written.counts }
+with_found origin found written = record written { text = written.text ++ found_line written.form origin found; counts = counted found written.counts }
 
 abbrev pub with_all : Origin → List Found → Written → Written
 with_all origin [] written = written
 with_all origin (first ∷ others) written = with_all origin others (with_found origin first written)
-
--- of a capture with no packets yet
-abbrev pub nothing_written : Form → Written
-nothing_written form = record { form = form; text = []; counts = record { packets = 0; messages = 0; refused = 0; lost = 0; unread = 0 } }
 
 -- with the fragments that no whole datagram came of
 abbrev pub totals : ℕ → CaptureCounts → CaptureCounts

@@ -1,9 +1,9 @@
 //! A capture, followed packet by packet.
 
-ghost use Rattle.std.specs.Prelude.{◌≡◌, ℕ, ◌++◌, true, List, Some, IfOk, IsErr, OnErr, OnOk};
+ghost use Rattle.std.specs.Prelude.{◌≡◌, ℕ, ◌++◌, true, List, None, Some, IfOk, IsErr, OnErr, OnOk};
 ghost use Rattle.std.specs.Option.{option_copied};
 ghost use Rattle.krb_packet.specs.Fragments.{unread};
-ghost use Rattle.krb_capture.specs.Captures.{Finding, HasFollowed, Progress, Settings, all_counts, and_counted, at_first, contents_taken, datagram_taken, end_taken, end_text, fragment_taken, is_clean, lines_of, packet_taken, refusal_text, segment_taken, unread_taken, whole_taken};
+ghost use Rattle.krb_capture.specs.Captures.{Finding, HasEnded, HasFollowed, Progress, Settings, all_counts, and_counted, at_first, contents_taken, datagram_taken, end_taken, end_text, fragment_taken, is_clean, packet_taken, refusal_text, segment_taken, unread_taken, whole_taken};
 ghost use Rattle.krb_capture.specs.Flows.{service_of};
 ghost use Rattle.krb_capture.specs.Found.{totals};
 ghost use Rattle.krb_capture.specs.Rests.{HasFollowedBut, Lists};
@@ -11,12 +11,14 @@ ghost use Rattle.krb_capture.specs.Rests.{HasFollowedBut, Lists};
 use crate::datagram::list_datagram;
 use crate::directions::{Directions, Rest};
 use crate::flow::{Due, Service};
-use crate::listing::Listing;
+use crate::listing::{Listing, Tally};
 use krb_der::Memory;
 use krb_file::FileWhy;
 use krb_frame::Limit;
 use krb_packet::{Contents, Datagram, Ends, Fragment, Fragments, Packet, Segment, contents_of};
-use krb_text::{CaptureCounts, Extent, Form, TextBuffer, Transport};
+use krb_text::{
+    CaptureCounts, Extent, Form, TextBuffer, Transport, put_capture_end, put_capture_refusal,
+};
 use std::alloc::Global;
 
 /// What was found in the packets of a capture so far. It allocates for the fragments of datagrams
@@ -28,7 +30,9 @@ pub struct Capture {
     port: u16,
     fragments: Fragments,
     directions: Directions,
-    listing: Listing,
+    /// How records are listed, and how many of each kind were. While a call lists, its `Listing` has
+    /// that, with the text of the caller.
+    listing: Tally,
     /// The packet that came last.
     last: Due,
     /// A call was out of memory.
@@ -45,7 +49,17 @@ impl Capture {
             port,
             fragments: Fragments::new(alloc),
             directions: Directions::new(alloc, limit),
-            listing: Listing::new(alloc, form),
+            listing: Tally {
+                alloc,
+                form,
+                counts: CaptureCounts {
+                    packets: 0,
+                    messages: 0,
+                    refused: 0,
+                    lost: 0,
+                    unread: 0,
+                },
+            },
             last: Due {
                 packet: 0,
                 time: None,
@@ -70,9 +84,7 @@ impl Capture {
         if self.has_failed {
             return Err(Memory);
         }
-        self.listing.swap_text(text);
-        let taken = self.take_packet(packet);
-        self.listing.swap_text(text);
+        let taken = self.take_packet(packet, text);
         self.has_failed = taken.is_err();
         taken
     }
@@ -92,54 +104,70 @@ impl Capture {
         if self.has_failed {
             return Err(Memory);
         }
-        self.listing.swap_text(text);
-        let gone = self
-            .directions
-            .go_on_with(rest, self.last, &mut self.listing);
-        self.listing.swap_text(text);
+        let tally = self.listing;
+        let mut listing = Listing { tally, text };
+        let gone = self.directions.go_on_with(rest, self.last, &mut listing);
+        let (tally, _text) = listing.into_parts();
+        self.listing = tally;
         self.has_failed = gone.is_err();
         gone
     }
 
     /// Counts a packet, and lists what it carries.
-    fn take_packet(&mut self, packet: &Packet) -> Result<Option<Box<Rest>>, Memory>
-        ensures { IfOk result (λ rest. (settings : Settings) (progress : Progress) → HasFollowed self.old settings progress → Lists self.new settings (packet_taken settings packet.now progress) rest self.old.listing.text self.new.listing.text) }
+    fn take_packet(
+        &mut self,
+        packet: &Packet,
+        text: &mut TextBuffer,
+    ) -> Result<Option<Box<Rest>>, Memory>
+        ensures { IfOk result (λ rest. (settings : Settings) (progress : Progress) → HasFollowed self.old settings progress → Lists self.new settings (packet_taken settings packet.now progress) rest text.old text.new) }
     {
         self.last = Due::with(packet);
         self.listing.count_packet();
-        self.take_contents(contents_of(packet))
+        self.take_contents(contents_of(packet), text)
     }
 
     /// Lists what a packet carries.
-    fn take_contents(&mut self, contents: Contents<'_>) -> Result<Option<Box<Rest>>, Memory>
-        ensures { IfOk result (λ rest. (settings : Settings) (progress : Progress) → HasFollowed self.old settings progress → Lists self.new settings (and_counted (contents_taken settings contents.entry progress)) rest self.old.listing.text self.new.listing.text) }
+    fn take_contents(
+        &mut self,
+        contents: Contents<'_>,
+        text: &mut TextBuffer,
+    ) -> Result<Option<Box<Rest>>, Memory>
+        ensures { IfOk result (λ rest. (settings : Settings) (progress : Progress) → HasFollowed self.old settings progress → Lists self.new settings (and_counted (contents_taken settings contents.entry progress)) rest text.old text.new) }
     {
         match &contents {
-            Contents::Fragment(fragment) => self.take_fragment(fragment),
-            _ => self.take_whole(&contents),
+            Contents::Fragment(fragment) => self.take_fragment(fragment, text),
+            _ => self.take_whole(&contents, text),
         }
     }
 
     /// Lists what a datagram carries that a fragment completes.
-    fn take_fragment(&mut self, fragment: &Fragment<'_>) -> Result<Option<Box<Rest>>, Memory>
-        ensures { IfOk result (λ rest. (settings : Settings) (progress : Progress) → HasFollowed self.old settings progress → Lists self.new settings (and_counted (fragment_taken settings fragment.now progress)) rest self.old.listing.text self.new.listing.text) }
+    fn take_fragment(
+        &mut self,
+        fragment: &Fragment<'_>,
+        text: &mut TextBuffer,
+    ) -> Result<Option<Box<Rest>>, Memory>
+        ensures { IfOk result (λ rest. (settings : Settings) (progress : Progress) → HasFollowed self.old settings progress → Lists self.new settings (and_counted (fragment_taken settings fragment.now progress)) rest text.old text.new) }
     {
         match self.fragments.take(fragment)? {
-            Some(whole) => self.take_whole(&whole.contents()),
+            Some(whole) => self.take_whole(&whole.contents(), text),
             None => Ok(None),
         }
     }
 
     /// Lists what is all there.
-    fn take_whole(&mut self, contents: &Contents<'_>) -> Result<Option<Box<Rest>>, Memory>
-        ensures { IfOk result (λ rest. (settings : Settings) (progress : Progress) → HasFollowed self.old settings progress → Lists self.new settings (and_counted (whole_taken settings contents.now progress)) rest self.old.listing.text self.new.listing.text) }
+    fn take_whole(
+        &mut self,
+        contents: &Contents<'_>,
+        text: &mut TextBuffer,
+    ) -> Result<Option<Box<Rest>>, Memory>
+        ensures { IfOk result (λ rest. (settings : Settings) (progress : Progress) → HasFollowed self.old settings progress → Lists self.new settings (and_counted (whole_taken settings contents.now progress)) rest text.old text.new) }
     {
         match contents {
             Contents::Datagram(datagram) => {
-                self.take_datagram(datagram)?;
+                self.take_datagram(datagram, text)?;
                 Ok(None)
             }
-            Contents::Segment(segment) => self.take_segment(segment),
+            Contents::Segment(segment) => self.take_segment(segment, text),
             Contents::Fragment(_) | Contents::Other => Ok(None),
             Contents::UnreadBetween(ends) => {
                 self.take_unread(*ends);
@@ -154,8 +182,7 @@ impl Capture {
 
     /// Counts a packet whose header is cut or wrong after its ports, if it is of Kerberos.
     fn take_unread(&mut self, ends: Ends)
-        ensures followed { (settings : Settings) (progress : Progress) → HasFollowed self.old settings progress → HasFollowed self.new settings (and_counted (unread_taken (service_of settings.port ends.source ends.target) progress)).progress }
-        ensures listed { (settings : Settings) (progress : Progress) → HasFollowed self.old settings progress → self.new.listing.text ≡ self.old.listing.text ++ lines_of settings.form (unread_taken (service_of settings.port ends.source ends.target) progress).found }
+        ensures { (settings : Settings) (progress : Progress) → HasFollowed self.old settings progress → HasFollowed self.new settings (and_counted (unread_taken (service_of settings.port ends.source ends.target) progress)).progress }
     {
         if Service::between(self.port, ends.source, ends.target).is_some() {
             self.listing.count_unread();
@@ -163,9 +190,12 @@ impl Capture {
     }
 
     /// Lists a datagram of UDP, if it is of Kerberos.
-    fn take_datagram(&mut self, datagram: &Datagram<'_>) -> Result<(), Memory>
-        ensures followed { OnOk result ((settings : Settings) (progress : Progress) → HasFollowed self.old settings progress → HasFollowed self.new settings (and_counted (datagram_taken (service_of settings.port datagram.now.source datagram.now.target) datagram.now progress)).progress) }
-        ensures listed { OnOk result ((settings : Settings) (progress : Progress) → HasFollowed self.old settings progress → self.new.listing.text ≡ self.old.listing.text ++ lines_of settings.form (datagram_taken (service_of settings.port datagram.now.source datagram.now.target) datagram.now progress).found) }
+    fn take_datagram(
+        &mut self,
+        datagram: &Datagram<'_>,
+        text: &mut TextBuffer,
+    ) -> Result<(), Memory>
+        ensures { OnOk result ((settings : Settings) (progress : Progress) → HasFollowed self.old settings progress → Lists self.new settings (and_counted (datagram_taken (service_of settings.port datagram.now.source datagram.now.target) datagram.now progress)) None text.old text.new) }
     {
         let Some(service) = Service::between(self.port, datagram.source, datagram.target) else {
             return Ok(());
@@ -173,18 +203,33 @@ impl Capture {
         let origin = self
             .last
             .over(Transport::Udp, datagram.source, datagram.target);
-        list_datagram(service, &datagram.payload, &origin, &mut self.listing)
+        let tally = self.listing;
+        let mut listing = Listing { tally, text };
+        let listed = list_datagram(service, &datagram.payload, &origin, &mut listing);
+        let (tally, _text) = listing.into_parts();
+        self.listing = tally;
+        listed
     }
 
     /// Lists what is found with a segment of TCP, if it is of Kerberos.
-    fn take_segment(&mut self, segment: &Segment<'_>) -> Result<Option<Box<Rest>>, Memory>
-        ensures { IfOk result (λ rest. (settings : Settings) (progress : Progress) → HasFollowed self.old settings progress → Lists self.new settings (and_counted (segment_taken settings.limit (service_of settings.port segment.now.source segment.now.target) segment.now progress)) rest self.old.listing.text self.new.listing.text) }
+    fn take_segment(
+        &mut self,
+        segment: &Segment<'_>,
+        text: &mut TextBuffer,
+    ) -> Result<Option<Box<Rest>>, Memory>
+        ensures { IfOk result (λ rest. (settings : Settings) (progress : Progress) → HasFollowed self.old settings progress → Lists self.new settings (and_counted (segment_taken settings.limit (service_of settings.port segment.now.source segment.now.target) segment.now progress)) rest text.old text.new) }
     {
         let Some(service) = Service::between(self.port, segment.source, segment.target) else {
             return Ok(None);
         };
-        self.directions
-            .take(segment, service, self.last, &mut self.listing)
+        let tally = self.listing;
+        let mut listing = Listing { tally, text };
+        let left = self
+            .directions
+            .take(segment, service, self.last, &mut listing);
+        let (tally, _text) = listing.into_parts();
+        self.listing = tally;
+        left
     }
 
     /// Returns how many packets came, and how many records of each kind were listed.
@@ -206,21 +251,31 @@ impl Capture {
         if self.has_failed {
             return Err(Memory);
         }
-        self.listing.swap_text(text);
-        let finished = self.put_end();
-        self.listing.swap_text(text);
+        let finished = self.put_end(text);
         self.has_failed = finished.is_err();
         finished
     }
 
+    /// Lists how the directions end that are open.
+    fn end_directions(&mut self, text: &mut TextBuffer) -> Result<(), Memory>
+        ensures { OnOk result ((settings : Settings) (progress : Progress) → HasFollowed self.old settings progress → HasEnded self.new settings (end_taken settings progress) text.old text.new) }
+    {
+        let tally = self.listing;
+        let mut listing = Listing { tally, text };
+        let ended = self.directions.finish(self.last, &mut listing);
+        let (tally, _text) = listing.into_parts();
+        self.listing = tally;
+        ended
+    }
+
     /// Lists the end of the file.
-    fn put_end(&mut self) -> Result<bool, Memory>
-        ensures listed { OnOk result ((settings : Settings) (progress : Progress) → HasFollowed self.old settings progress → self.new.listing.text ≡ self.old.listing.text ++ end_text settings progress) }
+    fn put_end(&mut self, text: &mut TextBuffer) -> Result<bool, Memory>
+        ensures listed { OnOk result ((settings : Settings) (progress : Progress) → HasFollowed self.old settings progress → text.new ≡ text.old ++ end_text settings progress) }
         ensures clean { IfOk result (λ clean. (settings : Settings) (progress : Progress) → HasFollowed self.old settings progress → clean ≡ is_clean (all_counts (end_taken settings progress).progress)) }
     {
-        self.directions.finish(self.last, &mut self.listing)?;
+        self.end_directions(text)?;
         let totals = self.totals();
-        self.listing.put_end(&totals)?;
+        put_capture_end(text, self.listing.form, &totals)?;
         Ok((totals.refused == 0) & (totals.lost == 0) & (totals.unread == 0))
     }
 
@@ -243,9 +298,7 @@ impl Capture {
         if self.has_failed {
             return Err(Memory);
         }
-        self.listing.swap_text(text);
-        let refused = self.put_refusal(place, why, path, extent);
-        self.listing.swap_text(text);
+        let refused = self.put_refusal(place, why, path, extent, text);
         self.has_failed = refused.is_err();
         refused
     }
@@ -257,13 +310,13 @@ impl Capture {
         why: FileWhy,
         path: Option<&str>,
         extent: Extent,
+        text: &mut TextBuffer,
     ) -> Result<(), Memory>
-        ensures { OnOk result ((settings : Settings) (progress : Progress) → HasFollowed self.old settings progress → self.new.listing.text ≡ self.old.listing.text ++ refusal_text settings progress place why (option_copied path.entry) extent) }
+        ensures { OnOk result ((settings : Settings) (progress : Progress) → HasFollowed self.old settings progress → text.new ≡ text.old ++ refusal_text settings progress place why (option_copied path.entry) extent) }
     {
-        let last = self.last;
-        self.directions.finish(last, &mut self.listing)?;
+        self.end_directions(text)?;
         let totals = self.totals();
-        self.listing
-            .put_file_refusal(&totals, place, why, path, extent)
+        put_capture_refusal(text, self.listing.form, &totals, place, why, path, extent)?;
+        Ok(())
     }
 }

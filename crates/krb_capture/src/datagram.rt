@@ -19,7 +19,7 @@ pub(crate) fn list_datagram(
     service: Service,
     payload: &Payload<'_>,
     origin: &Origin,
-    listing: &mut Listing,
+    listing: &mut Listing<'_>,
 ) -> Result<(), Memory>
     ensures { OnOk result (listing.new ≡ with_all origin.now (datagram_found service payload.now) listing.old) }
 {

@@ -128,7 +128,7 @@ impl Directions {
         segment: &Segment<'_>,
         service: Service,
         due: Due,
-        listing: &mut Listing,
+        listing: &mut Listing<'_>,
     ) -> Result<Option<Box<Rest>>, Memory>
         ensures { IfOk result (λ rest. (limit : ℕ) (table : Table) → HoldsTable self.old limit table → Follows self.new limit (followed limit due.packet service segment.now table).table due rest (over_tcp due (followed limit due.packet service segment.now table).found) listing.old listing.new) }
     {
@@ -172,7 +172,7 @@ impl Directions {
         segment: &Segment<'_>,
         service: Service,
         due: Due,
-        listing: &mut Listing,
+        listing: &mut Listing<'_>,
     ) -> Result<Option<Box<Rest>>, Memory>
         requires of_segment { flow ≡ flow_of segment.now }
         requires none { self.old.last ≡ None }
@@ -201,7 +201,7 @@ impl Directions {
         segment: &Segment<'_>,
         service: Service,
         due: Due,
-        listing: &mut Listing,
+        listing: &mut Listing<'_>,
     ) -> Result<Option<Box<Rest>>, Memory>
         requires of_segment { flow ≡ flow_of segment.now }
         requires none { self.old.last ≡ None }
@@ -224,7 +224,7 @@ impl Directions {
         segment: &Segment<'_>,
         service: Service,
         due: Due,
-        listing: &mut Listing,
+        listing: &mut Listing<'_>,
     ) -> Result<Option<Box<Rest>>, Memory>
         requires of_segment { flow ≡ flow_of segment.now }
         requires none { self.old.last ≡ None }
@@ -254,7 +254,7 @@ impl Directions {
         segment: &Segment<'_>,
         service: Service,
         due: Due,
-        listing: &mut Listing,
+        listing: &mut Listing<'_>,
     ) -> Result<Option<Box<Rest>>, Memory>
         requires of_segment { flow ≡ flow_of segment.now }
         requires none { self.old.last ≡ None }
@@ -280,7 +280,7 @@ impl Directions {
         last: Last,
         segment: &Segment<'_>,
         due: Due,
-        listing: &mut Listing,
+        listing: &mut Listing<'_>,
     ) -> Result<Option<Box<Rest>>, Memory>
         requires { self.old.last ≡ None }
         ensures { IfOk result (λ rest. (limit : ℕ) (table : Table) (sent : Sent) → HoldsMaps self.old limit (without last.number table) → lookup (is_at (flow_cmp last.flow)) self.old.numbers.entries ≡ Some last.number → Represents last.sending.value limit sent → Follows self.new limit (gone_on limit due.packet last.number sent segment.now table).table due rest (over_tcp due (gone_on limit due.packet last.number sent segment.now table).found) listing.old listing.new) }
@@ -305,7 +305,7 @@ impl Directions {
         segment: &Segment<'_>,
         service: Service,
         due: Due,
-        listing: &mut Listing,
+        listing: &mut Listing<'_>,
     ) -> Result<Option<Box<Rest>>, Memory>
         requires of_segment { flow ≡ flow_of segment.now }
         requires begins { (step_of (state_after had) segment.now).began ≡ true }
@@ -360,7 +360,7 @@ impl Directions {
         &mut self,
         rest: Box<Rest>,
         due: Due,
-        listing: &mut Listing,
+        listing: &mut Listing<'_>,
     ) -> Result<Option<Box<Rest>>, Memory>
         ensures { IfOk result (λ next. (limit : ℕ) (table : Table) (found : List Finding) → HoldsBut self.old limit table due rest.value found → Follows self.new limit table due next found listing.old listing.new) }
     {
@@ -405,7 +405,7 @@ impl Directions {
 
     /// Forgets a direction if no more are kept: the one that began first among those that ended,
     /// or, if none has ended, the one that began first, which ends.
-    fn make_room(&mut self, due: Due, listing: &mut Listing) -> Result<(), Memory>
+    fn make_room(&mut self, due: Due, listing: &mut Listing<'_>) -> Result<(), Memory>
         ensures last { self.new.last ≡ self.old.last }
         ensures table { OnOk result ((limit : ℕ) (table : Table) → HoldsMaps self.old limit table → HoldsMaps self.new limit (with_room limit table).table) }
         ensures found { OnOk result ((limit : ℕ) (table : Table) → HoldsMaps self.old limit table → listing.new ≡ with_each (over_tcp due (with_room limit table).found) listing.old) }
@@ -423,7 +423,7 @@ impl Directions {
     }
 
     /// Ends all directions, in the order in which they began, and lists what is known of each.
-    pub(crate) fn finish(&mut self, due: Due, listing: &mut Listing) -> Result<(), Memory>
+    pub(crate) fn finish(&mut self, due: Due, listing: &mut Listing<'_>) -> Result<(), Memory>
         ensures { OnOk result ((limit : ℕ) (table : Table) → HoldsTable self.old limit table → listing.new ≡ with_each (over_tcp due (last_of limit table.active)) listing.old) }
     {
         self.put_back()?;

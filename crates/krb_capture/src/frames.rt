@@ -44,7 +44,7 @@ impl Frames {
         &mut self,
         octets: &[u8],
         origin: &Origin,
-        listing: &mut Listing,
+        listing: &mut Listing<'_>,
     ) -> Result<usize, Memory>
         ensures service { OnOk result (service_of self.new ≡ service_of self.old) }
         ensures few { IfOk result (λ count. count ≤ length octets.now) }
@@ -63,7 +63,12 @@ impl Frames {
 
     /// Lists what is known at the end of the direction: octets that are missing, or the refusal of
     /// a frame that is not whole.
-    pub(crate) fn end(&self, end: End, origin: &Origin, listing: &mut Listing) -> Result<(), Memory>
+    pub(crate) fn end(
+        &self,
+        end: End,
+        origin: &Origin,
+        listing: &mut Listing<'_>,
+    ) -> Result<(), Memory>
         ensures { OnOk result ((limit : ℕ) (stream : List ℕ) → Took self.now limit stream → listing.new ≡ with_all origin.now (end_found (service_of self.now) limit stream end) listing.old) }
     {
         if self.is_over() {
@@ -86,7 +91,12 @@ impl Frames {
     }
 
     /// Lists octets that are missing.
-    fn list_lost(&self, lost: Lost, origin: &Origin, listing: &mut Listing) -> Result<(), Memory>
+    fn list_lost(
+        &self,
+        lost: Lost,
+        origin: &Origin,
+        listing: &mut Listing<'_>,
+    ) -> Result<(), Memory>
         ensures { OnOk result (listing.new ≡ with_found origin.now (Missing lost.place lost.octets (open_path (service_of self.now) (kept_in self.now))) listing.old) }
     {
         match self {
@@ -99,7 +109,7 @@ impl Frames {
     }
 
     /// Lists the refusal of the frame that is not whole, if there is one.
-    fn list_cut(&self, origin: &Origin, listing: &mut Listing) -> Result<(), Memory>
+    fn list_cut(&self, origin: &Origin, listing: &mut Listing<'_>) -> Result<(), Memory>
         ensures { OnOk result ((limit : ℕ) (stream : List ℕ) → Took self.now limit stream → over_in self.now ≡ false → listing.new ≡ with_all origin.now (refusal_found (service_of self.now) (offset_in self.now) (kept_in self.now) (cut_refusal (kept_in self.now))) listing.old) }
     {
         match self {

@@ -43,7 +43,7 @@ pub(crate) fn list_refused(
     extent: Extent,
     refusal: Refusal,
     origin: &Origin,
-    listing: &mut Listing,
+    listing: &mut Listing<'_>,
 ) -> Result<(), Memory>
     requires present { length octets.now ≤ size }
     requires fits { before + refusal.place < 2 ^ 32 }
@@ -64,7 +64,7 @@ pub(crate) fn list_message(
     before: u32,
     extent: Extent,
     origin: &Origin,
-    listing: &mut Listing,
+    listing: &mut Listing<'_>,
 ) -> Result<(), Memory>
     requires { before < 2 ^ 31 }
     ensures { OnOk result (listing.new ≡ with_found origin.now (message_found extent before octets.now) listing.old) }
@@ -105,7 +105,7 @@ pub(crate) fn list_cut_message(
     size: u64,
     extent: Extent,
     origin: &Origin,
-    listing: &mut Listing,
+    listing: &mut Listing<'_>,
 ) -> Result<(), Memory>
     requires some { 0 < size }
     requires present { length octets.now ≤ size }
@@ -122,7 +122,7 @@ fn list_missing(
     octets: &[u8],
     size: u64,
     origin: &Origin,
-    listing: &mut Listing,
+    listing: &mut Listing<'_>,
 ) -> Result<(), Memory>
     requires present { length octets.now ≤ size }
     ensures { OnOk result (listing.new ≡ with_found origin.now (Missing (length octets.now) (size - length octets.now) (path_of size octets.now)) listing.old) }

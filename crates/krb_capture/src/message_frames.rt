@@ -47,7 +47,7 @@ impl MessageFrames {
         &mut self,
         octets: &[u8],
         origin: &Origin,
-        listing: &mut Listing,
+        listing: &mut Listing<'_>,
     ) -> Result<usize, Memory>
         ensures few { IfOk result (λ count. count ≤ length octets.now) }
         ensures full { IfOk result (λ count. count < length octets.now → IsFull listing.new.text) }
@@ -99,14 +99,14 @@ impl MessageFrames {
 
 /// Lists the frames of a direction.
 #[derive(Drop)]
-struct FrameLister<'a> {
+struct FrameLister<'a, 'text> {
     /// Where in the direction the next frame begins.
     offset: u64,
     origin: &'a Origin,
-    listing: &'a mut Listing,
+    listing: &'a mut Listing<'text>,
 }
 
-impl<'a> FrameLister<'a> {
+impl<'a, 'text> FrameLister<'a, 'text> {
     /// Lists the refusal of the current frame of a decoder.
     fn put_refusal(&mut self, refusal: Refusal, decoder: &Decoder) -> Result<(), Memory>
         ensures same { OnOk result (self.new.listing.ghost_name ≡ self.old.listing.ghost_name) }
@@ -120,7 +120,7 @@ impl<'a> FrameLister<'a> {
     }
 }
 
-impl<'a> Receiver for FrameLister<'a> {
+impl<'a, 'text> Receiver for FrameLister<'a, 'text> {
     ghost Receives = { ListsEntry };
 
     ghost IsFull = { λ lister. IsFull lister.listing.now.text };

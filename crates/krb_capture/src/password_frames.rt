@@ -54,7 +54,7 @@ impl PasswordFrames {
         &mut self,
         octets: &[u8],
         origin: &Origin,
-        listing: &mut Listing,
+        listing: &mut Listing<'_>,
     ) -> Result<usize, Memory>
         ensures few { IfOk result (λ count. count ≤ length octets.now) }
         ensures full { IfOk result (λ count. count < length octets.now → IsFull listing.new.text) }
@@ -74,7 +74,7 @@ impl PasswordFrames {
         &mut self,
         octets: &[u8],
         origin: &Origin,
-        listing: &mut Listing,
+        listing: &mut Listing<'_>,
     ) -> Result<usize, Memory>
         requires { 0 < length octets.now }
         ensures some { IfOk result (λ count. (0 < count) × (count ≤ length octets.now)) }
@@ -102,7 +102,7 @@ impl PasswordFrames {
         &mut self,
         contents: &[u8],
         origin: &Origin,
-        listing: &mut Listing,
+        listing: &mut Listing<'_>,
     ) -> Result<usize, Memory>
         requires { length contents.now < 2 ^ 31 }
         ensures { IfOk result (λ count. (count ≡ 4 + length contents.now) × ListsContentsOf self.old (length contents.now) contents.now self.new origin.now listing.old listing.new) }
@@ -120,7 +120,7 @@ impl PasswordFrames {
         &mut self,
         octets: &[u8],
         origin: &Origin,
-        listing: &mut Listing,
+        listing: &mut Listing<'_>,
     ) -> Result<usize, Memory>
         requires some { 0 < length octets.now }
         requires goes { self.old.is_over ≡ false }
@@ -146,7 +146,7 @@ impl PasswordFrames {
     }
 
     /// Lists the frame if it is whole or refused, and begins the next one.
-    fn list_whole(&mut self, origin: &Origin, listing: &mut Listing) -> Result<(), Memory>
+    fn list_whole(&mut self, origin: &Origin, listing: &mut Listing<'_>) -> Result<(), Memory>
         ensures { OnOk result (ListsWhole self.old self.new origin.now listing.old listing.new) }
     {
         let Some(size) = self.length() else {
@@ -169,7 +169,7 @@ impl PasswordFrames {
         &mut self,
         size: u32,
         origin: &Origin,
-        listing: &mut Listing,
+        listing: &mut Listing<'_>,
     ) -> Result<(), Memory>
         requires { 4 ≤ length self.old.octets.items }
         ensures { OnOk result (ListsContents self.old size self.new origin.now listing.old listing.new) }
@@ -243,7 +243,7 @@ fn list_refused(
     why: Why,
     extent: Extent,
     origin: &Origin,
-    listing: &mut Listing,
+    listing: &mut Listing<'_>,
 ) -> Result<(), Memory>
     ensures { OnOk result (listing.new ≡ with_found origin.now (length_found extent why) listing.old) }
 {

@@ -156,7 +156,7 @@ impl Sending {
         segment: &Segment<'_>,
         due: Due,
         waited: &mut Vec<u8>,
-        listing: &mut Listing,
+        listing: &mut Listing<'_>,
     ) -> Result<Stepped, Memory>
         ensures flow { self.new.flow ≡ self.old.flow }
         ensures step { IfOk result (λ stepped. stepped.step ≡ step_of self.old.direction.state segment.now) }
@@ -183,7 +183,7 @@ impl Sending {
         &mut self,
         left: Unlisted,
         due: Due,
-        listing: &mut Listing,
+        listing: &mut Listing<'_>,
     ) -> Result<Option<Unlisted>, Memory>
         ensures flow { self.new.flow ≡ self.old.flow }
         ensures found { IfOk result (λ rest. (limit : ℕ) (sent : Sent) (found : List Found) → RepresentsBut self.old limit sent (Some left) found → Sends self.new limit sent rest (origin_of due transports.Tcp self.old.flow.source self.old.flow.target) found listing.old listing.new) }
@@ -200,7 +200,7 @@ impl Sending {
         others: &[u8],
         end: Option<End>,
         origin: &Origin,
-        listing: &mut Listing,
+        listing: &mut Listing<'_>,
     ) -> Result<Option<Unlisted>, Memory>
         ensures same { self.new ≡ record self.old { frames = self.new.frames } }
         ensures found { IfOk result (λ rest. (limit : ℕ) (stream : List ℕ) → Took self.old.frames limit stream → Takes self.old.frames self.new.frames limit stream (record { octets = octets.now ++ others.now; end = end }) rest origin.now listing.old listing.new) }
@@ -219,7 +219,7 @@ impl Sending {
         &mut self,
         mut left: Unlisted,
         origin: &Origin,
-        listing: &mut Listing,
+        listing: &mut Listing<'_>,
     ) -> Result<Option<Unlisted>, Memory>
         ensures same { self.new ≡ record self.old { frames = self.new.frames } }
         ensures found { IfOk result (λ rest. (limit : ℕ) (stream : List ℕ) → Took self.old.frames limit stream → Takes self.old.frames self.new.frames limit stream left rest origin.now listing.old listing.new) }
@@ -238,7 +238,7 @@ impl Sending {
         &self,
         end: Option<End>,
         origin: &Origin,
-        listing: &mut Listing,
+        listing: &mut Listing<'_>,
     ) -> Result<(), Memory>
         ensures { OnOk result ((limit : ℕ) (stream : List ℕ) → Took self.now.frames limit stream → listing.new ≡ with_all origin.now (end_if (service_of self.now.frames) limit stream end) listing.old) }
     {
@@ -254,7 +254,7 @@ impl Sending {
         &mut self,
         begins: Option<Beginning>,
         origin: &Origin,
-        listing: &mut Listing,
+        listing: &mut Listing<'_>,
     ) -> Result<(), Memory>
         ensures same { self.new ≡ record self.old { frames = self.new.frames } }
         ensures service { OnOk result (service_of self.old.frames ≡ self.old.service → service_of self.new.frames ≡ self.old.service) }
@@ -272,7 +272,7 @@ impl Sending {
     }
 
     /// Ends the direction, and lists what is known then.
-    pub(crate) fn finish(&mut self, due: Due, listing: &mut Listing) -> Result<(), Memory>
+    pub(crate) fn finish(&mut self, due: Due, listing: &mut Listing<'_>) -> Result<(), Memory>
         ensures flow { self.new.flow ≡ self.old.flow }
         ensures found { OnOk result ((limit : ℕ) (sent : Sent) → Represents self.old limit sent → listing.new ≡ with_all (origin_of due transports.Tcp self.old.flow.source self.old.flow.target) (last_found limit sent) listing.old) }
     {

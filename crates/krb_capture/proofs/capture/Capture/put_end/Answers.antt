@@ -1,12 +1,14 @@
-use Rattle.std.proofs.Common.{ap}
-use Rattle.krb_capture.specs.Captures.{is_clean}
-use Rattle.krb_capture.proofs.Following.{end-counts, end-listed}
+use Rattle.std.proofs.Common.{◌∙◌, ap}
+use Rattle.krb_text.specs.Captures.{capture_end_line}
+use Rattle.krb_capture.specs.Captures.{end_taken, end_text, is_clean}
+use Rattle.krb_capture.proofs.Following.{last-listed}
 use Rattle.krb_capture.proofs.capture.Capture.put_end.Goals as goal
 
 pub returns-clause-listed : goal.returns-clause-listed
+unfolding end_text
 returns-clause-listed c = λ settings progress h.
-    end-listed c.args.self.now settings progress c.finish.new.listing c.put_end.new.self c.totals-totals.result h (c.in_ok-finish.ensures settings.limit progress.table h.table) c.totals-totals.ensures c.in_ok-put_end.ensures
+    last-listed c.end_directions.new.self settings (end_taken settings progress) c.args.text.now c.end_directions.new.text c.put_capture_end.new.text c.totals-totals.result capture_end_line (c.in_ok-end_directions.ensures settings progress h) c.totals-totals.ensures c.in_ok-put_capture_end.ensures
 
 pub returns-clause-clean : goal.returns-clause-clean
 returns-clause-clean c = λ settings progress h.
-    ap (λ x. is_clean x) (end-counts c.args.self.now settings progress c.finish.new.listing c.totals-totals.result h (c.in_ok-finish.ensures settings.limit progress.table h.table) c.totals-totals.ensures)
+    ap (λ x. is_clean x) (c.totals-totals.ensures ∙ (c.in_ok-end_directions.ensures settings progress h).counts)

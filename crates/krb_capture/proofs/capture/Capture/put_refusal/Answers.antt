@@ -1,10 +1,10 @@
 use Rattle.std.specs.Option.{option_copied}
-use Rattle.krb_capture.proofs.Following.{refusal-listed}
-use Rattle.krb_capture.proofs.Written.{on_ok-map}
+use Rattle.krb_text.specs.Captures.{capture_refused_line}
+use Rattle.krb_capture.specs.Captures.{end_taken, refusal_text}
+use Rattle.krb_capture.proofs.Following.{last-listed}
 use Rattle.krb_capture.proofs.capture.Capture.put_refusal.Goals as goal
 
 pub returns : goal.returns
-returns c = on_ok-map c.put_file_refusal.result
-    (λ k settings progress h.
-    refusal-listed c.args.self.now settings progress c.finish.new.listing c.put_file_refusal.new.self c.totals-totals.result c.args.place c.args.why (option_copied c.args.path) c.args.extent h (c.in_ok-finish.ensures settings.limit progress.table h.table) c.totals-totals.ensures k)
-    c.put_file_refusal.ensures
+unfolding refusal_text
+returns c = λ settings progress h.
+    last-listed c.end_directions.new.self settings (end_taken settings progress) c.args.text.now c.end_directions.new.text c.put_capture_refusal.new.text c.totals-totals.result (λ form counts. capture_refused_line form counts c.args.place c.args.why (option_copied c.args.path) c.args.extent) (c.in_ok-end_directions.ensures settings progress h) c.totals-totals.ensures c.in_ok-put_capture_refusal.ensures

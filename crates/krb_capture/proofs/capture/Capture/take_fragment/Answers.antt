@@ -13,7 +13,7 @@ returns-in-Some c = IfOk-weaker c.take_whole.result _ _
     ap {B = Taken} (λ contents. whole_taken settings contents next) c.contents.ensures
     ∙ ap {B = Taken} (λ found. completed settings found next) (sym c.in-Some.is ∙ c.in_ok-whole.ensures.whole ∙ ap (λ held. (step held c.args.fragment.now).0) h.fragments)
     in
-    subst (λ taken. Lists c.take_whole.new.self settings (and_counted taken) rest c.args.self.now.listing.text c.take_whole.new.self.listing.text) whole
+    subst (λ taken. Lists c.take_whole.new.self settings (and_counted taken) rest c.args.text.now c.take_whole.new.text) whole
     (k settings next (record {
       port = h.port;
       form = h.form;

@@ -19,6 +19,5 @@ returns c = IfOk-weaker c.take_contents.result _ _
       last = c.with-self.ensures;
       counts = ap (λ w. w.counts) c.count_packet.ensures ∙ ap {A = CaptureCounts} (λ x. record x { packets = and_more x.packets 1 }) h.counts;
     }) in
-    subst (λ contents. Lists c.take_contents.new.self settings (and_counted (contents_taken settings contents start)) rest c.args.self.now.listing.text c.take_contents.new.self.listing.text) c.contents_of.ensures
-    (subst (λ t. Lists c.take_contents.new.self settings (and_counted (contents_taken settings c.contents_of.result start)) rest t c.take_contents.new.self.listing.text) (ap (λ w. w.text) c.count_packet.ensures) listed))
+    subst (λ contents. Lists c.take_contents.new.self settings (and_counted (contents_taken settings contents start)) rest c.args.text.now c.take_contents.new.text) c.contents_of.ensures listed)
     c.take_contents.ensures
