@@ -244,19 +244,6 @@ fn put_each(line: &mut TextBuffer, octets: &[u8]) -> Result<(), AllocError>
     Ok(())
 }
 
-/// Appends fewer than 4 octets, or more than 32, each escaped if it needs to be.
-#[inline(never)]
-#[tactic(auto, using(crate::proofs::Escapes::escape_plain, crate::proofs::Escapes::ascii_plain))]
-fn put_any(line: &mut TextBuffer, octets: &[u8]) -> Result<(), AllocError>
-    ensures { OnOk result (line.new ≡ line.old ++ escape octets.now) }
-{
-    if are_each_plain(octets, false) {
-        line.push_ascii(octets)
-    } else {
-        put_each(line, octets)
-    }
-}
-
 /// Appends octets: 21 to 7E but `/`, `@` and `\` as they are, each other as `\x` and two
 /// hexadecimal digits in lower case. Different octets have different texts.
 #[inline(always)]
@@ -264,12 +251,9 @@ fn put_any(line: &mut TextBuffer, octets: &[u8]) -> Result<(), AllocError>
 pub fn put_escaped(line: &mut TextBuffer, octets: &[u8]) -> Result<(), AllocError>
     ensures { OnOk result (line.new ≡ line.old ++ escape octets.now) }
 {
-    // An arm for each way to look at octets and copy them, so that one test chooses both.
-    match octets.len() {
-        4..8 if are_plain(octets, false) => line.push_ascii(octets),
-        8..16 if are_plain(octets, false) => line.push_ascii(octets),
-        16..=32 if are_plain(octets, false) => line.push_ascii(octets),
-        4..=32 => put_each(line, octets),
-        _ => put_any(line, octets),
+    if are_plain(octets, false) {
+        line.push_ascii(octets)
+    } else {
+        put_each(line, octets)
     }
 }

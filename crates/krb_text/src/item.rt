@@ -31,9 +31,10 @@ pub(crate) enum ItemForm {
 fn put_name(line: &mut TextBuffer, registry: Registry, number: i64) -> Result<(), AllocError>
     ensures { OnOk result (line.new ≡ line.old ++ codes ":" ++ or_dash (λ name. name) (name_of registry number)) }
 {
+    line.push_str(":")?;
     match name_of(registry, number) {
-        None => line.push_str(":-"),
-        Some(name) => line.push_both(":", name),
+        None => line.push_str("-"),
+        Some(name) => line.push_str(name),
     }
 }
 

@@ -71,7 +71,8 @@ pub(crate) fn put_plain_string(object: &mut TextBuffer, text: &str) -> Result<()
     requires { flat_map json_character text.now ≡ text.now }
     ensures { OnOk result (object.new ≡ object.old ++ json_string text.now) }
 {
-    object.push_both("\"", text)?;
+    object.push_str("\"")?;
+    object.push_str(text)?;
     object.push_str("\"")
 }
 

@@ -36,7 +36,8 @@ fn put_other_names(line: &mut TextBuffer, layers: &[Layer]) -> Result<(), AllocE
     ensures { OnOk result (line.new ≡ line.old ++ flat_map (λ layer. codes "," ++ layer_name layer) layers.now) }
 {
     for layer in layers {
-        line.push_both(",", layer.name())?;
+        line.push_str(",")?;
+        line.push_str(layer.name())?;
     }
     Ok(())
 }
@@ -134,7 +135,8 @@ fn put_opening_from(
     match form {
         Form::Lines | Form::NamedLines => {
             put_origin(text, form, origin)?;
-            text.push_both(" ", kind)
+            text.push_str(" ")?;
+            text.push_str(kind)
         }
         Form::Json => {
             put_opening(text, form, kind)?;

@@ -46,6 +46,16 @@ pub(crate) fn has_any(notes: &Notes) -> bool
     notes.has(1) | notes.has(2) | notes.has(3) | notes.has(4)
 }
 
+/// Appends the numbers of notes in brackets, by a call, since mostly there are none.
+#[inline(never)]
+fn put_some(text: &mut TextBuffer, form: ItemForm, notes: &Notes) -> Result<(), AllocError>
+    ensures { OnOk result (text.new ≡ text.old ++ codes "[" ++ joined [] (codes ",") (λ number. number_item form (pos number)) (filter (notes_have notes.now) (1 ∷ 2 ∷ 3 ∷ 4 ∷ [])) ++ codes "]") }
+{
+    text.push_str("[")?;
+    put_numbers(text, form, notes)?;
+    text.push_str("]")
+}
+
 /// Appends the numbers of the notes in brackets, with commas between them.
 #[inline(always)]
 #[tactic(auto, using(crate::proofs::Items::list_text_map))]
@@ -53,9 +63,7 @@ fn put_number_list(text: &mut TextBuffer, form: ItemForm, notes: &Notes) -> Resu
     ensures { OnOk result (text.new ≡ text.old ++ list_text (number_item form) (map pos (filter (notes_have notes.now) (1 ∷ 2 ∷ 3 ∷ 4 ∷ [])))) }
 {
     if has_any(notes) {
-        text.push_str("[")?;
-        put_numbers(text, form, notes)?;
-        text.push_str("]")
+        put_some(text, form, notes)
     } else {
         text.push_str("[]")
     }

@@ -156,26 +156,6 @@ fn put_after(octets: &mut Vec<u8>, used: usize, new: &[u8]) -> Result<(), AllocE
     Ok(())
 }
 
-/// Copies octets, and others after them, after those that are used, which stay. Out of memory,
-/// nothing changes.
-#[inline(always)]
-fn put_both_after(
-    octets: &mut Vec<u8>,
-    used: usize,
-    first: &[u8],
-    second: &[u8],
-) -> Result<(), AllocError>
-    requires { used ≤ length octets.old.items }
-    ensures fits { OnOk result (used + length first.now + length second.now ≤ length octets.new.items) }
-    ensures text { OnOk result (take (used + length first.now + length second.now) octets.new.items ≡ take used octets.old.items ++ first.now ++ second.now) }
-    ensures memory { OnErr result (octets.new.items ≡ octets.old.items) }
-{
-    make_fit(octets, used, first.len() + second.len())?;
-    copy_at(octets, used, first);
-    copy_at(octets, used + first.len(), second);
-    Ok(())
-}
-
 impl TextBuffer {
     /// Returns a text of no octets, for which nothing is allocated yet.
     pub fn new(alloc: Global) -> TextBuffer
@@ -233,27 +213,6 @@ impl TextBuffer {
         ensures { OnOk result (self.new ≡ self.old ++ text.now) }
     {
         self.append(text.as_bytes())
-    }
-
-    /// Appends octets of UTF-8 and then others, growing at most once.
-    #[inline(always)]
-    fn append_both(&mut self, first: &[u8], second: &[u8]) -> Result<(), AllocError>
-        requires first { IsUtf8 first.now }
-        requires second { IsUtf8 second.now }
-        ensures { OnOk result (self.new ≡ self.old ++ first.now ++ second.now) }
-    {
-        put_both_after(&mut self.octets, self.size, first, second)?;
-        self.size += first.len();
-        self.size += second.len();
-        Ok(())
-    }
-
-    /// Appends text and then other text, for both of which memory is looked for at once.
-    #[inline(always)]
-    pub(crate) fn push_both(&mut self, first: &str, second: &str) -> Result<(), AllocError>
-        ensures { OnOk result (self.new ≡ self.old ++ first.now ++ second.now) }
-    {
-        self.append_both(first.as_bytes(), second.as_bytes())
     }
 
     /// Appends octets of ASCII.
