@@ -1,14 +1,10 @@
--- Readers one after another: what they read, and the first fault.
+-- Readers that depend on where they begin, and the fault of those that read one after another.
 use Rattle.std.proofs.Common.{ℕ}
 use Rattle.krb_file.specs.Fields.{Bounds, Reader, ◌>>=◌}
 use Rattle.krb_file.specs.FieldReaders.{Cursor, HasRead, FailsBy}
 use Rattle.krb_file.specs.declared.fault.FileFault.{FileFault}
 use Rattle.krb_file.specs.declared.fault.FileFault.TheVariants as faults
-use Rattle.krb_packet.proofs.Options.{continues_here, continues_then, continues_read, fails_after}
-
-pub reads_on : {A B : Type 0} {one : Reader A} (next : A → Reader B) {v : A} {w : B} {old mid new : Cursor} → HasRead one v old mid → HasRead (next v) w mid new → HasRead (one >>= next) w old new
-reads_on {one = one} next {v = v} {w = w} {old = old} {mid = mid} {new = new} first second =
-    continues_read (one >>= next) (next v) w old mid new (continues_then (one >>= next) one next v old old mid (continues_here (one >>= next) old) first) second
+use Rattle.krb_packet.proofs.Options.{fails_after}
 
 -- a reader that depends on what bounds the field, and on the place at which it begins
 pub reads_here : {A : Type 0} (reader : Bounds → ℕ → Reader A) {v : A} {old new : Cursor} → HasRead (reader old.bounds old.place) v old new → HasRead (λ bounds source. reader bounds source.place bounds source) v old new

@@ -5,7 +5,8 @@ use Rattle.krb_file.specs.declared.field_name.FieldName.TheVariants as fields
 use Rattle.krb_file.proofs.FieldReaders.{Keeps-same, Keeps-then, made_of}
 use Rattle.krb_packet.specs.Bodies.{most_of}
 use Rattle.krb_packet.proofs.Options.{then_fails}
-use Rattle.krb_packet.proofs.InTurn.{reads_on, reads_here, fails_on, fails_here}
+use Rattle.krb_file.proofs.Chains.{read_then}
+use Rattle.krb_packet.proofs.InTurn.{reads_here, fails_on, fails_here}
 use Rattle.krb_packet.proofs.body.simple_packet.Goals as goal
 
 pub returns-in_err-octets_field-clause-read : goal.returns-in_err-octets_field-clause-read
@@ -24,7 +25,7 @@ pub returns-clause-read : goal.returns-clause-read
 returns-clause-read g c =
     let read = rw (c.min-captured.ensures, c.from.ensures, c.most_of.ensures, c.octets_to_end.ensures, c.spare_octets-octets.ensures.same) at c.in_ok-octets_field.ensures.read in
     rw c.new.ensures
-    (reads_on _ c.in_ok-interface.ensures (reads_on _ c.in_ok-original.ensures.read (made_of _ _ _ _ _
+    (read_then _ _ c.in_ok-interface.ensures (read_then _ _ c.in_ok-original.ensures.read (made_of _ _ _ _ _
     (reads_here (λ bounds place. called fields.Data (octets_at (min (most_of c.in_ok-interface.interface.snaplen c.in_ok-original.original) (octets_to_end bounds.end place)))) read))))
 
 pub returns-clause-keeps : goal.returns-clause-keeps

@@ -1,7 +1,8 @@
 use Rattle.std.proofs.lemmas.Result.{err_from_is_err_and}
 use Rattle.krb_file.proofs.FieldReaders.{made_of}
 use Rattle.krb_packet.proofs.Options.{then_fails}
-use Rattle.krb_packet.proofs.InTurn.{reads_on, fails_on}
+use Rattle.krb_file.proofs.Chains.{read_then}
+use Rattle.krb_packet.proofs.InTurn.{fails_on}
 use Rattle.krb_packet.proofs.body.timestamp.Goals as goal
 
 pub returns-in_err-low-clause-read : goal.returns-in_err-low-clause-read
@@ -11,4 +12,4 @@ returns-in_err-low-clause-read g c =
     rw (p.1, p.2) (fails_on _ e g.F.FieldReader.MayFail c.in_ok-high.ensures.read (then_fails _ _ e g.F.FieldReader.MayFail (g.F.FieldReader.cursor c.field32.new.reader) c.in_err-low.ensures.read))
 
 pub returns-clause-read : goal.returns-clause-read
-returns-clause-read g c = rw (c.from.ensures, c.from-2.ensures) (reads_on _ c.in_ok-high.ensures.read (made_of _ _ _ _ _ c.in_ok-low.ensures.read))
+returns-clause-read g c = rw (c.from.ensures, c.from-2.ensures) (read_then _ _ c.in_ok-high.ensures.read (made_of _ _ _ _ _ c.in_ok-low.ensures.read))

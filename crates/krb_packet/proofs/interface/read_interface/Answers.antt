@@ -3,7 +3,8 @@ use Rattle.krb_file.specs.Fields.{octets_to_end}
 use Rattle.krb_file.proofs.FieldReaders.{Keeps-then, made_of}
 use Rattle.krb_packet.specs.Interfaces.{no_options, options_within}
 use Rattle.krb_packet.proofs.Options.{then_fails}
-use Rattle.krb_packet.proofs.InTurn.{reads_on, reads_here, fails_on, fails_here}
+use Rattle.krb_file.proofs.Chains.{read_then}
+use Rattle.krb_packet.proofs.InTurn.{reads_here, fails_on, fails_here}
 use Rattle.krb_packet.proofs.interface.read_interface.Goals as goal
 
 pub returns-in_err-field16-clause-read : goal.returns-in_err-field16-clause-read
@@ -40,7 +41,7 @@ pub returns-clause-read : goal.returns-clause-read
 returns-clause-read g c =
     let read = rw c.octets_to_end.ensures at c.in_ok-options.ensures.read in
     rw (c.of.ensures, c.from.ensures, c.clock.ensures)
-    (reads_on _ c.in_ok-link.ensures.read (reads_on _ c.in_ok-field16.ensures.read (reads_on _ c.in_ok-snaplen.ensures.read (made_of _ _ _ _ _
+    (read_then _ _ c.in_ok-link.ensures.read (read_then _ _ c.in_ok-field16.ensures.read (read_then _ _ c.in_ok-snaplen.ensures.read (made_of _ _ _ _ _
     (reads_here (λ bounds place. options_within (octets_to_end bounds.end place) c.args.order no_options) read)))))
 
 pub returns-clause-keeps : goal.returns-clause-keeps

@@ -5,7 +5,8 @@ use Rattle.krb_file.specs.declared.field_name.FieldName.TheVariants as fields
 use Rattle.krb_file.proofs.FieldReaders.{Keeps-then, made_of}
 use Rattle.krb_packet.specs.Numbers.{field_in}
 use Rattle.krb_packet.proofs.Options.{then_fails}
-use Rattle.krb_packet.proofs.InTurn.{reads_on, fails_on}
+use Rattle.krb_file.proofs.Chains.{read_then}
+use Rattle.krb_packet.proofs.InTurn.{fails_on}
 use Rattle.krb_packet.proofs.pcap.read_header.Goals as goal
 
 pub returns-in_err-field32-3-clause-read : goal.returns-in_err-field32-3-clause-read
@@ -32,7 +33,7 @@ returns-in_err-link-clause-keeps g c =
 pub returns-clause-read : goal.returns-clause-read
 returns-clause-read g c =
     rw c.of.ensures
-    (reads_on _ c.in_ok-read_version.ensures.read (reads_on _ c.in_ok-field32.ensures.read (reads_on _ c.in_ok-field32-2.ensures.read (reads_on _ c.in_ok-field32-3.ensures.read (made_of _ _ _ _ _ c.in_ok-link.ensures.read)))))
+    (read_then _ _ c.in_ok-read_version.ensures.read (read_then _ _ c.in_ok-field32.ensures.read (read_then _ _ c.in_ok-field32-2.ensures.read (read_then _ _ c.in_ok-field32-3.ensures.read (made_of _ _ _ _ _ c.in_ok-link.ensures.read)))))
 
 pub returns-clause-keeps : goal.returns-clause-keeps
 returns-clause-keeps g c =
