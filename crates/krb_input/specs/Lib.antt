@@ -14,5 +14,6 @@ pub mod Inputs
 pub mod Signatures
 pub mod Sources
 pub mod Hints
+pub mod Layers
 pub mod Laws
 pub mod inner

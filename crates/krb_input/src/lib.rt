@@ -1,4 +1,5 @@
-//! Inputs: the octets that people hold of a message, which may be spelled as text.
+//! Inputs: the octets that people hold of a message, which may be spelled as text, and what the
+//! message may lie in there.
 #![tactic(auto)]
 
 mod base64;
@@ -10,6 +11,7 @@ mod escapes;
 mod header;
 mod hint;
 pub mod law;
+mod layer;
 mod lines;
 mod octets;
 mod offset;
@@ -23,6 +25,7 @@ mod text_fault;
 mod tokens;
 
 pub use hint::{Hint, hint_of};
+pub use layer::Layer;
 pub use reading::{read_input, read_line};
 pub use source_kind::{SourceKind, kind_of};
 pub use spelled::{InputFault, Misspelling, Spelled};

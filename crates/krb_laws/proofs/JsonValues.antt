@@ -21,9 +21,9 @@ use Rattle.krb_text.specs.Text.{IsPrintable, hex, principal_text, list_text}
 use Rattle.krb_text.specs.Values.{Value, Absent, NoTicket, Number, Named, Numbers, ErrorCode, Reason, NoReason, String, Quoted, FileName, Word, Hex, Flags, TicketFlags, Encrypted, Principal, Address, Digest, YesNo, Offset, RefusedTicket, Flow, Layers}
 use Rattle.krb_text.specs.declared.origin.Transport.{Transport}
 use Rattle.krb_text.specs.declared.origin.Transport.TheVariants as transports
-use Rattle.krb_token.specs.Layers.{layer_name}
-use Rattle.krb_token.specs.declared.layer.Layer.{Layer}
-use Rattle.krb_token.specs.declared.layer.Layer.TheVariants as layers
+use Rattle.krb_input.specs.Layers.{layer_name}
+use Rattle.krb_input.specs.declared.layer.Layer.{Layer}
+use Rattle.krb_input.specs.declared.layer.Layer.TheVariants as layers
 use Rattle.krb_laws.specs.Json.{address_json, digest_json, endpoint_json, flags_json, if_known, json_of_value, list_of, name_json, number_of, octets_of, offset_json, principal_json, refused_json, encrypted_json}
 use Rattle.krb_laws.specs.JsonLaws.{IsEndpoint, IsSmall, ValueFits, are_different, is_plain}
 use Rattle.krb_laws.proofs.JsonNames.{distinct}

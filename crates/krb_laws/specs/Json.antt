@@ -15,7 +15,7 @@ use Rattle.krb_text.specs.Flows.{transport_name}
 use Rattle.krb_text.specs.Forms.{four_octets, set_names, shown_octet}
 use Rattle.krb_text.specs.Text.{hex, principal_text}
 use Rattle.krb_text.specs.Values.{Value, Absent, NoTicket, Number, Named, Numbers, ErrorCode, Reason, NoReason, String, Quoted, FileName, Word, Hex, Flags, TicketFlags, Encrypted, Principal, Address, Digest, YesNo, Offset, RefusedTicket, Flow, Layers, Field, Part, Printed}
-use Rattle.krb_token.specs.Layers.{layer_name}
+use Rattle.krb_input.specs.Layers.{layer_name}
 
 -- ---- values of JSON
 -- an object of members in order

@@ -35,7 +35,7 @@ use Rattle.krb_text.specs.declared.extent.Extent.{Extent}
 use Rattle.krb_text.specs.declared.form.Form.TheVariants as forms
 use Rattle.krb_text.specs.declared.input.InputFault.{InputFault}
 use Rattle.krb_text.specs.declared.origin.Origin.{Origin}
-use Rattle.krb_token.specs.declared.layer.Layer.{Layer}
+use Rattle.krb_input.specs.declared.layer.Layer.{Layer}
 use Rattle.krb_laws.specs.Json.{json_of}
 
 -- A text is a value of JSON (RFC 8259), as it is printed without blanks, and no object in it has a name twice.

@@ -16,8 +16,8 @@ use Rattle.krb_msg.specs.Profiles.{profile_term}
 use Rattle.krb_token.specs.Laws.{IsFrame}
 use Rattle.krb_token.specs.Opened.{Found, Refused, Ticket, message_under, under}
 use Rattle.krb_token.specs.Tokens.{opened}
-use Rattle.krb_token.specs.declared.layer.Layer.{Layer}
-use Rattle.krb_token.specs.declared.layer.Layer.TheVariants.{Frame}
+use Rattle.krb_input.specs.declared.layer.Layer.{Layer}
+use Rattle.krb_input.specs.declared.layer.Layer.TheVariants.{Frame}
 use Rattle.krb_laws.specs.Written.{IsLayout, Layout, base64_text, dump_text, hexdump, xxd}
 use Rattle.krb_input.specs.declared.spelling.Spelling.TheVariants as form
 

@@ -3,7 +3,7 @@
 
 use krb_der::{Profile, Refusal, Why};
 use krb_file::FileWhy;
-use krb_input::Spelling;
+use krb_input::{Layer, Spelling};
 use krb_judge::read_ticket_in;
 use krb_packet::{Endpoint, Time};
 use krb_text::{
@@ -13,7 +13,6 @@ use krb_text::{
     put_message_refusal, put_password, put_stream_refusal, put_ticket, put_untold_message_refusal,
     put_untold_stream_refusal,
 };
-use krb_token::Layer;
 use std::alloc::Global;
 use std::net::{IpAddr, Ipv4Addr, Ipv6Addr};
 use std::test::Fail;

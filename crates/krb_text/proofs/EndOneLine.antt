@@ -18,7 +18,7 @@ use Rattle.krb_text.specs.Refusals.{path_in, extent_in, spelling_in}
 use Rattle.krb_text.specs.Text.{line_feed}
 use Rattle.krb_msg.specs.Term.{IfPresent}
 use Rattle.krb_text.specs.Values.{Field, Number, String, Word, Printed, if_there, with_inside, with_origin}
-use Rattle.krb_token.specs.declared.layer.Layer.{Layer}
+use Rattle.krb_input.specs.declared.layer.Layer.{Layer}
 use Rattle.krb_text.proofs.Printable.{Prints, is_printable, word}
 use Rattle.krb_text.proofs.EachForm.{ArePlainParts, IsShown, AreShown, names_are_plain, record_prints}
 

@@ -13,7 +13,7 @@ use Rattle.krb_text.specs.Inputs.{input_refused_line}
 use Rattle.krb_text.specs.Messages.{message_origin}
 use Rattle.krb_text.specs.Refusals.{file_refused_line, message_refused_line, untold_message_refused_line}
 use Rattle.krb_text.specs.Streams.{refused_line as frame_refused_line, untold_refused_line}
-use Rattle.krb_token.specs.declared.layer.Layer.TheVariants.{Frame, Gss, Spnego}
+use Rattle.krb_input.specs.declared.layer.Layer.TheVariants.{Frame, Gss, Spnego}
 use Rattle.krb_text.specs.TicketFlags.{ticket_flags_text, names_text, flag_name, eight_hex}
 use Rattle.krb_text.specs.Text.{principal_text}
 use Rattle.krb_text.specs.Time.{civil_date, date_from, date_in_year, the_date, time_text, two_digits, date_text, clock_text}

@@ -15,7 +15,7 @@ use Rattle.krb_text.specs.FileNames.{name_text}
 use Rattle.krb_text.specs.Flows.{flow_text, flow_object}
 use Rattle.krb_text.specs.TicketFlags.{ticket_flags_text}
 use Rattle.krb_text.specs.Errors.{code_text}
-use Rattle.krb_token.specs.Layers.{layer_name}
+use Rattle.krb_input.specs.Layers.{layer_name}
 use Rattle.krb_text.specs.Values.{Value, Absent, NoTicket, Number, Named, Numbers, ErrorCode, Reason, NoReason, String, Quoted, FileName, Word, Hex, Flags, TicketFlags, Encrypted, Principal, Address, Digest, YesNo, Offset, RefusedTicket, Flow, Layers, Field, Part, Printed}
 
 -- ---- flags by name; bit 0 is the highest of the first octet

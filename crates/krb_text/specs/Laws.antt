@@ -36,7 +36,7 @@ use Rattle.krb_text.specs.Messages.{message_record, message_line, message_line_f
 use Rattle.krb_text.specs.Masks.{masked, masked_method, masked_ticket}
 use Rattle.krb_text.specs.Time.{civil_date, the_date}
 use Rattle.krb_text.specs.Values.{Field, Printed}
-use Rattle.krb_token.specs.declared.layer.Layer.{Layer}
+use Rattle.krb_input.specs.declared.layer.Layer.{Layer}
 
 -- different components or realms have different texts
 abbrev pub PrincipalTextIsInjective : Type 0

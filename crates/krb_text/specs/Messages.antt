@@ -11,7 +11,7 @@ use Rattle.krb_text.specs.declared.form.Form.{Form}
 use Rattle.krb_text.specs.Forms.{record_text, record_line}
 use Rattle.krb_text.specs.Inside.{inside_of}
 use Rattle.krb_text.specs.Values.{Number, Layers, Field, Printed, the, printed, with_inside, with_origin, encrypted, principal}
-use Rattle.krb_token.specs.declared.layer.Layer.{Layer}
+use Rattle.krb_input.specs.declared.layer.Layer.{Layer}
 pub use Rattle.krb_text.specs.MessageFields.{padata, notes, methods, kdc_req_fields, kdc_rep_fields, ap_req_fields, ap_rep_fields, krb_safe_fields, krb_priv_fields, krb_cred_fields, krb_error_fields, fields_of}
 
 unfoldable pub message_record : Message → Printed

@@ -8,7 +8,7 @@ use Rattle.krb_msg.specs.declared.principal_name.PrincipalName.{PrincipalName}
 use Rattle.krb_packet.specs.declared.contents.Endpoint.{Endpoint}
 use Rattle.krb_registry.specs.declared.registry.Registry.{Registry}
 use Rattle.krb_text.specs.declared.origin.Transport.{Transport}
-use Rattle.krb_token.specs.declared.layer.Layer.{Layer}
+use Rattle.krb_input.specs.declared.layer.Layer.{Layer}
 
 -- A number has a name if its registry has one. Of what is encrypted, of a checksum and of a key, there is the number of octets and none of these.
 pub data Value : Type 0 where

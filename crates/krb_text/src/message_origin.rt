@@ -6,7 +6,7 @@ ghost use Rattle.krb_text.specs.Forms.{heading, json_string, opening_from, origi
 ghost use Rattle.krb_text.specs.Messages.{message_origin};
 ghost use Rattle.krb_text.specs.Text.{joined, list_text};
 ghost use Rattle.krb_text.specs.Values.{Layers as AreLayers};
-ghost use Rattle.krb_token.specs.Layers.{layer_name};
+ghost use Rattle.krb_input.specs.Layers.{layer_name};
 
 use crate::field::put_opening;
 use crate::form::Form;
@@ -14,7 +14,7 @@ use crate::json::put_string;
 use crate::put_field;
 use crate::shown::{Shown, put_begin};
 use crate::text_buffer::TextBuffer;
-use krb_token::Layer;
+use krb_input::Layer;
 use std::alloc::AllocError;
 
 /// Where a message comes from: the line of an input that has one in each line, and what the message

@@ -1,4 +1,3 @@
-pub mod Layers
 pub mod Opened
 pub mod Items
 pub mod Spnego

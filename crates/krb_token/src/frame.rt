@@ -5,10 +5,10 @@ ghost use Rattle.krb_token.specs.Seen.{IsInLayer, opened_of};
 ghost use Rattle.krb_token.specs.Tokens.{frame_opened};
 
 use crate::item::Part;
-use crate::layer::Layer;
 use crate::opening::{Opened, message, refused};
 use crate::path::TokenFault;
 use krb_der::{Why, number_of};
+use krb_input::Layer;
 
 /// Returns what four octets of length and the octets after them are: a message, if there are as
 /// many of these as the length says.

@@ -5,16 +5,16 @@ ghost use Rattle.std.specs.Prelude.{◌≡◌, ◌++◌, ◌∷◌, [], IfOk, Ma
 ghost use Rattle.krb_token.specs.Gss.{identified, is_kerberos as is_identifier_of_kerberos, kerberos_opened, message_in, message_tag, unknown_mechanism as unknown};
 ghost use Rattle.krb_token.specs.Seen.{IsShort, IsInLayer, fault_of, item_of, opened_of, part_of, path_text};
 ghost use Rattle.krb_token.specs.Tokens.{gss_in_spnego, gss_opened, is_ntlm as is_of_ntlm, mechanism_opened, spnego_in_gss, spnego_opened, token_in};
-ghost use Rattle.krb_token.specs.declared.layer.Layer.TheVariants.{Gss, Spnego};
+ghost use Rattle.krb_input.specs.declared.layer.Layer.TheVariants.{Gss, Spnego};
 
 use crate::fields::NegToken;
 use crate::item::{Item, Part};
-use crate::layer::Layer;
 use crate::opening::{Found, Opened, message, refused, under};
 use crate::path::{TokenFault, TokenPath};
 use crate::simple::Simple;
 use crate::spnego::read_token;
 use krb_der::Why;
+use krb_input::Layer;
 
 /// The identifier of Kerberos V5, 1.2.840.113554.1.2.2 (RFC 4121, 4.1).
 const KERBEROS: [u8; 9] = [0x2A, 0x86, 0x48, 0x86, 0xF7, 0x12, 0x01, 0x02, 0x02];

@@ -18,13 +18,12 @@ mod frame;
 mod gss;
 mod item;
 pub mod law;
-mod layer;
 mod length;
 mod opening;
 mod path;
 mod simple;
 mod spnego;
 
-pub use layer::Layer;
+pub use krb_input::Layer;
 pub use opening::{Found, Opened, open};
 pub use path::TokenPath;

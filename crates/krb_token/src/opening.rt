@@ -9,9 +9,9 @@ use crate::fields::NegToken;
 use crate::frame::open_frame;
 use crate::gss::{is_ntlm, open_gss, open_lone_spnego};
 use crate::item::Part;
-use crate::layer::Layer;
 use crate::path::{TokenFault, TokenPath};
 use krb_der::Refusal;
+use krb_input::Layer;
 
 /// What octets were opened to: the layers that were opened, from the outermost one on, and what was
 /// found in the last of them.

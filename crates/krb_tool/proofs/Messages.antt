@@ -24,7 +24,7 @@ use Rattle.krb_text.specs.Values.{Field, with_origin}
 use Rattle.krb_text.specs.declared.form.Form.{Form}
 use Rattle.krb_text.specs.declared.input.InputFault.TheVariants as faults
 use Rattle.krb_input.specs.declared.spelling.Spelling.{Spelling}
-use Rattle.krb_token.specs.declared.layer.Layer.{Layer}
+use Rattle.krb_input.specs.declared.layer.Layer.{Layer}
 use Rattle.krb_token.specs.Seen.{found_of, opened_of}
 use Rattle.krb_token.specs.Tokens.{opened}
 use Rattle.krb_token.specs.declared.opening.Found.{Found as FoundOfCode}

@@ -22,8 +22,7 @@ mod when;
 mod words;
 
 pub use commands::VERSION;
-pub use krb_der::Profile;
-pub use krb_frame::Limit;
+pub use krb_der::{Limit, Profile};
 pub use krb_text::Form;
 pub use sources::{NamedPath, Source};
 pub use when::When;

@@ -14,8 +14,7 @@ use crate::sources::{Source, sources_of};
 use crate::when::{When, read_when};
 use clap::error::ErrorKind;
 use clap::{ArgMatches, Error};
-use krb_der::Profile;
-use krb_frame::Limit;
+use krb_der::{Limit, Profile};
 use krb_text::Form;
 use std::alloc::{AllocError, Global};
 
