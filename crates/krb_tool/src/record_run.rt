@@ -5,8 +5,9 @@ ghost use Rattle.std.specs.Io.Buffered.{reader_remaining};
 ghost use Rattle.std.specs.Option.{option_map};
 ghost use Rattle.krb_tool.specs.Extents.{fault_line};
 ghost use Rattle.krb_tool.specs.Faults.{IsRead, IsWrite};
-ghost use Rattle.krb_tool.specs.Files.{RecordListing, after_line, keytab_listing, ccache_listing, AppendsPrefix, ListsRecords};
-ghost use Rattle.krb_tool.specs.inner.RecordRuns.{AddsRefusal, AddsLine, Moves, WritesBefore, AreRecordsLeft, AreCredentialsLeft};
+ghost use Rattle.krb_ccache.specs.Streaming.{Reads};
+ghost use Rattle.krb_tool.specs.Files.{RecordListing, after_line, field_limit, keytab_listing, ccache_listing, AppendsPrefix, ListsRecords};
+ghost use Rattle.krb_tool.specs.inner.RecordRuns.{AddsRefusal, AddsLine, IsRefusal, Moves, WritesBefore, AreRecordsLeft, AreCredentialsLeft};
 ghost use Rattle.std.specs.Io.KnownBytes.{Appends};
 
 use crate::extent::extent_of;
@@ -123,8 +124,9 @@ impl<R: Read> RecordLines for KeytabLines<'_, R> {
     ) -> Result<Option<RunEnd>, RunFault> {
         match self.records.next_record(alloc) {
             Ok(Next::Item(record)) => {
-                put_record(text, self.form, &record)?;
+                let put = put_record(text, self.form, &record);
                 self.records.give_back(record);
+                put?;
                 Ok(None)
             }
             Ok(Next::Done(stop)) => {
@@ -203,8 +205,9 @@ impl<R: Read + Drop> RecordLines for CredentialLines<'_, R> {
     ) -> Result<Option<RunEnd>, RunFault> {
         match self.credentials.next_credential(alloc) {
             Ok(Some(credential)) => {
-                put_credential(text, self.form, &credential, self.now)?;
+                let put = put_credential(text, self.form, &credential, self.now);
                 self.credentials.give_back(credential);
+                put?;
                 Ok(None)
             }
             Ok(None) => {
@@ -333,6 +336,41 @@ pub fn run_keytab_in<R: Read, W: Write>(
     )
 }
 
+/// Lists the credentials of a cache after its own line.
+fn list_credentials<R: Read + Drop, W: Write>(
+    alloc: Global,
+    lines: &mut CredentialLines<'_, R>,
+    writer: &mut W,
+) -> Result<RunEnd, RunFault>
+    ensures listed { (file : List ℕ) → Reads field_limit lines.old.credentials.reader lines.old.credentials.start lines.old.credentials.state file 0 → ListsRecords (ccache_listing lines.old.form lines.old.now file) (W.contents writer.old) (W.contents writer.new) result }
+{
+    let mut text = TextBuffer::new(alloc);
+    let cache = &lines.credentials;
+    put_cache(&mut text, lines.form, cache.header(), cache.principal())?;
+    let watch = lines.watch;
+    list_records(alloc, lines, &mut text, watch, writer)
+}
+
+/// Lists a file of which nothing but its refusal is listed, if this fault is one.
+fn list_refusal<W: Write>(
+    alloc: Global,
+    form: Form,
+    fault: FileFault,
+    watch: &Watch,
+    writer: &mut W,
+) -> Result<RunEnd, RunFault>
+    ensures listed { (listing : RecordListing) → IsRefusal form fault listing → ListsRecords listing (W.contents writer.old) (W.contents writer.new) result }
+{
+    let mut text = TextBuffer::new(alloc);
+    match put_fault(alloc, &mut text, form, FileItem::File, fault, watch) {
+        Ok(ended) => {
+            write_all(writer, text.octets())?;
+            Ok(ended)
+        }
+        Err(fault) => write_before(writer, &mut text, fault),
+    }
+}
+
 /// Lists a credential cache of version 3 or 4 in lines, as [`run_ccache_in`] does.
 pub fn run_ccache<R: Read, W: Write>(
     alloc: Global,
@@ -361,29 +399,17 @@ pub fn run_ccache_in<R: Read, W: Write>(
     let watch = Watch::new();
     let watch = &watch;
     let reader = in_pieces(alloc, Watched { reader, watch })?;
-    let mut text = TextBuffer::new(alloc);
     match Credentials::start(alloc, reader, Limit::DEFAULT) {
-        Ok(credentials) => {
-            put_cache(
-                &mut text,
-                form,
-                credentials.header(),
-                credentials.principal(),
-            )?;
-            let mut lines = CredentialLines {
+        Ok(credentials) => list_credentials(
+            alloc,
+            &mut CredentialLines {
                 credentials,
                 form,
                 now,
                 watch,
-            };
-            list_records(alloc, &mut lines, &mut text, watch, writer)
-        }
-        Err(fault) => match put_fault(alloc, &mut text, form, FileItem::File, fault, watch) {
-            Ok(ended) => {
-                write_all(writer, text.octets())?;
-                Ok(ended)
-            }
-            Err(fault) => write_before(writer, &mut text, fault),
-        },
+            },
+            writer,
+        ),
+        Err(fault) => list_refusal(alloc, form, fault, watch, writer),
     }
 }

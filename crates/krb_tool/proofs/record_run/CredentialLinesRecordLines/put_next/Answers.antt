@@ -6,15 +6,15 @@ use Rattle.krb_tool.specs.Lines.{credential_line}
 use Rattle.krb_tool.proofs.Records.{item_added, end_added, refusal_added}
 use Rattle.krb_tool.proofs.record_run.CredentialLinesRecordLines.put_next.Goals as goal
 
-pub returns-in_ok-put_credential-in-Ok-Some-clause-line : goal.returns-in_ok-put_credential-in-Ok-Some-clause-line
-returns-in_ok-put_credential-in-Ok-Some-clause-line g c = λ left is_left.
+pub returns-in_ok-put-in-Ok-Some-clause-line : goal.returns-in_ok-put-in-Ok-Some-clause-line
+returns-in_ok-put-in-Ok-Some-clause-line g c = λ left is_left.
     let lines = c.args.self.now in
     let old = lines.credentials in
     let new = c.next_credential.new.self in
     let same = c.give_back.ensures in
     rw (same.same_reader, same.same_start, same.same_state)
-    (item_added (λ x. credential_line lines.form lines.now x) (ccache_last lines.form) (credentials field_limit) (λ file count. Reads field_limit old.reader old.start old.state file count) c.args.count left is_left c.args.text.now c.put_credential.new.text
-    (λ file count. Reads field_limit new.reader new.start new.state file count) c.in-Ok-Some.credential (λ file reads. (rw c.in-Ok-Some.field-0-is at c.in-Ok-Some.ensures.next) file 16777216 c.args.count reads) (rw c.in-Ok-Some.field-0-is at c.in_ok-put_credential-in-Ok-Some.ensures))
+    (item_added (λ x. credential_line lines.form lines.now x) (ccache_last lines.form) (credentials field_limit) (λ file count. Reads field_limit old.reader old.start old.state file count) c.args.count left is_left c.args.text.now c.put_credential-put.new.text
+    (λ file count. Reads field_limit new.reader new.start new.state file count) c.in-Ok-Some.credential (λ file reads. (rw c.in-Ok-Some.field-0-is at c.in-Ok-Some.ensures.next) file 16777216 c.args.count reads) (rw c.in-Ok-Some.field-0-is at c.in_ok-put-in-Ok-Some.ensures))
 
 pub returns-in_ok-put_cache_end-in-Ok-None-clause-line : goal.returns-in_ok-put_cache_end-in-Ok-None-clause-line
 returns-in_ok-put_cache_end-in-Ok-None-clause-line g c = λ left is_left.

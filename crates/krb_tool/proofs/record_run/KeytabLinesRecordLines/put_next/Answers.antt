@@ -7,13 +7,13 @@ use Rattle.krb_tool.specs.Lines.{record_line}
 use Rattle.krb_tool.proofs.Records.{item_added, end_added, refusal_added}
 use Rattle.krb_tool.proofs.record_run.KeytabLinesRecordLines.put_next.Goals as goal
 
-pub returns-in_ok-put_record-in-Ok-Item-clause-line : goal.returns-in_ok-put_record-in-Ok-Item-clause-line
-returns-in_ok-put_record-in-Ok-Item-clause-line g c = λ left is_left.
+pub returns-in_ok-put-in-Ok-Item-clause-line : goal.returns-in_ok-put-in-Ok-Item-clause-line
+returns-in_ok-put-in-Ok-Item-clause-line g c = λ left is_left.
     let lines = c.args.self.now in
     let new = c.next_record.new.self in
     rw (c.give_back.ensures.same_reader, c.give_back.ensures.same_state)
-    (item_added (λ r. record_line lines.form r) (keytab_last lines.form) (keytab_records field_limit) (λ file count. Reads field_limit lines.records.reader lines.records.state file count) c.args.count left is_left c.args.text.now c.put_record.new.text
-    (λ file count. Reads field_limit new.reader new.state file count) c.in-Ok-Item.record (λ file reads. (rw c.in-Ok-Item.field-0-is at c.in-Ok-Item.ensures.next) file 16777216 c.args.count reads) (rw c.in-Ok-Item.field-0-is at c.in_ok-put_record-in-Ok-Item.ensures))
+    (item_added (λ r. record_line lines.form r) (keytab_last lines.form) (keytab_records field_limit) (λ file count. Reads field_limit lines.records.reader lines.records.state file count) c.args.count left is_left c.args.text.now c.put_record-put.new.text
+    (λ file count. Reads field_limit new.reader new.state file count) c.in-Ok-Item.record (λ file reads. (rw c.in-Ok-Item.field-0-is at c.in-Ok-Item.ensures.next) file 16777216 c.args.count reads) (rw c.in-Ok-Item.field-0-is at c.in_ok-put-in-Ok-Item.ensures))
 
 pub returns-in_ok-put_keytab_end-in-Ok-Done-clause-line : goal.returns-in_ok-put_keytab_end-in-Ok-Done-clause-line
 returns-in_ok-put_keytab_end-in-Ok-Done-clause-line g c = λ left is_left.
