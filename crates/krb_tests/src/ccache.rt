@@ -3,8 +3,8 @@
 
 use crate::examples::{CACHE, CACHE3, TICKET_FIELDS, octets_of};
 use krb_ccache::{
-    Ccache, CcacheFault, Credential, HeaderField, TicketState, Typed, read, read3, ticket_of,
-    upgrade, write,
+    Cache3, Ccache, CcacheFault, Credential, HeaderField, TicketState, Typed, read, read3,
+    ticket_of, upgrade, write,
 };
 use krb_der::{Many, Octets, Refusal, Why};
 use krb_file::{FieldName, FileFault, FileField, FileRefusal, FileWhy};
@@ -163,18 +163,28 @@ fn refuses_to_write_a_header_that_is_too_long(rt: HostRuntime) -> Result<(), Fai
     Ok(())
 }
 
+/// Returns the two encryption types of the last credential of a cache of version 3.
+fn last_enctypes(cache: &Cache3) -> Option<(u16, u16)> {
+    let last = cache.credentials.as_slice().last()?;
+    Some((last.credential.enctype, last.again))
+}
+
+/// Returns whether a cache of version 3 is the wanted one in version 4.
+fn comes_to(alloc: Global, cache: Cache3, wanted: &[u8]) -> bool {
+    match upgrade(alloc, cache) {
+        Ok(cache) => is_written(alloc, &cache, wanted),
+        Err(_) => false,
+    }
+}
+
 /// Returns whether octets are a cache of version 3 whose last credential has this second encryption
 /// type, and which in version 4 is the wanted one.
 fn is_upgraded(alloc: Global, octets: &[u8], again: u16, wanted: &[u8]) -> bool {
-    let Ok(cache) = read3(alloc, octets) else {
-        return false;
-    };
-    let is_read = match cache.credentials.as_slice() {
-        [.., last] => last.credential.enctype == 18 && last.again == again,
-        [] => false,
-    };
-    match upgrade(alloc, cache) {
-        Ok(cache) => is_read && is_written(alloc, &cache, wanted),
+    match read3(alloc, octets) {
+        Ok(cache) => {
+            let is_read = last_enctypes(&cache) == Some((18, again));
+            is_read & comes_to(alloc, cache, wanted)
+        }
         Err(_) => false,
     }
 }

@@ -9,8 +9,7 @@ ghost use Rattle.std.specs.Prelude.{◌^◌, ◌<◌, length};
 
 use crate::examples::octets_of;
 use krb_msg::{
-    ApReq, ChecksumView, EncryptedData, EncryptedDataView, FlagsView, PrincipalNameView, next_item,
-    view_whole,
+    ApReq, EncryptedData, EncryptedDataView, FlagsView, PrincipalNameView, next_item, view_whole,
 };
 use krb_padata::{
     EtypeInfo, EtypeInfo2, EtypeInfo2Entry, EtypeInfoEntry, PaForUser, PaFxFastReply,
@@ -112,244 +111,237 @@ const MADE: [(&str, &str); 13] = [
     ),
 ];
 
-/// Octets that are of no type.
-const WRONG: [&str; 30] = [
-    "",
-    "05",
-    "3005A003010101",
-    "3006A00401020000",
-    "3005A0030201FF",
-    "3005A1030101FF",
-    "3080A0030101FF0000",
-    "308105A0030101FF",
-    "0101FF",
-    "300B3009A1020400A003020112",
-    "300B3009A00702050080000000",
-    "30083006A00402020012",
-    "30063004A1020400",
-    "300F300DA003020112A1020400A2020400",
-    "300F300DA003020112A1021B00A3020400",
-    "30093005A0030201123100",
-    "3005A003020112",
-    "3009A00703050810000000",
-    "3009A00703050110000001",
-    "3009A00704050010000000",
-    "3004A0020300",
-    "03050010000000",
-    "300EA00703050010000000A103020100",
-    "301DA10B3009A00302010FA1020400A20E300CA003020112A2050403C0FFEE",
-    "A11F301DA10B3009A00302010FA1020400A20E300CA003020112A2050403C0FFEE",
-    "A0283026A0073005A003020101A10B3009A00302010FA1020400A20E300CA003020112A2050403C0FFEE",
-    "A00F300DA10B3009A00302010FA1020400",
-    "A0183016A00E300CA003020112A2050403C0FFEEA1040402CAFE",
-    "3022A00E300CA003020101A10530031B0175A1031B0141A20B3009A00302010FA1020400",
-    "3029A00E300CA003020101A10530031B0175A103040141A20B3009A00302010FA1020400A3051B034B4B4B",
-];
+/// Octets that are of no type, of which the first are none.
+const WRONG: &str = "
+05
+3005A003010101
+3006A00401020000
+3005A0030201FF
+3005A1030101FF
+3080A0030101FF0000
+308105A0030101FF
+0101FF
+300B3009A1020400A003020112
+300B3009A00702050080000000
+30083006A00402020012
+30063004A1020400
+300F300DA003020112A1020400A2020400
+300F300DA003020112A1021B00A3020400
+30093005A0030201123100
+3005A003020112
+3009A00703050810000000
+3009A00703050110000001
+3009A00704050010000000
+3004A0020300
+03050010000000
+300EA00703050010000000A103020100
+301DA10B3009A00302010FA1020400A20E300CA003020112A2050403C0FFEE
+A11F301DA10B3009A00302010FA1020400A20E300CA003020112A2050403C0FFEE
+A0283026A0073005A003020101A10B3009A00302010FA1020400A20E300CA003020112A2050403C0FFEE
+A00F300DA10B3009A00302010FA1020400
+A0183016A00E300CA003020112A2050403C0FFEEA1040402CAFE
+3022A00E300CA003020101A10530031B0175A1031B0141A20B3009A00302010FA1020400
+3029A00E300CA003020101A10530031B0175A103040141A20B3009A00302010FA1020400A3051B034B4B4B";
 
-/// Returns the digits of octets that may be left out.
-fn digits(alloc: Global, octets: Option<&[u8]>) -> Result<String, Fail> {
+/// Puts the digits of octets, or `-` if they are left out, after a separator.
+fn put(text: &mut String, separator: &str, octets: Option<&[u8]>) -> Result<(), Fail> {
+    text.push_str(separator)?;
     match octets {
-        Some(octets) => Ok(hex::encode_upper(alloc, octets)?),
-        None => Ok(format!(in alloc; "-")?),
+        Some(octets) => {
+            for octet in octets {
+                write!(text, "{octet:02X}")?;
+            }
+        }
+        None => text.push('-')?,
     }
+    Ok(())
 }
 
-/// Returns what is shown of an EncryptedData.
-fn encrypted(alloc: Global, seen: EncryptedDataView<'_>) -> Result<String, Fail> {
-    let etype = seen.etype;
-    let cipher = digits(alloc, Some(seen.cipher))?;
-    Ok(match seen.kvno {
-        Some(kvno) => format!(in alloc; "{etype}:{kvno}:{cipher}")?,
-        None => format!(in alloc; "{etype}:-:{cipher}")?,
-    })
+/// Puts a number, and the digits of octets that may be left out.
+fn put_numbered(text: &mut String, number: i64, octets: Option<&[u8]>) -> Result<(), Fail> {
+    write!(text, " {number}")?;
+    put(text, ":", octets)
 }
 
-/// Returns what is shown of a Checksum.
-fn checked(alloc: Global, seen: ChecksumView<'_>) -> Result<String, Fail> {
-    let checksum = digits(alloc, Some(seen.checksum))?;
-    Ok(format!(in alloc; "{}:{checksum}", seen.cksumtype)?)
+/// Puts what is shown of an EncryptedData.
+fn put_encrypted(text: &mut String, seen: EncryptedDataView<'_>) -> Result<(), Fail> {
+    write!(text, " {}:", seen.etype)?;
+    match seen.kvno {
+        Some(kvno) => write!(text, "{kvno}")?,
+        None => text.push('-')?,
+    }
+    put(text, ":", Some(seen.cipher))
 }
 
-/// Returns what is shown of a PrincipalName: its type, and its components as they are sent.
-fn named(alloc: Global, seen: PrincipalNameView<'_>) -> Result<String, Fail> {
-    let components = digits(alloc, Some(seen.name.octets))?;
-    Ok(format!(in alloc; "{}:{components}", seen.name_type)?)
+/// Puts what is shown of a PrincipalName: its type, and its components as they are sent.
+fn put_name(text: &mut String, seen: PrincipalNameView<'_>) -> Result<(), Fail> {
+    put_numbered(text, seen.name_type, Some(seen.name.octets))
 }
 
-/// Returns what is shown of flags: how many bits of the last octet are unused, and the octets.
-fn flagged(alloc: Global, seen: FlagsView<'_>) -> Result<String, Fail> {
-    let octets = digits(alloc, Some(seen.octets))?;
-    Ok(format!(in alloc; "{}:{octets}", seen.unused)?)
+/// Puts what is shown of flags: how many bits of the last octet are unused, and the octets.
+fn put_flags(text: &mut String, seen: FlagsView<'_>) -> Result<(), Fail> {
+    put_numbered(text, i64::from(seen.unused), Some(seen.octets))
 }
 
-fn ap_req(alloc: Global, octets: &[u8]) -> Result<String, Fail>
+fn ap_req(text: &mut String, octets: &[u8]) -> Result<(), Fail>
     requires { length octets.now < 2 ^ 31 }
 {
     let Some(seen) = view_whole::<ApReq>(octets) else {
-        return Ok(String::new(alloc));
+        return Ok(());
     };
-    let options = flagged(alloc, seen.ap_options)?;
-    let realm = digits(alloc, Some(seen.ticket.realm))?;
-    let server = named(alloc, seen.ticket.sname)?;
-    let ticket = encrypted(alloc, seen.ticket.enc_part)?;
-    let authenticator = encrypted(alloc, seen.authenticator)?;
-    Ok(format!(in alloc; "AP-REQ {options} {realm} {server} {ticket} {authenticator}\n")?)
+    text.push_str("AP-REQ")?;
+    put_flags(text, seen.ap_options)?;
+    put(text, " ", Some(seen.ticket.realm))?;
+    put_name(text, seen.ticket.sname)?;
+    put_encrypted(text, seen.ticket.enc_part)?;
+    put_encrypted(text, seen.authenticator)?;
+    Ok(text.push('\n')?)
 }
 
-fn encrypted_data(alloc: Global, octets: &[u8]) -> Result<String, Fail>
+fn encrypted_data(text: &mut String, octets: &[u8]) -> Result<(), Fail>
     requires { length octets.now < 2 ^ 31 }
 {
     let Some(seen) = view_whole::<EncryptedData>(octets) else {
-        return Ok(String::new(alloc));
+        return Ok(());
     };
-    let encrypted = encrypted(alloc, seen)?;
-    Ok(format!(in alloc; "EncryptedData {encrypted}\n")?)
+    text.push_str("EncryptedData")?;
+    put_encrypted(text, seen)?;
+    Ok(text.push('\n')?)
 }
 
-fn etype_info(alloc: Global, octets: &[u8]) -> Result<String, Fail>
+fn etype_info(text: &mut String, octets: &[u8]) -> Result<(), Fail>
     requires { length octets.now < 2 ^ 31 }
 {
     let Some(entries) = view_whole::<EtypeInfo>(octets) else {
-        return Ok(String::new(alloc));
+        return Ok(());
     };
-    let mut text = format!(in alloc; "ETYPE-INFO")?;
+    text.push_str("ETYPE-INFO")?;
     let mut others = entries;
     'others: while let Some((entry, rest)) = next_item::<EtypeInfoEntry>(others) {
-        let salt = digits(alloc, entry.salt)?;
-        write!(text, " {}:{salt}", entry.etype)?;
+        put_numbered(text, entry.etype, entry.salt)?;
         others = rest;
     }
-    text.push('\n')?;
-    Ok(text)
+    Ok(text.push('\n')?)
 }
 
-fn etype_info2(alloc: Global, octets: &[u8]) -> Result<String, Fail>
+fn etype_info2(text: &mut String, octets: &[u8]) -> Result<(), Fail>
     requires { length octets.now < 2 ^ 31 }
 {
     let Some(entries) = view_whole::<EtypeInfo2>(octets) else {
-        return Ok(String::new(alloc));
+        return Ok(());
     };
-    let mut text = format!(in alloc; "ETYPE-INFO2")?;
+    text.push_str("ETYPE-INFO2")?;
     let mut others = entries;
     'others: while let Some((entry, rest)) = next_item::<EtypeInfo2Entry>(others) {
-        let salt = digits(alloc, entry.salt)?;
-        let parameters = digits(alloc, entry.s2kparams)?;
-        write!(text, " {}:{salt}:{parameters}", entry.etype)?;
+        put_numbered(text, entry.etype, entry.salt)?;
+        put(text, ":", entry.s2kparams)?;
         others = rest;
     }
-    text.push('\n')?;
-    Ok(text)
+    Ok(text.push('\n')?)
 }
 
-fn pac_request(alloc: Global, octets: &[u8]) -> Result<String, Fail> {
-    Ok(match view_pac_request(octets) {
-        Some(include) => format!(in alloc; "PA-PAC-REQUEST {include}\n")?,
-        None => String::new(alloc),
-    })
+fn pac_request(text: &mut String, octets: &[u8]) -> Result<(), Fail> {
+    if let Some(include) = view_pac_request(octets) {
+        write!(text, "PA-PAC-REQUEST {include}\n")?;
+    }
+    Ok(())
 }
 
-fn for_user(alloc: Global, octets: &[u8]) -> Result<String, Fail>
+fn for_user(text: &mut String, octets: &[u8]) -> Result<(), Fail>
     requires { length octets.now < 2 ^ 31 }
 {
     let Some(seen) = view_whole::<PaForUser>(octets) else {
-        return Ok(String::new(alloc));
+        return Ok(());
     };
-    let user = named(alloc, seen.user_name)?;
-    let realm = digits(alloc, Some(seen.user_realm))?;
-    let checksum = checked(alloc, seen.cksum)?;
-    let package = digits(alloc, Some(seen.auth_package))?;
-    Ok(format!(in alloc; "PA-FOR-USER {user} {realm} {checksum} {package}\n")?)
+    text.push_str("PA-FOR-USER")?;
+    put_name(text, seen.user_name)?;
+    put(text, " ", Some(seen.user_realm))?;
+    put_numbered(text, seen.cksum.cksumtype, Some(seen.cksum.checksum))?;
+    put(text, " ", Some(seen.auth_package))?;
+    Ok(text.push('\n')?)
 }
 
-fn fast_request(alloc: Global, octets: &[u8]) -> Result<String, Fail>
+fn fast_request(text: &mut String, octets: &[u8]) -> Result<(), Fail>
     requires { length octets.now < 2 ^ 31 }
 {
     let Some(seen) = view_whole::<PaFxFastRequest>(octets) else {
-        return Ok(String::new(alloc));
+        return Ok(());
     };
-    let armor = match seen.armor {
-        Some(armor) => {
-            let value = digits(alloc, Some(armor.armor_value))?;
-            format!(in alloc; "{}:{value}", armor.armor_type)?
-        }
-        None => digits(alloc, None)?,
-    };
-    let checksum = checked(alloc, seen.req_checksum)?;
-    let encrypted = encrypted(alloc, seen.enc_fast_req)?;
-    Ok(format!(in alloc; "PA-FX-FAST-REQUEST {armor} {checksum} {encrypted}\n")?)
+    text.push_str("PA-FX-FAST-REQUEST")?;
+    match seen.armor {
+        Some(armor) => put_numbered(text, armor.armor_type, Some(armor.armor_value))?,
+        None => text.push_str(" -")?,
+    }
+    let checksum = seen.req_checksum;
+    put_numbered(text, checksum.cksumtype, Some(checksum.checksum))?;
+    put_encrypted(text, seen.enc_fast_req)?;
+    Ok(text.push('\n')?)
 }
 
-fn fast_reply(alloc: Global, octets: &[u8]) -> Result<String, Fail>
+fn fast_reply(text: &mut String, octets: &[u8]) -> Result<(), Fail>
     requires { length octets.now < 2 ^ 31 }
 {
     let Some(seen) = view_whole::<PaFxFastReply>(octets) else {
-        return Ok(String::new(alloc));
+        return Ok(());
     };
-    let encrypted = encrypted(alloc, seen.enc_fast_rep)?;
-    Ok(format!(in alloc; "PA-FX-FAST-REPLY {encrypted}\n")?)
+    text.push_str("PA-FX-FAST-REPLY")?;
+    put_encrypted(text, seen.enc_fast_rep)?;
+    Ok(text.push('\n')?)
 }
 
-fn pac_options(alloc: Global, octets: &[u8]) -> Result<String, Fail>
+fn pac_options(text: &mut String, octets: &[u8]) -> Result<(), Fail>
     requires { length octets.now < 2 ^ 31 }
 {
     let Some(seen) = view_whole::<PaPacOptions>(octets) else {
-        return Ok(String::new(alloc));
+        return Ok(());
     };
-    let flags = flagged(alloc, seen.flags)?;
-    Ok(format!(in alloc; "PA-PAC-OPTIONS {flags}\n")?)
+    text.push_str("PA-PAC-OPTIONS")?;
+    put_flags(text, seen.flags)?;
+    Ok(text.push('\n')?)
 }
 
-/// Returns what is shown of octets: a line for each type that they are.
-fn shown(alloc: Global, octets: &[u8]) -> Result<String, Fail> {
+/// Puts what is shown of octets: a line for each type that they are.
+fn show(text: &mut String, octets: &[u8]) -> Result<(), Fail> {
     if octets.len() >= 0x8000_0000 {
         return Err(Fail::from("too many octets"));
     }
-    let request = ap_req(alloc, octets)?;
-    let encrypted = encrypted_data(alloc, octets)?;
-    let info = etype_info(alloc, octets)?;
-    let info2 = etype_info2(alloc, octets)?;
-    let pac = pac_request(alloc, octets)?;
-    let user = for_user(alloc, octets)?;
-    let armored = fast_request(alloc, octets)?;
-    let reply = fast_reply(alloc, octets)?;
-    let options = pac_options(alloc, octets)?;
-    Ok(format!(in alloc; "{request}{encrypted}{info}{info2}{pac}{user}{armored}{reply}{options}")?)
+    ap_req(text, octets)?;
+    encrypted_data(text, octets)?;
+    etype_info(text, octets)?;
+    etype_info2(text, octets)?;
+    pac_request(text, octets)?;
+    for_user(text, octets)?;
+    fast_request(text, octets)?;
+    fast_reply(text, octets)?;
+    pac_options(text, octets)
+}
+
+/// Returns what is shown of octets.
+fn shown(alloc: Global, octets: &[u8]) -> Result<String, Fail> {
+    let mut text = String::new(alloc);
+    show(&mut text, octets)?;
+    Ok(text)
 }
 
 /// Returns what is shown of the first octets of some, and of these with one more after them.
 fn shown_if_cut_or_more(alloc: Global, octets: &[u8]) -> Result<String, Fail> {
     let mut text = String::new(alloc);
     for count in 0..octets.len() {
-        let front = shown(alloc, &octets[..count])?;
-        text.push_str(front.as_str())?;
+        show(&mut text, &octets[..count])?;
     }
     let mut longer = octets.to_vec(alloc)?;
     longer.push(0)?;
-    let all = shown(alloc, longer.as_slice())?;
-    text.push_str(all.as_str())?;
+    show(&mut text, longer.as_slice())?;
     Ok(text)
 }
 
 #[test]
-fn views_what_was_sent(rt: HostRuntime) -> Result<(), Fail> {
+fn views_what_was_sent_or_made(rt: HostRuntime) -> Result<(), Fail> {
     let alloc = rt.alloc();
-    for (digits, expected) in SENT {
+    for (digits, expected) in SENT.iter().chain(&MADE) {
         let octets = octets_of(alloc, digits)?;
         let text = shown(alloc, octets.as_slice())?;
-        assert_eq!(rt; text.as_str(), expected);
-        let text = shown_if_cut_or_more(alloc, octets.as_slice())?;
-        assert_eq!(rt; text.as_str(), "");
-    }
-    Ok(())
-}
-
-#[test]
-fn views_what_was_made(rt: HostRuntime) -> Result<(), Fail> {
-    let alloc = rt.alloc();
-    for (digits, expected) in MADE {
-        let octets = octets_of(alloc, digits)?;
-        let text = shown(alloc, octets.as_slice())?;
-        assert_eq!(rt; text.as_str(), expected);
+        assert_eq!(rt; text.as_str(), *expected);
         let text = shown_if_cut_or_more(alloc, octets.as_slice())?;
         assert_eq!(rt; text.as_str(), "");
     }
@@ -359,7 +351,7 @@ fn views_what_was_made(rt: HostRuntime) -> Result<(), Fail> {
 #[test]
 fn views_no_wrong_octets(rt: HostRuntime) -> Result<(), Fail> {
     let alloc = rt.alloc();
-    for digits in WRONG {
+    for digits in WRONG.lines() {
         let octets = octets_of(alloc, digits)?;
         let text = shown(alloc, octets.as_slice())?;
         assert_eq!(rt; text.as_str(), "", "{digits}");
