@@ -7,477 +7,130 @@ use krb_input::{SourceKind, hint_of, kind_of};
 use std::alloc::Global;
 use std::test::Fail;
 
-/// The command that was used, the first octets of the source, the command as it was given, the name
-/// of the source, and what is said, or `-`.
-type Row = (
-    SourceKind,
-    &'static str,
-    Option<SourceKind>,
-    &'static str,
-    &'static str,
-);
+/// Rows of the command that was used, the first octets of the source, the command as it was given or
+/// `-`, the name of the source, and what is said, or `-`. They are lines of one text, since the proof
+/// of a test over a table takes the longer the more rows there are.
+const HINTS: &str = "\
+message#2D2D2D2D2D424547494E204345525449#message#-#this is PEM, which holds certificates or keys and no Kerberos
+message##message#-#-
+message#30303030303030303A20366631642033#message#-#-
+message#30303030303030303A20366631203330#message#-#-
+message#746B740A#message#-#this may be the primary file of a collection: krbls ccache DIR:DIRECTORY
+message#4E65676F746961746562783077473641#message#-#-
+message#4E65676F746961746520#message#-#-
+message#4E544C4D5353500001000000978208E2#message#-#-
+message#4E65676F746961746520594947414267#message#-#-
+message#000000#message#-#-
+message#61443042A003020105A1081B06412E54#message#-#-
+message#30303030303030303A20366631640A36#message#-#-
+stream#000000026F80#-#-#-
+message#53514C69746520666F726D6174203300#-#-#this is an SQLite database, which krbls does not read
+stream#0501#-#-#this is a keytab or credential cache of version 1, which krbls does not read
+message#28B52FFD0400#-#-#this is a zstd file: zstdcat - | krbls -
+message#425A683931415926535980#-#-#this is a bzip2 file: bzcat - | krbls -
+message#4E544C4D5353500001000000978208E2#-#-#-
+stream#050100000020#-#-#this is a keytab or credential cache of version 1, which krbls does not read
+stream#FD377A585A000004#-#-#this is an xz file: xzcat - | krbls -
+stream#7F454C4602010100#-#-#-
+keytab#61443042A003020105A1081B06412E54#keytab#-#this may be a message: krbls message -
+keytab#0A0D0D0AC00000004D3C2B1A01000000#keytab#-#this is a capture: krbls capture -
+keytab#D4C3B2A1020004000000000000000000#keytab#-#this is a capture: krbls capture -
+message#53514C69746520666F726D6174203300#message#-#this is an SQLite database, which krbls does not read
+message#FD377A585A000004#message#-#this is an xz file: xzcat - | krbls message -
+message#7F454C4602010100#message#-#-
+message#05020000005B0002000B434F52505553#message#-#this is a keytab: krbls keytab -
+message#0501#message#-#this is a keytab or credential cache of version 1, which krbls does not read
+stream#474554202F20485454502F312E310D0A#stream#-#this is text; if it is a message: krbls message -
+stream#28B52FFD0400#stream#-#this is a zstd file: zstdcat - | krbls stream -
+stream#425A683931415926535980#stream#-#this is a bzip2 file: bzcat - | krbls stream -
+stream#30303030303030303A20366631642033#stream#-#this is text; if it is a message: krbls message -
+stream#4E544C4D5353500001000000978208E2#stream#-#-
+stream#050400000000000B0000000200000009#stream#-#this is a credential cache: krbls ccache -
+capture#1F8B0800000000000003#capture#-#this is a gzip file: zcat - | krbls capture -
+capture#6F1D301BA003020105A10302010FA20F#capture#-#this may be a message: krbls message -
+capture#050400000000000B0000000200000009#capture#-#this is a credential cache: krbls ccache -
+capture##capture#-#-
+capture#050100000020#capture#-#this is a keytab or credential cache of version 1, which krbls does not read
+capture#30303030303030303A20366631642033#capture#-#this is text; if it is a message: krbls message -
+ccache#746B740A#ccache#-#this may be the primary file of a collection: krbls ccache DIR:DIRECTORY
+ccache#53514C69746520666F726D6174203300#ccache#-#this is an SQLite database, which krbls does not read
+ccache#5949474342676B71686B694739784942#ccache#-#this is text; if it is a message: krbls message -
+ccache##ccache#-#-
+stream#485454502F312E3120323030204F4B0D#stream#-#this is text; if it is a message: krbls message -
+keytab#05020000005B0002000B434F52505553#keytab#-#-
+capture#0A0D0D0AC00000004D3C2B1A01000000#capture#-#-
+ccache#0502#ccache#b\\x20c.keytab#this is a keytab: krbls keytab b\\x20c.keytab
+capture#1F8B0800000000000003#capture#x.gz#this is a gzip file: zcat x.gz | krbls capture -
+message#2D2D2D2D2D424547494E20582D2D2D2D#message#-#this is PEM, which holds certificates or keys and no Kerberos
+stream#425A6839#-#a b.bz2#this is a bzip2 file: bzcat a b.bz2 | krbls -
+capture#A1B2CD34#capture#x.pcap#this is a modified pcap: editcap -F pcap x.pcap - | krbls capture -
+stream#34CDB2A1#-#x.pcap#this is a modified pcap: editcap -F pcap x.pcap - | krbls capture -
+capture#736E6F6F70000000#capture#-#this is a snoop capture: editcap -F pcap - - | krbls capture -
+stream#4D3CB2A1#stream#x#this is a capture: krbls capture x
+stream#A1B23C4D#stream#x#this is a capture: krbls capture x
+keytab#0503#keytab#x#this is a credential cache: krbls ccache x
+message#000001006A81#message#x#this may be a stream: krbls stream x
+keytab#00000100A081#keytab#x#this may be a stream: krbls stream x
+keytab#000001005F81#keytab#x#-
+stream#A181B700#stream#x#this may be a message: krbls message x
+stream#746B7420#stream#x#this is text; if it is a message: krbls message x
+ccache#746B7420#ccache#x#this is text; if it is a message: krbls message x
+ccache#746B74610962#ccache#x#this is text; if it is a message: krbls message x
+stream#746B740A#stream#x#this is text; if it is a message: krbls message x
+stream#3031323334353637383961626364656680#stream#x#this is text; if it is a message: krbls message x
+stream#30313233343536373839616263646580#stream#x#-
+stream#6031323334353637383961626364656680#stream#x#this is text; if it is a message: krbls message x";
 
-const HINTS: [Row; 69] = [
-    (
-        Message,
-        "2D2D2D2D2D424547494E204345525449",
-        Some(Message),
-        "-",
-        "this is PEM, which holds certificates or keys and no Kerberos",
-    ),
-    (Message, "", Some(Message), "-", "-"),
-    (
-        Message,
-        "30303030303030303A20366631642033",
-        Some(Message),
-        "-",
-        "-",
-    ),
-    (
-        Message,
-        "30303030303030303A20366631203330",
-        Some(Message),
-        "-",
-        "-",
-    ),
-    (
-        Message,
-        "746B740A",
-        Some(Message),
-        "-",
-        "this may be the primary file of a collection: krbls ccache DIR:DIRECTORY",
-    ),
-    (
-        Message,
-        "4E65676F746961746562783077473641",
-        Some(Message),
-        "-",
-        "-",
-    ),
-    (Message, "4E65676F746961746520", Some(Message), "-", "-"),
-    (
-        Message,
-        "4E544C4D5353500001000000978208E2",
-        Some(Message),
-        "-",
-        "-",
-    ),
-    (
-        Message,
-        "4E65676F746961746520594947414267",
-        Some(Message),
-        "-",
-        "-",
-    ),
-    (Message, "000000", Some(Message), "-", "-"),
-    (
-        Message,
-        "61443042A003020105A1081B06412E54",
-        Some(Message),
-        "-",
-        "-",
-    ),
-    (
-        Message,
-        "30303030303030303A20366631640A36",
-        Some(Message),
-        "-",
-        "-",
-    ),
-    (Stream, "000000026F80", None, "-", "-"),
-    (
-        Message,
-        "53514C69746520666F726D6174203300",
-        None,
-        "-",
-        "this is an SQLite database, which krbls does not read",
-    ),
-    (
-        Stream,
-        "0501",
-        None,
-        "-",
-        "this is a keytab or credential cache of version 1, which krbls does not read",
-    ),
-    (
-        Message,
-        "28B52FFD0400",
-        None,
-        "-",
-        "this is a zstd file: zstdcat - | krbls -",
-    ),
-    (
-        Message,
-        "425A683931415926535980",
-        None,
-        "-",
-        "this is a bzip2 file: bzcat - | krbls -",
-    ),
-    (Message, "4E544C4D5353500001000000978208E2", None, "-", "-"),
-    (
-        Stream,
-        "050100000020",
-        None,
-        "-",
-        "this is a keytab or credential cache of version 1, which krbls does not read",
-    ),
-    (
-        Stream,
-        "FD377A585A000004",
-        None,
-        "-",
-        "this is an xz file: xzcat - | krbls -",
-    ),
-    (Stream, "7F454C4602010100", None, "-", "-"),
-    (
-        Keytab,
-        "61443042A003020105A1081B06412E54",
-        Some(Keytab),
-        "-",
-        "this may be a message: krbls message -",
-    ),
-    (
-        Keytab,
-        "0A0D0D0AC00000004D3C2B1A01000000",
-        Some(Keytab),
-        "-",
-        "this is a capture: krbls capture -",
-    ),
-    (
-        Keytab,
-        "D4C3B2A1020004000000000000000000",
-        Some(Keytab),
-        "-",
-        "this is a capture: krbls capture -",
-    ),
-    (
-        Message,
-        "53514C69746520666F726D6174203300",
-        Some(Message),
-        "-",
-        "this is an SQLite database, which krbls does not read",
-    ),
-    (
-        Message,
-        "FD377A585A000004",
-        Some(Message),
-        "-",
-        "this is an xz file: xzcat - | krbls message -",
-    ),
-    (Message, "7F454C4602010100", Some(Message), "-", "-"),
-    (
-        Message,
-        "05020000005B0002000B434F52505553",
-        Some(Message),
-        "-",
-        "this is a keytab: krbls keytab -",
-    ),
-    (
-        Message,
-        "0501",
-        Some(Message),
-        "-",
-        "this is a keytab or credential cache of version 1, which krbls does not read",
-    ),
-    (
-        Stream,
-        "474554202F20485454502F312E310D0A",
-        Some(Stream),
-        "-",
-        "this is text; if it is a message: krbls message -",
-    ),
-    (
-        Stream,
-        "28B52FFD0400",
-        Some(Stream),
-        "-",
-        "this is a zstd file: zstdcat - | krbls stream -",
-    ),
-    (
-        Stream,
-        "425A683931415926535980",
-        Some(Stream),
-        "-",
-        "this is a bzip2 file: bzcat - | krbls stream -",
-    ),
-    (
-        Stream,
-        "30303030303030303A20366631642033",
-        Some(Stream),
-        "-",
-        "this is text; if it is a message: krbls message -",
-    ),
-    (
-        Stream,
-        "4E544C4D5353500001000000978208E2",
-        Some(Stream),
-        "-",
-        "-",
-    ),
-    (
-        Stream,
-        "050400000000000B0000000200000009",
-        Some(Stream),
-        "-",
-        "this is a credential cache: krbls ccache -",
-    ),
-    (
-        Capture,
-        "1F8B0800000000000003",
-        Some(Capture),
-        "-",
-        "this is a gzip file: zcat - | krbls capture -",
-    ),
-    (
-        Capture,
-        "6F1D301BA003020105A10302010FA20F",
-        Some(Capture),
-        "-",
-        "this may be a message: krbls message -",
-    ),
-    (
-        Capture,
-        "050400000000000B0000000200000009",
-        Some(Capture),
-        "-",
-        "this is a credential cache: krbls ccache -",
-    ),
-    (Capture, "", Some(Capture), "-", "-"),
-    (
-        Capture,
-        "050100000020",
-        Some(Capture),
-        "-",
-        "this is a keytab or credential cache of version 1, which krbls does not read",
-    ),
-    (
-        Capture,
-        "30303030303030303A20366631642033",
-        Some(Capture),
-        "-",
-        "this is text; if it is a message: krbls message -",
-    ),
-    (
-        Ccache,
-        "746B740A",
-        Some(Ccache),
-        "-",
-        "this may be the primary file of a collection: krbls ccache DIR:DIRECTORY",
-    ),
-    (
-        Ccache,
-        "53514C69746520666F726D6174203300",
-        Some(Ccache),
-        "-",
-        "this is an SQLite database, which krbls does not read",
-    ),
-    (
-        Ccache,
-        "5949474342676B71686B694739784942",
-        Some(Ccache),
-        "-",
-        "this is text; if it is a message: krbls message -",
-    ),
-    (Ccache, "", Some(Ccache), "-", "-"),
-    (
-        Stream,
-        "485454502F312E3120323030204F4B0D",
-        Some(Stream),
-        "-",
-        "this is text; if it is a message: krbls message -",
-    ),
-    (
-        Keytab,
-        "05020000005B0002000B434F52505553",
-        Some(Keytab),
-        "-",
-        "-",
-    ),
-    (
-        Capture,
-        "0A0D0D0AC00000004D3C2B1A01000000",
-        Some(Capture),
-        "-",
-        "-",
-    ),
-    (
-        Ccache,
-        "0502",
-        Some(Ccache),
-        "b\\x20c.keytab",
-        "this is a keytab: krbls keytab b\\x20c.keytab",
-    ),
-    (
-        Capture,
-        "1F8B0800000000000003",
-        Some(Capture),
-        "x.gz",
-        "this is a gzip file: zcat x.gz | krbls capture -",
-    ),
-    (
-        Message,
-        "2D2D2D2D2D424547494E20582D2D2D2D",
-        Some(Message),
-        "-",
-        "this is PEM, which holds certificates or keys and no Kerberos",
-    ),
-    (
-        Stream,
-        "425A6839",
-        None,
-        "a b.bz2",
-        "this is a bzip2 file: bzcat a b.bz2 | krbls -",
-    ),
-    (
-        Capture,
-        "A1B2CD34",
-        Some(Capture),
-        "x.pcap",
-        "this is a modified pcap: editcap -F pcap x.pcap - | krbls capture -",
-    ),
-    (
-        Stream,
-        "34CDB2A1",
-        None,
-        "x.pcap",
-        "this is a modified pcap: editcap -F pcap x.pcap - | krbls capture -",
-    ),
-    (
-        Capture,
-        "736E6F6F70000000",
-        Some(Capture),
-        "-",
-        "this is a snoop capture: editcap -F pcap - - | krbls capture -",
-    ),
-    (
-        Stream,
-        "4D3CB2A1",
-        Some(Stream),
-        "x",
-        "this is a capture: krbls capture x",
-    ),
-    (
-        Stream,
-        "A1B23C4D",
-        Some(Stream),
-        "x",
-        "this is a capture: krbls capture x",
-    ),
-    (
-        Keytab,
-        "0503",
-        Some(Keytab),
-        "x",
-        "this is a credential cache: krbls ccache x",
-    ),
-    (
-        Message,
-        "000001006A81",
-        Some(Message),
-        "x",
-        "this may be a stream: krbls stream x",
-    ),
-    (
-        Keytab,
-        "00000100A081",
-        Some(Keytab),
-        "x",
-        "this may be a stream: krbls stream x",
-    ),
-    (Keytab, "000001005F81", Some(Keytab), "x", "-"),
-    (
-        Stream,
-        "A181B700",
-        Some(Stream),
-        "x",
-        "this may be a message: krbls message x",
-    ),
-    (
-        Stream,
-        "746B7420",
-        Some(Stream),
-        "x",
-        "this is text; if it is a message: krbls message x",
-    ),
-    (
-        Ccache,
-        "746B7420",
-        Some(Ccache),
-        "x",
-        "this is text; if it is a message: krbls message x",
-    ),
-    (
-        Ccache,
-        "746B74610962",
-        Some(Ccache),
-        "x",
-        "this is text; if it is a message: krbls message x",
-    ),
-    (
-        Stream,
-        "746B740A",
-        Some(Stream),
-        "x",
-        "this is text; if it is a message: krbls message x",
-    ),
-    (
-        Stream,
-        "3031323334353637383961626364656680",
-        Some(Stream),
-        "x",
-        "this is text; if it is a message: krbls message x",
-    ),
-    (
-        Stream,
-        "30313233343536373839616263646580",
-        Some(Stream),
-        "x",
-        "-",
-    ),
-    (
-        Stream,
-        "6031323334353637383961626364656680",
-        Some(Stream),
-        "x",
-        "this is text; if it is a message: krbls message x",
-    ),
-];
+/// Rows of what sources hold, and their first octets.
+const KINDS: &str = "\
+stream#000000026F80
+ccache#050400000000000B0000000200000009
+message#53514C69746520666F726D6174203300
+stream#0501
+message#28B52FFD0400
+message#425A683931415926535980
+capture#D4C3B2A1020004000000000000000000
+message#4E544C4D5353500001000000978208E2
+stream#050100000020
+message#5949474342676B71686B694739784942
+stream#FD377A585A000004
+stream#7F454C4602010100
+message#61443042A003020105A1081B06412E54
+message#EFBBBF36
+message#A0
+message#A1
+stream#A2
+keytab#0502
+stream#0501
+stream#05
+stream#
+message#09
+stream#1F
+stream#7F
+capture#4D3CB2A1
+stream#EFBB";
 
-/// First octets of sources, and what these hold.
-const KINDS: [(&str, SourceKind); 26] = [
-    ("000000026F80", Stream),
-    ("050400000000000B0000000200000009", Ccache),
-    ("53514C69746520666F726D6174203300", Message),
-    ("0501", Stream),
-    ("28B52FFD0400", Message),
-    ("425A683931415926535980", Message),
-    ("D4C3B2A1020004000000000000000000", Capture),
-    ("4E544C4D5353500001000000978208E2", Message),
-    ("050100000020", Stream),
-    ("5949474342676B71686B694739784942", Message),
-    ("FD377A585A000004", Stream),
-    ("7F454C4602010100", Stream),
-    ("61443042A003020105A1081B06412E54", Message),
-    ("EFBBBF36", Message),
-    ("A0", Message),
-    ("A1", Message),
-    ("A2", Stream),
-    ("0502", Keytab),
-    ("0501", Stream),
-    ("05", Stream),
-    ("", Stream),
-    ("09", Message),
-    ("1F", Stream),
-    ("7F", Stream),
-    ("4D3CB2A1", Capture),
-    ("EFBB", Stream),
-];
+/// Returns the kind of source with a name, if there is one.
+fn kind_named(name: &str) -> Option<SourceKind> {
+    match name {
+        "keytab" => Some(Keytab),
+        "ccache" => Some(Ccache),
+        "capture" => Some(Capture),
+        "message" => Some(Message),
+        "stream" => Some(Stream),
+        _ => None,
+    }
+}
 
-/// Returns what is said where a command refuses a source.
-fn said(alloc: Global, row: Row) -> Result<String, Fail> {
-    let (used, digits, given, file, _) = row;
-    let octets = octets_of(alloc, digits)?;
-    match hint_of(used, octets.as_slice()) {
+/// Returns what is said where a command refuses a source with these first octets.
+fn said(
+    alloc: Global,
+    used: SourceKind,
+    octets: &[u8],
+    given: Option<SourceKind>,
+    file: &str,
+) -> Result<String, Fail> {
+    match hint_of(used, octets) {
         Some(hint) => Ok(hint.text(alloc, given, file)?),
         None => Ok(format!(in alloc; "-")?),
     }
@@ -486,9 +139,18 @@ fn said(alloc: Global, row: Row) -> Result<String, Fail> {
 #[test]
 fn says_what_sources_are(rt: HostRuntime) -> Result<(), Fail> {
     let alloc = rt.alloc();
-    for row in HINTS {
-        let text = said(alloc, row)?;
-        assert_eq!(rt; text.as_str(), row.4);
+    for row in HINTS.lines() {
+        let mut fields = row.split('#');
+        let used = kind_named(fields.next().ok_or("used")?).ok_or("a command")?;
+        let octets = octets_of(alloc, fields.next().ok_or("digits")?)?;
+        let given = kind_named(fields.next().ok_or("given")?);
+        let file = fields.next().ok_or("a name")?;
+        let text = said(alloc, used, octets.as_slice(), given, file)?;
+        assert_eq!(rt;
+            text.as_str(),
+            fields.next().ok_or("what is said")?,
+            "{row}"
+        );
     }
     Ok(())
 }
@@ -496,9 +158,10 @@ fn says_what_sources_are(rt: HostRuntime) -> Result<(), Fail> {
 #[test]
 fn chooses_commands_by_first_octets(rt: HostRuntime) -> Result<(), Fail> {
     let alloc = rt.alloc();
-    for (digits, kind) in KINDS {
+    for row in KINDS.lines() {
+        let (name, digits) = row.split_once('#').ok_or("a row")?;
         let octets = octets_of(alloc, digits)?;
-        assert_eq!(rt; kind_of(octets.as_slice()), kind);
+        assert_eq!(rt; kind_of(octets.as_slice()).name(), name, "{row}");
     }
     Ok(())
 }

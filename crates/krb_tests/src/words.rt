@@ -165,155 +165,124 @@ fn shown(alloc: Global, line: &str) -> Result<String, Fail> {
     }
 }
 
-/// Words, and what they ask for: the command with its numbers, the form, and the sources.
-const ORDERS: [(&str, &str); 67] = [
-    ("list a", "list, a"),
-    ("--json -", "list json, -"),
-    ("a.keytab", "list, a.keytab"),
-    ("strem/ list", "list, strem/, list"),
-    ("-- -x list", "list, -x, list"),
-    ("--file stream", "list, stream"),
-    ("-- keytab", "list, keytab"),
-    ("--json keytab", "list json, keytab"),
-    ("-H --now now a", "list now labelled, a"),
-    ("list --with-filename a", "list labelled, a"),
-    (
-        "FILE:a WRFILE:b DIR::c DIR:d",
-        "list, FILE:a at a, WRFILE:b at b, DIR::c at c, each of DIR:d at d",
-    ),
-    (
-        "keytab FILE:a WRFILE:b DIR:c",
-        "keytab, FILE:a at a, WRFILE:b at b, DIR:c",
-    ),
-    (
-        "ccache --file DIR:a DIR::FILE:b",
-        "ccache, each of DIR:a at a, DIR::FILE:b at FILE:b",
-    ),
-    ("stream FILE:a DIR:b", "stream 16777216, FILE:a, DIR:b"),
-    ("message --lines -H a", "messages labelled, a"),
-    ("message --strict --lines", "strict messages, -"),
-    ("ccache --now now", "ccache now, -"),
-    ("ccache --now 1970-01-01T00:00:00Z", "ccache 0, -"),
-    ("ccache --now 2026-11-22T12:00:00Z", "ccache 1795348800, -"),
-    ("ccache --now 2024-02-29T23:59:59Z", "ccache 1709251199, -"),
-    ("ccache --now 2106-02-07T06:28:16Z", "ccache 4294967295, -"),
-    ("ccache --now 9999-12-31T23:59:59Z", "ccache 4294967295, -"),
-    (
-        "list \u{e9}\u{1b}[m\\x41",
-        "list, \\xc3\\xa9\\x1b[m\\x5cx41",
-    ),
-    (
-        "help",
-        "Lists Kerberos V5 messages, keytabs, credential caches and captures",
-    ),
-    ("help stream", "Lists framed messages"),
-    ("stream", "stream 16777216, -"),
-    ("stream --limit 30 --file a", "stream 30, a"),
-    ("stream --limit=5", "stream 5, -"),
-    ("stream --limit +5", "stream 5, -"),
-    ("stream --limit 0000000000005", "stream 5, -"),
-    ("stream --limit 2147483647", "stream 2147483647, -"),
-    ("stream --file=--", "stream 16777216, --"),
-    ("message --file a=b", "message, a=b"),
-    ("message --strict", "strict message, -"),
-    ("stream --strict --limit 5", "strict stream 5, -"),
-    ("stream --file a --strict", "strict stream 16777216, a"),
-    ("stream --keep-going", "stream on 16777216, -"),
-    (
-        "stream --strict --keep-going a",
-        "strict stream on 16777216, a",
-    ),
-    ("stream --names", "stream 16777216 named, -"),
-    ("message --json --strict", "strict message json, -"),
-    ("keytab --names --json a", "keytab json, a"),
-    ("ccache --json --names --now 5", "ccache 5 json, -"),
-    ("keytab -- --json", "keytab, --json"),
-    ("keytab", "keytab, -"),
-    ("ccache", "ccache, -"),
-    ("ccache --now 0", "ccache 0, -"),
-    ("ccache --file a --now 4294967295", "ccache 4294967295, a"),
-    ("capture", "capture 16777216 88, -"),
-    ("capture --port 750 a b", "capture 16777216 750, a, b"),
-    (
-        "capture --limit 30 --port=65535 --json",
-        "capture 30 65535 json, -",
-    ),
-    (
-        "capture --names --port +0001",
-        "capture 16777216 1 named, -",
-    ),
-    ("decode a b", "decode 16777216, a, b"),
-    (
-        "decode --strict --limit 30 --unframed",
-        "strict decode one 30, -",
-    ),
-    ("encode --unframed --file a", "encode one 16777216, a"),
-    ("encode --strict -", "strict encode 16777216, -"),
-    ("encode --help", "Makes framed messages of JSON"),
-    ("capture -h", "Lists the messages in a capture"),
-    (
-        "--help",
-        "Lists Kerberos V5 messages, keytabs, credential caches and captures",
-    ),
-    ("stream -h", "Lists framed messages"),
-    ("--version", "krbls 1.0.0"),
-    ("-V", "krbls 1.0.0"),
-    ("keytab a", "keytab, a"),
-    ("keytab b --file a - c", "keytab, a, b, -, c"),
-    ("keytab stream help a a", "keytab, stream, help, a, a"),
-    ("message --strict 1", "strict message, 1"),
-    ("stream --", "stream 16777216, -"),
-    ("stream -- -x --file", "stream 16777216, -x, --file"),
-];
+/// Rows of words and what they ask for: the command with its numbers, the form, and the sources.
+const ORDERS: &str = "\
+list a => list, a
+--json - => list json, -
+a.keytab => list, a.keytab
+strem/ list => list, strem/, list
+-- -x list => list, -x, list
+--file stream => list, stream
+-- keytab => list, keytab
+--json keytab => list json, keytab
+-H --now now a => list now labelled, a
+list --with-filename a => list labelled, a
+FILE:a WRFILE:b DIR::c DIR:d => list, FILE:a at a, WRFILE:b at b, DIR::c at c, each of DIR:d at d
+keytab FILE:a WRFILE:b DIR:c => keytab, FILE:a at a, WRFILE:b at b, DIR:c
+ccache --file DIR:a DIR::FILE:b => ccache, each of DIR:a at a, DIR::FILE:b at FILE:b
+stream FILE:a DIR:b => stream 16777216, FILE:a, DIR:b
+message --lines -H a => messages labelled, a
+message --strict --lines => strict messages, -
+ccache --now now => ccache now, -
+ccache --now 1970-01-01T00:00:00Z => ccache 0, -
+ccache --now 2026-11-22T12:00:00Z => ccache 1795348800, -
+ccache --now 2024-02-29T23:59:59Z => ccache 1709251199, -
+ccache --now 2106-02-07T06:28:16Z => ccache 4294967295, -
+ccache --now 9999-12-31T23:59:59Z => ccache 4294967295, -
+list \u{e9}\u{1b}[m\\x41 => list, \\xc3\\xa9\\x1b[m\\x5cx41
+help => Lists Kerberos V5 messages, keytabs, credential caches and captures
+help stream => Lists framed messages
+stream => stream 16777216, -
+stream --limit 30 --file a => stream 30, a
+stream --limit=5 => stream 5, -
+stream --limit +5 => stream 5, -
+stream --limit 0000000000005 => stream 5, -
+stream --limit 2147483647 => stream 2147483647, -
+stream --file=-- => stream 16777216, --
+message --file a=b => message, a=b
+message --strict => strict message, -
+stream --strict --limit 5 => strict stream 5, -
+stream --file a --strict => strict stream 16777216, a
+stream --keep-going => stream on 16777216, -
+stream --strict --keep-going a => strict stream on 16777216, a
+stream --names => stream 16777216 named, -
+message --json --strict => strict message json, -
+keytab --names --json a => keytab json, a
+ccache --json --names --now 5 => ccache 5 json, -
+keytab -- --json => keytab, --json
+keytab => keytab, -
+ccache => ccache, -
+ccache --now 0 => ccache 0, -
+ccache --file a --now 4294967295 => ccache 4294967295, a
+capture => capture 16777216 88, -
+capture --port 750 a b => capture 16777216 750, a, b
+capture --limit 30 --port=65535 --json => capture 30 65535 json, -
+capture --names --port +0001 => capture 16777216 1 named, -
+decode a b => decode 16777216, a, b
+decode --strict --limit 30 --unframed => strict decode one 30, -
+encode --unframed --file a => encode one 16777216, a
+encode --strict - => strict encode 16777216, -
+encode --help => Makes framed messages of JSON
+capture -h => Lists the messages in a capture
+--help => Lists Kerberos V5 messages, keytabs, credential caches and captures
+stream -h => Lists framed messages
+--version => krbls 1.0.0
+-V => krbls 1.0.0
+keytab a => keytab, a
+keytab b --file a - c => keytab, a, b, -, c
+keytab stream help a a => keytab, stream, help, a, a
+message --strict 1 => strict message, 1
+stream -- => stream 16777216, -
+stream -- -x --file => stream 16777216, -x, --file";
 
-const WRONG: [&str; 46] = [
-    "",
-    "stream --limit 0",
-    "stream --limit 2147483648",
-    "stream --limit 4294967296",
-    "stream --limit -5",
-    "stream --limit=-5",
-    "stream --limit 1 --limit 1",
-    "stream --limit",
-    "stream --limit 5a",
-    "stream --file --",
-    "stream -x",
-    "stream --version",
-    "ccache --now 4294967296",
-    "keytab --now 1",
-    "keytab --strict",
-    "ccache --strict",
-    "stream --strict --strict",
-    "stream --keep-going --keep-going",
-    "message --keep-going",
-    "capture --port 0",
-    "capture --port 65536",
-    "capture --port -1",
-    "capture --port 88 --port 88",
-    "capture --strict",
-    "capture --keep-going",
-    "capture --now 5",
-    "stream --port 88",
-    "keytab a --now 1",
-    "list",
-    "--limit 5 stream",
-    "keytab --json --json",
-    "stream --names=1",
-    "strem",
-    "help strem",
-    "--json",
-    "-H",
-    "decode -H",
-    "stream --lines",
-    "ccache --now 1969-12-31T23:59:59Z",
-    "ccache --now 2026-02-29T00:00:00Z",
-    "ccache --now 2026-11-22T24:00:00Z",
-    "ccache --now 2026-11-22T12:00:00",
-    "ccache --now 2026-11-22t12:00:00Z",
-    "ccache --now 10000-01-01T00:00:00Z",
-    "ccache --now NOW",
-    "ccache --now -1",
-];
+/// Rows of words that are called wrong.
+const WRONG: &str = "\
+stream --limit 0
+
+stream --limit 2147483648
+stream --limit 4294967296
+stream --limit -5
+stream --limit=-5
+stream --limit 1 --limit 1
+stream --limit
+stream --limit 5a
+stream --file --
+stream -x
+stream --version
+ccache --now 4294967296
+keytab --now 1
+keytab --strict
+ccache --strict
+stream --strict --strict
+stream --keep-going --keep-going
+message --keep-going
+capture --port 0
+capture --port 65536
+capture --port -1
+capture --port 88 --port 88
+capture --strict
+capture --keep-going
+capture --now 5
+stream --port 88
+keytab a --now 1
+list
+--limit 5 stream
+keytab --json --json
+stream --names=1
+strem
+help strem
+--json
+-H
+decode -H
+stream --lines
+ccache --now 1969-12-31T23:59:59Z
+ccache --now 2026-02-29T00:00:00Z
+ccache --now 2026-11-22T24:00:00Z
+ccache --now 2026-11-22T12:00:00
+ccache --now 2026-11-22t12:00:00Z
+ccache --now 10000-01-01T00:00:00Z
+ccache --now NOW
+ccache --now -1";
 
 #[test]
 fn quotes_words_escaped(rt: HostRuntime) -> Result<(), Fail> {
@@ -326,10 +295,11 @@ fn quotes_words_escaped(rt: HostRuntime) -> Result<(), Fail> {
 #[test]
 fn reads_words(rt: HostRuntime) -> Result<(), Fail> {
     let alloc = rt.alloc();
-    for (line, expected) in ORDERS {
+    for row in ORDERS.lines() {
+        let (line, expected) = row.split_once(" => ").ok_or("a row")?;
         assert_eq!(rt; shown(alloc, line)?.as_str(), expected, "{line}");
     }
-    for line in WRONG {
+    for line in WRONG.lines() {
         assert!(rt;
             shown(alloc, line)?.as_str().starts_with("error: "),
             "{line}"
