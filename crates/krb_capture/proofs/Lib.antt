@@ -1,4 +1,3 @@
-mod Directed
 mod Ends
 mod Extends
 mod Following
@@ -21,10 +20,3 @@ mod Taken
 mod Whole
 mod Written
 mod Maps
-mod Flows
-mod Steps
-mod Alone
-mod Ending
-mod WholeCaptures
-mod Datagrams
-mod Numbered

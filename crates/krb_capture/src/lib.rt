@@ -13,8 +13,8 @@
 //! of a TCP connection sends is a stream of frames (RFC 4120, 7.2.2), in which one goes on after
 //! refusals. Nothing here reads a file: `krb_packet` does, and `krb_tool` runs over both.
 //!
-//! The laws of [`law`] say that the records of a direction are those of its stream, whatever way that
-//! was cut into segments and whatever else the capture has.
+//! `specs/Laws` says that the records of a direction are those of its stream, whatever way that was
+//! cut into segments and whatever else the capture has; `krb_capture_laws` proves it.
 #![tactic(auto)]
 
 mod capture;
@@ -23,7 +23,6 @@ mod directions;
 mod ended;
 mod flow;
 mod frames;
-pub mod law;
 mod listing;
 mod message;
 mod message_frames;

@@ -12,9 +12,4 @@ pub mod Offsets
 pub mod Layouts
 pub mod Tickets
 pub mod Streams
-pub mod Mapped
-pub mod Upgrades
 pub mod Reaching
-pub mod Limits
-pub mod Spelled
-pub mod KeyOctets

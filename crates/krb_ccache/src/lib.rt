@@ -18,11 +18,10 @@
 //! `specs/` reads from the bottom: `Spelling` (which octets spell a cache), `Reading` (a file from
 //! left to right, up to the first fault), `Writing` (why a cache cannot be written),
 //! `Tickets` (what a ticket field holds), `Streaming` (the same as `Reading`, one credential after
-//! another), and `Laws`, which the functions of [`law`] prove.
+//! another), and `Laws`, which the functions of `krb_file_laws` prove.
 #![tactic(auto)]
 
 mod credentials;
-pub mod law;
 mod reading;
 mod ticket;
 mod upgrading;

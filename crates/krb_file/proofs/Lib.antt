@@ -5,7 +5,5 @@ pub mod FieldReaders
 pub mod Items
 pub mod Taken
 pub mod Reaching
-pub mod Limits
 pub mod Zeros
-pub mod Stable
 pub mod Chains

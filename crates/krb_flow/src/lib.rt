@@ -11,13 +11,12 @@
 //! of them. Nothing here reads packets or keeps a table of connections, and neither acknowledgments
 //! nor times are looked at: `krb_packet` reads captures.
 //!
-//! The laws of [`law`] say that sequence numbers are compared rightly, and that what is delivered
-//! is the stream, however it is cut into segments.
+//! `specs/Laws` says that sequence numbers are compared rightly, and that what is delivered is the
+//! stream, however it is cut into segments; `krb_capture_laws` proves it.
 #![tactic(auto)]
 
 mod direction;
 mod had;
-pub mod law;
 mod serial;
 mod stream;
 mod waiting;

@@ -16,6 +16,3 @@ mod ScalarLemmas
 mod Unshown
 mod BitStrings
 mod Digits
-mod Masks
-mod OtherCases
-mod Reorders

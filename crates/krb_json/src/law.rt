@@ -1,50 +1,8 @@
 //! The laws of the JSON of messages, each the contract of a function that does nothing.
 
-ghost use Rattle.krb_json.specs.Laws.{LinesSpellMessages, MessagesAreNamed, SpelledFits, SpellingChangesNothing, TextsAreJson, TextsComeBack, TextsDiffer, UnencryptedChangesNothing, ValuesComeBack};
-
-/// Each field of each message has a name of its own.
-pub fn messages_are_named()
-    ensures { MessagesAreNamed }
-{}
-
-/// Each value is spelled by its JSON.
-pub fn values_come_back()
-    ensures { ValuesComeBack }
-{}
-
-/// What a JSON value spells is a value of the grammar.
-pub fn spelled_fits()
-    ensures { SpelledFits }
-{}
-
-/// The text of a message is its JSON, of printable ASCII alone, and no object has a name twice.
-pub fn texts_are_json()
-    ensures { TextsAreJson }
-{}
-
-/// Each message is spelled by its text.
-pub fn texts_come_back()
-    ensures { TextsComeBack }
-{}
-
-/// Different messages have different texts.
-pub fn texts_differ()
-    ensures { TextsDiffer }
-{}
+ghost use Rattle.krb_json.specs.Laws.{LinesSpellMessages};
 
 /// What a line spells is a message of the profile, of no more octets than the limit.
 pub fn lines_spell_messages()
     ensures { LinesSpellMessages }
-{}
-
-/// Messages that differ in nothing but what is not encrypted have the same path to it, and the same text
-/// if there is none.
-pub fn unencrypted_changes_nothing()
-    ensures { UnencryptedChangesNothing }
-{}
-
-/// What a line spells it spells in any order of members, with any blanks, any of JSON's escapes and
-/// hexadecimal digits of either case.
-pub fn spelling_changes_nothing()
-    ensures { SpellingChangesNothing }
 {}

@@ -11,7 +11,7 @@
 //!
 //! No cipher is opened, and nothing that is octets for RFC 4120 is looked into. `specs/Objects` has
 //! the JSON of a value, `specs/Spelled` the value that a JSON value spells, or what is wrong with
-//! it ([`Wrong`]), and [`law`] that these belong together.
+//! it ([`Wrong`]), and `specs/Laws` that these belong together, which `krb_message_laws` proves.
 #![tactic(auto)]
 
 mod encryption;

@@ -4,7 +4,3 @@ pub mod Values
 mod Inside
 mod Descent
 mod KindNodes
-mod OwnNames
-mod Lies
-mod Deepest
-mod MessagePaths

@@ -18,7 +18,7 @@
 //! checked. [`judge`], [`read_message`] and [`read_ticket`] allocate nothing.
 //!
 //! `specs/Parses` says what the parsers promise, and [`law`] that each refusal is inside the
-//! octets.
+//! octets; `krb_message_laws` has the laws of paths.
 #![tactic(auto)]
 
 mod judging;

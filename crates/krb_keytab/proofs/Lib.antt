@@ -11,5 +11,3 @@ pub mod HoleRead
 pub mod Streams
 pub mod Bounded
 pub mod Reaching
-pub mod Limits
-pub mod KeyOctets

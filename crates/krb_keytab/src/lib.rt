@@ -15,10 +15,9 @@
 //! `specs/` reads from the bottom: `Holes` (holes), `Spelling` (which octets spell a keytab),
 //! `Reading` (a file from left to right, up to the first fault), `Writing` (what is written, and
 //! why a keytab cannot be written), `Streaming` (the same as `Reading`, one record after
-//! another), and `Laws`, which the functions of [`law`] prove.
+//! another), and `Laws`, which the functions of `krb_file_laws` prove.
 #![tactic(auto)]
 
-pub mod law;
 mod reading;
 mod records;
 mod value;

@@ -29,7 +29,7 @@ use Rattle.krb_text.specs.declared.origin.Origin.{Origin}
 use Rattle.krb_text.proofs.Printable.{Prints, word}
 use Rattle.krb_text.proofs.Reasons as reasons
 use Rattle.krb_text.proofs.Times.{instant}
-use Rattle.krb_text.proofs.Tuples.{◌&◌}
+use Rattle.krb_text_laws.proofs.Tuples.{◌&◌}
 use Rattle.krb_laws.specs.JsonLaws.{CapturesAreJson, EndsAreJson, IsEnd, IsExtent, IsFlowOrigin, PrintsJson, ValueFits, are_different, is_plain}
 use Rattle.krb_laws.proofs.JsonMessages.{its_origin, message_from}
 use Rattle.krb_laws.proofs.JsonRecords.{ValuesFit, names_are_plain, record_is_json}

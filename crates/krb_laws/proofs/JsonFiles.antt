@@ -40,7 +40,7 @@ use Rattle.krb_text.specs.Values.{Absent, NoTicket, Quoted, RefusedTicket, Value
 use Rattle.krb_text.specs.declared.form.Form.TheVariants as forms
 use Rattle.krb_text.proofs.Printable.{word}
 use Rattle.krb_text.proofs.Times.{moment}
-use Rattle.krb_text.proofs.Tuples.{◌&◌}
+use Rattle.krb_text_laws.proofs.Tuples.{◌&◌}
 use Rattle.krb_laws.specs.JsonFiles.{FilesAreJson, IsRecord}
 use Rattle.krb_laws.specs.JsonLaws.{IsSmall, PrintsJson, ValueFits}
 use Rattle.krb_laws.proofs.JsonEnds.{alone}

@@ -13,7 +13,7 @@ use Rattle.krb_msg.specs.declared.ticket.Ticket.{Ticket}
 use Rattle.krb_text.specs.Inside.{inside_of}
 use Rattle.krb_text.specs.Messages.{fields_of, message_origin, message_record, notes, ticket_record}
 use Rattle.krb_text.specs.Values.{Field, the, with_origin}
-use Rattle.krb_text.proofs.MessageOneLine.{record_is_plain}
+use Rattle.krb_text_laws.proofs.MessageOneLine.{record_is_plain}
 use Rattle.krb_input.specs.declared.layer.Layer.{Layer}
 use Rattle.krb_laws.specs.JsonLaws.{IsLine, MessagesAreJson, PartFits, PrintsJson}
 use Rattle.krb_laws.proofs.JsonInside.{error_inside, kdc_req_inside, padata_inside, tickets_inside}

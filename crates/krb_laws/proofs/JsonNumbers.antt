@@ -23,7 +23,7 @@ use Rattle.krb_text.specs.Judged.{asks_for_preauth, judged}
 use Rattle.krb_text.specs.MessageFields.{ap_req_fields, kdc_rep_fields, kdc_req_fields, krb_cred_fields, krb_error_fields, krb_safe_fields, methods, notes, padata}
 use Rattle.krb_text.specs.Values.{Value as Shown, Number, Quoted, Word, address, checksum, client, count, if_there, principal, encrypted}
 use Rattle.krb_text.proofs.Judged.{IsJudged, is_judged}
-use Rattle.krb_text.proofs.Tuples.{◌&◌}
+use Rattle.krb_text_laws.proofs.Tuples.{◌&◌}
 use Rattle.krb_laws.specs.JsonLaws.{IsSmall}
 use Rattle.krb_laws.proofs.JsonShown.{AreCounted, IsCounted}
 use Rattle.krb_laws.proofs.JsonSizes.{IsBrief, brief, is_narrow}

@@ -5,7 +5,7 @@ use Rattle.std.proofs.lemmas.Grind.{flat_map-append}
 use Rattle.std.specs.List.{AllByRecursion, flat_map, list_all}
 use Rattle.std.specs.Str.{bytes_eq}
 use Rattle.krb_text.specs.Values.{Value, Absent, NoTicket, Number, Named, Numbers, ErrorCode, Reason, NoReason, String, Quoted, FileName, Word, Hex, Flags, TicketFlags, Encrypted, Principal, Address, Digest, YesNo, Offset, RefusedTicket, Flow, Layers, Field, Part, printed, with_inside, with_origin}
-use Rattle.krb_text.proofs.EachForm.{AreShown, IsShown}
+use Rattle.krb_text_laws.proofs.EachForm.{AreShown, IsShown}
 use Rattle.krb_laws.specs.JsonLaws.{FitsJson, IsSmall, PartFits, ValueFits, are_different, inside_name, is_plain, member_names}
 use Rattle.krb_laws.proofs.JsonRecords.{ValuesFit, names_are_plain}
 use Rattle.krb_laws.proofs.JsonStrings.{all-append}

@@ -1,2 +1,0 @@
-pub mod FileOneLine
-pub mod Masks

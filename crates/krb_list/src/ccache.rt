@@ -208,8 +208,7 @@ pub fn put_ccache(
 
 /// Returns the lines of a cache: [`cache_line`], [`credential_line`](crate::credential_line) of
 /// each credential, in order, and [`cache_end_line`], each with a line feed after it. They show no
-/// octet of a key, which is a law:
-/// [`session_keys_are_not_shown`](crate::session_keys_are_not_shown).
+/// octet of a key, which is a law: `session_keys_are_not_shown` of `krb_text_laws`.
 pub fn ccache_lines(
     alloc: Global,
     form: Form,

@@ -324,7 +324,7 @@ pub fn put_credential(
 
 /// Returns the line of a credential, without its line feed. If a now is given, in seconds since
 /// 1970, the credential is `live` if it ends later, and else `expired`. The line shows no octet of
-/// a key, which is a law: [`session_keys_are_not_shown`](crate::session_keys_are_not_shown).
+/// a key, which is a law: `session_keys_are_not_shown` of `krb_text_laws`.
 pub fn credential_line(
     alloc: Global,
     form: Form,

@@ -133,7 +133,7 @@ pub fn put_record(text: &mut TextBuffer, form: Form, record: &Record) -> Result<
 }
 
 /// Returns the line of a record, without its line feed. It shows no octet of a key, which is a law:
-/// [`keys_are_not_shown`](crate::keys_are_not_shown).
+/// `keys_are_not_shown` of `krb_text_laws`.
 pub fn record_line(alloc: Global, form: Form, record: &Record) -> Result<String, Memory>
     ensures { IfOk result (λ line. string_bytes line ≡ record_text form (printed_record «record».now)) }
 {
@@ -215,7 +215,7 @@ pub fn put_keytab(text: &mut TextBuffer, form: Form, keytab: &Keytab) -> Result<
 
 /// Returns the lines of a keytab: [`record_line`] of each record, in order, and
 /// [`keytab_end_line`], each with a line feed after it. They show no octet of a key, which is a
-/// law: [`keys_are_not_shown`](crate::keys_are_not_shown).
+/// law: `keys_are_not_shown` of `krb_text_laws`.
 pub fn keytab_lines(alloc: Global, form: Form, keytab: &Keytab) -> Result<String, Memory>
     ensures { IfOk result (λ text. string_bytes text ≡ keytab_lines form keytab.now) }
 {

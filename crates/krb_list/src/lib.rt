@@ -14,7 +14,6 @@ mod ccache;
 mod config;
 mod credential;
 mod keytab;
-mod law;
 
 pub use ccache::{cache_end_line, cache_line, ccache_lines, put_cache, put_cache_end, put_ccache};
 pub use credential::{credential_line, put_credential};
@@ -31,8 +30,4 @@ pub use krb_text::{
     put_message_in, put_message_refusal, put_password, put_principal, put_stream_end,
     put_stream_refusal, put_ticket, put_time, put_untold_message_refusal,
     put_untold_stream_refusal, time_text,
-};
-pub use law::{
-    ccache_is_one_line_each, keys_are_not_shown, keytab_is_one_line_each,
-    session_keys_are_not_shown,
 };

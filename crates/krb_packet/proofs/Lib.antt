@@ -1,8 +1,5 @@
-pub mod Apart
 pub mod Bodies
 pub mod Clocks
-pub mod Completing
-pub mod Gathering
 pub mod Heads
 pub mod PacketHeads
 pub mod Pieces

@@ -22,7 +22,6 @@ mod format;
 mod fragments;
 mod interface;
 mod internet;
-pub mod law;
 mod link;
 mod order;
 mod packet;

@@ -27,5 +27,4 @@ pub mod MarkCounts
 pub mod Events
 pub mod MarkSteps
 pub mod Running
-pub mod ValueMarks
 pub mod Built

@@ -29,7 +29,6 @@ mod event;
 mod expected;
 mod head;
 mod judging;
-pub mod law;
 mod leaf;
 mod ledger;
 mod machine;

@@ -31,7 +31,6 @@ mod input;
 mod inside;
 mod item;
 mod json;
-mod law;
 mod list;
 mod message;
 mod message_origin;
@@ -64,11 +63,6 @@ pub use form::Form;
 pub use input::{InputFault, put_input_refusal};
 pub use json::put_string;
 pub use krb_msg::{Notes, notes_of};
-pub use law::{
-    capture_is_one_line_each, ciphers_are_not_shown, dates_are_the_calendars, end_is_one_line,
-    escape_is_graphic, message_is_one_line, plain_lines_have_nothing_inside,
-    principal_text_is_injective,
-};
 pub use message_origin::MessageOrigin;
 pub use number::{Encrypted, Numbered};
 pub use origin::{Origin, Transport};

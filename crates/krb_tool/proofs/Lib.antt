@@ -8,25 +8,18 @@ pub mod Files
 pub mod Messages
 pub mod Records
 pub mod CredentialLines
-pub mod Upgrades
 pub mod KnownLengths
 pub mod SourceRuns
 mod FaultPaths
 mod FirstOctets
 pub mod FilePaths
 mod CaptureLines
-mod CaptureListings
 pub mod ConversionRuns
 pub mod DecodedFrames
 pub mod SourceLineParts
 pub mod LineReaders
 pub mod EncodedLines
-mod EncodedMessages
-mod AlikeStreams
-mod DecodedTexts
 pub mod WholeRuns
-mod RoundTrips
-mod KeyOctets
 pub mod OutputLabels
 pub mod OutputTexts
 pub mod OutputLines

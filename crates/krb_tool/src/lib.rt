@@ -31,7 +31,6 @@ mod file_run;
 mod head;
 mod json_lines;
 mod json_reader;
-pub mod law;
 mod lines;
 mod lines_run;
 mod listing;

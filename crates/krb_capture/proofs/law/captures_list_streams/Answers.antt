@@ -1,5 +1,0 @@
-use Rattle.krb_capture.proofs.WholeCaptures.{captures_list_streams}
-use Rattle.krb_capture.proofs.law.captures_list_streams.Goals as goal
-
-pub returns : goal.returns
-returns c = captures_list_streams

@@ -1,5 +1,0 @@
-use Rattle.krb_capture.proofs.Numbered.{packets_are_numbered}
-use Rattle.krb_capture.proofs.law.packets_are_numbered.Goals as goal
-
-pub returns : goal.returns
-returns c = packets_are_numbered

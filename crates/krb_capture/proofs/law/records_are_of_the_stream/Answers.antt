@@ -1,5 +1,0 @@
-use Rattle.krb_capture.proofs.Directed.{records_are_of_the_stream}
-use Rattle.krb_capture.proofs.law.records_are_of_the_stream.Goals as goal
-
-pub returns : goal.returns
-returns c = records_are_of_the_stream

@@ -1,0 +1,16 @@
+pub mod Apart
+pub mod Completing
+pub mod Gathering
+pub mod Distances
+pub mod Pieces
+pub mod Captured
+pub mod Arriving
+pub mod Arrived
+pub mod Directed
+pub mod Flows
+pub mod Steps
+pub mod Alone
+pub mod Ending
+pub mod WholeCaptures
+pub mod Datagrams
+pub mod Numbered

@@ -1,5 +1,0 @@
-use Rattle.krb_ccache.proofs.Ccaches.{spells3-one}
-use Rattle.krb_ccache.proofs.law.spells3_one.Goals as goal
-
-pub returns : goal.returns
-returns c = spells3-one

@@ -1,5 +1,0 @@
-use Rattle.krb_ccache.proofs.Ccaches.{spells-one}
-use Rattle.krb_ccache.proofs.law.spells_one.Goals as goal
-
-pub returns : goal.returns
-returns c = spells-one

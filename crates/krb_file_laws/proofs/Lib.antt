@@ -1,0 +1,9 @@
+pub mod FileLimits
+pub mod Stable
+pub mod KeytabLimits
+pub mod KeytabKeyOctets
+pub mod Mapped
+pub mod Upgrades
+pub mod CcacheLimits
+pub mod Spelled
+pub mod CcacheKeyOctets

@@ -1,5 +1,0 @@
-use Rattle.krb_flow.proofs.Distances.{separates, only_one}
-use Rattle.krb_flow.proofs.law.distance_is_the_one.Goals as goal
-
-pub returns : goal.returns
-returns c = λ expected number small fits. (separates expected number small fits, only_one expected number small fits)

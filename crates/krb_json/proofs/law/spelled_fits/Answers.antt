@@ -1,5 +1,0 @@
-use Rattle.krb_json.proofs.Fit.{term-fits}
-use Rattle.krb_json.proofs.law.spelled_fits.Goals as goal
-
-pub returns : goal.returns
-returns c term names path j value named is = term-fits term names named path j value is

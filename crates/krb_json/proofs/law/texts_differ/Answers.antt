@@ -1,5 +1,0 @@
-use Rattle.krb_json.proofs.Messages.{texts_differ}
-use Rattle.krb_json.proofs.law.texts_differ.Goals as goal
-
-pub returns : goal.returns
-returns c = texts_differ

@@ -1,5 +1,0 @@
-use Rattle.krb_json.proofs.Back.{term-back}
-use Rattle.krb_json.proofs.law.values_come_back.Goals as goal
-
-pub returns : goal.returns
-returns c term names path value named fits short = term-back term names named path value fits short

@@ -1,8 +1,0 @@
-use Rattle.krb_list.proofs.FileOneLine.{record_shown, keytab_end_shown}
-use Rattle.krb_list.proofs.law.keytab_is_one_line_each.Goals as goal
-
-pub returns-clause-record : goal.returns-clause-record
-returns-clause-record c = record_shown
-
-pub returns-clause-end : goal.returns-clause-end
-returns-clause-end c = keytab_end_shown

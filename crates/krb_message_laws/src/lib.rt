@@ -1,0 +1,8 @@
+//! Laws of messages over several libraries: of the paths of their fields, of the marks of a scan,
+//! and of their JSON. Each is the contract of a function that does nothing. No library stands on
+//! this one.
+#![tactic(auto)]
+
+pub mod json;
+pub mod judge;
+pub mod scan;

@@ -1,5 +1,0 @@
-use Rattle.krb_scan.proofs.MarkCounts.{marks_are_few}
-use Rattle.krb_scan.proofs.law.marks_are_few.Goals as goal
-
-pub returns : goal.returns
-returns c = marks_are_few

@@ -1,5 +1,0 @@
-use Rattle.krb_scan.proofs.ValueMarks.{whole_has_marks_of_message}
-use Rattle.krb_scan.proofs.law.whole_has_marks_of_message.Goals as goal
-
-pub returns : goal.returns
-returns c = whole_has_marks_of_message

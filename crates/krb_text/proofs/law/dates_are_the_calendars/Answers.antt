@@ -1,5 +1,0 @@
-use Rattle.krb_text.proofs.Dates.{civil_date-of}
-use Rattle.krb_text.proofs.law.dates_are_the_calendars.Goals as goal
-
-pub returns : goal.returns
-returns c = civil_date-of

@@ -1,5 +1,0 @@
-use Rattle.krb_text.proofs.Records.{nothing_inside}
-use Rattle.krb_text.proofs.law.plain_lines_have_nothing_inside.Goals as goal
-
-pub returns : goal.returns
-returns c = nothing_inside

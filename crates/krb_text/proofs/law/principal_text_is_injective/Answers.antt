@@ -1,5 +1,0 @@
-use Rattle.krb_text.proofs.Escapes.{principal_text-injective}
-use Rattle.krb_text.proofs.law.principal_text_is_injective.Goals as goal
-
-pub returns : goal.returns
-returns c = principal_text-injective

@@ -1,0 +1,13 @@
+pub mod Tuples
+pub mod Flows
+pub mod EachForm
+pub mod EndOneLine
+pub mod FieldsOneLine
+pub mod InsideOneLine
+pub mod MessageOneLine
+pub mod Alike
+pub mod MaskedParts
+pub mod TextMasks
+pub mod MethodMasks
+pub mod FileOneLine
+pub mod ListMasks

@@ -1,0 +1,58 @@
+use Rattle.std.proofs.Common.{◌≡◌, ◌<◌, ◌^◌, true, ◌++◌, [], Option, Some, None, IfSome, refl, codes}
+use Rattle.std.specs.List.{list_all}
+use Rattle.krb_msg.specs.Term.{IfPresent}
+use Rattle.krb_packet.specs.declared.packet.Time.{Time}
+use Rattle.krb_text.specs.Captures.{origin_fields, captured_line, lost_record, password_record, count_fields, capture_refused_record}
+use Rattle.krb_text.specs.Laws.{IsOneLine, OriginIsInRange}
+use Rattle.krb_text.specs.Messages.{message_record}
+use Rattle.krb_text.specs.Refusals.{extent_in, path_in, refusal_record}
+use Rattle.krb_text.specs.Time.{instant_text}
+use Rattle.krb_text.specs.Values.{Word, Printed, printed, if_there}
+use Rattle.krb_text.specs.declared.form.Form.{Form}
+use Rattle.krb_text.specs.declared.origin.Origin.{Origin}
+use Rattle.krb_text_laws.proofs.EachForm.{ArePlainParts, IsShown, AreShown, names_are_plain}
+use Rattle.krb_text_laws.proofs.EndOneLine.{line_from, one_line, path_is_plain, path_shown, located_is_plain, located_shown}
+use Rattle.krb_text_laws.proofs.MessageOneLine.{record_is_plain}
+use Rattle.krb_text.proofs.Printable.{is_printable}
+use Rattle.krb_text.proofs.Reasons as reasons
+use Rattle.krb_text.proofs.Times.{instant}
+use Rattle.krb_text_laws.proofs.Tuples.{◌&◌}
+use Rattle.krb_text_laws.proofs.text.capture_is_one_line_each.Goals as goal
+
+-- ---- origins
+time_shown : (time : Option Time) → IfSome time (λ time. time.seconds < 2 ^ 32) → IsShown (if_there (λ time. Word (instant_text time)) time)
+time_shown None h = tt
+time_shown (Some time) h = (instant time h).all
+
+shown : (origin : Origin) → OriginIsInRange origin → AreShown (origin_fields origin)
+shown origin h = tt & time_shown origin.time h.time & (h.source, h.target) & tt
+
+-- ---- records
+captured : (form : Form) (origin : Origin) (r : Printed) → OriginIsInRange origin → list_all is_printable r.kind ≡ true → names_are_plain r.fields ≡ true → AreShown r.fields → IfPresent ArePlainParts r.inside → IsOneLine (captured_line form origin r)
+captured form origin r h kind names fields inside = line_from form (origin_fields origin) r refl (shown origin h) kind names fields inside
+
+pub returns-clause-message : goal.returns-clause-message
+returns-clause-message c = λ form origin m h good.
+    let plain = record_is_plain m good in
+    captured form origin (message_record m) h plain.kind plain.names plain.fields plain.inside
+
+pub returns-clause-refusal : goal.returns-clause-refusal
+returns-clause-refusal c = λ form origin refusal path extent h k.
+    captured form origin (refusal_record refusal (path_in form path ++ extent_in form extent)) h refl (located_is_plain form path extent) (tt & (reasons.name refusal.why).all & located_shown form path extent k) tt
+
+pub returns-clause-joined : goal.returns-clause-joined
+returns-clause-joined c = λ form origin h. captured form origin (printed (codes "joined") []) h refl refl tt tt
+
+pub returns-clause-lost : goal.returns-clause-lost
+returns-clause-lost c = λ form origin place octets path h k. captured form origin (lost_record form place octets path) h refl (path_is_plain form path) (tt & tt & path_shown form path k) tt
+
+pub returns-clause-password : goal.returns-clause-password
+returns-clause-password c = λ form origin version ap rest h. captured form origin (password_record version ap rest) h refl refl (tt & tt & tt & tt) tt
+
+pub returns-clause-end : goal.returns-clause-end
+returns-clause-end c = λ form counts. one_line form (printed (codes "end") (count_fields counts)) refl refl (tt & tt & tt & tt & tt & tt)
+
+pub returns-clause-file : goal.returns-clause-file
+returns-clause-file c = λ form counts place reason path extent h.
+    one_line form (capture_refused_record form counts place reason path extent) refl (located_is_plain form path extent)
+    (tt & tt & tt & tt & tt & tt & (reasons.file_name reason).all & located_shown form path extent h)

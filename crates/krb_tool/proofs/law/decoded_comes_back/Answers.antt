@@ -1,5 +1,0 @@
-use Rattle.krb_tool.proofs.RoundTrips.{decoded_comes_back}
-use Rattle.krb_tool.proofs.law.decoded_comes_back.Goals as goal
-
-pub returns : goal.returns
-returns c = decoded_comes_back c.texts_are_json.ensures c.texts_come_back.ensures

@@ -1,5 +1,0 @@
-use Rattle.krb_tool.proofs.Upgrades.{listed-alike}
-use Rattle.krb_tool.proofs.law.upgrade_is_listed_alike.Goals as goal
-
-pub returns : goal.returns
-returns c = listed-alike c.upgrade_holds_the_same.ensures

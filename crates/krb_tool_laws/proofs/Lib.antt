@@ -1,0 +1,7 @@
+pub mod AlikeStreams
+pub mod CaptureListings
+pub mod DecodedTexts
+pub mod EncodedMessages
+pub mod KeyOctets
+pub mod RoundTrips
+pub mod Upgrades
