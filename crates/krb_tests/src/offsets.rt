@@ -2,7 +2,8 @@
 //! another language that follow `docs/LISTING.md`.
 
 use crate::examples::octets_of;
-use krb_tool::{Form, Limit, Profile, RunEnd, RunFault, run_capture, run_stream_in};
+use krb_capture_run::run_capture;
+use krb_tool::{Form, Limit, Profile, RunEnd, RunFault, run_stream_in};
 use std::alloc::Global;
 use std::test::Fail;
 

@@ -13,7 +13,6 @@ pub mod SourceRuns
 mod FaultPaths
 mod FirstOctets
 pub mod FilePaths
-mod CaptureLines
 pub mod ConversionRuns
 pub mod DecodedFrames
 pub mod SourceLineParts

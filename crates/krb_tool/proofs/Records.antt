@@ -17,7 +17,7 @@ use Rattle.krb_tool.specs.declared.run.RunFault.{RunFault}
 use Rattle.krb_tool.specs.declared.run.RunFault.TheVariants as fault
 use Rattle.krb_tool.specs.Faults.{IsRead, IsWrite}
 use Rattle.krb_tool.specs.Files.{RecordListing, text_of, after_line, end_of, AppendsPrefix, ListsRecords}
-use Rattle.krb_tool.specs.inner.RecordRuns.{AddsRefusal, Moves, AddsLine, WritesBefore, left_of, AreLeft}
+use Rattle.krb_tool.specs.inner.RecordRuns.{AddsRefusal, Moves, WritesBefore, left_of, AreLeft}
 
 -- ---- what is left of items, one after another
 module _ {A E : Type 0} (line : A → List ℕ) (last : ℕ → Result E Fault → List ℕ) (all : Items A (Result E Fault)) (count : ℕ) where

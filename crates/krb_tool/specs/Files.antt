@@ -142,3 +142,9 @@ ListsRecords listing written_before written_after (Ok ended) = Appends written_b
 ListsRecords listing written_before written_after (Err (fault.Write error)) = AppendsPrefix written_before written_after (text_of listing)
 ListsRecords listing written_before written_after (Err (fault.Read error)) = AppendsPrefix written_before written_after listing.lines
 ListsRecords listing written_before written_after (Err fault.Memory) = AppendsPrefix written_before written_after listing.lines
+
+-- What is added to a text if this is left to be listed: a line, after which others are left, or the last line, if it alone is left.
+abbrev pub AddsLine : (RecordListing → Type 0) → RecordListing → List ℕ → List ℕ → Result (Option RunEnd) RunFault → Type 0
+AddsLine IsLeft left old new (Ok None) = (line : List ℕ) × (others : RecordListing) × (new ≡ old ++ line) × (left ≡ after_line line others) × IsLeft others
+AddsLine IsLeft left old new (Ok (Some ended)) = (new ≡ old ++ left.last) × (left.lines ≡ []) × (ended ≡ left.end)
+AddsLine IsLeft left old new (Err fault) = Unit {0}

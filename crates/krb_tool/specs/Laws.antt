@@ -1,5 +1,5 @@
 -- The laws of listings and of conversions. Each is the contract of a function of the module `law`.
-use Rattle.std.specs.Prelude.{ℕ, ◌≡◌, ◌+◌, ◌<◌, ◌≤◌, ◌^◌, ◌⊎◌, false, true, List, [], ◌++◌, length, map, Option, Some, None}
+use Rattle.std.specs.Prelude.{ℕ, ◌≡◌, ◌+◌, ◌<◌, ◌≤◌, ◌^◌, ◌⊎◌, false, true, List, [], ◌++◌, length, map, Option, None}
 use Rattle.std.specs.List.{AllByRecursion, flat_map}
 use Rattle.krb_der.specs.Octets.{AreOctets}
 use Rattle.krb_der.specs.declared.profile.Profile.{Profile}
@@ -12,24 +12,17 @@ use Rattle.krb_json.specs.Laws.{IsSpelled, IsText}
 use Rattle.krb_json.specs.Lines.{line_of}
 use Rattle.krb_json.specs.Masked.{masked_in}
 use Rattle.krb_json.specs.Unencrypted.{unencrypted_in}
-use Rattle.krb_file.specs.Fields.{Fault}
 use Rattle.krb_keytab.specs.Laws.{IsUpToKey}
 use Rattle.krb_ccache.specs.declared.value.Cache3.{Cache3}
 use Rattle.krb_ccache.specs.Laws.{IsUpToKey as IsUpToSessionKey}
 use Rattle.krb_ccache.specs.Spelling.{CcacheSpells, Spells3, upgraded}
-use Rattle.krb_packet.specs.Captures.{packets}
 use Rattle.krb_frame.specs.Frame.{framed}
 use Rattle.krb_frame.specs.Laws.{IsRefusedWith}
-use Rattle.krb_text.specs.Captures.{capture_end_line, capture_refused_line}
 use Rattle.krb_text.specs.declared.form.Form.{Form}
-use Rattle.krb_capture.specs.Captures.{Progress, Settings, all_counts, at_first, end_taken, lines_of}
-use Rattle.krb_capture.specs.WholeCaptures.{capture_found}
 use Rattle.krb_tool.specs.declared.run.RunEnd.TheVariants as run
-use Rattle.krb_tool.specs.Extents.{extent_of}
-use Rattle.krb_tool.specs.Files.{keytab_listing, ccache_listing, text_of}
+use Rattle.krb_tool.specs.Files.{keytab_listing, ccache_listing}
 use Rattle.krb_tool.specs.Listing.{end_of}
-use Rattle.krb_tool.specs.Paths.{end_extent, field_path}
-use Rattle.krb_tool.specs.Captures.{after_packets, capture_listing}
+use Rattle.krb_tool.specs.Paths.{end_extent}
 use Rattle.krb_tool.specs.Decoding as decoding
 use Rattle.krb_tool.specs.Encoding as encoding
 
@@ -60,15 +53,6 @@ abbrev pub SessionKeysAreNotListed : Type 0
 SessionKeysAreNotListed =
     (form : Form) (now : Option ℕ) (before key other after : List ℕ) (size : ℕ) → IsUpToSessionKey before size → length key ≤ size → length other ≡ length key
     → ccache_listing form now (before ++ (key ++ after)) ≡ ccache_listing form now (before ++ (other ++ after))
-
--- the totals, or the refusal of the file with them
-abbrev pub last_line : Settings → Option Fault → Progress → List ℕ
-last_line settings None progress = capture_end_line settings.form (all_counts (end_taken settings progress).progress)
-last_line settings (Some fault) progress = capture_refused_line settings.form (all_counts (end_taken settings progress).progress) fault.place fault.why (field_path fault.field) (extent_of fault)
-
--- The listing of a capture is the records of what is found in its packets, in order, and then the last line.
-abbrev pub CapturesAreListed : Type 0
-CapturesAreListed = (settings : Settings) (file : List ℕ) → text_of (capture_listing settings file) ≡ lines_of settings.form (capture_found settings (packets file).items) ++ last_line settings (packets file).end (after_packets settings (packets file).items at_first)
 
 -- The first octet with which a stream is refused is the one at the offset and the place that its last line tells.
 abbrev pub RefusalsAreAtOffsets : Type 0

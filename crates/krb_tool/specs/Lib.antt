@@ -8,7 +8,6 @@ pub mod Files
 pub mod Messages
 pub mod Sources
 pub mod inner
-pub mod Captures
 pub mod Conversions
 pub mod Decoding
 pub mod Encoding

@@ -6,7 +6,6 @@ pub mod StreamLines
 pub mod Transfers
 pub mod FileRuns
 pub mod RecordRuns
-pub mod CaptureRuns
 pub mod Conversions
 pub mod JsonLines
 pub mod EncodedLines

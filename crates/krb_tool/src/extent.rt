@@ -8,7 +8,7 @@ use krb_text::Extent;
 
 /// Returns where the part of a file begins that a refusal is in, and the length that was read, if
 /// that is wrong.
-pub(crate) fn extent_of(refusal: FileRefusal) -> Extent
+pub fn extent_of(refusal: FileRefusal) -> Extent
     ensures { result ≡ extent_of refusal }
 {
     Extent {

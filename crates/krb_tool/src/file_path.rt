@@ -12,7 +12,7 @@ use std::alloc::Global;
 
 /// Returns the path of a field of a file, if records of the form show it.
 #[tactic(auto, unfolding(crate::specs::Paths::file_path))]
-pub(crate) fn file_path(
+pub fn file_path(
     alloc: Global,
     form: Form,
     item: FileItem,

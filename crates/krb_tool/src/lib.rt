@@ -14,6 +14,8 @@
 //! - [`list_octets`] returns the line of a message that is in memory.
 //! - [`run_sources`] lists several sources one after another, each by what a [`ListSource`] does;
 //!   [`run_sources_unnamed`] does so without their names.
+//! - [`list_records`] lists a file record by record, by what its [`RecordLines`] puts of each;
+//!   `krb_capture_run` lists captures so.
 //! - [`status`] returns the exit status for what a run returned.
 //!
 //! Nothing here opens a file or reads a command line: `krbls` and `krb_words` do. `krb_text` and
@@ -21,7 +23,6 @@
 #![tactic(auto)]
 
 mod begun;
-mod capture_run;
 mod decode_run;
 mod encode_run;
 mod extent;
@@ -46,9 +47,10 @@ mod transfer;
 mod whole_run;
 
 pub use begun::Begun;
-pub use capture_run::run_capture;
 pub use decode_run::{DecodeEnd, run_decode};
 pub use encode_run::{EncodeEnd, run_encode, run_encode_unframed};
+pub use extent::extent_of;
+pub use file_path::file_path;
 pub use file_run::FileText;
 pub use krb_der::Profile;
 pub use krb_frame::Limit;
@@ -57,7 +59,10 @@ pub use lines_run::run_lines_in;
 pub use message_run::{list_octets, run_message, run_message_in};
 pub use naming::Naming;
 pub use output::{Label, Output, Place};
-pub use record_run::{run_ccache, run_ccache_in, run_keytab, run_keytab_in};
+pub use record_run::{
+    RecordLines, Watch, Watched, in_pieces, list_records, run_ccache, run_ccache_in, run_keytab,
+    run_keytab_in,
+};
 pub use run::{RunEnd, RunFault, run_stream, run_stream_in, status};
 pub use sources::{ListSource, run_sources, run_sources_unnamed};
 pub use whole_run::run_decode_unframed;

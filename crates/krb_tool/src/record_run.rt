@@ -6,8 +6,8 @@ ghost use Rattle.std.specs.Option.{option_map};
 ghost use Rattle.krb_tool.specs.Extents.{fault_line};
 ghost use Rattle.krb_tool.specs.Faults.{IsRead, IsWrite};
 ghost use Rattle.krb_ccache.specs.Streaming.{Reads};
-ghost use Rattle.krb_tool.specs.Files.{RecordListing, after_line, field_limit, keytab_listing, ccache_listing, AppendsPrefix, ListsRecords};
-ghost use Rattle.krb_tool.specs.inner.RecordRuns.{AddsRefusal, AddsLine, IsRefusal, Moves, WritesBefore, AreRecordsLeft, AreCredentialsLeft};
+ghost use Rattle.krb_tool.specs.Files.{AddsLine, RecordListing, after_line, field_limit, keytab_listing, ccache_listing, AppendsPrefix, ListsRecords};
+ghost use Rattle.krb_tool.specs.inner.RecordRuns.{AddsRefusal, IsRefusal, Moves, WritesBefore, AreRecordsLeft, AreCredentialsLeft};
 ghost use Rattle.std.specs.Io.KnownBytes.{Appends};
 
 use crate::extent::extent_of;
@@ -26,7 +26,7 @@ use std::io::{BufReader, Read, Write};
 
 /// What is known of a reader.
 #[derive(Drop)]
-pub(crate) struct Watch {
+pub struct Watch {
     /// Whether its last read returned all the octets that it was asked for, as that of a fast file
     /// does.
     is_fast: Cell<bool>,
@@ -36,7 +36,7 @@ pub(crate) struct Watch {
 
 impl Watch {
     /// Returns what is known of a reader that was not asked yet.
-    pub(crate) fn new() -> Watch {
+    pub fn new() -> Watch {
         Watch {
             is_fast: Cell::new(true),
             error: Cell::new(None),
@@ -44,7 +44,7 @@ impl Watch {
     }
 
     /// Returns why the reader can be read no further.
-    pub(crate) fn error(&self) -> io::Error {
+    pub fn error(&self) -> io::Error {
         match self.error.get() {
             Some(error) => error,
             None => too_many_reads(),
@@ -54,9 +54,9 @@ impl Watch {
 
 /// A reader that is watched.
 #[derive(Drop)]
-pub(crate) struct Watched<'a, R> {
-    pub(crate) reader: &'a mut R,
-    pub(crate) watch: &'a Watch,
+pub struct Watched<'a, R> {
+    pub reader: &'a mut R,
+    pub watch: &'a Watch,
 }
 
 impl<R: Read> Read for Watched<'_, R> {
@@ -77,7 +77,7 @@ impl<R: Read> Read for Watched<'_, R> {
 }
 
 /// Returns a reader that asks this one for large pieces.
-pub(crate) fn in_pieces<R: Read + Drop>(alloc: Global, reader: R) -> Result<BufReader<R>, RunFault>
+pub fn in_pieces<R: Read + Drop>(alloc: Global, reader: R) -> Result<BufReader<R>, RunFault>
     ensures same { IfOk result (λ made. (file : List ℕ) → R.remaining reader ≡ Some file → reader_remaining R.remaining made ≡ Some file) }
     ensures fault { IfErr result (λ e. e ≡ RunFault.Memory) }
 {
@@ -88,7 +88,7 @@ pub(crate) fn in_pieces<R: Read + Drop>(alloc: Global, reader: R) -> Result<BufR
 }
 
 /// A file that is listed a line for each record.
-pub(crate) trait RecordLines {
+pub trait RecordLines {
     /// What is left to be listed after a number of records.
     ghost IsLeft: { Self → ℕ → RecordListing → Type 0 };
 
@@ -269,7 +269,7 @@ fn write_before<W: Write>(
 
 /// Lists a file after a text that is not written yet. Lines are written before the next record is
 /// read, but those of a fast file are kept until they have 64 KiB, or a read fails.
-pub(crate) fn list_records<L: RecordLines, W: Write>(
+pub fn list_records<L: RecordLines, W: Write>(
     alloc: Global,
     lines: &mut L,
     text: &mut TextBuffer,

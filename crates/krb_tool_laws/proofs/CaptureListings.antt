@@ -7,8 +7,8 @@ use Rattle.krb_text.specs.declared.form.Form.{Form}
 use Rattle.krb_capture.specs.Captures.{Finding, Progress, Settings, at_first, end_taken, end_text, lines_of, packet_taken, refusal_text}
 use Rattle.krb_capture.specs.Found.{found_line}
 use Rattle.krb_capture.specs.WholeCaptures.{found_after}
-use Rattle.krb_tool.specs.Captures.{after_packets, capture_listing, last_records, lines_from}
-use Rattle.krb_tool.specs.Laws.{CapturesAreListed, last_line}
+use Rattle.krb_capture_run.specs.Captures.{after_packets, capture_listing, last_records, lines_from}
+use Rattle.krb_capture_run.specs.Laws.{CapturesAreListed, last_line}
 
 lines_of-append : (form : Form) (xs ys : List Finding) → lines_of form (xs ++ ys) ≡ lines_of form xs ++ lines_of form ys
 lines_of-append form [] ys = refl

@@ -24,12 +24,6 @@ use Rattle.krb_tool.specs.declared.run.RunFault.{RunFault}
 use Rattle.krb_tool.specs.declared.run.RunFault.TheVariants as faulty
 use Rattle.krb_tool.specs.Files.{AppendsPrefix, RecordListing, after_line, end_of, field_limit, keytab_last, ccache_last, refused_listing}
 
--- What is added to a text if this is left to be listed: a line, after which others are left, or the last line, if it alone is left.
-abbrev pub AddsLine : (RecordListing → Type 0) → RecordListing → List ℕ → List ℕ → Result (Option RunEnd) RunFault → Type 0
-AddsLine IsLeft left old new (Ok None) = (line : List ℕ) × (others : RecordListing) × (new ≡ old ++ line) × (left ≡ after_line line others) × IsLeft others
-AddsLine IsLeft left old new (Ok (Some ended)) = (new ≡ old ++ left.last) × (left.lines ≡ []) × (ended ≡ left.end)
-AddsLine IsLeft left old new (Err fault) = Unit {0}
-
 -- The line of a refusal in this item was added, which ends the run.
 abbrev pub AddsRefusal : FileItem → Form → FileFault → List ℕ → List ℕ → RunEnd → Type 0
 AddsRefusal item form (faults.Refused fault) old new ended = (ended ≡ run.Refused) × (new ≡ old ++ fault_line form fault (file_path item fault.field))

@@ -1,7 +1,7 @@
 use Rattle.std.proofs.Common.{sym, ◌∙◌, subst}
-use Rattle.krb_tool.specs.inner.CaptureRuns.{IsCaptureLeft}
-use Rattle.krb_tool.proofs.CaptureLines.{end_added, packet_added, refusal_added, rest_added}
-use Rattle.krb_tool.proofs.capture_run.CaptureLinesRecordLines.put_next.Goals as goal
+use Rattle.krb_capture_run.specs.inner.CaptureRuns.{IsCaptureLeft}
+use Rattle.krb_capture_run.proofs.CaptureLines.{end_added, packet_added, refusal_added, rest_added}
+use Rattle.krb_capture_run.proofs.capture_run.CaptureLinesRecordLines.put_next.Goals as goal
 
 pub returns-in-Some-clause-line : goal.returns-in-Some-clause-line
 returns-in-Some-clause-line g c = λ left is_left.

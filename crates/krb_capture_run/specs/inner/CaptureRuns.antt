@@ -10,7 +10,7 @@ use Rattle.krb_capture.specs.Captures.{Finding, HasFollowed, Progress, Settings,
 use Rattle.krb_capture.specs.Rests.{HasFollowedBut}
 use Rattle.krb_capture.specs.declared.capture.Capture.{Capture}
 use Rattle.krb_capture.specs.declared.directions.Rest.{Rest}
-use Rattle.krb_tool.specs.Captures.{capture_run_end, listing_from}
+use Rattle.krb_capture_run.specs.Captures.{capture_run_end, listing_from}
 use Rattle.krb_tool.specs.Extents.{extent_of}
 use Rattle.krb_tool.specs.Files.{RecordListing, after_line}
 use Rattle.krb_tool.specs.Paths.{field_path}
