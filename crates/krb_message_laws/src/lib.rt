@@ -3,6 +3,6 @@
 //! this one.
 #![tactic(auto)]
 
-pub mod json;
 pub mod judge;
+pub mod message_json;
 pub mod scan;

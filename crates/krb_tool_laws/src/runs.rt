@@ -6,7 +6,9 @@ use krb_file_laws::ccache::{session_keys_change_nothing_else, upgrade_holds_the_
 use krb_file_laws::keytab::keys_change_nothing_else;
 use krb_frame::law::refusals_are_at_offsets as refused_at_offsets;
 use krb_json::law::lines_spell_messages;
-use krb_message_laws::json::{texts_are_json, texts_come_back, unencrypted_changes_nothing};
+use krb_message_laws::message_json::{
+    texts_are_json, texts_come_back, unencrypted_changes_nothing,
+};
 use krb_text_laws::list::{keys_are_not_shown, session_keys_are_not_shown};
 
 /// A cache of version 3 that is listed without a refusal has the listing of what

@@ -1,5 +1,5 @@
 use Rattle.krb_json.proofs.Messages.{texts_are_json}
-use Rattle.krb_message_laws.proofs.json.texts_are_json.Goals as goal
+use Rattle.krb_message_laws.proofs.message_json.texts_are_json.Goals as goal
 
 pub returns : goal.returns
 returns c = texts_are_json
