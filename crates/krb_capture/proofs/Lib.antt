@@ -12,11 +12,11 @@ mod Over
 mod Parts
 mod Passed
 mod PasswordEnds
-mod Prefixes
+pub mod Prefixes
 mod Rests
 mod Sendings
-mod Tables
+pub mod Tables
 mod Taken
 mod Whole
 mod Written
-mod Maps
+pub mod Maps

@@ -1,11 +1,11 @@
 mod Names
 mod Leaves
-mod Back
-mod Fit
-mod KindTexts
+pub mod Back
+pub mod Fit
+pub mod KindTexts
 mod Printable
 mod Texts
-mod Messages
+pub mod Messages
 mod Walks
 mod Searches
 mod ReadLemmas
@@ -15,4 +15,4 @@ mod NumberTexts
 mod ScalarLemmas
 mod Unshown
 mod BitStrings
-mod Digits
+pub mod Digits

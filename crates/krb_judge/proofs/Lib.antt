@@ -3,4 +3,4 @@ pub mod Slices
 pub mod Values
 mod Inside
 mod Descent
-mod KindNodes
+pub mod KindNodes
