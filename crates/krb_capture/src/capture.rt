@@ -39,6 +39,13 @@ pub struct Capture {
     has_failed: bool,
 }
 
+/// Returns whether nothing was refused or lost, and each packet was read.
+fn is_clean(totals: &CaptureCounts) -> bool
+    ensures { result ≡ is_clean totals.now }
+{
+    totals.refused == 0 && totals.lost == 0 && totals.unread == 0
+}
+
 impl Capture {
     /// Creates an empty capture. Its records are listed in a form, frames of more
     /// than `limit` octets are refused, and `port` is the one of KDCs.
@@ -276,7 +283,7 @@ impl Capture {
         self.end_directions(text)?;
         let totals = self.totals();
         put_capture_end(text, self.listing.form, &totals)?;
-        Ok((totals.refused == 0) & (totals.lost == 0) & (totals.unread == 0))
+        Ok(is_clean(&totals))
     }
 
     /// Appends the records that are due at the fault of a file to a text, as at its end, and the

@@ -79,7 +79,7 @@ pub(crate) struct Directions {
 fn begins(segment: &Segment<'_>) -> bool
     ensures { result ≡ begins segment.now }
 {
-    !segment.rst & (segment.syn | (segment.payload.size() > 0))
+    !segment.rst && (segment.syn || segment.payload.size() > 0)
 }
 
 /// Returns a direction of which nothing came, or that ended and had this.
@@ -179,7 +179,7 @@ impl Directions {
         ensures { IfOk result (λ rest. (limit : ℕ) (table : Table) → HoldsMaps self.old limit table → Follows self.new limit (followed limit due.packet service segment.now table).table due rest (over_tcp due (followed limit due.packet service segment.now table).found) listing.old listing.new) }
     {
         let may_begin = begins(segment);
-        if segment.syn & may_begin & (self.numbers.len() < MOST_DIRECTIONS) {
+        if segment.syn && may_begin && self.numbers.len() < MOST_DIRECTIONS {
             return self.take_syn(flow, segment, service, due, listing);
         }
         match self.numbers.get(&flow) {

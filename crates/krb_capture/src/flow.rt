@@ -50,9 +50,9 @@ impl Service {
     pub(crate) fn between(port: u16, source: Endpoint, target: Endpoint) -> Option<Service>
         ensures { result ≡ service_of port source target }
     {
-        if (source.port == port) | (target.port == port) {
+        if source.port == port || target.port == port {
             Some(Service::Kerberos)
-        } else if (source.port == PASSWORD_PORT) | (target.port == PASSWORD_PORT) {
+        } else if source.port == PASSWORD_PORT || target.port == PASSWORD_PORT {
             Some(Service::Passwords)
         } else {
             None

@@ -28,7 +28,7 @@ pub(crate) fn path_of(
     requires present { length prefix.now ≤ size }
     ensures { IfOk result (λ path. path_in form (option_map string_bytes path) ≡ path_in form (path_of size prefix.now)) }
 {
-    if (form == Form::Lines) | (size > MOST_OCTETS) {
+    if !form.shows_paths() || size > MOST_OCTETS {
         return Ok(None);
     }
     path(alloc, Profile::Lenient, size as u32, prefix)

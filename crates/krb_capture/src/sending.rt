@@ -206,7 +206,7 @@ impl Sending {
         ensures found { IfOk result (λ rest. (limit : ℕ) (stream : List ℕ) → Took self.old.frames limit stream → Takes self.old.frames self.new.frames limit stream (record { octets = octets.now ++ others.now; end = end }) rest origin.now listing.old listing.new) }
     {
         let count = self.frames.take(octets, origin, listing)?;
-        if (count == octets.len()) & others.is_empty() {
+        if count == octets.len() && others.is_empty() {
             self.list_end(end, origin, listing)?;
             return Ok(None);
         }

@@ -49,9 +49,9 @@ impl Had {
     pub fn is_followed_by(self, segment: &Segment<'_>) -> bool
         ensures { result ≡ is_some (step (states.Ended self) segment.now).0.begins }
     {
-        let anew = segment.syn & (self.first != first_number(segment));
-        let joined = !self.is_copy(segment) & (segment.payload.size() > 0);
-        !segment.rst & (anew | joined)
+        let anew = segment.syn && self.first != first_number(segment);
+        let joined = !self.is_copy(segment) && segment.payload.size() > 0;
+        !segment.rst && (anew || joined)
     }
 }
 
@@ -169,11 +169,11 @@ impl Direction {
         ensures state { self.new.state ≡ (begins self.old.state segment.now).2 }
     {
         let first = first_number(segment);
-        if segment.syn & !self.is_first(first) {
+        if segment.syn && !self.is_first(first) {
             let before = self.end();
             self.state = State::Open(Stream::new(alloc, first));
             (before, Some(Beginning::Syn))
-        } else if self.may_join(segment) & (segment.payload.size() > 0) {
+        } else if self.may_join(segment) && segment.payload.size() > 0 {
             self.state = State::Open(Stream::new(alloc, first));
             (None, Some(Beginning::Joined))
         } else {

@@ -39,7 +39,7 @@ impl Had {
     {
         let behind = distance.behind();
         let end = u64::from(distance.ahead()).saturating_add(size);
-        (u64::from(behind) <= self.expected) & (end <= u64::from(behind) + u64::from(self.at_fin))
+        u64::from(behind) <= self.expected && end <= u64::from(behind) + u64::from(self.at_fin)
     }
 
     /// Returns whether the octets of a segment are all among those that the direction had.

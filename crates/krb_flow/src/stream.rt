@@ -219,7 +219,7 @@ impl Stream {
             Some(fin) => fin <= self.expected,
             None => false,
         };
-        at_fin | (self.waiting.len() > MOST_WAITING)
+        at_fin || self.waiting.len() > MOST_WAITING
     }
 
     /// Returns the place of the next octet that was captured after those that were taken, or the

@@ -5,7 +5,8 @@ use Rattle.std.specs.Option.{option_and_then, option_map, is_some}
 use Rattle.hex.specs.Hex.{decode_pairs, digit_or_error, hex_digit_value, is_hex_digit, pair_value, ◌>>=◌}
 use Rattle.hex.specs.declared.error.FromHexError.{FromHexError}
 use Rattle.hex.specs.declared.error.FromHexError.TheVariants.{OddLength}
-use Rattle.krb_input.specs.Characters.{when, is_blank, is_text, octet_of}
+use Rattle.krb_der.specs.Octets.{when}
+use Rattle.krb_input.specs.Characters.{is_blank, is_text, octet_of}
 use Rattle.krb_input.specs.Readings.{Reading, prepend, then_octet}
 use Rattle.krb_input.specs.Digits.{are_digits, digits, digits_after}
 use Rattle.krb_input.specs.Octets.{first_no_text, is_marked, without_mark}

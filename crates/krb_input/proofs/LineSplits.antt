@@ -1,6 +1,7 @@
 -- The first line of a text, and the others.
 use Rattle.std.proofs.Common.{ℕ, suc, ◌==◌, ◌≡◌, Bool, true, false, List, [], ◌∷◌, take, drop, refl, ap}
-use Rattle.krb_input.specs.Characters.{when, length_before}
+use Rattle.krb_der.specs.Octets.{when}
+use Rattle.krb_input.specs.Characters.{length_before}
 use Rattle.krb_input.specs.Dumps.{lines, with_first}
 use Rattle.krb_input.specs.inner.Results.{lines_after}
 

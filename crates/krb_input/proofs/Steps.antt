@@ -1,7 +1,8 @@
 -- What is read at an octet.
 use Rattle.std.proofs.Common.{ℕ, ◌+◌, ◌==◌, ◌≡◌, Bool, true, false, List, [], ◌∷◌, length, Some, Ok, refl, sym, ap, ◌∙◌, ◌&&◌}
 use Rattle.hex.specs.Hex.{hex_digit_value}
-use Rattle.krb_input.specs.Characters.{when, octet_of, is_x, count_digits}
+use Rattle.krb_der.specs.Octets.{when}
+use Rattle.krb_input.specs.Characters.{octet_of, is_x, count_digits}
 use Rattle.krb_input.specs.Readings.{prepend, then_octet}
 use Rattle.krb_input.specs.Escapes.{escapes, after_backslash}
 use Rattle.krb_input.specs.Tokens.{token, tokens, after_x}

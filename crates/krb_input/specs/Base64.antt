@@ -1,7 +1,8 @@
 -- Base64 (RFC 4648, section 4), with blanks anywhere.
 use Rattle.std.specs.Prelude.{ℕ, suc, ◌+◌, ◌-◌, ◌*◌, ◌/◌, ◌%◌, ◌==◌, ◌&&◌, nat_le, not, if◌then◌else◌, List, [], ◌∷◌, length, Option, Some, None}
 use Rattle.std.specs.Option.{option_map, option_and_then}
-use Rattle.krb_input.specs.Characters.{when, is_blank, skip_blanks}
+use Rattle.krb_der.specs.Octets.{when}
+use Rattle.krb_input.specs.Characters.{is_blank, skip_blanks}
 use Rattle.krb_input.specs.Readings.{Reading, prepend, unless}
 use Rattle.krb_input.specs.declared.base64.Bits.{Bits}
 use Rattle.krb_input.specs.declared.base64.Bits.TheVariants.{Whole, Six, Four, Two}

@@ -1,6 +1,7 @@
 -- What stands in braces, as in an array of C.
 use Rattle.std.specs.Prelude.{ℕ, suc, ◌+◌, ◌==◌, true, false, List, [], ◌∷◌, length, take, drop, Option, Some, None, Ok, Err}
-use Rattle.krb_input.specs.Characters.{when, length_before}
+use Rattle.krb_der.specs.Octets.{when}
+use Rattle.krb_input.specs.Characters.{length_before}
 use Rattle.krb_input.specs.Readings.{Reading}
 use Rattle.krb_input.specs.Escapes.{has_escape, escapes}
 use Rattle.krb_input.specs.Tokens.{first_unfit, tokens}

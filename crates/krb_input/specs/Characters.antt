@@ -1,12 +1,8 @@
 -- What octets stand for in a text.
-use Rattle.std.specs.Prelude.{ℕ, suc, ◌+◌, ◌*◌, ◌==◌, ◌&&◌, ◌||◌, nat_le, Bool, true, false, List, [], ◌∷◌, Option}
+use Rattle.std.specs.Prelude.{ℕ, suc, ◌+◌, ◌*◌, ◌==◌, ◌&&◌, ◌||◌, nat_le, Bool, false, List, [], ◌∷◌, Option}
 use Rattle.std.specs.Option.{option_map, option_and_then}
 use Rattle.hex.specs.Hex.{hex_digit_value, is_hex_digit}
-
--- a choice that computes only the part chosen
-abbrev pub when : {A : Type 0} → Bool → (Unit {0} → A) → (Unit {0} → A) → A
-when true chosen other = chosen tt
-when false chosen other = other tt
+use Rattle.krb_der.specs.Octets.{when}
 
 -- a blank is a space, a tab, CR or LF
 abbrev pub is_blank : ℕ → Bool
@@ -20,12 +16,7 @@ is_text octet = (nat_le 0x20 octet && nat_le octet 0x7E) || is_blank octet
 abbrev pub octet_of : ℕ → ℕ → Option ℕ
 octet_of high low = option_and_then (λ h. option_map (λ l. 16 * h + l) (hex_digit_value low)) (hex_digit_value high)
 
--- whether an octet is the first of a text
-abbrev pub begins_with : ℕ → List ℕ → Bool
-begins_with octet [] = false
-begins_with octet (first ∷ text) = first == octet
-
--- whether a blank is
+-- whether a blank is the first of a text
 abbrev pub begins_blank : List ℕ → Bool
 begins_blank [] = false
 begins_blank (first ∷ text) = is_blank first

@@ -1,6 +1,6 @@
 -- Comments of C, which are blanks.
 use Rattle.std.specs.Prelude.{ℕ, suc, ◌==◌, ◌&&◌, if◌then◌else◌, List, [], ◌∷◌, length, Option, Some, None}
-use Rattle.krb_input.specs.Characters.{begins_with}
+use Rattle.krb_der.specs.Octets.{begins_with}
 use Rattle.krb_input.specs.declared.text.Comments.{Comments}
 use Rattle.krb_input.specs.declared.text.Comments.TheVariants.{Unread, Outside, Opening, Inside, Closing}
 use Rattle.krb_input.specs.declared.text.Text.{Text}

@@ -2,7 +2,8 @@
 use Rattle.std.specs.Prelude.{ℕ, suc, ◌||◌, Bool, List, [], ◌∷◌, length, Ok, Err}
 use Rattle.std.specs.List.{list_all}
 use Rattle.hex.specs.Hex.{is_hex_digit}
-use Rattle.krb_input.specs.Characters.{when, is_blank, octet_of}
+use Rattle.krb_der.specs.Octets.{when}
+use Rattle.krb_input.specs.Characters.{is_blank, octet_of}
 use Rattle.krb_input.specs.Readings.{Reading, then_octet}
 
 -- whether a text has digits and blanks alone

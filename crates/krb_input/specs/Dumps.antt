@@ -2,7 +2,8 @@
 use Rattle.std.specs.Prelude.{ℕ, suc, ◌+◌, ◌*◌, ◌%◌, ◌==◌, ◌&&◌, ◌||◌, nat_le, not, Bool, true, false, if◌then◌else◌, List, [], ◌∷◌, length, drop, take, Option, Some, None, Result, Ok, Err}
 use Rattle.std.specs.Option.{option_and_then}
 use Rattle.hex.specs.Hex.{hex_digit_value}
-use Rattle.krb_input.specs.Characters.{when, is_blank, begins_blank, begins_with, skip_blanks, count_digits, is_x, octet_of}
+use Rattle.krb_der.specs.Octets.{when, begins_with}
+use Rattle.krb_input.specs.Characters.{is_blank, begins_blank, skip_blanks, count_digits, is_x, octet_of}
 use Rattle.krb_input.specs.Readings.{Reading, prepend, then_octet}
 
 -- ---- offsets

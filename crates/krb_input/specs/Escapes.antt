@@ -1,6 +1,7 @@
 -- Escapes: the octets of a string of C, of Python or of a shell.
 use Rattle.std.specs.Prelude.{ℕ, suc, ◌==◌, ◌&&◌, ◌||◌, Bool, false, List, [], ◌∷◌, length, Ok, Err}
-use Rattle.krb_input.specs.Characters.{when, is_blank, octet_of, begins_with}
+use Rattle.krb_der.specs.Octets.{when, begins_with}
+use Rattle.krb_input.specs.Characters.{is_blank, octet_of}
 use Rattle.krb_input.specs.Readings.{Reading, then_octet}
 
 -- whether `\x` stands anywhere in a text

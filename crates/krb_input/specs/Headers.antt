@@ -1,7 +1,8 @@
 -- HTTP's header fields that have a token in base64 (RFC 4559, section 4).
 use Rattle.std.specs.Prelude.{ℕ, ◌+◌, ◌==◌, ◌&&◌, ◌||◌, nat_le, Bool, if◌then◌else◌, List, [], ◌∷◌, codes, Option, Some, None}
 use Rattle.std.specs.Option.{option_and_then}
-use Rattle.krb_input.specs.Characters.{when, skip_blanks}
+use Rattle.krb_der.specs.Octets.{when}
+use Rattle.krb_input.specs.Characters.{skip_blanks}
 
 abbrev pub lower_case : ℕ → ℕ
 lower_case octet = if nat_le 0x41 octet && nat_le octet 0x5A then octet + 32 else octet

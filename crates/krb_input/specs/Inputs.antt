@@ -1,6 +1,6 @@
 -- Inputs: what people hold of a message, which may be text, as octets.
 use Rattle.std.specs.Prelude.{ℕ, ◌-◌, ◌==◌, ◌&&◌, ◌||◌, ◌≡◌, ⊤, not, Bool, true, false, List, length, Option, Some, None, Result, Ok, Err}
-use Rattle.krb_input.specs.Characters.{when}
+use Rattle.krb_der.specs.Octets.{when}
 use Rattle.krb_input.specs.Readings.{Reading}
 use Rattle.krb_input.specs.Octets.{without_mark, is_marked, first_no_text, is_tag, begin_message}
 use Rattle.krb_input.specs.Digits.{are_digits, digits}

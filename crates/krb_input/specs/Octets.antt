@@ -1,6 +1,7 @@
 -- Octets that are no text.
 use Rattle.std.specs.Prelude.{ℕ, suc, ◌==◌, ◌&&◌, ◌||◌, nat_le, not, Bool, true, false, if◌then◌else◌, List, [], ◌∷◌, length, drop, Option, Some, None}
-use Rattle.krb_input.specs.Characters.{when, is_text}
+use Rattle.krb_der.specs.Octets.{when}
+use Rattle.krb_input.specs.Characters.{is_text}
 
 -- EF BB BF, which some editors write in front of a text in UTF-8 (RFC 3629, section 6)
 abbrev pub is_marked : List ℕ → Bool

@@ -1,7 +1,8 @@
 -- Hexadecimal tokens with marks between them: an array of C or of Python, or octets with : or - between.
 use Rattle.std.specs.Prelude.{ℕ, suc, ◌+◌, ◌%◌, ◌==◌, ◌&&◌, ◌||◌, not, Bool, true, false, List, [], ◌∷◌, length, Option, Some, None, Ok, Err}
 use Rattle.hex.specs.Hex.{hex_digit_value, is_hex_digit}
-use Rattle.krb_input.specs.Characters.{when, is_blank, is_x, octet_of, count_digits}
+use Rattle.krb_der.specs.Octets.{when}
+use Rattle.krb_input.specs.Characters.{is_blank, is_x, octet_of, count_digits}
 use Rattle.krb_input.specs.Readings.{Reading, then_octet}
 
 -- marks are blanks and , ; : - " ' [ ] ( )

@@ -146,7 +146,7 @@ fn padding_fault(due: u8, text: &[u8]) -> Option<usize>
     let mut rest = text;
     while let [first, others @ ..] = rest {
         if !is_blank(*first) {
-            if (*first != b'=') | (due == 0) {
+            if *first != b'=' || due == 0 {
                 return Some(rest.len());
             }
             due -= 1;

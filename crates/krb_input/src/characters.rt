@@ -2,20 +2,21 @@
 
 ghost use Rattle.std.specs.Prelude.{◌≡◌, ◌<◌, ◌≤◌, length, IfSome};
 ghost use Rattle.hex.specs.Hex.{hex_digit_value, is_hex_digit};
-ghost use Rattle.krb_input.specs.Characters.{begins_with, count_digits, is_blank, is_text, length_before, octet_of, skip_blanks};
+ghost use Rattle.krb_der.specs.Octets.{begins_with};
+ghost use Rattle.krb_input.specs.Characters.{count_digits, is_blank, is_text, length_before, octet_of, skip_blanks};
 
 /// Returns whether an octet is a blank: a space, a tab, CR or LF.
 pub(crate) fn is_blank(octet: u8) -> bool
     ensures { result ≡ is_blank octet }
 {
-    (octet == b' ') | (octet == b'\t') | (octet == b'\r') | (octet == b'\n')
+    octet == b' ' || octet == b'\t' || octet == b'\r' || octet == b'\n'
 }
 
 /// Returns whether an octet may stand in a text: it is printable or a blank.
 pub(crate) fn is_text(octet: u8) -> bool
     ensures { result ≡ is_text octet }
 {
-    ((b' ' <= octet) & (octet <= b'~')) | is_blank(octet)
+    b' ' <= octet && octet <= b'~' || is_blank(octet)
 }
 
 /// Returns the value of a hexadecimal digit of either case, or `None` of any other octet.

@@ -12,7 +12,8 @@ use std::alloc::Global;
 pub(crate) fn are_digits(text: &[u8]) -> bool
     ensures { result ≡ are_digits text.now }
 {
-    text.iter().all(|octet| is_digit(*octet) | is_blank(*octet))
+    text.iter()
+        .all(|octet| is_digit(*octet) || is_blank(*octet))
 }
 
 /// Returns the octets of digits, two digits for each.

@@ -47,9 +47,9 @@ fn begins_octets(as_of_od: bool, text: &[u8]) -> bool
     };
     let digits = count_digits(skip_blanks(others));
     if *first == b':' {
-        begins_blank(others) & (2 <= digits)
+        begins_blank(others) && 2 <= digits
     } else {
-        is_blank(*first) & ((digits == 2) | as_of_od)
+        is_blank(*first) && (digits == 2 || as_of_od)
     }
 }
 
@@ -60,8 +60,8 @@ pub(crate) fn begins_dump(text: &[u8]) -> bool
     let line = skip_blanks(text);
     let offset = without_prefix(line);
     let zeros = count_zeros(offset);
-    let as_of_od = (zeros == 7) & !is_prefixed(line);
-    is_offset_long(zeros) & begins_octets(as_of_od, &offset[zeros..])
+    let as_of_od = zeros == 7 && !is_prefixed(line);
+    is_offset_long(zeros) && begins_octets(as_of_od, &offset[zeros..])
 }
 
 /// Returns the octets of a dump.
@@ -143,7 +143,7 @@ fn append_first_group(octets: &mut Vec<u8>, are_words: bool, text: &[u8]) -> Res
     ensures { Appends (first_group are_words text.now) octets.old.items octets.new.items result }
 {
     let begun = skip_blanks(text);
-    if begins_blank(text) & (count_digits(begun) != 0) {
+    if begins_blank(text) && count_digits(begun) != 0 {
         append_groups(octets, are_words, begun)
     } else {
         Err(TextFault::Left(begun.len()))
@@ -155,7 +155,7 @@ fn is_group(are_words: bool, digits: usize) -> bool
     ensures { result ≡ is_group are_words digits }
 {
     if are_words {
-        (2 <= digits) & (digits <= 32) & (digits % 2 == 0)
+        2 <= digits && digits <= 32 && digits % 2 == 0
     } else {
         digits == 2
     }
@@ -165,7 +165,7 @@ fn is_group(are_words: bool, digits: usize) -> bool
 fn is_bar(octet: u8) -> bool
     ensures { result ≡ is_bar octet }
 {
-    (octet == b'|') | (octet == b'>')
+    octet == b'|' || octet == b'>'
 }
 
 /// Returns how many blanks there are at most between groups.
@@ -180,14 +180,14 @@ fn most_blanks(are_words: bool) -> usize
 fn ends_groups(are_words: bool, blanks: usize, octet: u8) -> bool
     ensures { result ≡ ends_groups are_words blanks octet }
 {
-    (blanks != 0) & !are_words & is_bar(octet)
+    blanks != 0 && !are_words && is_bar(octet)
 }
 
 /// Returns whether a group that does not fit begins after blanks.
 fn begins_wrong(are_words: bool, blanks: usize, text: &[u8]) -> bool
     ensures { result ≡ begins_wrong are_words blanks (count_digits text.now) }
 {
-    (blanks != 0) & !is_group(are_words, count_digits(text))
+    blanks != 0 && !is_group(are_words, count_digits(text))
 }
 
 /// Appends the octets of groups, which follow a blank.

@@ -16,7 +16,7 @@ pub(crate) fn has_escape(text: Text<'_>) -> bool
 {
     let mut rest = text;
     while let Some((octet, others)) = rest.split_first() {
-        if (octet == b'\\') & others.begins_with(b'x') {
+        if octet == b'\\' && others.begins_with(b'x') {
             return true;
         }
         rest = others;
@@ -28,7 +28,7 @@ pub(crate) fn has_escape(text: Text<'_>) -> bool
 fn is_between(octet: u8) -> bool
     ensures { result ≡ is_between octet }
 {
-    is_blank(octet) | (octet == b'"') | (octet == b'\'') | (octet == b',') | (octet == b';')
+    is_blank(octet) || octet == b'"' || octet == b'\'' || octet == b',' || octet == b';'
 }
 
 /// Returns the octets of a text of escapes.

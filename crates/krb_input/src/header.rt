@@ -10,7 +10,7 @@ use crate::characters::skip_blanks;
 fn lower_case(octet: u8) -> u8
     ensures { result ≡ lower_case octet }
 {
-    if (b'A' <= octet) & (octet <= b'Z') {
+    if b'A' <= octet && octet <= b'Z' {
         octet + 32
     } else {
         octet
@@ -40,7 +40,7 @@ fn after_word<'a>(word: &str, text: &'a [u8]) -> Option<&'a [u8]>
 fn is_space(octet: u8) -> bool
     ensures { result ≡ is_space octet }
 {
-    (octet == b' ') | (octet == b'\t')
+    octet == b' ' || octet == b'\t'
 }
 
 /// Returns what follows `>` or `<` and a blank, as curl -v has before a field, or all of a text.
@@ -48,7 +48,7 @@ fn after_arrow(text: &[u8]) -> &[u8]
     ensures { result.now ≡ after_arrow text.now }
 {
     match text {
-        [arrow, blank, others @ ..] if ((*arrow == b'>') | (*arrow == b'<')) & is_space(*blank) => {
+        [arrow, blank, others @ ..] if (*arrow == b'>' || *arrow == b'<') && is_space(*blank) => {
             others
         }
         _ => text,

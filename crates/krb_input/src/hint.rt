@@ -140,7 +140,7 @@ fn is_frame(first: &[u8]) -> bool
 fn begins_message(tag: u8) -> bool
     ensures { result ≡ is_tag_of_message tag }
 {
-    is_tag(tag) | (tag == 0xA0) | (tag == 0xA1)
+    is_tag(tag) || tag == 0xA0 || tag == 0xA1
 }
 
 /// Returns whether a hint is to the command that was used.

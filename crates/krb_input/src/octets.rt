@@ -11,7 +11,7 @@ pub(crate) fn is_marked(input: &[u8]) -> bool
     ensures { result ≡ is_marked input.now }
 {
     match input {
-        [first, second, third, ..] => (*first == 0xEF) & (*second == 0xBB) & (*third == 0xBF),
+        [first, second, third, ..] => *first == 0xEF && *second == 0xBB && *third == 0xBF,
         _ => false,
     }
 }
@@ -41,11 +41,11 @@ pub(crate) fn first_no_text(text: &[u8]) -> Option<usize>
 pub(crate) fn is_tag(octet: u8) -> bool
     ensures { result ≡ is_tag octet }
 {
-    (octet == 0x60)
-        | (octet == 0x61)
-        | ((0x6A <= octet) & (octet <= 0x6F))
-        | ((0x74 <= octet) & (octet <= 0x76))
-        | (octet == 0x7E)
+    octet == 0x60
+        || octet == 0x61
+        || 0x6A <= octet && octet <= 0x6F
+        || 0x74 <= octet && octet <= 0x76
+        || octet == 0x7E
 }
 
 /// Returns whether octets begin with those of NTLM.
@@ -60,7 +60,7 @@ pub(crate) fn begin_message(octets: &[u8]) -> bool
     ensures { result ≡ begin_message octets.now }
 {
     match octets {
-        [first, ..] => !is_text(*first) | is_tag(*first) | is_ntlm(octets),
+        [first, ..] => !is_text(*first) || is_tag(*first) || is_ntlm(octets),
         [] => false,
     }
 }

@@ -13,7 +13,7 @@ pub(crate) fn is_prefixed(text: &[u8]) -> bool
     ensures { result ≡ is_prefixed text.now }
 {
     match text {
-        [digit, x, ..] => (*digit == b'0') & is_x(*x),
+        [digit, x, ..] => *digit == b'0' && is_x(*x),
         _ => false,
     }
 }
@@ -29,7 +29,7 @@ pub(crate) fn without_prefix(text: &[u8]) -> &[u8]
 pub(crate) fn is_offset_long(digits: usize) -> bool
     ensures { result ≡ is_offset_long digits }
 {
-    (4 <= digits) & (digits <= 16)
+    4 <= digits && digits <= 16
 }
 
 /// Returns the number that a digit's value makes of the number before it.
@@ -75,7 +75,7 @@ fn is_count(count: usize, base: u8, digits: &[u8]) -> bool
 fn offset_base(is_prefixed: bool, digits: usize, after: &[u8]) -> u8
     ensures { result ≡ offset_base is_prefixed digits after.now }
 {
-    if (digits == 7) & !is_prefixed & !begins_with(after, b':') {
+    if digits == 7 && !is_prefixed && !begins_with(after, b':') {
         8
     } else {
         16

@@ -54,7 +54,7 @@ pub fn read_line(alloc: Global, line: &[u8]) -> Result<Spelled, InputFault>
 fn read_octets(alloc: Global, left: usize, input: &[u8]) -> Result<Spelled, InputFault>
     ensures { IsSpelled (spelled_in_octets left input.now) result }
 {
-    if is_marked(input) | !begin_message(input) {
+    if is_marked(input) || !begin_message(input) {
         return Err(misspelled(input.len(), Spelling::Hex, left));
     }
     let mut octets = Vec::with_capacity(alloc, input.len())?;
@@ -163,5 +163,5 @@ fn begins_base64(text: &[u8]) -> bool
 fn is_first(octet: u8) -> bool
     ensures { result ≡ is_first octet }
 {
-    is_tag(octet) | (octet == 0x00) | (octet == 0xA0) | (octet == 0xA1) | (octet == 0x4E)
+    is_tag(octet) || octet == 0x00 || octet == 0xA0 || octet == 0xA1 || octet == 0x4E
 }

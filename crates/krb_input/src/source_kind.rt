@@ -52,7 +52,7 @@ fn kind_of_octets(first: &[u8]) -> SourceKind
     ensures { result ≡ kind_without_signature first.now }
 {
     match first {
-        [octet, ..] if is_text(*octet) | (*octet == 0xA0) | (*octet == 0xA1) | is_marked(first) => {
+        [octet, ..] if is_text(*octet) || *octet == 0xA0 || *octet == 0xA1 || is_marked(first) => {
             SourceKind::Message
         }
         _ => SourceKind::Stream,

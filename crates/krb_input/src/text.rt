@@ -1,7 +1,8 @@
 //! A text that is read octet by octet, in which comments may be blanks.
 
 ghost use Rattle.std.specs.Prelude.{◌≡◌, length};
-ghost use Rattle.krb_input.specs.Characters.{begins_with, count_digits};
+ghost use Rattle.krb_der.specs.Octets.{begins_with};
+ghost use Rattle.krb_input.specs.Characters.{count_digits};
 ghost use Rattle.krb_input.specs.Comments.{after, blanked, text_left, unclosed};
 ghost use Rattle.krb_input.specs.inner.Results.{IsFirst};
 
@@ -29,9 +30,9 @@ impl Comments {
     {
         match self {
             Comments::Unread => Comments::Unread,
-            Comments::Outside if (octet == b'/') & begins_with(others, b'*') => Comments::Opening,
+            Comments::Outside if octet == b'/' && begins_with(others, b'*') => Comments::Opening,
             Comments::Opening => Comments::Inside,
-            Comments::Inside if (octet == b'*') & begins_with(others, b'/') => Comments::Closing,
+            Comments::Inside if octet == b'*' && begins_with(others, b'/') => Comments::Closing,
             Comments::Inside => Comments::Inside,
             Comments::Outside | Comments::Closing => Comments::Outside,
         }

@@ -16,7 +16,7 @@ fn is_mark(octet: u8) -> bool
     ensures { result ≡ is_mark octet }
 {
     is_blank(octet)
-        | matches!(
+        || matches!(
             octet,
             b',' | b';' | b':' | b'-' | b'"' | b'\'' | b'[' | b']' | b'(' | b')'
         )
@@ -26,7 +26,7 @@ fn is_mark(octet: u8) -> bool
 pub(crate) fn is_x(octet: u8) -> bool
     ensures { result ≡ is_x octet }
 {
-    (octet == b'x') | (octet == b'X')
+    octet == b'x' || octet == b'X'
 }
 
 /// Returns how many octets there are from the first on that no token or mark has, if there is one.
@@ -36,7 +36,7 @@ pub(crate) fn first_unfit(text: Text<'_>) -> Option<usize>
     let mut rest = text;
     let mut is_after_zero = false;
     while let Some((octet, others)) = rest.split_first() {
-        if !(is_digit(octet) | is_mark(octet) | (is_after_zero & is_x(octet))) {
+        if !(is_digit(octet) || is_mark(octet) || is_after_zero && is_x(octet)) {
             return Some(rest.left());
         }
         is_after_zero = octet == b'0';
@@ -49,7 +49,7 @@ pub(crate) fn first_unfit(text: Text<'_>) -> Option<usize>
 fn are_whole(count: usize) -> bool
     ensures { result ≡ are_whole count }
 {
-    (count != 0) & (count % 2 == 0)
+    count != 0 && count % 2 == 0
 }
 
 /// Returns whether a token begins a text: digits, an even number, maybe after `0x`, or `0x` and one
@@ -61,9 +61,9 @@ fn is_token(text: Text<'_>) -> bool
         return false;
     };
     match others.split_first() {
-        Some((second, digits)) if (first == b'0') & is_x(second) => {
+        Some((second, digits)) if first == b'0' && is_x(second) => {
             let count = digits.count_digits();
-            (count == 1) | are_whole(count)
+            count == 1 || are_whole(count)
         }
         _ => are_whole(text.count_digits()),
     }
@@ -82,7 +82,7 @@ pub(crate) fn read_tokens(alloc: Global, text: Text<'_>) -> Result<Vec<u8>, Text
         if is_mark(first) {
             begins = true;
             rest = others;
-        } else if begins & !is_token(rest) {
+        } else if begins && !is_token(rest) {
             return Err(TextFault::Left(rest.left()));
         } else {
             let Some((octet, others)) = next_octet(begins, first, others) else {
@@ -104,7 +104,7 @@ fn next_octet(begins: bool, first: u8, others: Text<'_>) -> Option<(Option<u8>, 
     ensures shorter { IfSome result (λ found. length (text_left found.1) ≤ length (text_left others.entry)) }
 {
     let (second, behind) = others.split_first()?;
-    let is_prefixed = begins & is_x(second);
+    let is_prefixed = begins && is_x(second);
     if !is_prefixed {
         let octet = octet_of(first, second)?;
         return Some((Some(octet), behind));

@@ -55,7 +55,7 @@ fn fill_octets(room: &mut [u8], digits: &[u8])
 pub(crate) fn push_decoded(out: &mut Vec<u8>, text: &[u8]) -> Result<bool, AllocError>
     ensures { IfOk result (Decodes text.now out.old.items out.new.items) }
 {
-    if (text.len() % 2 != 0) | !are_digits(text) {
+    if text.len() % 2 != 0 || !are_digits(text) {
         return Ok(false);
     }
     let start = out.len();

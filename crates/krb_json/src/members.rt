@@ -42,7 +42,7 @@ fn is_allowed(allowed: Allowed, name: &str) -> bool
 {
     match allowed {
         Allowed::Fields(names) => is_field(names, name),
-        Allowed::Bits => (name == "value") | (name == "length"),
+        Allowed::Bits => name == "value" || name == "length",
     }
 }
 

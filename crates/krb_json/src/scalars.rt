@@ -47,7 +47,7 @@ fn integer(alloc: Global, low: i64, high: i64, value: &Value) -> Result<i64, Val
         return Err(fault_here(alloc, Wrong::NotAnInteger));
     }
     match value.as_i64() {
-        Some(number) if (low <= number) & (number <= high) => Ok(number),
+        Some(number) if low <= number && number <= high => Ok(number),
         _ => Err(fault_here(alloc, Wrong::Outside { low, high })),
     }
 }
@@ -56,7 +56,7 @@ fn integer(alloc: Global, low: i64, high: i64, value: &Value) -> Result<i64, Val
 fn is_mark(octet: u8) -> bool
     ensures { result ≡ is_mark octet }
 {
-    (octet == b'.') | (octet == b'e') | (octet == b'E')
+    octet == b'.' || octet == b'e' || octet == b'E'
 }
 
 /// Returns whether the text of a number has a fraction or an exponent.

@@ -131,7 +131,7 @@ fn put_time(out: &mut Writer, octets: &[u8]) -> Result<(), AllocError>
 fn is_plain(octet: u8) -> bool
     ensures { result ≡ is_shown_itself octet }
 {
-    (0x20 <= octet) & (octet <= 0x7E) & (octet != b'\\')
+    0x20 <= octet && octet <= 0x7E && octet != b'\\'
 }
 
 /// Appends what shows an octet of a string.

@@ -4,9 +4,9 @@ use Rattle.std.specs.Option.{option_and_then, option_map}
 use Rattle.base64.specs.Alphabet.{alphabet_symbols}
 use Rattle.base64.specs.Alphabets.{standard}
 use Rattle.base64.specs.Rfc4648.{encode_symbols, padding_len}
-use Rattle.krb_der.specs.Octets.{AreOctets}
+use Rattle.krb_der.specs.Octets.{AreOctets, when}
 use Rattle.krb_input.specs.Base64.{base64, base64_from, bits_fault, character_value, due, first_octet, kept, made, octet_of_first, octet_of_two, or_else, padding_fault, then_character}
-use Rattle.krb_input.specs.Characters.{when, is_blank, skip_blanks}
+use Rattle.krb_input.specs.Characters.{is_blank, skip_blanks}
 use Rattle.krb_input.specs.Readings.{prepend, unless}
 use Rattle.krb_input.proofs.Prepends.{prepend_none}
 use Rattle.krb_input.specs.Laws.{without_blanks}

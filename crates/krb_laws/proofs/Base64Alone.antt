@@ -7,9 +7,10 @@ use Rattle.std.specs.List.{AllPass}
 use Rattle.std.specs.Option.{is_some, option_and_then}
 use Rattle.base64.proofs.Tables.{all_below_at}
 use Rattle.hex.specs.Hex.{is_hex_digit}
+use Rattle.krb_der.specs.Octets.{when, begins_with}
 use Rattle.krb_input.specs.Base64.{base64, first_octet}
 use Rattle.krb_input.specs.Braces.{after_first}
-use Rattle.krb_input.specs.Characters.{when, begins_with, is_blank, is_text, is_x}
+use Rattle.krb_input.specs.Characters.{is_blank, is_text, is_x}
 use Rattle.krb_input.specs.Digits.{are_digits, digits}
 use Rattle.krb_input.specs.Dumps.{begins_after, begins_dump, count_zeros, is_prefixed}
 use Rattle.krb_input.specs.Escapes.{escapes, has_escape}

@@ -3,7 +3,8 @@ use Rattle.std.proofs.Common.{ℕ, ◌≡◌, ◌||◌, if◌then◌else◌, not
 use Rattle.std.proofs.lemmas.Bool.{or_right}
 use Rattle.std.proofs.lemmas.List.Elements.{All-cons, All-head, All-nil, All-tail}
 use Rattle.std.specs.List.{AllPass, list_any}
-use Rattle.krb_input.specs.Characters.{when, is_blank, skip_blanks}
+use Rattle.krb_der.specs.Octets.{when}
+use Rattle.krb_input.specs.Characters.{is_blank, skip_blanks}
 use Rattle.krb_input.specs.Laws.{without_blanks}
 
 -- the first octet of a text that is no blank, and what follows it

@@ -5,8 +5,8 @@ use Rattle.std.proofs.lemmas.Bool.Decides.{nat_tests}
 use Rattle.std.specs.Int.{w32, to_be_bytes}
 use Rattle.hex.specs.Hex.{encode_lower, encode_with, is_hex_digit, lower_digits}
 use Rattle.hex.proofs.HexLemmas.{length-encode_with}
-use Rattle.krb_der.specs.Octets.{AreOctets, number}
-use Rattle.krb_input.specs.Characters.{when, count_digits, is_blank, skip_blanks}
+use Rattle.krb_der.specs.Octets.{AreOctets, number, when}
+use Rattle.krb_input.specs.Characters.{count_digits, is_blank, skip_blanks}
 use Rattle.krb_input.specs.Readings.{prepend, then_octet}
 use Rattle.krb_input.specs.Dumps.{after_digits, after_offset_read, begins_wrong, blanks_or_groups, ends_groups, first_group, groups, is_bar, is_group, is_number, is_offset, line, line_begun, line_of, most_blanks, offset_read, pairs}
 use Rattle.krb_input.proofs.Prepends.{prepend_none, prepend_twice}

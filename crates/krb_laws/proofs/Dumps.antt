@@ -4,8 +4,8 @@ use Rattle.std.proofs.lemmas.Bool.Decides.{nat_tests}
 use Rattle.std.proofs.lemmas.List.Elements.{All-append, All-cons}
 use Rattle.std.specs.Int.{w32, to_be_bytes}
 use Rattle.hex.specs.Hex.{encode_lower, encode_with, is_hex_digit}
-use Rattle.krb_der.specs.Octets.{AreOctets}
-use Rattle.krb_input.specs.Characters.{count_digits, skip_blanks, when}
+use Rattle.krb_der.specs.Octets.{AreOctets, when}
+use Rattle.krb_input.specs.Characters.{count_digits, skip_blanks}
 use Rattle.krb_input.specs.Dumps.{begins_dump, dump_from, lines, then_lines}
 use Rattle.krb_input.specs.Inputs.{as_form, spelled}
 use Rattle.krb_input.specs.Octets.{first_no_text}

@@ -6,8 +6,8 @@ use Rattle.std.specs.List.{AllPass}
 use Rattle.std.proofs.lemmas.Bool.Decides.{nat_tests}
 use Rattle.hex.specs.Hex.{decode_of, encode_lower, encode_upper, is_hex_digit, IsBytes}
 use Rattle.hex.proofs.HexLemmas.{decode_of-ok, decode_of-even, decode_of-encode_lower, decode_of-encode_upper}
-use Rattle.krb_der.specs.Octets.{AreOctets}
-use Rattle.krb_input.specs.Characters.{when, is_blank, is_x, begins_blank, begins_with, count_digits, skip_blanks}
+use Rattle.krb_der.specs.Octets.{AreOctets, when, begins_with}
+use Rattle.krb_input.specs.Characters.{is_blank, is_x, begins_blank, count_digits, skip_blanks}
 use Rattle.krb_input.specs.Readings.{Reading, prepend}
 use Rattle.krb_input.specs.Digits.{are_digits, digits}
 use Rattle.krb_input.specs.Dumps.{is_prefixed, without_prefix, count_zeros, begins_octets, begins_after, begins_dump, is_offset_long}

@@ -1,7 +1,8 @@
 -- Inputs that are text, as what rule they are read by.
 use Rattle.std.proofs.Common.{ℕ, suc, ◌==◌, ◌≡◌, ◌&&◌, if◌then◌else◌, Bool, true, false, List, [], ◌∷◌, length, drop, Some, None, refl, ap, ◌∙◌, arith}
 use Rattle.std.proofs.lemmas.Bool.Decides.{nat_tests}
-use Rattle.krb_input.specs.Characters.{when, is_text, begins_with}
+use Rattle.krb_der.specs.Octets.{when, begins_with}
+use Rattle.krb_input.specs.Characters.{is_text}
 use Rattle.krb_input.specs.Octets.{first_no_text, is_marked, without_mark}
 use Rattle.krb_input.specs.Dumps.{begins_dump, dump}
 use Rattle.krb_input.specs.Inputs.{as_form, spelled, spelled_by, spelled_in_text, spelled_plainly}

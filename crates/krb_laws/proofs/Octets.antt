@@ -1,7 +1,8 @@
 -- Octets of which one is no text.
 use Rattle.std.proofs.Common.{ℕ, suc, ◌-◌, ◌≡◌, ◌&&◌, if◌then◌else◌, not, Bool, true, false, List, [], ◌∷◌, ◌++◌, length, take, drop, Option, Some, None, Ok, Err, refl, subst, ap, ◌∙◌, take-append-drop}
 use Rattle.std.specs.Option.{is_some}
-use Rattle.krb_input.specs.Characters.{when, is_text}
+use Rattle.krb_der.specs.Octets.{when}
+use Rattle.krb_input.specs.Characters.{is_text}
 use Rattle.krb_input.specs.Octets.{begin_message, first_no_text, is_marked}
 use Rattle.krb_input.specs.Inputs.{spelled, spelled_by}
 use Rattle.krb_input.specs.declared.spelling.Spelling.TheVariants as form

@@ -5,8 +5,8 @@ use Rattle.std.specs.Option.{option_map, option_and_then, is_some}
 use Rattle.base64.specs.Tables.{is_printable}
 use Rattle.hex.specs.Hex.{encode_lower, encode_with, hex_digit_value, is_hex_digit, lower_digits}
 use Rattle.hex.proofs.HexLemmas.{IsDigits-lower_digits}
-use Rattle.krb_der.specs.Octets.{AreOctets, number_from}
-use Rattle.krb_input.specs.Characters.{when, count_digits, is_blank, is_x, octet_of}
+use Rattle.krb_der.specs.Octets.{AreOctets, number_from, when}
+use Rattle.krb_input.specs.Characters.{count_digits, is_blank, is_x, octet_of}
 use Rattle.krb_input.specs.Dumps.{digit_below, is_bar, number_from as number_of_digits}
 
 -- the digit of a number

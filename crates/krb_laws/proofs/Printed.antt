@@ -5,8 +5,8 @@ use Rattle.std.proofs.lemmas.List.Elements.{All-append, All-cons, All-head, All-
 use Rattle.std.specs.List.{AllPass}
 use Rattle.base64.specs.Tables.{is_printable}
 use Rattle.hex.specs.Hex.{encode_lower, encode_with}
-use Rattle.krb_der.specs.Octets.{AreOctets}
-use Rattle.krb_input.specs.Characters.{when, is_text}
+use Rattle.krb_der.specs.Octets.{AreOctets, when}
+use Rattle.krb_input.specs.Characters.{is_text}
 use Rattle.krb_input.specs.Octets.{first_no_text}
 use Rattle.krb_input.specs.Dumps.{lines, with_first}
 use Rattle.krb_laws.specs.Written.{IsBeside, after_blanks, spaced}

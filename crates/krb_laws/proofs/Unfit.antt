@@ -8,7 +8,8 @@ use Rattle.base64.specs.Alphabets.{standard}
 use Rattle.base64.specs.Rfc4648.{encode_symbols, padding_len}
 use Rattle.base64.proofs.Tables.{all_below_at}
 use Rattle.hex.specs.Hex.{is_hex_digit}
-use Rattle.krb_input.specs.Characters.{when, is_x}
+use Rattle.krb_der.specs.Octets.{when}
+use Rattle.krb_input.specs.Characters.{is_x}
 use Rattle.krb_input.specs.Laws.{without_blanks}
 use Rattle.krb_input.specs.Tokens.{first_unfit, is_mark}
 use Rattle.krb_laws.specs.Written.{base64_text}

@@ -1,10 +1,9 @@
 -- The laws of what inputs spell. Each is the contract of a function of the module `spelled`.
 use Rattle.std.specs.Prelude.{ℕ, ◌≡◌, ◌≢◌, ⊤, ◌<◌, ◌^◌, ◌⊎◌, true, false, List, [], ◌∷◌, length, is_some, Ok}
 use Rattle.hex.specs.Hex.{decode_of, encode_lower, encode_upper}
-use Rattle.krb_der.specs.Octets.{AreOctets}
+use Rattle.krb_der.specs.Octets.{AreOctets, begins_with}
 use Rattle.krb_der.specs.declared.profile.Profile.{Profile}
 use Rattle.krb_der.specs.declared.verdict.Verdict.TheVariants.{Whole}
-use Rattle.krb_input.specs.Characters.{begins_with}
 use Rattle.krb_input.specs.Dumps.{begins_dump}
 use Rattle.krb_input.specs.Inputs.{is_first, spelled}
 use Rattle.krb_input.specs.Octets.{begin_message, first_no_text, is_marked}

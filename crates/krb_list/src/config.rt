@@ -30,9 +30,11 @@ const START_REALM: &[u8] = b"start_realm";
 fn is_shown_key(key: &[u8]) -> bool
     ensures { result ≡ is_shown_key key.now }
 {
-    (key == FAST_AVAIL)
-        | ((key == PA_TYPE)
-            | ((key == PROXY_IMPERSONATOR) | ((key == REFRESH_TIME) | (key == START_REALM))))
+    key == FAST_AVAIL
+        || key == PA_TYPE
+        || key == PROXY_IMPERSONATOR
+        || key == REFRESH_TIME
+        || key == START_REALM
 }
 
 /// Returns whether the value of a configuration entry is shown, by the components of its server's

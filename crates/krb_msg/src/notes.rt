@@ -60,10 +60,10 @@ impl Notes {
     fn are_none(&self) -> bool
         ensures { result ≡ are_none self.now }
     {
-        !(self.high_octet | self.few_flags | self.negative | self.empty_list)
+        !(self.high_octet || self.few_flags || self.negative || self.empty_list)
     }
 
-    /// Returns the notes that hold in one or the other.
+    /// Returns the notes that hold in one or the other. No branch decides it.
     #[inline(always)]
     pub(crate) fn or(self, other: Notes) -> Notes
         ensures { result ≡ either self other }

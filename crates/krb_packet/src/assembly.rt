@@ -203,7 +203,7 @@ impl Assembly {
     fn agrees(&self, span: Span) -> bool
         ensures { result ≡ agrees self.now span }
     {
-        (!self.is_ended | (span.end <= self.reach)) & (!span.is_last | (self.reach <= span.end))
+        (!self.is_ended || span.end <= self.reach) && (!span.is_last || self.reach <= span.end)
     }
 
     /// Returns what a fragment is to those that came.
@@ -240,9 +240,9 @@ impl Assembly {
         ensures { result ≡ is_complete (with_fragment self.now fragment.now) }
     {
         let Span { end, is_last, .. } = span_of(fragment);
-        (self.is_ended | is_last)
-            & (self.octets.len() + fragment.payload.octets().len()
-                == usize::from(self.reach.max(end)))
+        (self.is_ended || is_last)
+            && self.octets.len() + fragment.payload.octets().len()
+                == usize::from(self.reach.max(end))
     }
 
     /// Returns the protocol of the fragment at offset 0, with a new one.

@@ -31,7 +31,7 @@ const DESTINATION_OPTIONS: u8 = 60;
 fn is_transport(protocol: u8) -> bool
     ensures { result ≡ is_transport protocol }
 {
-    (protocol == UDP) | (protocol == TCP)
+    protocol == UDP || protocol == TCP
 }
 
 /// Returns whether a header is that of UDP or TCP, or one that may come before these in IPv6.
@@ -39,7 +39,7 @@ fn may_lead_to_transport(kind: u8) -> bool
     ensures { result ≡ may_lead_to_transport kind }
 {
     is_transport(kind)
-        | matches!(
+        || matches!(
             kind,
             HOP_BY_HOP_OPTIONS | ROUTING | FRAGMENT | DESTINATION_OPTIONS
         )
@@ -133,7 +133,7 @@ fn is_whole(packet: &Payload<'_>) -> bool
     ensures { result ≡ is_whole packet.now }
 {
     match packet.number16(2) {
-        Some(offset) => (offset / 8 == 0) & (offset % 2 == 0),
+        Some(offset) => offset / 8 == 0 && offset % 2 == 0,
         None => false,
     }
 }

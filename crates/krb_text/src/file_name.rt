@@ -20,7 +20,7 @@ use std::fmt;
 fn is_plain_in_name(octet: u8) -> bool
     ensures { result ≡ is_plain_in_name octet }
 {
-    is_plain(octet) | (octet == b'/') | (octet == b'@')
+    is_plain(octet) || octet == b'/' || octet == b'@'
 }
 
 /// Returns the hexadecimal digit of a number below 16, in lower case.

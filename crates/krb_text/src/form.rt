@@ -1,6 +1,6 @@
 //! The forms in which records are printed.
 
-ghost use Rattle.std.specs.Prelude.{◌≡◌, MatchOption, if◌then◌else◌};
+ghost use Rattle.std.specs.Prelude.{◌≡◌, ◌↔◌, IsFalse, MatchOption, if◌then◌else◌};
 
 /// How a record is printed.
 #[derive(Clone, Copy, PartialEq, Eq, Debug)]
@@ -14,6 +14,14 @@ pub enum Form {
 }
 
 impl Form {
+    /// Returns whether records of the form show the path of a field at fault: of lines those with
+    /// names alone.
+    pub fn shows_paths(self) -> bool
+        ensures { IsFalse result ↔ (self ≡ Form.Lines) }
+    {
+        self != Form::Lines
+    }
+
     /// Returns whether a line has names, or nothing for an object.
     #[inline(always)]
     pub(crate) fn names(self) -> Option<bool>

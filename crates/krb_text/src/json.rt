@@ -82,7 +82,7 @@ fn is_unescaped(escape: Escape, octet: u8) -> bool
 {
     match escape {
         Escape::Line => is_plain(octet),
-        Escape::Object => (0x20 <= octet) & (octet <= 0x7E) & (octet != b'\\'),
+        Escape::Object => 0x20 <= octet && octet <= 0x7E && octet != b'\\',
     }
 }
 

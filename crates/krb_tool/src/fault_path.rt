@@ -29,7 +29,7 @@ fn shown_path(
     requires present { length front.now ≤ size }
     ensures { IfOk result (λ path. path_in form (option_map string_bytes path) ≡ path_in form (message_path profile size front.now)) }
 {
-    if form == Form::Lines {
+    if !form.shows_paths() {
         return Ok(None);
     }
     path(alloc, profile, size, front)

@@ -21,11 +21,11 @@ pub fn file_path(
     ensures path { IfOk result (λ path. path_in form (option_map string_bytes path) ≡ path_in form (file_path item field)) }
     ensures fault { IfErr result (λ e. e ≡ RunFault.Memory) }
 {
-    match (form, field) {
-        (Form::Lines, _) | (_, None) => Ok(None),
-        (_, Some(field)) => {
+    match field {
+        Some(field) if form.shows_paths() => {
             let path = FieldPath { item, field };
             Ok(Some(format!(in alloc; "{path}")?))
         }
+        _ => Ok(None),
     }
 }

@@ -209,7 +209,7 @@ impl MessageInput {
         ensures path { IfOk result (λ path. path_in self.now.form (option_map string_bytes path) ≡ path_in self.now.form (ticket_refused_path self.now.profile octets.now refusal)) }
         ensures fault { IfErr result (λ e. e ≡ RunFault.Memory) }
     {
-        if self.form == Form::Lines {
+        if !self.form.shows_paths() {
             return Ok(None);
         }
         let prefix = (refusal.place as usize + 1).min(octets.len());

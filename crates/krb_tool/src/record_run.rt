@@ -280,7 +280,7 @@ pub fn list_records<L: RecordLines, W: Write>(
     ensures none_kept { IfErr result (λ e. IsRead e → text.new ≡ []) }
 {
     'records: for count in 0..MOST_ASKS {
-        let is_due = (text.octets().len() >= PIECE_OCTETS) | !watch.is_fast.get();
+        let is_due = text.octets().len() >= PIECE_OCTETS || !watch.is_fast.get();
         write_early(writer, text, is_due)?;
         match lines.put_next(alloc, count, text) {
             Ok(None) => {}

@@ -22,7 +22,7 @@ fn is_name(word: &[u8]) -> bool
 {
     let mut are_letters = 0 < word.len();
     for octet in word {
-        are_letters = are_letters & (b'a' <= *octet) & (*octet <= b'z');
+        are_letters = are_letters && b'a' <= *octet && *octet <= b'z';
     }
     are_letters
 }
@@ -31,7 +31,7 @@ fn is_name(word: &[u8]) -> bool
 fn stands_alone(word: &[u8]) -> bool
     ensures { result ≡ stands_alone word.now }
 {
-    is(word, "-h") | is(word, "--help") | is(word, "-V") | is(word, "--version")
+    is(word, "-h") || is(word, "--help") || is(word, "-V") || is(word, "--version")
 }
 
 /// Returns the word that `clap` reads in place of a word: its octets as the names of files are
@@ -103,7 +103,7 @@ pub(crate) fn command_words(alloc: Global, words: &[Vec<u8>]) -> Result<Vec<Stri
     if is(first, "help") {
         return help_words(alloc, others);
     }
-    if is_name(first) | stands_alone(first) {
+    if is_name(first) || stands_alone(first) {
         same_words(alloc, words)
     } else {
         list_words(alloc, words)

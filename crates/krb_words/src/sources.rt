@@ -79,7 +79,7 @@ fn source_named(alloc: Global, command: &str, name: &[u8]) -> Result<Source, All
     if command == "keytab" {
         return Ok(Source::File(named_path(alloc, name, files_path(name))?));
     }
-    if (command == "ccache") | (command == "list") {
+    if command == "ccache" || command == "list" {
         cache(alloc, name)
     } else {
         Ok(Source::File(named_path(alloc, name, name)?))
@@ -152,7 +152,7 @@ fn put_names(
 fn put_input(command: &str, sources: &mut Vec<Source>) -> Result<(), AllocError>
     ensures { OnOk result (map place_of sources.new.items ≡ or_input command.now (map place_of sources.old.items)) }
 {
-    if sources.is_empty() & (command != "list") {
+    if sources.is_empty() && command != "list" {
         sources.push(Source::Input)?;
     }
     Ok(())

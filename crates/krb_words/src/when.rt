@@ -26,7 +26,7 @@ fn fits(form: u8, octet: u8) -> bool
     ensures { result ≡ fits form octet }
 {
     if form == b'0' {
-        (b'0' <= octet) & (octet <= b'9')
+        b'0' <= octet && octet <= b'9'
     } else {
         octet == form
     }
@@ -45,7 +45,7 @@ fn has_form(form: &[u8], text: &[u8]) -> bool
         places = others;
         octets = rest;
     }
-    places.is_empty() & octets.is_empty()
+    places.is_empty() && octets.is_empty()
 }
 
 /// Returns the digit at a place of a text.
@@ -120,7 +120,7 @@ fn clock(text: &[u8]) -> Option<u32>
     let hour = two(text, 11);
     let minute = two(text, 14);
     let second = two(text, 17);
-    if (hour < 24) & (minute < 60) & (second < 60) {
+    if hour < 24 && minute < 60 && second < 60 {
         Some(3600 * u32::from(hour) + 60 * u32::from(minute) + u32::from(second))
     } else {
         None

@@ -19,7 +19,8 @@ fn is_one_high<const N: usize>(octets: Simd<u8, N>) -> bool
     octets.simd_gt(Simd::splat(0x7F)).any()
 }
 
-/// Returns whether one of N to 2N octets is above 7F: of the first N, and of the last N.
+/// Returns whether one of N to 2N octets is above 7F: of the first N, or of the last N, with no
+/// branch between them.
 #[inline(always)]
 fn is_end_high<const N: usize>(octets: &[u8]) -> bool
     requires lanes { N ≤ 64 }

@@ -11,4 +11,4 @@ returns-clause-listed c = λ settings progress h.
 
 pub returns-clause-clean : goal.returns-clause-clean
 returns-clause-clean c = λ settings progress h.
-    ap (λ x. is_clean x) (c.totals-totals.ensures ∙ (c.in_ok-end_directions.ensures settings progress h).counts)
+    c.is_clean.ensures ∙ ap (λ x. is_clean x) (c.totals-totals.ensures ∙ (c.in_ok-end_directions.ensures settings progress h).counts)

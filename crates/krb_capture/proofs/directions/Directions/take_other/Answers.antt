@@ -26,7 +26,7 @@ returns-in_ok-insert-in-None c = IfOk-weaker c.begin.result _ _
     let room = with_room limit table in
     let maps = c.in_ok-make_room-in-None.ensures.table limit table (record { limit_is = h.limit_is; numbers = numbers; active = h.active; ended = h.ended }) in
     let after = begun limit c.args.due.packet c.args.service states.Fresh c.args.segment.now room.table in
-    subst (λ f. Follows c.begin.new.self limit f.table c.args.due rest (over_tcp c.args.due f.found) c.args.listing.now c.begin.new.listing) (sym (followed-begins limit c.args.due.packet c.args.service c.args.segment.now table e (sym c.begins-may_begin.ensures ∙ c.if-may_begin.true)))
+    subst (λ f. Follows c.begin.new.self limit f.table c.args.due rest (over_tcp c.args.due f.found) c.args.listing.now c.begin.new.listing) (sym (followed-begins limit c.args.due.packet c.args.service c.args.segment.now table e (sym c.begins-may_begin.ensures ∙ c.if-may_begin-2.true)))
     (follows-after c.begin.new.self limit c.args.due rest room.found after c.args.listing.now c.make_room.new.listing c.begin.new.listing (c.in_ok-make_room-in-None.ensures.found limit table (record { limit_is = h.limit_is; numbers = numbers; active = h.active; ended = h.ended }))
     (k limit room.table (record { limit_is = maps.limit_is; numbers = c.in_ok-insert-in-None.ensures.entries ∙ ap (λ es. insert_entry flow_cmp es c.args.flow c.args.due.packet) maps.numbers; active = maps.active; ended = maps.ended }))))
     c.begin.ensures
@@ -34,5 +34,5 @@ returns-in_ok-insert-in-None c = IfOk-weaker c.begin.result _ _
 pub returns-in-None-2 : goal.returns-in-None-2
 returns-in-None-2 c = λ limit table h.
     let e = ap (λ es. lookup (is_at (flow_cmp (flow_of c.args.segment.now))) es) (sym h.numbers) ∙ ap (λ f. lookup (is_at (flow_cmp f)) c.args.self.now.numbers.entries) (sym c.requires.of_segment) ∙ sym c.get.ensures.value ∙ c.in-None-2.is in
-    follows-none _ limit c.args.due (followed limit c.args.due.packet c.args.service c.args.segment.now table) table c.args.listing.now (followed-passed limit c.args.due.packet c.args.service c.args.segment.now table e (sym c.begins-may_begin.ensures ∙ c.if-may_begin.false)) c.requires.none
+    follows-none _ limit c.args.due (followed limit c.args.due.packet c.args.service c.args.segment.now table) table c.args.listing.now (followed-passed limit c.args.due.packet c.args.service c.args.segment.now table e (sym c.begins-may_begin.ensures ∙ c.if-may_begin-2.false)) c.requires.none
     (record { limit_is = h.limit_is; numbers = ap (λ n. n.entries) c.get.ensures.same ∙ h.numbers; active = h.active; ended = h.ended })

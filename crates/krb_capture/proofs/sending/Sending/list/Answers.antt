@@ -5,8 +5,8 @@ use Rattle.krb_capture.specs.Rests.{Takes}
 use Rattle.krb_capture.proofs.Rests.{takes-last, takes-more, unlisted}
 use Rattle.krb_capture.proofs.sending.Sending.list.Goals as goal
 
-pub returns-then-count-octets-clause-found : goal.returns-then-count-octets-clause-found
-returns-then-count-octets-clause-found c = λ limit stream t.
+pub returns-then-is_empty-clause-found : goal.returns-then-is_empty-clause-found
+returns-then-is_empty-clause-found c = λ limit stream t.
     let n = c.in_ok-count.count in
     let o = c.args.octets.now in
     let others = c.args.others.now in
