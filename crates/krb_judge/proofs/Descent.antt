@@ -1,6 +1,7 @@
 -- The field at fault: lemmas of the functions that find it.
 use Rattle.std.proofs.Common.{◌≡◌, ℕ, zero, suc, ◌+◌, ◌-◌, ◌<◌, ◌≤◌, Bool, true, false, List, [], ◌∷◌, length, drop, get_or, add-one, refl, sym, ap, ◌∙◌, arith}
 use Rattle.std.proofs.Math.Seq.{drop-cons}
+use Rattle.krb_der.specs.Octets.{begins_with}
 use Rattle.krb_msg.specs.Nodes.{nodes, term_at}
 use Rattle.krb_msg.specs.Shape.{depth_of_fields}
 use Rattle.krb_msg.specs.Table.{IsFormOf, with_slot, fields_from}
@@ -10,7 +11,6 @@ use Rattle.krb_msg.specs.declared.grammar.Slot.{Slot}
 use Rattle.krb_msg.specs.declared.grammar.Slot.TheVariants as slot
 use Rattle.krb_judge.specs.FieldNames.{field_at}
 use Rattle.krb_judge.specs.Paths.{within, first_item, contents_path, fields_path, field_path, elements_path, element_path}
-use Rattle.krb_msg.specs.ValueOfDer.{begins_with}
 use Rattle.krb_judge.specs.inner.Descent.{presence_path}
 use Rattle.krb_judge.specs.declared.locating.Presence.{Presence}
 use Rattle.krb_judge.specs.declared.locating.Presence.TheVariants as presence

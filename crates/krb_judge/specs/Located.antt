@@ -1,5 +1,6 @@
 -- What a path names: an octet lies in the item that it names.
 use Rattle.std.specs.Prelude.{ℕ, zero, suc, ◌+◌, ◌-◌, ◌<◌, ◌≤◌, ◌≡◌, ◌⊎◌, true, false, List, [], ◌∷◌, ◌++◌, take, drop, Some}
+use Rattle.krb_der.specs.Octets.{begins_with}
 use Rattle.krb_der.specs.declared.profile.Profile.{Profile}
 use Rattle.krb_msg.specs.Judgement.{Done, Head, Partial, Refused, Got, head, item_outcome}
 use Rattle.krb_msg.specs.Term.{Term, Fields, Sequence, SequenceOf, Tagged, Application, End, Required, Optional, tag_of}
@@ -7,7 +8,6 @@ use Rattle.krb_msg.specs.Views.{kind_with_tag, kind_name, kind_term_in}
 use Rattle.krb_msg.specs.declared.message.Kind.{Kind}
 use Rattle.krb_judge.specs.FieldNames.{field_at, names_of_kind}
 use Rattle.krb_judge.specs.Paths.{field_path, element_path}
-use Rattle.krb_msg.specs.ValueOfDer.{begins_with}
 use Rattle.krb_judge.specs.declared.locating.names.Names.{Names}
 
 -- An octet, by its offset from the first octet of an item, is one of the item, whose head is not all there, is refused at this octet or at a later one, or says how many octets the item has.

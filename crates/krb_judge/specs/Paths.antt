@@ -4,12 +4,11 @@
 use Rattle.std.specs.Prelude.{ℕ, zero, suc, ◌+◌, ◌-◌, Bool, true, false, ◌&&◌, ◌==◌, nat_lt, List, [], ◌∷◌, ◌++◌, length, take, drop, Option, None, codes}
 use Rattle.std.specs.Fmt.{decimal}
 use Rattle.std.specs.Option.{option_map}
-use Rattle.krb_der.specs.Octets.{when}
+use Rattle.krb_der.specs.Octets.{when, begins_with}
 use Rattle.krb_der.specs.declared.profile.Profile.{Profile}
 use Rattle.krb_msg.specs.Grammar.{ticket}
 use Rattle.krb_msg.specs.Judgement.{Outcome, Open, Bad, Done, Head, Partial, Refused, Got, head, item_outcome}
 use Rattle.krb_msg.specs.Profiles.{profile_term}
-use Rattle.krb_msg.specs.ValueOfDer.{begins_with}
 use Rattle.krb_msg.specs.Term.{Term, Fields, Sequence, SequenceOf, Tagged, Application, End, Required, Optional, tag_of}
 use Rattle.krb_msg.specs.Views.{kind_with_tag, kind_name, kind_term_in}
 use Rattle.krb_judge.specs.FieldNames.{field_at, names_of_kind}

@@ -11,6 +11,7 @@ pub(crate) mod names;
 ghost use Rattle.std.specs.Prelude.{◌≡◌, ◌^◌, ◌<◌, ◌≤◌, ℕ, List, length, false, IfOk, IfSome, MatchOption, OnOk, string_bytes};
 ghost use Rattle.std.specs.List.{AllByRecursion};
 ghost use Rattle.std.specs.Option.{option_map};
+ghost use Rattle.krb_der.specs.Octets.{begins_with};
 ghost use Rattle.krb_msg.specs.Judgement.{Done, item_outcome};
 ghost use Rattle.krb_msg.specs.Nodes.{nodes, term_at};
 ghost use Rattle.krb_msg.specs.Shape.{depth, depth_of_fields};
@@ -18,7 +19,6 @@ ghost use Rattle.krb_msg.specs.Table.{IsNode, IsSlot, fields_from, with_slot};
 ghost use Rattle.krb_msg.specs.Term.{Fields};
 ghost use Rattle.krb_msg.specs.Views.{kind_term_in};
 ghost use Rattle.krb_judge.specs.Paths.{contents_path, element_path, elements_path, field_path, fields_path, first_item, message_path, ticket_path, within};
-ghost use Rattle.krb_msg.specs.ValueOfDer.{begins_with};
 ghost use Rattle.krb_judge.specs.inner.Descent.{IsItem, IsInside, IsPresent, IsPresenceFor, IsFaultOf, path_in, path_on, in_contents, in_first, presence_path, fault_path, in_element};
 
 use crate::locating::head::{Head, part, read_head};

@@ -3,7 +3,7 @@ use Rattle.std.proofs.Common.{◌≡◌, ℕ, zero, suc, ◌+◌, ◌-◌, ◌^�
 use Rattle.std.specs.List.{flat_map, AllByRecursion}
 use Rattle.std.proofs.lemmas.Bool.{cases_Bool, eq-eqb, ne_eqb}
 use Rattle.std.proofs.lemmas.List.{nil_from_length}
-use Rattle.krb_der.specs.Octets.{AreOctets, item}
+use Rattle.krb_der.specs.Octets.{AreOctets, item, begins_with}
 use Rattle.krb_der.specs.inner.Items.{length-item}
 use Rattle.krb_der.specs.inner.Numbers.{when-true, when-false}
 use Rattle.krb_der.specs.declared.verdict.Refusal.{Refusal}
@@ -14,7 +14,6 @@ use Rattle.krb_token.proofs.Walks.{field_absent, field_read}
 use Rattle.krb_token.specs.Items.{Item, entered, judged, refusal_in, simple_contents, simple_has_size, simple_item, simple_items, simple_tag}
 use Rattle.krb_token.specs.Opened.{Part, Fault, and_then, fault_in}
 use Rattle.krb_judge.specs.Paths.{element_path}
-use Rattle.krb_msg.specs.ValueOfDer.{begins_with}
 use Rattle.krb_token.specs.Spnego.{Holds, Fields, One, Many, Token, OctetsOr, End, Field, held, fields_read, ended}
 use Rattle.krb_laws.specs.Opened.{IsItem, BeginsWithItem, IsContents, IsOne, IsHeld, AreFields}
 use Rattle.krb_token.specs.declared.simple.Simple.{Simple}

@@ -3,7 +3,7 @@ use Rattle.std.proofs.Common.{◌≡◌, ℕ, zero, suc, ◌+◌, ◌-◌, ◌<�
 use Rattle.std.proofs.lemmas.List.{append-nil, drop-drop}
 use Rattle.std.proofs.lemmas.Bool.Decides.{nat_tests}
 use Rattle.std.specs.Fmt.{decimal}
-use Rattle.krb_der.specs.Octets.{when}
+use Rattle.krb_der.specs.Octets.{when, begins_with}
 use Rattle.krb_der.specs.declared.why.Why.{Why}
 use Rattle.krb_der.specs.declared.why.Why.TheVariants as why
 use Rattle.krb_msg.specs.Judgement.{Outcome, Open, Bad, Done, after, then_after, Head, Partial, Refused, Got, head, has_size, items_contents, only_contents, of_head, item_with, contents_outcome, fields_outcome, item_outcome}
@@ -14,7 +14,6 @@ use Rattle.krb_msg.proofs.Laws.{done_within}
 use Rattle.krb_msg.proofs.TermsDecided.{item-count, contents-count}
 use Rattle.krb_judge.specs.FieldNames.{field_at}
 use Rattle.krb_judge.specs.Paths.{field_path, element_path, after_done, within_head, first_item, elements_path, contents_path, fields_path, item_path}
-use Rattle.krb_msg.specs.ValueOfDer.{begins_with}
 use Rattle.krb_judge.specs.Located.{IsOf, BeginWithItems, LiesIn, LiesInside, LiesInField, BeginsPath}
 use Rattle.krb_judge.specs.declared.locating.names.Names.{Names}
 use Rattle.krb_message_laws.proofs.Lies.{gone, bad_is, why_is, after-bad, contents-within, moved, same-item}

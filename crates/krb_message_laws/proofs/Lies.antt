@@ -2,7 +2,7 @@
 use Rattle.std.proofs.Common.{◌≡◌, ℕ, zero, suc, ◌+◌, ◌-◌, ◌<◌, ◌≤◌, ◌⊎◌, inl, inr, Bool, true, false, ◌&&◌, ◌==◌, nat_lt, if◌then◌else◌, List, [], ◌∷◌, length, take, drop, refl, sym, ◌∙◌, ap, subst, arith, length-take, length-drop, length-append}
 use Rattle.std.proofs.lemmas.Bool.Decides.{nat_tests}
 use Rattle.std.proofs.lemmas.List.{nil_from_length, drop-drop}
-use Rattle.krb_der.specs.Octets.{when}
+use Rattle.krb_der.specs.Octets.{when, begins_with}
 use Rattle.krb_der.specs.declared.why.Why.{Why}
 use Rattle.krb_der.specs.declared.why.Why.TheVariants as why
 use Rattle.krb_msg.specs.Judgement.{Outcome, Open, Bad, Done, after, then_after, Head, Partial, Refused, Got, head, has_size, items_contents, only_contents, of_head, item_with, contents_outcome, fields_outcome, item_outcome}
@@ -13,7 +13,6 @@ use Rattle.krb_msg.proofs.TermsStable.{IsStable-contents, fields_outcome-empty}
 use Rattle.krb_msg.proofs.TermsDecided.{item-count, contents-count, contents-decided}
 use Rattle.krb_judge.specs.FieldNames.{field_at}
 use Rattle.krb_judge.specs.Paths.{field_path, element_path, after_done, within_head, elements_path, contents_path, fields_path, item_path}
-use Rattle.krb_msg.specs.ValueOfDer.{begins_with}
 use Rattle.krb_judge.specs.Located.{IsOf, BeginWithItems, LiesIn, LiesInside, LiesInField}
 use Rattle.krb_judge.specs.declared.locating.names.Names.{Names}
 

@@ -3,12 +3,11 @@ use Rattle.std.proofs.Common.{◌≡◌, ℕ, get_or, ◌+◌, ◌<◌, ◌≤�
 use Rattle.std.specs.Prelude.{◌≤ℤ◌}
 use Rattle.std.proofs.lemmas.Bool.{not-true, true≢false}
 use Rattle.std.proofs.lemmas.Int.{ints}
-use Rattle.krb_der.specs.Octets.{item, number, integer_octets, integer_value, AreOctets}
+use Rattle.krb_der.specs.Octets.{item, number, integer_octets, integer_value, AreOctets, begins_with}
 use Rattle.krb_der.specs.inner.Items.{same_from_item}
 use Rattle.krb_der.specs.inner.Numbers.{IsShortestInteger, IsShortestInteger-integer_octets, integer_octets-integer_value, integer_value-integer_octets, length-integer_octets-le, spelled-number}
 use Rattle.krb_msg.specs.Term.{Term, Fields, Integer, Sequence, Tagged, Required, Optional, tag_of, Value, Values, der, der_of_fields, Fits}
 use Rattle.krb_msg.specs.Judgement.{is_padded}
-use Rattle.krb_msg.specs.ValueOfDer.{begins_with}
 use Rattle.krb_msg.specs.Shape.{may_begin}
 use Rattle.krb_msg.specs.inner.Values.{contents, der_is, may_begin_from_der}
 use Rattle.krb_msg.proofs.Integers.{is_padded-shortest, shortest_some, IsShortestInteger-from_unpadded}

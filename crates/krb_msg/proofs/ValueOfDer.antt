@@ -3,12 +3,12 @@ use Rattle.std.proofs.Common.{◌≡◌, ℕ, zero, suc, ◌+◌, ◌^◌, ◌<�
 use Rattle.std.proofs.lemmas.Bool.{and_parts, not-true, true≢false, false_from_ne_true, eqb-true}
 use Rattle.std.proofs.lemmas.List.{take_at}
 use Rattle.std.specs.List.{flat_map}
-use Rattle.krb_der.specs.Octets.{item, length_octets}
+use Rattle.krb_der.specs.Octets.{item, length_octets, begins_with}
 use Rattle.krb_der.specs.inner.Numbers.{integer_value-integer_octets, when-true, when-false}
 use Rattle.krb_der.specs.inner.Items.{item-append}
 use Rattle.krb_der.specs.inner.PrefixFree.{same_pair}
 use Rattle.krb_msg.specs.Term.{Term, Fields, Integer, Sequence, SequenceOf, Tagged, Application, End, Required, Optional, tag_of, Value, Values, der, der_of_fields, octets_of_option}
-use Rattle.krb_msg.specs.ValueOfDer.{SplitItem, split_at_head, split_item, split_items, begins_with, value_of, values_of, value_of_der}
+use Rattle.krb_msg.specs.ValueOfDer.{SplitItem, split_at_head, split_item, split_items, value_of, values_of, value_of_der}
 use Rattle.krb_msg.specs.Shape.{may_begin, is_unambiguous, are_unambiguous}
 use Rattle.krb_msg.specs.inner.Values.{contents, der_is, may_begin_from_der}
 use Rattle.krb_msg.proofs.Accepts.{length-der}

@@ -1,6 +1,6 @@
 -- The value of a term whose DER octets are. Of octets that are no value's DER this says nothing: whether they are is judged (`Judgement`).
-use Rattle.std.specs.Prelude.{ℕ, zero, suc, Bool, false, ◌==◌, List, [], ◌∷◌, length, map, take, drop, Some, None}
-use Rattle.krb_der.specs.Octets.{when, integer_value}
+use Rattle.std.specs.Prelude.{ℕ, zero, suc, List, [], ◌∷◌, length, map, take, drop, Some, None}
+use Rattle.krb_der.specs.Octets.{when, begins_with, integer_value}
 use Rattle.krb_msg.specs.Term.{Term, Fields, Integer, Text, Octets, Time, Bits, Sequence, SequenceOf, Tagged, Application, End, Required, Optional, tag_of, Value, Values}
 use Rattle.krb_msg.specs.Judgement.{Head, Got, head}
 
@@ -21,10 +21,6 @@ abbrev pub split_items : ℕ → List ℕ → List (List ℕ)
 split_items bound [] = []
 split_items zero (octet ∷ octets) = []
 split_items (suc bound) (octet ∷ octets) = (split_item (octet ∷ octets)).contents ∷ split_items bound (split_item (octet ∷ octets)).rest
-
-abbrev pub begins_with : ℕ → List ℕ → Bool
-begins_with tag [] = false
-begins_with tag (octet ∷ octets) = octet == tag
 
 abbrev pub bits_of : List ℕ → ℕ × List ℕ
 bits_of [] = (0, [])

@@ -1,10 +1,10 @@
 -- Octets that a view is of: an item, its contents octets, fields, an INTEGER and lists.
 use Rattle.std.specs.Prelude.{Bool, ℕ, ℤ, ◌^◌, ◌<◌, ◌≡◌, ◌≤ℤ◌, true, false, List, ◌∷◌, ◌++◌, length, Option, Some, None}
 use Rattle.std.specs.List.{AllByRecursion, flat_map}
-use Rattle.krb_der.specs.Octets.{item, length_octets, integer_octets}
+use Rattle.krb_der.specs.Octets.{item, length_octets, integer_octets, begins_with}
 use Rattle.krb_msg.specs.Term.{Term, Fields, tag_of, Value, Values, der, der_of_fields, Fits, AllFit}
 use Rattle.krb_msg.specs.Grammar.{pa_data, sequence_of}
-use Rattle.krb_msg.specs.ValueOfDer.{begins_with, value_of, value_of_der}
+use Rattle.krb_msg.specs.ValueOfDer.{value_of, value_of_der}
 use Rattle.krb_msg.specs.Judgement.{term_judgement}
 use Rattle.krb_der.specs.declared.verdict.Verdict.TheVariants as verdict
 

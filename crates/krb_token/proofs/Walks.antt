@@ -1,8 +1,8 @@
 -- The items of a SEQUENCE OF and the fields of a SEQUENCE, read one after another.
 use Rattle.std.proofs.Common.{◌≡◌, ℕ, suc, ◌+◌, ◌-◌, ◌<◌, ◌≤◌, true, false, List, [], ◌∷◌, length, Result, Ok, Err, Option, refl, sym, ◌∙◌, ap, arith}
+use Rattle.krb_der.specs.Octets.{begins_with}
 use Rattle.krb_der.specs.declared.why.Why.TheVariants as why
 use Rattle.krb_judge.specs.Paths.{element_path}
-use Rattle.krb_msg.specs.ValueOfDer.{begins_with}
 use Rattle.krb_token.specs.Spnego.{Holds, Fields, Field, fields_read, held}
 use Rattle.krb_token.specs.Items.{Item, entered, simple_tag, simple_item, simple_items}
 use Rattle.krb_token.specs.Opened.{Part, Fault, fault_in, and_then}

@@ -1,9 +1,8 @@
 -- The tokens of SPNEGO (RFC 4178, 4.2, and NegHints of MS-SPNG, 2.2.1): three SEQUENCEs, each of whose fields may be left out.
 use Rattle.std.specs.Prelude.{ℕ, ◌+◌, true, false, List, [], ◌∷◌, length, codes, Option, Some, None, Result, Ok, Err}
 use Prim.Native.String.{String}
-use Rattle.krb_der.specs.Octets.{when}
+use Rattle.krb_der.specs.Octets.{when, begins_with}
 use Rattle.krb_der.specs.declared.why.Why.TheVariants as why
-use Rattle.krb_msg.specs.ValueOfDer.{begins_with}
 use Rattle.krb_token.specs.Opened.{Part, Fault, fault_in, and_then}
 use Rattle.krb_token.specs.Items.{entered, simple_item, simple_items}
 use Rattle.krb_token.specs.declared.simple.Simple.{Simple}

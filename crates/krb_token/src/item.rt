@@ -1,7 +1,7 @@
 //! The items of a token, all octets of which are there.
 
 ghost use Rattle.std.specs.Prelude.{◌≡◌, ◌+◌, ◌<◌, ◌≤◌, length, IfOk, MatchResult, Ok, Err};
-ghost use Rattle.krb_msg.specs.ValueOfDer.{begins_with};
+ghost use Rattle.krb_der.specs.Octets.{begins_with};
 ghost use Rattle.krb_token.specs.Items.{entered, expected, item_after};
 ghost use Rattle.krb_token.specs.Seen.{IsItemOf, IsShort, fault_of, item_of, part_of, path_text};
 

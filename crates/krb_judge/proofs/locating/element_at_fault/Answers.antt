@@ -1,6 +1,6 @@
 use Rattle.std.proofs.Common.{◌≡◌, true, false, length, sym, subst, ◌∙◌, arith}
+use Rattle.krb_der.specs.Octets.{begins_with}
 use Rattle.krb_msg.specs.Nodes.{term_at}
-use Rattle.krb_msg.specs.ValueOfDer.{begins_with}
 use Rattle.krb_judge.proofs.Descent.{element_next, element_here, no_element}
 use Rattle.krb_judge.proofs.locating.element_at_fault.Goals as goal
 

@@ -1,6 +1,6 @@
 use Rattle.std.proofs.Common.{◌≡◌, ◌<◌, ◌∙◌, true, false, length, Err, ap, arith}
 use Rattle.std.proofs.lemmas.Result.{err_from_is_err_and}
-use Rattle.krb_msg.specs.ValueOfDer.{begins_with}
+use Rattle.krb_der.specs.Octets.{begins_with}
 use Rattle.krb_token.specs.Items.{simple_tag}
 use Rattle.krb_token.specs.Opened.{fault_in}
 use Rattle.krb_token.specs.Seen.{fault_of, item_of, part_of, path_text}
