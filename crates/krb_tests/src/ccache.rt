@@ -183,7 +183,7 @@ fn is_upgraded(alloc: Global, octets: &[u8], again: u16, wanted: &[u8]) -> bool 
     match read3(alloc, octets) {
         Ok(cache) => {
             let is_read = last_enctypes(&cache) == Some((18, again));
-            is_read & comes_to(alloc, cache, wanted)
+            is_read && comes_to(alloc, cache, wanted)
         }
         Err(_) => false,
     }

@@ -281,13 +281,13 @@ fn came_to(decoder: &mut Decoder, fed: Fed, row: &Row, octets: &[u8]) -> bool {
         decoder.open_lengths(),
     );
     let used = *used;
-    (fed == Fed { used, status })
-        & (again == Fed { used: 0, status })
-        & (found == (*kept, used, *open))
-        & (decoder.ready().is_some() == is_ready)
-        & (decoder.finish().err() == end)
-        & (decoder.next() == is_ready)
-        & (!is_ready || is_between(decoder) && decoder.feed(octets) == fed)
+    fed == Fed { used, status }
+        && again == Fed { used: 0, status }
+        && found == (*kept, used, *open)
+        && decoder.ready().is_some() == is_ready
+        && decoder.finish().err() == end
+        && decoder.next() == is_ready
+        && (!is_ready || is_between(decoder) && decoder.feed(octets) == fed)
 }
 
 /// Returns whether a decoder that is fed in pieces of `at_most` octets answers what a row says.

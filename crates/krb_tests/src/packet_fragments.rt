@@ -48,7 +48,7 @@ const HEADERS6: [[u8; 48]; 2] = [
 /// A packet of a header and octets.
 fn packet(rt: &impl Abort, alloc: Global, header: &[u8], octets: &[u8]) -> Packet {
     let mut all = Vec::new(alloc);
-    if all.extend_from_slice(header).is_err() | all.extend_from_slice(octets).is_err() {
+    if all.extend_from_slice(header).is_err() || all.extend_from_slice(octets).is_err() {
         panic!(rt; "out of memory");
     }
     Packet {

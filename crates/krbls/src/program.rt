@@ -96,7 +96,7 @@ fn has_directory(sources: &[Source]) -> bool
 {
     let mut found = false;
     for source in sources {
-        found = found | matches!(source, Source::Directory(_));
+        found = found || matches!(source, Source::Directory(_));
     }
     found
 }
