@@ -387,7 +387,7 @@ impl<R: Read> FieldReader for StreamReader<R> {
             let piece = &mut buffer[..count as usize];
             self.take_all(place, piece)?;
             let more = are_zero(piece);
-            zeros = zeros & more;
+            zeros &= more;
             left -= count;
         }
         Ok(zeros)
