@@ -68,6 +68,9 @@ fn long_item(tag: u8, octets: &[u8]) -> Option<(&[u8], &[u8])>
     requires { length octets.now < 2 ^ 31 }
     ensures { MatchOption result (HasNoItem tag octets.now) (λ (contents, rest). octets.now ≡ item tag contents.now ++ rest.now) }
 {
+    if let Some(found) = wide_item(tag, octets) {
+        return Some(found);
+    }
     let head = find_head(tag, octets);
     if head.before == 0 {
         None
@@ -95,19 +98,6 @@ fn wide_item(tag: u8, octets: &[u8]) -> Option<(&[u8], &[u8])>
 /// Returns where the contents of the first item are, if it has a tag, by a call.
 #[inline(never)]
 fn find_head(tag: u8, octets: &[u8]) -> Head
-    requires { length octets.now < 2 ^ 31 }
-    ensures none { result.before ≡ 0 → HasNoItem tag octets.now }
-    ensures some { 0 < result.before → IsHead (item tag) octets.now result.before result.size }
-{
-    match wide_item(tag, octets) {
-        Some((contents, rest)) => head_of(octets, contents, rest),
-        None => find_other_head(tag, octets),
-    }
-}
-
-/// Returns the same as [`find_head`], for other lengths.
-#[inline(never)]
-fn find_other_head(tag: u8, octets: &[u8]) -> Head
     requires { length octets.now < 2 ^ 31 }
     ensures none { result.before ≡ 0 → HasNoItem tag octets.now }
     ensures some { 0 < result.before → IsHead (item tag) octets.now result.before result.size }
