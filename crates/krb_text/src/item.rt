@@ -39,6 +39,7 @@ fn put_name(line: &mut TextBuffer, registry: Registry, number: i64) -> Result<()
 }
 
 /// Appends the name of a number as a string, or null if it has none.
+#[inline(always)]
 pub(crate) fn put_name_string(
     object: &mut TextBuffer,
     registry: Registry,
@@ -78,6 +79,7 @@ pub(crate) fn put_named(
 }
 
 /// Appends the member of the name of a number.
+#[inline(always)]
 pub(crate) fn put_name_member(
     object: &mut TextBuffer,
     begin: &str,

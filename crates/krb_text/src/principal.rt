@@ -182,50 +182,27 @@ fn put_principal_part<C: Components>(
     put_text_parts(object, components, realm)
 }
 
-/// Appends the member of the text of a principal, the first of its object.
-fn put_text_member<C: Components>(
-    object: &mut TextBuffer,
-    components: &C,
-    realm: &[u8],
-) -> Result<(), AllocError>
-    ensures { OnOk result (object.new ≡ object.old ++ codes "{\"text\":" ++ json_string (principal_text (C.components components.now) realm.now)) }
-{
-    object.push_str("{\"text\":\"")?;
-    put_principal_part(object, components, realm)?;
-    object.push_str("\"")
-}
-
 /// Appends what an object has of a principal, up to its components.
+#[inline(always)]
 fn put_text_and_type<'a, C: Components>(
     object: &mut TextBuffer,
     principal: &Principal<'a, C>,
 ) -> Result<(), AllocError>
     ensures { OnOk result (object.new ≡ object.old ++ codes "{\"text\":" ++ json_string (principal_text (C.components principal.now.components) principal.now.realm.now) ++ codes ",\"type\":" ++ signed_decimal principal.now.name_type ++ codes ",\"type_name\":" ++ name_string NameTypes principal.now.name_type) }
 {
-    put_text_member(object, &principal.components, principal.realm)?;
-    let registry = Registry::NameTypes;
+    object.push_str("{\"text\":\"")?;
+    put_principal_part(object, &principal.components, principal.realm)?;
     put_number_and_name(
         object,
-        ",\"type\":",
+        "\",\"type\":",
         ",\"type_name\":",
-        registry,
+        Registry::NameTypes,
         principal.name_type,
     )
 }
 
-/// Appends components as strings in brackets.
-fn put_component_list<C: Components>(
-    object: &mut TextBuffer,
-    components: &C,
-) -> Result<(), AllocError>
-    ensures { OnOk result (object.new ≡ object.old ++ list_text octets_string (C.components components.now)) }
-{
-    object.push_str("[")?;
-    components.put_components(object, ItemForm::Object, "", ",")?;
-    object.push_str("]")
-}
-
 /// Appends the members of the parts of a principal, the last of its object.
+#[inline(always)]
 fn put_parts<C: Components>(
     object: &mut TextBuffer,
     components: &C,
@@ -233,14 +210,15 @@ fn put_parts<C: Components>(
 ) -> Result<(), AllocError>
     ensures { OnOk result (object.new ≡ object.old ++ codes ",\"components\":" ++ list_text octets_string (C.components components.now) ++ codes ",\"realm\":" ++ octets_string realm.now ++ codes "}") }
 {
-    object.push_str(",\"components\":")?;
-    put_component_list(object, components)?;
-    object.push_str(",\"realm\":")?;
+    object.push_str(",\"components\":[")?;
+    components.put_components(object, ItemForm::Object, "", ",")?;
+    object.push_str("],\"realm\":")?;
     put_octets_string(object, realm)?;
     object.push_str("}")
 }
 
 /// Appends what an object has of a principal.
+#[inline(never)]
 fn put_principal_object<'a, C: Components>(
     object: &mut TextBuffer,
     principal: &Principal<'a, C>,
@@ -264,6 +242,7 @@ impl<'a, C: Components> Shown for Principal<'a, C> {
         put_escaped(line, self.realm)
     }
 
+    #[inline(always)]
     #[tactic(auto, unfolding(crate::specs::Forms::members, crate::specs::Forms::json_value, crate::specs::Forms::names_member))]
     fn put_members(&self, object: &mut TextBuffer, begin: &str) -> Result<(), AllocError> {
         put_begin(object, begin)?;
