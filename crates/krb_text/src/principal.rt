@@ -13,7 +13,7 @@ ghost use Rattle.krb_text.specs.declared.item.ItemForm.TheVariants.{Part};
 ghost use Rattle.krb_text.specs.inner.Items.{octets_item};
 
 use crate::escape::put_escaped;
-use crate::item::{ItemForm, put_octets_item};
+use crate::item::{ItemForm, put_octets_by_call, put_octets_item};
 use crate::json::put_octets_string;
 use crate::number::put_number_and_name;
 use crate::shown::{Shown, put_begin};
@@ -37,6 +37,16 @@ pub(crate) trait Components {
         separator: &str,
     ) -> Result<(), AllocError>
         ensures { OnOk result (text.new ≡ text.old ++ joined none.now separator.now (octets_item form) (components self.now)) };
+
+    /// Appends the components as [`Components::put_components`] does, in an object.
+    fn put_in_object(
+        &self,
+        object: &mut TextBuffer,
+        form: ItemForm,
+        none: &str,
+        separator: &str,
+    ) -> Result<(), AllocError>
+        ensures { OnOk result (object.new ≡ object.old ++ joined none.now separator.now (octets_item form) (components self.now)) };
 }
 
 /// Appends the separator and a component, for each of the components.
@@ -77,6 +87,16 @@ impl<'a> Components for Strings<'a> {
             }
         }
     }
+
+    fn put_in_object(
+        &self,
+        object: &mut TextBuffer,
+        form: ItemForm,
+        none: &str,
+        separator: &str,
+    ) -> Result<(), AllocError> {
+        self.put_components(object, form, none, separator)
+    }
 }
 
 /// Appends the separator and a component, for each of the components that are viewed.
@@ -94,6 +114,26 @@ fn put_other_viewed(
     'others: while let Some((component, rest)) = next_item::<KString>(others) {
         text.push_str(separator)?;
         put_octets_item(text, form, component)?;
+        others = rest;
+    }
+    Ok(())
+}
+
+/// Appends the separator and a component, for each of the components that are viewed, in an object.
+#[inline(always)]
+fn put_others_in_object(
+    object: &mut TextBuffer,
+    form: ItemForm,
+    separator: &str,
+    components: ItemsView<'_>,
+) -> Result<(), AllocError>
+    requires { AreViewed kerberos_string components.octets.now }
+    ensures { OnOk result (object.new ≡ object.old ++ flat_map (λ c. separator.now ++ octets_item form c) (items_of kerberos_string components.entry.octets.now)) }
+{
+    let mut others = components;
+    'others: while let Some((component, rest)) = next_item::<KString>(others) {
+        object.push_str(separator)?;
+        put_octets_by_call(object, form, component)?;
         others = rest;
     }
     Ok(())
@@ -145,6 +185,23 @@ impl<'a> Components for ViewedStrings<'a> {
             }
         }
     }
+
+    #[inline(always)]
+    fn put_in_object(
+        &self,
+        object: &mut TextBuffer,
+        form: ItemForm,
+        none: &str,
+        separator: &str,
+    ) -> Result<(), AllocError> {
+        match next_item::<KString>(self.0) {
+            None => object.push_str(none),
+            Some((first, others)) => {
+                put_octets_by_call(object, form, first)?;
+                put_others_in_object(object, form, separator, others)
+            }
+        }
+    }
 }
 
 /// A principal: how its name is meant, its components and its realm.
@@ -166,9 +223,9 @@ fn put_text_parts<C: Components>(
 ) -> Result<(), AllocError>
     ensures { OnOk result (object.new ≡ object.old ++ (joined (codes "\\\\-") (codes "/") (octets_item Part) (C.components components.now) ++ codes "@" ++ octets_item Part realm.now)) }
 {
-    components.put_components(object, ItemForm::Part, "\\\\-", "/")?;
+    components.put_in_object(object, ItemForm::Part, "\\\\-", "/")?;
     object.push_str("@")?;
-    put_octets_item(object, ItemForm::Part, realm)
+    put_octets_by_call(object, ItemForm::Part, realm)
 }
 
 /// Appends the text of a principal as it is in a string.
@@ -211,7 +268,7 @@ fn put_parts<C: Components>(
     ensures { OnOk result (object.new ≡ object.old ++ codes ",\"components\":" ++ list_text octets_string (C.components components.now) ++ codes ",\"realm\":" ++ octets_string realm.now ++ codes "}") }
 {
     object.push_str(",\"components\":[")?;
-    components.put_components(object, ItemForm::Object, "", ",")?;
+    components.put_in_object(object, ItemForm::Object, "", ",")?;
     object.push_str("],\"realm\":")?;
     put_octets_string(object, realm)?;
     object.push_str("}")
