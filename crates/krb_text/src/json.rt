@@ -4,7 +4,7 @@ ghost use Rattle.std.specs.Prelude.{◌≡◌, ◌++◌, ◌<◌, OnOk, codes, t
 ghost use Rattle.std.specs.List.{flat_map, list_all};
 ghost use Rattle.std.specs.Str.{IsAscii};
 ghost use Rattle.krb_text.specs.Forms.{json_character, json_string, octets_string, shown_octet};
-ghost use Rattle.krb_text.specs.inner.Strings.{escaped, is_plain_in, is_unescaped, quoted};
+ghost use Rattle.krb_text.specs.inner.Strings.{escaped, is_bare, is_plain_in, is_unescaped, quoted};
 
 use crate::escape::{are_plain, is_plain, put_hex};
 use crate::text_buffer::TextBuffer;
@@ -160,11 +160,35 @@ fn put_shown(object: &mut TextBuffer, octets: &[u8]) -> Result<(), AllocError>
     put_each_octet(object, Escape::Object, octets)
 }
 
-/// Appends octets as a string, in which they are as [`put_shown`] has them, one after another.
+/// Returns whether no octet is escaped in a string of an object, as of a text with blanks. Each is
+/// looked at, which costs less than to stop at the first that is.
+fn are_bare(octets: &[u8]) -> bool
+    ensures { result ≡ list_all is_bare octets.now }
+{
+    let mut bare = true;
+    for octet in octets {
+        bare = bare & is_unescaped(Escape::Object, *octet) & (*octet != b'"');
+    }
+    bare
+}
+
+/// Appends octets as a string, of which none is escaped there.
+fn put_bare_string(object: &mut TextBuffer, octets: &[u8]) -> Result<(), AllocError>
+    requires { list_all is_bare octets.now ≡ true }
+    ensures { OnOk result (object.new ≡ object.old ++ octets_string octets.now) }
+{
+    object.push_between("\"", octets, "\"")
+}
+
+/// Appends octets as a string, in which they are as [`put_shown`] has them, one after another if one
+/// of them is escaped.
 #[inline(never)]
 fn put_shown_string(object: &mut TextBuffer, octets: &[u8]) -> Result<(), AllocError>
     ensures { OnOk result (object.new ≡ object.old ++ octets_string octets.now) }
 {
+    if are_bare(octets) {
+        return put_bare_string(object, octets);
+    }
     object.push_str("\"")?;
     put_shown(object, octets)?;
     object.push_str("\"")
