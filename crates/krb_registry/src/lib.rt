@@ -13,6 +13,7 @@
 
 mod law;
 mod lookup;
+mod places;
 mod registry;
 mod row;
 mod tables;

@@ -37,6 +37,7 @@ pub enum Registry {
 }
 
 /// Returns the rows of a registry, in order of number.
+#[inline(always)]
 #[tactic(auto, unfolding(crate::specs::Rows::rows))]
 pub fn rows(registry: Registry) -> &'static [Row]
     ensures { map number_and_name result.now ≡ rows registry }

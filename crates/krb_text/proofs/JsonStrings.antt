@@ -1,14 +1,17 @@
 -- Octets as strings of JSON, octet by octet.
-use Rattle.std.proofs.Common.{◌≡◌, ℕ, true, List, [], ◌∷◌, ◌++◌, codes, refl, ap, ap₂, ◌∙◌, arith}
+use Rattle.std.proofs.Common.{◌≡◌, ℕ, ◌≤◌, true, List, [], ◌∷◌, ◌++◌, codes, slice_index_or, refl, ap, ap₂, ◌∙◌, arith}
 use Rattle.std.proofs.lemmas.Bool.{and_parts}
 use Rattle.std.proofs.lemmas.Bool.Decides.{nat_tests}
 use Rattle.std.proofs.lemmas.Grind.{flat_map-append}
+use Rattle.std.proofs.lemmas.List.Sums.{AllPass-from_list_all}
+use Rattle.std.proofs.lemmas.Str.Ascii.{IsAscii-from_all}
 use Rattle.std.specs.List.{flat_map, list_all}
+use Rattle.std.specs.Str.{IsAscii}
 use Rattle.krb_text.specs.declared.json.Escape.{Escape}
 use Rattle.krb_text.specs.declared.json.Escape.TheVariants as escapes
 use Rattle.krb_text.specs.Forms.{json_character, shown_octet}
 use Rattle.krb_text.specs.Text.{components_text, escape, joined, principal_text}
-use Rattle.krb_text.specs.inner.Strings.{escaped, is_plain_in, quoted}
+use Rattle.krb_text.specs.inner.Strings.{escaped, is_bare, is_plain_in, quoted}
 
 pub flat-flat : {A B C : Type 0} (f : B → List C) (g : A → List B) (values : List A) → flat_map f (flat_map g values) ≡ flat_map (λ value. flat_map f (g value)) values
 flat-flat f g [] = refl
@@ -56,3 +59,22 @@ quoted_plain escape [] e = refl
 quoted_plain escape (o ∷ octets) e =
     let h = and_parts (is_plain_in true o) (list_all (is_plain_in true) octets) e in
     rw (octet_plain escape o h.0, quoted_plain escape octets h.1, character_plain o h.0) refl
+
+-- ---- octets that need no escape by JSON
+bare_octet : (o : ℕ) → is_bare o ≡ true → escaped escapes.Object o ≡ o ∷ []
+bare_octet o e = grind (arith, nat_tests)
+
+bare_character : (o : ℕ) → is_bare o ≡ true → json_character o ≡ o ∷ []
+bare_character o e = grind (arith, nat_tests)
+
+bare_range : (o : ℕ) → is_bare o ≡ true → o ≤ 126
+bare_range o e = grind (arith, nat_tests)
+
+pub quoted_bare : (octets : List ℕ) → list_all is_bare octets ≡ true → quoted escapes.Object octets ≡ octets
+quoted_bare [] e = refl
+quoted_bare (o ∷ octets) e =
+    let h = and_parts (is_bare o) (list_all is_bare octets) e in
+    rw (bare_octet o h.0, quoted_bare octets h.1, bare_character o h.0) refl
+
+pub ascii_bare : (octets : List ℕ) → list_all is_bare octets ≡ true → IsAscii octets
+ascii_bare octets e = IsAscii-from_all octets (λ k d within. omega (arith, bare_range (slice_index_or octets k d) (AllPass-from_list_all is_bare octets e k d within)))

@@ -63,11 +63,7 @@ pub fn put_opening(text: &mut TextBuffer, form: Form, kind: &str) -> Result<(), 
 {
     match form {
         Form::Lines | Form::NamedLines => text.push_str(kind),
-        Form::Json => {
-            text.push_str("{\"kind\":\"")?;
-            text.push_str(kind)?;
-            text.push_str("\"")
-        }
+        Form::Json => text.push_three("{\"kind\":\"", kind, "\""),
     }
 }
 

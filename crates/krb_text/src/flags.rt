@@ -230,7 +230,34 @@ fn put_count(text: &mut TextBuffer, unused: u8, octets: &[u8]) -> Result<(), All
     }
 }
 
+/// Appends what an object has of 32 flags, up to their names.
+#[inline(always)]
+fn put_32_bits_start(object: &mut TextBuffer, octets: &[u8; 4]) -> Result<(), AllocError>
+    ensures { OnOk result (object.new ≡ object.old ++ codes "{\"bits\":32,\"hex\":\"" ++ hex octets.now ++ codes "\",\"names\":") }
+{
+    let before = "{\"bits\":32,\"hex\":\"";
+    object.push_between(before, &eight_digits(octets), "\",\"names\":")
+}
+
+/// Appends what an object has of flags, up to their names.
+#[inline(always)]
+fn put_bits_start(object: &mut TextBuffer, unused: u8, octets: &[u8]) -> Result<(), AllocError>
+    ensures { OnOk result (object.new ≡ object.old ++ codes "{\"bits\":" ++ decimal (8 * length octets.now - unused) ++ codes ",\"hex\":\"" ++ hex octets.now ++ codes "\",\"names\":") }
+{
+    match octets.split_first_chunk::<4>() {
+        Some((four, [])) if unused == 0 => put_32_bits_start(object, four),
+        _ => {
+            object.push_str("{\"bits\":")?;
+            put_count(object, unused, octets)?;
+            object.push_str(",\"hex\":\"")?;
+            put_hex(object, octets)?;
+            object.push_str("\",\"names\":")
+        }
+    }
+}
+
 /// Appends what an object has of flags.
+#[inline(never)]
 pub(crate) fn put_flags_object(
     object: &mut TextBuffer,
     registry: Registry,
@@ -239,11 +266,7 @@ pub(crate) fn put_flags_object(
 ) -> Result<(), AllocError>
     ensures { OnOk result (object.new ≡ object.old ++ flags_object registry (unused, octets.now)) }
 {
-    object.push_str("{\"bits\":")?;
-    put_count(object, unused, octets)?;
-    object.push_str(",\"hex\":\"")?;
-    put_hex(object, octets)?;
-    object.push_str("\",\"names\":")?;
+    put_bits_start(object, unused, octets)?;
     put_name_list(object, registry, octets)?;
     object.push_str("}")
 }
@@ -290,6 +313,7 @@ impl<'a> Shown for FlagBits<'a> {
         }
     }
 
+    #[inline(always)]
     #[tactic(auto, unfolding(crate::specs::Forms::members, crate::specs::Forms::json_value, crate::specs::Forms::names_member))]
     fn put_members(&self, object: &mut TextBuffer, begin: &str) -> Result<(), AllocError> {
         put_begin(object, begin)?;

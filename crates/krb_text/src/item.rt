@@ -6,7 +6,7 @@ ghost use Rattle.krb_text.specs.Forms.{name_string, number_text};
 ghost use Rattle.krb_text.specs.Text.{or_dash};
 ghost use Rattle.krb_text.specs.inner.Items.{number_item, octets_item};
 
-use crate::escape::put_escaped;
+use crate::escape::{put_each, put_escaped};
 use crate::json::{Escape, put_octets_string, put_plain_string, put_quoted};
 use crate::text_buffer::TextBuffer;
 use krb_registry::{Registry, name_of};
@@ -39,6 +39,7 @@ fn put_name(line: &mut TextBuffer, registry: Registry, number: i64) -> Result<()
 }
 
 /// Appends the name of a number as a string, or null if it has none.
+#[inline(always)]
 pub(crate) fn put_name_string(
     object: &mut TextBuffer,
     registry: Registry,
@@ -78,6 +79,7 @@ pub(crate) fn put_named(
 }
 
 /// Appends the member of the name of a number.
+#[inline(always)]
 pub(crate) fn put_name_member(
     object: &mut TextBuffer,
     begin: &str,
@@ -120,5 +122,22 @@ pub(crate) fn put_octets_item(
         ItemForm::Part => put_quoted(text, Escape::Line, octets),
         ItemForm::Object => put_octets_string(text, octets),
         ItemForm::Line | ItemForm::Named(_) | ItemForm::Name(_) => put_escaped(text, octets),
+    }
+}
+
+/// Appends octets as [`put_octets_item`] does, but by calls alone, so that what has it in a loop stays
+/// small enough to be compiled where it is called. It is for what is in objects.
+#[inline(always)]
+pub(crate) fn put_octets_by_call(
+    text: &mut TextBuffer,
+    form: ItemForm,
+    octets: &[u8],
+) -> Result<(), AllocError>
+    ensures { OnOk result (text.new ≡ text.old ++ octets_item form octets.now) }
+{
+    match form {
+        ItemForm::Part => put_quoted(text, Escape::Line, octets),
+        ItemForm::Object => put_octets_string(text, octets),
+        ItemForm::Line | ItemForm::Named(_) | ItemForm::Name(_) => put_each(text, octets),
     }
 }

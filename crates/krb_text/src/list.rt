@@ -99,6 +99,31 @@ fn put_list<'a, T: Listed<'a>>(
     text.push_str("]")
 }
 
+/// Appends the numbers of items in brackets, as they are.
+#[inline(never)]
+fn put_plain_list<'a, T: Listed<'a>>(
+    text: &mut TextBuffer,
+    items: ItemsView<'a>,
+) -> Result<(), AllocError>
+    requires { AreViewed T.View.term items.octets.now }
+    ensures { OnOk result (text.new ≡ text.old ++ list_text signed_decimal (map (item_number T.View.term) (items_of T.View.term items.entry.octets.now))) }
+{
+    put_list::<T>(text, ItemForm::Line, items)
+}
+
+/// Appends the names of items in brackets.
+#[inline(never)]
+fn put_name_list<'a, T: Listed<'a>>(
+    object: &mut TextBuffer,
+    registry: Registry,
+    items: ItemsView<'a>,
+) -> Result<(), AllocError>
+    requires { AreViewed T.View.term items.octets.now }
+    ensures { OnOk result (object.new ≡ object.old ++ list_text (name_string registry) (map (item_number T.View.term) (items_of T.View.term items.entry.octets.now))) }
+{
+    put_list::<T>(object, ItemForm::Name(registry), items)
+}
+
 /// Appends what a line shows of numbers of a registry.
 #[inline(always)]
 #[tactic(auto, unfolding(crate::specs::Forms::value_text))]
@@ -119,6 +144,7 @@ fn put_numbers_text<'a, T: Listed<'a>>(
 }
 
 /// Appends the members of numbers of a registry.
+#[inline(always)]
 #[tactic(auto, unfolding(crate::specs::Forms::members, crate::specs::Forms::json_value, crate::specs::Forms::names_member))]
 fn put_numbers_members<'a, T: Listed<'a>>(
     object: &mut TextBuffer,
@@ -130,9 +156,9 @@ fn put_numbers_members<'a, T: Listed<'a>>(
     ensures { OnOk result (object.new ≡ object.old ++ members begin.now (Numbers registry (map (item_number T.View.term) (items_of T.View.term items.entry.octets.now)))) }
 {
     put_begin(object, begin)?;
-    put_list::<T>(object, ItemForm::Line, items)?;
+    put_plain_list::<T>(object, items)?;
     put_names_begin(object, begin)?;
-    put_list::<T>(object, ItemForm::Name(registry), items)
+    put_name_list::<T>(object, registry, items)
 }
 
 /// Returns how many items there are.
@@ -189,6 +215,7 @@ impl<'a> Shown for EncryptionTypes<'a> {
         put_numbers_text::<Int32>(line, names, Registry::EncryptionTypes, self.0)
     }
 
+    #[inline(always)]
     fn put_members(&self, object: &mut TextBuffer, begin: &str) -> Result<(), AllocError> {
         put_numbers_members::<Int32>(object, begin, Registry::EncryptionTypes, self.0)
     }
@@ -231,6 +258,7 @@ impl<'a> Shown for PaDataTypes<'a> {
         put_numbers_text::<PaData>(line, names, Registry::PreAuthenticationData, self.0)
     }
 
+    #[inline(always)]
     fn put_members(&self, object: &mut TextBuffer, begin: &str) -> Result<(), AllocError> {
         put_numbers_members::<PaData>(object, begin, Registry::PreAuthenticationData, self.0)
     }

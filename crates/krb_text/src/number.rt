@@ -17,6 +17,7 @@ use krb_registry::Registry;
 use std::alloc::AllocError;
 
 /// Appends a number and its name, or null, each after what precedes it in an object.
+#[inline(always)]
 pub(crate) fn put_number_and_name(
     object: &mut TextBuffer,
     before_number: &str,
@@ -49,6 +50,7 @@ impl Shown for Numbered {
         put_named(line, names, self.registry, self.number)
     }
 
+    #[inline(always)]
     #[tactic(auto, unfolding(crate::specs::Forms::members, crate::specs::Forms::json_value, crate::specs::Forms::names_member))]
     fn put_members(&self, object: &mut TextBuffer, begin: &str) -> Result<(), AllocError> {
         put_begin(object, begin)?;
@@ -98,6 +100,7 @@ fn put_kvno(line: &mut TextBuffer, kvno: Option<i64>) -> Result<(), AllocError>
 }
 
 /// Appends the member of the version of a key, or of null.
+#[inline(always)]
 fn put_kvno_member(object: &mut TextBuffer, kvno: Option<i64>) -> Result<(), AllocError>
     ensures { OnOk result (object.new ≡ object.old ++ codes ",\"kvno\":" ++ or_null signed_decimal kvno) }
 {
@@ -111,6 +114,7 @@ fn put_kvno_member(object: &mut TextBuffer, kvno: Option<i64>) -> Result<(), All
 }
 
 /// Appends the number of octets, with which an object ends.
+#[inline(always)]
 fn put_size_end(object: &mut TextBuffer, size: u64) -> Result<(), AllocError>
     ensures { OnOk result (object.new ≡ object.old ++ codes ",\"size\":" ++ decimal size ++ codes "}") }
 {
@@ -120,6 +124,7 @@ fn put_size_end(object: &mut TextBuffer, size: u64) -> Result<(), AllocError>
 }
 
 /// Appends what an object has of what is encrypted, up to its size.
+#[inline(always)]
 fn put_encrypted_start(object: &mut TextBuffer, encrypted: &Encrypted) -> Result<(), AllocError>
     ensures { OnOk result (object.new ≡ object.old ++ codes "{\"etype\":" ++ signed_decimal encrypted.now.etype ++ codes ",\"etype_name\":" ++ name_string EncryptionTypes encrypted.now.etype ++ codes ",\"kvno\":" ++ or_null signed_decimal encrypted.now.kvno) }
 {
@@ -135,6 +140,7 @@ fn put_encrypted_start(object: &mut TextBuffer, encrypted: &Encrypted) -> Result
 }
 
 /// Appends what an object has of what is encrypted.
+#[inline(never)]
 fn put_encrypted_object(object: &mut TextBuffer, encrypted: &Encrypted) -> Result<(), AllocError>
     ensures { OnOk result (object.new ≡ object.old ++ encrypted_object encrypted.now.etype encrypted.now.kvno encrypted.now.size) }
 {
@@ -154,6 +160,7 @@ impl Shown for Encrypted {
         line.push_number(self.size)
     }
 
+    #[inline(always)]
     #[tactic(auto, unfolding(crate::specs::Forms::members, crate::specs::Forms::json_value, crate::specs::Forms::names_member))]
     fn put_members(&self, object: &mut TextBuffer, begin: &str) -> Result<(), AllocError> {
         put_begin(object, begin)?;

@@ -13,7 +13,7 @@ ghost use Rattle.krb_text.specs.declared.item.ItemForm.TheVariants.{Part};
 ghost use Rattle.krb_text.specs.inner.Items.{octets_item};
 
 use crate::escape::put_escaped;
-use crate::item::{ItemForm, put_octets_item};
+use crate::item::{ItemForm, put_octets_by_call, put_octets_item};
 use crate::json::put_octets_string;
 use crate::number::put_number_and_name;
 use crate::shown::{Shown, put_begin};
@@ -37,6 +37,16 @@ pub(crate) trait Components {
         separator: &str,
     ) -> Result<(), AllocError>
         ensures { OnOk result (text.new ≡ text.old ++ joined none.now separator.now (octets_item form) (components self.now)) };
+
+    /// Appends the components as [`Components::put_components`] does, in an object.
+    fn put_in_object(
+        &self,
+        object: &mut TextBuffer,
+        form: ItemForm,
+        none: &str,
+        separator: &str,
+    ) -> Result<(), AllocError>
+        ensures { OnOk result (object.new ≡ object.old ++ joined none.now separator.now (octets_item form) (components self.now)) };
 }
 
 /// Appends the separator and a component, for each of the components.
@@ -77,6 +87,16 @@ impl<'a> Components for Strings<'a> {
             }
         }
     }
+
+    fn put_in_object(
+        &self,
+        object: &mut TextBuffer,
+        form: ItemForm,
+        none: &str,
+        separator: &str,
+    ) -> Result<(), AllocError> {
+        self.put_components(object, form, none, separator)
+    }
 }
 
 /// Appends the separator and a component, for each of the components that are viewed.
@@ -94,6 +114,26 @@ fn put_other_viewed(
     'others: while let Some((component, rest)) = next_item::<KString>(others) {
         text.push_str(separator)?;
         put_octets_item(text, form, component)?;
+        others = rest;
+    }
+    Ok(())
+}
+
+/// Appends the separator and a component, for each of the components that are viewed, in an object.
+#[inline(always)]
+fn put_others_in_object(
+    object: &mut TextBuffer,
+    form: ItemForm,
+    separator: &str,
+    components: ItemsView<'_>,
+) -> Result<(), AllocError>
+    requires { AreViewed kerberos_string components.octets.now }
+    ensures { OnOk result (object.new ≡ object.old ++ flat_map (λ c. separator.now ++ octets_item form c) (items_of kerberos_string components.entry.octets.now)) }
+{
+    let mut others = components;
+    'others: while let Some((component, rest)) = next_item::<KString>(others) {
+        object.push_str(separator)?;
+        put_octets_by_call(object, form, component)?;
         others = rest;
     }
     Ok(())
@@ -145,6 +185,23 @@ impl<'a> Components for ViewedStrings<'a> {
             }
         }
     }
+
+    #[inline(always)]
+    fn put_in_object(
+        &self,
+        object: &mut TextBuffer,
+        form: ItemForm,
+        none: &str,
+        separator: &str,
+    ) -> Result<(), AllocError> {
+        match next_item::<KString>(self.0) {
+            None => object.push_str(none),
+            Some((first, others)) => {
+                put_octets_by_call(object, form, first)?;
+                put_others_in_object(object, form, separator, others)
+            }
+        }
+    }
 }
 
 /// A principal: how its name is meant, its components and its realm.
@@ -166,9 +223,9 @@ fn put_text_parts<C: Components>(
 ) -> Result<(), AllocError>
     ensures { OnOk result (object.new ≡ object.old ++ (joined (codes "\\\\-") (codes "/") (octets_item Part) (C.components components.now) ++ codes "@" ++ octets_item Part realm.now)) }
 {
-    components.put_components(object, ItemForm::Part, "\\\\-", "/")?;
+    components.put_in_object(object, ItemForm::Part, "\\\\-", "/")?;
     object.push_str("@")?;
-    put_octets_item(object, ItemForm::Part, realm)
+    put_octets_by_call(object, ItemForm::Part, realm)
 }
 
 /// Appends the text of a principal as it is in a string.
@@ -182,50 +239,27 @@ fn put_principal_part<C: Components>(
     put_text_parts(object, components, realm)
 }
 
-/// Appends the member of the text of a principal, the first of its object.
-fn put_text_member<C: Components>(
-    object: &mut TextBuffer,
-    components: &C,
-    realm: &[u8],
-) -> Result<(), AllocError>
-    ensures { OnOk result (object.new ≡ object.old ++ codes "{\"text\":" ++ json_string (principal_text (C.components components.now) realm.now)) }
-{
-    object.push_str("{\"text\":\"")?;
-    put_principal_part(object, components, realm)?;
-    object.push_str("\"")
-}
-
 /// Appends what an object has of a principal, up to its components.
+#[inline(always)]
 fn put_text_and_type<'a, C: Components>(
     object: &mut TextBuffer,
     principal: &Principal<'a, C>,
 ) -> Result<(), AllocError>
     ensures { OnOk result (object.new ≡ object.old ++ codes "{\"text\":" ++ json_string (principal_text (C.components principal.now.components) principal.now.realm.now) ++ codes ",\"type\":" ++ signed_decimal principal.now.name_type ++ codes ",\"type_name\":" ++ name_string NameTypes principal.now.name_type) }
 {
-    put_text_member(object, &principal.components, principal.realm)?;
-    let registry = Registry::NameTypes;
+    object.push_str("{\"text\":\"")?;
+    put_principal_part(object, &principal.components, principal.realm)?;
     put_number_and_name(
         object,
-        ",\"type\":",
+        "\",\"type\":",
         ",\"type_name\":",
-        registry,
+        Registry::NameTypes,
         principal.name_type,
     )
 }
 
-/// Appends components as strings in brackets.
-fn put_component_list<C: Components>(
-    object: &mut TextBuffer,
-    components: &C,
-) -> Result<(), AllocError>
-    ensures { OnOk result (object.new ≡ object.old ++ list_text octets_string (C.components components.now)) }
-{
-    object.push_str("[")?;
-    components.put_components(object, ItemForm::Object, "", ",")?;
-    object.push_str("]")
-}
-
 /// Appends the members of the parts of a principal, the last of its object.
+#[inline(always)]
 fn put_parts<C: Components>(
     object: &mut TextBuffer,
     components: &C,
@@ -233,14 +267,15 @@ fn put_parts<C: Components>(
 ) -> Result<(), AllocError>
     ensures { OnOk result (object.new ≡ object.old ++ codes ",\"components\":" ++ list_text octets_string (C.components components.now) ++ codes ",\"realm\":" ++ octets_string realm.now ++ codes "}") }
 {
-    object.push_str(",\"components\":")?;
-    put_component_list(object, components)?;
-    object.push_str(",\"realm\":")?;
+    object.push_str(",\"components\":[")?;
+    components.put_in_object(object, ItemForm::Object, "", ",")?;
+    object.push_str("],\"realm\":")?;
     put_octets_string(object, realm)?;
     object.push_str("}")
 }
 
 /// Appends what an object has of a principal.
+#[inline(never)]
 fn put_principal_object<'a, C: Components>(
     object: &mut TextBuffer,
     principal: &Principal<'a, C>,
@@ -264,6 +299,7 @@ impl<'a, C: Components> Shown for Principal<'a, C> {
         put_escaped(line, self.realm)
     }
 
+    #[inline(always)]
     #[tactic(auto, unfolding(crate::specs::Forms::members, crate::specs::Forms::json_value, crate::specs::Forms::names_member))]
     fn put_members(&self, object: &mut TextBuffer, begin: &str) -> Result<(), AllocError> {
         put_begin(object, begin)?;

@@ -32,16 +32,15 @@ pub trait Shown {
 pub fn put_begin(object: &mut TextBuffer, begin: &str) -> Result<(), AllocError>
     ensures { OnOk result (object.new ≡ object.old ++ begin.now ++ codes "\":") }
 {
-    object.push_str(begin)?;
-    object.push_str("\":")
+    object.push_pair(begin, "\":")
 }
 
 /// Appends what precedes the names of a list in an object.
+#[inline(always)]
 pub(crate) fn put_names_begin(object: &mut TextBuffer, begin: &str) -> Result<(), AllocError>
     ensures { OnOk result (object.new ≡ object.old ++ begin.now ++ codes "_names\":") }
 {
-    object.push_str(begin)?;
-    object.push_str("_names\":")
+    object.push_pair(begin, "_names\":")
 }
 
 /// A number of no registry.
@@ -53,6 +52,7 @@ impl Shown for i64 {
         line.push_signed(*self)
     }
 
+    #[inline(always)]
     #[tactic(auto, unfolding(crate::specs::Forms::members, crate::specs::Forms::json_value, crate::specs::Forms::names_member))]
     fn put_members(&self, object: &mut TextBuffer, begin: &str) -> Result<(), AllocError> {
         put_begin(object, begin)?;
@@ -69,6 +69,7 @@ impl Shown for u64 {
         line.push_number(*self)
     }
 
+    #[inline(always)]
     #[tactic(auto, unfolding(crate::specs::Forms::members, crate::specs::Forms::json_value, crate::specs::Forms::names_member))]
     fn put_members(&self, object: &mut TextBuffer, begin: &str) -> Result<(), AllocError> {
         put_begin(object, begin)?;
@@ -85,6 +86,7 @@ impl Shown for bool {
         line.push_str(if *self { "yes" } else { "no" })
     }
 
+    #[inline(always)]
     #[tactic(auto, unfolding(crate::specs::Forms::members, crate::specs::Forms::json_value, crate::specs::Forms::names_member))]
     fn put_members(&self, object: &mut TextBuffer, begin: &str) -> Result<(), AllocError> {
         put_begin(object, begin)?;
@@ -104,6 +106,7 @@ impl<'a> Shown for Text<'a> {
         put_escaped(line, self.0)
     }
 
+    #[inline(always)]
     #[tactic(auto, unfolding(crate::specs::Forms::members, crate::specs::Forms::json_value, crate::specs::Forms::names_member))]
     fn put_members(&self, object: &mut TextBuffer, begin: &str) -> Result<(), AllocError> {
         put_begin(object, begin)?;
@@ -125,6 +128,7 @@ impl<'a> Shown for QuotedText<'a> {
         line.push_str("\"")
     }
 
+    #[inline(always)]
     #[tactic(auto, unfolding(crate::specs::Forms::members, crate::specs::Forms::json_value, crate::specs::Forms::names_member))]
     fn put_members(&self, object: &mut TextBuffer, begin: &str) -> Result<(), AllocError> {
         put_begin(object, begin)?;
@@ -144,6 +148,7 @@ impl<'a> Shown for HexText<'a> {
         put_hex(line, self.0)
     }
 
+    #[inline(always)]
     #[tactic(auto, unfolding(crate::specs::Forms::members, crate::specs::Forms::json_value, crate::specs::Forms::names_member))]
     fn put_members(&self, object: &mut TextBuffer, begin: &str) -> Result<(), AllocError> {
         put_begin(object, begin)?;
@@ -187,6 +192,7 @@ impl<'a> Shown for Plain<'a> {
         line.push_ascii(self.0)
     }
 
+    #[inline(always)]
     #[tactic(auto, unfolding(crate::specs::Forms::members, crate::specs::Forms::json_value, crate::specs::Forms::names_member))]
     fn put_members(&self, object: &mut TextBuffer, begin: &str) -> Result<(), AllocError> {
         put_begin(object, begin)?;
@@ -211,10 +217,7 @@ impl<T: Shown> Shown for Option<T> {
     #[tactic(auto, unfolding(crate::specs::Forms::members, crate::specs::Forms::json_value, crate::specs::Forms::names_member))]
     fn put_members(&self, object: &mut TextBuffer, begin: &str) -> Result<(), AllocError> {
         match self {
-            None => {
-                put_begin(object, begin)?;
-                object.push_str("null")
-            }
+            None => object.push_pair(begin, "\":null"),
             Some(value) => value.put_members(object, begin),
         }
     }

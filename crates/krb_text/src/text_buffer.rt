@@ -156,6 +156,29 @@ fn put_after(octets: &mut Vec<u8>, used: usize, new: &[u8]) -> Result<(), AllocE
     Ok(())
 }
 
+/// Copies three pieces after the octets that are used, which stay, once there is room for all of
+/// them. Out of memory, nothing changes.
+#[inline(always)]
+fn put_three_after(
+    octets: &mut Vec<u8>,
+    used: usize,
+    first: &[u8],
+    second: &[u8],
+    third: &[u8],
+) -> Result<(), AllocError>
+    requires { used ≤ length octets.old.items }
+    ensures fits { OnOk result (used + (length first.now + length second.now + length third.now) ≤ length octets.new.items) }
+    ensures text { OnOk result (take (used + (length first.now + length second.now + length third.now)) octets.new.items ≡ take used octets.old.items ++ first.now ++ second.now ++ third.now) }
+    ensures memory { OnErr result (octets.new.items ≡ octets.old.items) }
+{
+    let more = (first.len() + third.len()).saturating_add(second.len());
+    make_fit(octets, used, more)?;
+    copy_at(octets, used, first);
+    copy_at(octets, used + first.len(), second);
+    copy_at(octets, used + first.len() + second.len(), third);
+    Ok(())
+}
+
 impl TextBuffer {
     /// Returns a text of no octets, for which nothing is allocated yet.
     pub fn new(alloc: Global) -> TextBuffer
@@ -222,6 +245,48 @@ impl TextBuffer {
         ensures { OnOk result (self.new ≡ self.old ++ octets.now) }
     {
         self.append(octets)
+    }
+
+    /// Appends octets of UTF-8 between two texts, for which memory is made at once.
+    #[inline(always)]
+    fn append_between(&mut self, before: &str, octets: &[u8], after: &str) -> Result<(), AllocError>
+        requires { IsUtf8 octets.now }
+        ensures { OnOk result (self.new ≡ self.old ++ before.now ++ octets.now ++ after.now) }
+    {
+        let (before, after) = (before.as_bytes(), after.as_bytes());
+        put_three_after(&mut self.octets, self.size, before, octets, after)?;
+        self.size += before.len() + octets.len() + after.len();
+        Ok(())
+    }
+
+    /// Appends octets of ASCII between two texts, for which memory is made at once.
+    #[inline(always)]
+    pub fn push_between(
+        &mut self,
+        before: &str,
+        octets: &[u8],
+        after: &str,
+    ) -> Result<(), AllocError>
+        requires { IsAscii octets.now }
+        ensures { OnOk result (self.new ≡ self.old ++ before.now ++ octets.now ++ after.now) }
+    {
+        self.append_between(before, octets, after)
+    }
+
+    /// Appends three texts, for which memory is made at once.
+    #[inline(always)]
+    pub fn push_three(&mut self, first: &str, second: &str, third: &str) -> Result<(), AllocError>
+        ensures { OnOk result (self.new ≡ self.old ++ first.now ++ second.now ++ third.now) }
+    {
+        self.append_between(first, second.as_bytes(), third)
+    }
+
+    /// Appends a text and then another, for which memory is made at once.
+    #[inline(always)]
+    pub fn push_pair(&mut self, first: &str, second: &str) -> Result<(), AllocError>
+        ensures { OnOk result (self.new ≡ self.old ++ first.now ++ second.now) }
+    {
+        self.push_three(first, second, "")
     }
 
     /// Appends a character of ASCII.

@@ -19,5 +19,9 @@ is_unescaped escapes.Object octet = nat_le 0x20 octet && nat_le octet 0x7E && no
 abbrev pub is_plain_in : (in_json : Bool) → ℕ → Bool
 is_plain_in in_json octet = is_plain octet && not (in_json && octet == 0x22)
 
+-- whether an octet is as it is in a string of JSON that has octets
+abbrev pub is_bare : ℕ → Bool
+is_bare octet = is_unescaped escapes.Object octet && not (octet == 0x22)
+
 abbrev pub quoted : Escape → List ℕ → List ℕ
 quoted escape octets = flat_map (λ octet. flat_map json_character (escaped escape octet)) octets

@@ -1,15 +1,12 @@
-use Rattle.std.proofs.Common.{w64, rules}
-use Rattle.std.proofs.lemmas.Int.{to_z-of_z}
-use Rattle.std.proofs.lemmas.List.Sorted.{answers_always}
-use Rattle.krb_registry.proofs.Searches.{found, not_there}
+use Rattle.std.proofs.Common.{Equal, Some, ap, rules, subst, sym, ◌≡◌, ◌∙◌}
+use Rattle.std.proofs.lemmas.Cmp.{int_cmp_total, tied_itself}
+use Rattle.std.specs.Ordering.{int_cmp}
+use Rattle.krb_registry.proofs.Searches.{found}
 use Rattle.krb_registry.proofs.lookup.row_of.Goals as goal
 
-pub returns-in-Ok : goal.returns-in-Ok
-returns-in-Ok c =
-    let equal = c.in-Ok.ensures.position (λ row. row.number) (answers_always _ _ _ (λ f a r g called. search rules)) in
-    found c.args.number c.args.rows.now c.in-Ok.index _ c.requires c.in-Ok.ensures.bound (rw (to_z-of_z w64 c.args.number c.ranges.number) at equal)
-
-pub returns-in-Err : goal.returns-in-Err
-returns-in-Err c =
-    let parts = c.in-Err.ensures.position (λ row. row.number) (answers_always _ _ _ (λ f a r g called. search rules)) in
-    not_there c.args.number c.args.rows.now c.in-Err.field-0 c.requires (rw (to_z-of_z w64 c.args.number c.ranges.number) at parts)
+pub returns-in-Some : goal.returns-in-Some
+returns-in-Some c =
+    let here = c.in-Some.ensures.lookup.3 in
+    let equal : c.in-Some.row.now.number ≡ c.args.number = search rules in
+    ap Some (here.1 c.in-Some.row.now)
+    ∙ found c.args.number c.args.rows.now c.args.place c.in-Some.row.now c.requires here.0 (λ d. subst (λ row. int_cmp row.number c.args.number ≡ Equal) (here.1 d) (subst (λ number. int_cmp number c.args.number ≡ Equal) (sym equal) (tied_itself int_cmp_total c.args.number)))
