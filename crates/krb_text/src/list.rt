@@ -58,7 +58,7 @@ fn put_other_numbers<'a, T: Listed<'a>>(
 {
     let mut others = items;
     'others: while let Some((number, rest)) = T::next_number(others) {
-        text.push_str(",")?;
+        text.push_sign(",")?;
         put_number_item(text, form, number)?;
         others = rest;
     }
@@ -94,9 +94,9 @@ fn put_list<'a, T: Listed<'a>>(
     requires { AreViewed T.View.term items.octets.now }
     ensures { OnOk result (text.new ≡ text.old ++ list_text (number_item form) (map (item_number T.View.term) (items_of T.View.term items.entry.octets.now))) }
 {
-    text.push_str("[")?;
+    text.push_sign("[")?;
     put_numbers::<T>(text, form, items)?;
-    text.push_str("]")
+    text.push_sign("]")
 }
 
 /// Appends the numbers of items in brackets, as they are.

@@ -92,9 +92,9 @@ fn put_kvno(line: &mut TextBuffer, kvno: Option<i64>) -> Result<(), AllocError>
     match kvno {
         None => line.push_str(":-:"),
         Some(kvno) => {
-            line.push_str(":")?;
+            line.push_sign(":")?;
             line.push_signed(kvno)?;
-            line.push_str(":")
+            line.push_sign(":")
         }
     }
 }
@@ -209,7 +209,7 @@ impl<'a> Shown for HostAddressView<'a> {
     #[tactic(auto, unfolding(crate::specs::Forms::value_text))]
     fn put_text(&self, line: &mut TextBuffer, names: bool) -> Result<(), AllocError> {
         put_named(line, names, Registry::AddressTypes, self.addr_type)?;
-        line.push_str(":")?;
+        line.push_sign(":")?;
         put_hex(line, self.address)
     }
 
@@ -245,7 +245,7 @@ impl<'a> Shown for ChecksumView<'a> {
     #[tactic(auto, unfolding(crate::specs::Forms::value_text))]
     fn put_text(&self, line: &mut TextBuffer, names: bool) -> Result<(), AllocError> {
         put_named(line, names, Registry::ChecksumTypes, self.cksumtype)?;
-        line.push_str(":")?;
+        line.push_sign(":")?;
         line.push_number(self.checksum.len() as u64)
     }
 

@@ -1,6 +1,6 @@
 //! Names of principals.
 
-ghost use Rattle.std.specs.Prelude.{◌≡◌, ◌++◌, IfOk, List, OnOk, codes, ℕ, map, string_bytes};
+ghost use Rattle.std.specs.Prelude.{◌≡◌, ◌++◌, IfOk, List, OnOk, codes, length, ℕ, map, string_bytes};
 ghost use Rattle.std.specs.Fmt.{signed_decimal};
 ghost use Rattle.std.specs.List.{flat_map};
 ghost use Rattle.krb_msg.specs.Grammar.{kerberos_string};
@@ -28,7 +28,8 @@ use std::marker::Model;
 pub(crate) trait Components {
     ghost components: { Self → List (List ℕ) };
 
-    /// Appends the components, with the separator between two, or another text if there are none.
+    /// Appends the components, with the separator, of one octet, between two, or another text if
+    /// there are none.
     fn put_components(
         &self,
         text: &mut TextBuffer,
@@ -36,6 +37,7 @@ pub(crate) trait Components {
         none: &str,
         separator: &str,
     ) -> Result<(), AllocError>
+        requires { length separator.now ≡ 1 }
         ensures { OnOk result (text.new ≡ text.old ++ joined none.now separator.now (octets_item form) (components self.now)) };
 
     /// Appends the components as [`Components::put_components`] does, in an object.
@@ -46,6 +48,7 @@ pub(crate) trait Components {
         none: &str,
         separator: &str,
     ) -> Result<(), AllocError>
+        requires { length separator.now ≡ 1 }
         ensures { OnOk result (object.new ≡ object.old ++ joined none.now separator.now (octets_item form) (components self.now)) };
 }
 
@@ -56,10 +59,11 @@ fn put_others(
     separator: &str,
     components: &[KString],
 ) -> Result<(), AllocError>
+    requires { length separator.now ≡ 1 }
     ensures { OnOk result (text.new ≡ text.old ++ flat_map (λ c. separator.now ++ octets_item form c) components.now) }
 {
     for component in components {
-        text.push_str(separator)?;
+        text.push_sign(separator)?;
         put_octets_item(text, form, component.octets())?;
     }
     Ok(())
@@ -107,12 +111,13 @@ fn put_other_viewed(
     separator: &str,
     components: ItemsView<'_>,
 ) -> Result<(), AllocError>
-    requires { AreViewed kerberos_string components.octets.now }
+    requires sign { length separator.now ≡ 1 }
+    requires viewed { AreViewed kerberos_string components.octets.now }
     ensures { OnOk result (text.new ≡ text.old ++ flat_map (λ c. separator.now ++ octets_item form c) (items_of kerberos_string components.entry.octets.now)) }
 {
     let mut others = components;
     'others: while let Some((component, rest)) = next_item::<KString>(others) {
-        text.push_str(separator)?;
+        text.push_sign(separator)?;
         put_octets_item(text, form, component)?;
         others = rest;
     }
@@ -224,7 +229,7 @@ fn put_text_parts<C: Components>(
     ensures { OnOk result (object.new ≡ object.old ++ (joined (codes "\\\\-") (codes "/") (octets_item Part) (C.components components.now) ++ codes "@" ++ octets_item Part realm.now)) }
 {
     components.put_in_object(object, ItemForm::Part, "\\\\-", "/")?;
-    object.push_str("@")?;
+    object.push_sign("@")?;
     put_octets_by_call(object, ItemForm::Part, realm)
 }
 
@@ -295,7 +300,7 @@ impl<'a, C: Components> Shown for Principal<'a, C> {
     fn put_text(&self, line: &mut TextBuffer, _names: bool) -> Result<(), AllocError> {
         self.components
             .put_components(line, ItemForm::Line, "\\-", "/")?;
-        line.push_str("@")?;
+        line.push_sign("@")?;
         put_escaped(line, self.realm)
     }
 
@@ -317,7 +322,7 @@ pub fn put_principal(
     ensures { OnOk result (line.new ≡ line.old ++ principal_text components.now realm.now) }
 {
     Strings(components).put_components(line, ItemForm::Line, "\\-", "/")?;
-    line.push_str("@")?;
+    line.push_sign("@")?;
     put_escaped(line, realm.octets())
 }
 

@@ -176,7 +176,7 @@ pub(crate) fn put_record_of(
     if !put_text(text, form, from, profile, octets)? {
         return Ok(false);
     }
-    text.push_str("\n")?;
+    text.push_sign("\n")?;
     Ok(true)
 }
 
@@ -234,7 +234,7 @@ pub fn put_message(text: &mut TextBuffer, form: Form, message: &Message) -> Resu
     ensures { OnOk result (text.new ≡ text.old ++ message_line form message.now) }
 {
     put_text_of(text, form, message)?;
-    text.push_str("\n")?;
+    text.push_sign("\n")?;
     Ok(())
 }
 

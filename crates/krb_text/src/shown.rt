@@ -123,9 +123,9 @@ impl<'a> Shown for QuotedText<'a> {
 
     #[tactic(auto, unfolding(crate::specs::Forms::value_text))]
     fn put_text(&self, line: &mut TextBuffer, _names: bool) -> Result<(), AllocError> {
-        line.push_str("\"")?;
+        line.push_sign("\"")?;
         put_escaped(line, self.0)?;
-        line.push_str("\"")
+        line.push_sign("\"")
     }
 
     #[inline(always)]
@@ -208,7 +208,7 @@ impl<T: Shown> Shown for Option<T> {
     #[tactic(auto, unfolding(crate::specs::Forms::value_text))]
     fn put_text(&self, line: &mut TextBuffer, names: bool) -> Result<(), AllocError> {
         match self {
-            None => line.push_str("-"),
+            None => line.push_sign("-"),
             Some(value) => value.put_text(line, names),
         }
     }

@@ -179,6 +179,20 @@ fn put_three_after(
     Ok(())
 }
 
+/// Copies one octet after those that are used, which stay. Out of memory, nothing changes.
+#[inline(always)]
+fn put_sign_after(octets: &mut Vec<u8>, used: usize, new: &[u8]) -> Result<(), AllocError>
+    requires used { used ≤ length octets.old.items }
+    requires one { length new.now ≡ 1 }
+    ensures fits { OnOk result (used + 1 ≤ length octets.new.items) }
+    ensures text { OnOk result (take (used + 1) octets.new.items ≡ take used octets.old.items ++ new.now) }
+    ensures memory { OnErr result (octets.new.items ≡ octets.old.items) }
+{
+    make_fit(octets, used, 1)?;
+    octets[used] = new[0];
+    Ok(())
+}
+
 impl TextBuffer {
     /// Returns a text of no octets, for which nothing is allocated yet.
     pub fn new(alloc: Global) -> TextBuffer
@@ -225,8 +239,22 @@ impl TextBuffer {
         requires { IsUtf8 octets.now }
         ensures { OnOk result (self.new ≡ self.old ++ octets.now) }
     {
-        put_after(&mut self.octets, self.size, octets)?;
-        self.size += octets.len();
+        let used = self.size;
+        put_after(&mut self.octets, used, octets)?;
+        self.size = used + octets.len();
+        Ok(())
+    }
+
+    /// Appends one octet, as [`append`](TextBuffer::append) does, with a fraction of its code.
+    #[inline(always)]
+    fn append_sign(&mut self, octets: &[u8]) -> Result<(), AllocError>
+        requires text { IsUtf8 octets.now }
+        requires one { length octets.now ≡ 1 }
+        ensures { OnOk result (self.new ≡ self.old ++ octets.now) }
+    {
+        let used = self.size;
+        put_sign_after(&mut self.octets, used, octets)?;
+        self.size = used + 1;
         Ok(())
     }
 
@@ -236,6 +264,16 @@ impl TextBuffer {
         ensures { OnOk result (self.new ≡ self.old ++ text.now) }
     {
         self.append(text.as_bytes())
+    }
+
+    /// Appends text of one octet. Functions in which such texts stand are inlined, since this has so
+    /// little code.
+    #[inline(always)]
+    pub(crate) fn push_sign(&mut self, sign: &str) -> Result<(), AllocError>
+        requires { length sign.now ≡ 1 }
+        ensures { OnOk result (self.new ≡ self.old ++ sign.now) }
+    {
+        self.append_sign(sign.as_bytes())
     }
 
     /// Appends octets of ASCII.
@@ -295,7 +333,7 @@ impl TextBuffer {
         requires { octet < 128 }
         ensures { OnOk result (self.new ≡ self.old ++ octet ∷ []) }
     {
-        self.append(&[octet])
+        self.append_sign(&[octet])
     }
 
     /// Appends a number in decimal. Most have one digit or two, or three.

@@ -10,8 +10,8 @@ returns g c =
     let items = items_of g.T.View.term c.args.items.octets.now in
     let numbers : List ℕ = joined [] (codes ",") (λ item. number_item c.args.form (item_number g.T.View.term item)) items in
     subst
-    (λ text. OnOk c.push_str-2.result (c.push_str-2.new.self ≡ text))
-    (ap (λ text. text ++ codes "]") (c.in_ok-put_numbers.ensures ∙ ap (λ text. text ++ numbers) c.in_ok-push_str.ensures ∙ append_assoc c.args.text.now (codes "[") numbers)
+    (λ text. OnOk c.push_sign-2.result (c.push_sign-2.new.self ≡ text))
+    (ap (λ text. text ++ codes "]") (c.in_ok-put_numbers.ensures ∙ ap (λ text. text ++ numbers) c.in_ok-push_sign.ensures ∙ append_assoc c.args.text.now (codes "[") numbers)
     ∙ append_assoc c.args.text.now (codes "[" ++ numbers) (codes "]")
     ∙ ap (λ text. c.args.text.now ++ text) (sym (list_text_map (item_number g.T.View.term) (number_item c.args.form) items)))
-    c.push_str-2.ensures
+    c.push_sign-2.ensures

@@ -7,7 +7,7 @@ use Rattle.krb_text.proofs.list.put_other_numbers.Goals as goal
 pub others-preserved : goal.others-preserved
 others-preserved g c =
     let fits : FitsSigned w64 c.in-Some.number = search rules in
-    let put = c.in_ok-put_number_item.ensures ∙ ap (λ number. c.push_str.new.self ++ number_item c.args.form number) (to_z-of_z w64 c.in-Some.number fits) in (
+    let put = c.in_ok-put_number_item.ensures ∙ ap (λ number. c.push_sign.new.self ++ number_item c.args.form number) (to_z-of_z w64 c.in-Some.number fits) in (
       c.in-Some.ensures.first.viewed,
-      number_put g.T.View.term c.args.form c.others.others.octets.now c.in-Some.rest.octets.now c.others.text c.push_str.new.self c.put_number_item.new.text c.in-Some.number c.in-Some.ensures c.in_ok-push_str.ensures put ∙ c.others.invariant.1,
+      number_put g.T.View.term c.args.form c.others.others.octets.now c.in-Some.rest.octets.now c.others.text c.push_sign.new.self c.put_number_item.new.text c.in-Some.number c.in-Some.ensures c.in_ok-push_sign.ensures put ∙ c.others.invariant.1,
     )
