@@ -162,7 +162,7 @@ fn is_apart_from_all(span: Span, place: usize, parts: &[Part]) -> bool
         Some(before) => is_apart_from(span, parts.get(before)),
         None => true,
     };
-    before && is_apart_from(span, parts.get(place))
+    before & is_apart_from(span, parts.get(place))
 }
 
 /// Returns the octets of a part.
