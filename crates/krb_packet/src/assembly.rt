@@ -162,7 +162,7 @@ fn is_apart_from_all(span: Span, place: usize, parts: &[Part]) -> bool
         Some(before) => is_apart_from(span, parts.get(before)),
         None => true,
     };
-    before & is_apart_from(span, parts.get(place))
+    before && is_apart_from(span, parts.get(place))
 }
 
 /// Returns the octets of a part.
@@ -224,8 +224,8 @@ impl Assembly {
             };
         }
         let fits = is_apart_from_all(span, place, &self.parts)
-            & self.agrees(span)
-            & (octets.len() <= MOST_OCTETS - self.octets.len());
+            && self.agrees(span)
+            && octets.len() <= MOST_OCTETS - self.octets.len();
         if fits {
             Relation::New(place)
         } else {
