@@ -1,5 +1,5 @@
 -- What is found in octets is the path of what is not encrypted in their value.
-use Rattle.std.proofs.Common.{◌≡◌, ℕ, ℤ, pos, negsuc, zero, suc, ◌+◌, ◌-◌, ◌≤◌, true, false, ◌&&◌, ◌==◌, not, Bool, if◌then◌else◌, List, [], ◌∷◌, ◌++◌, length, take, drop, get_or, append_assoc, append-nil, Option, Some, None, Result, Ok, Err, codes, decimal, refl, sym, ◌∙◌, ap, ap₂, subst, arith}
+use Rattle.std.proofs.Common.{◌≡◌, ℕ, ℤ, pos, negsuc, zero, suc, ◌+◌, ◌-◌, ◌≤◌, true, false, ◌&&◌, ◌==◌, not, Bool, if◌then◌else◌, List, [], ◌∷◌, ◌++◌, length, take, drop, get_or, append_assoc, append-nil, Option, Some, None, Result, Ok, Err, codes, decimal, refl, sym, ◌∙◌, ap, subst, arith}
 use Rattle.std.specs.Prelude.{IfOk}
 use Rattle.std.proofs.lemmas.Bool.{true≢false, not-true, eqb-true, ne_eqb}
 use Rattle.std.specs.Borrow.{Bor}
@@ -19,7 +19,7 @@ use Rattle.krb_judge.specs.Paths.{field_path, element_path}
 use Rattle.krb_judge.specs.declared.locating.names.Names.{Names}
 use Rattle.krb_json.specs.Unencrypted.{unencrypted, unencrypted_fields, unencrypted_items, unencrypted_in, is_zero_number, begin_with_zero, is_encrypted_data, first_of}
 use Rattle.krb_json.specs.inner.Writing.{slot_node}
-use Rattle.krb_json.specs.inner.Searching.{after_path, Finds, FindsInFields, FindsInItems, FindsInMessage, IsZero, BeginWithZero, is_single_zero}
+use Rattle.krb_json.specs.inner.Searching.{after_path, Finds, FindsInFields, FindsInItems, FindsInMessage, IsZero, BeginWithZero, AreUnencrypted, is_single_zero}
 use Rattle.krb_msg.specs.inner.Values.{may_begin_from_der}
 use Rattle.krb_msg.specs.Views.{kind_of, kind_name, kind_term, message_value, message_der}
 use Rattle.krb_msg.specs.declared.message.Kind.{Kind}
@@ -220,20 +220,20 @@ module _ (names : Names) (octets : List ℕ) where
   finds-list node none term more f found value a = absurd f
 
   -- an EncryptedData that begins with the number 0
-  pub finds-here : (slots : Bor (List Slot)) (term : Term) (encryption nought : Bool) → IsFormOf nodes (form.Fields slots) term → encryption ≡ is_encrypted_data names → BeginWithZero (fields_from nodes slots.now) octets nought → (encryption && nought) ≡ true → Finds term names octets (Some [])
-  finds-here slots (Sequence fields) encryption nought f same begin both values a path =
-      let z : begin_with_zero fields values ≡ nought = subst (λ fs. BeginWithZero fs octets nought) f.1 begin values record { fit = a.fits; form = own-contents (Sequence fields) octets values a } in
-      ap (λ b. if b then Some path else unencrypted_fields fields names path 0 values) (ap₂ (λ s t. s && t) (sym same) z ∙ both) ∙ ap Some (sym (append-nil path))
-  finds-here slots term encryption nought f same begin both values a path = absurd f
+  pub finds-here : (slots : Bor (List Slot)) (term : Term) (both : Bool) → IsFormOf nodes (form.Fields slots) term → AreUnencrypted (fields_from nodes slots.now) names octets both → both ≡ true → Finds term names octets (Some [])
+  finds-here slots (Sequence fields) both f are is values a path =
+      let z : (is_encrypted_data names && begin_with_zero fields values) ≡ both = subst (λ fs. AreUnencrypted fs names octets both) f.1 are values record { fit = a.fits; form = own-contents (Sequence fields) octets values a } in
+      ap (λ b. if b then Some path else unencrypted_fields fields names path 0 values) (z ∙ is) ∙ ap Some (sym (append-nil path))
+  finds-here slots term both f are is values a path = absurd f
 
   -- and any other SEQUENCE
-  pub finds-inside : (slots : Bor (List Slot)) (term : Term) (encryption nought : Bool) (more : Option (List ℕ)) → IsFormOf nodes (form.Fields slots) term → encryption ≡ is_encrypted_data names → BeginWithZero (fields_from nodes slots.now) octets nought → (encryption && nought) ≡ false → FindsInFields (fields_from nodes slots.now) names 0 octets more → Finds term names octets more
-  finds-inside slots (Sequence fields) encryption nought more f same begin not_both found values a path =
+  pub finds-inside : (slots : Bor (List Slot)) (term : Term) (both : Bool) (more : Option (List ℕ)) → IsFormOf nodes (form.Fields slots) term → AreUnencrypted (fields_from nodes slots.now) names octets both → both ≡ false → FindsInFields (fields_from nodes slots.now) names 0 octets more → Finds term names octets more
+  finds-inside slots (Sequence fields) both more f are not_both found values a path =
       let fields_of : AreFields fields octets values = record { fit = a.fits; form = own-contents (Sequence fields) octets values a } in
-      let z : begin_with_zero fields values ≡ nought = subst (λ fs. BeginWithZero fs octets nought) f.1 begin values fields_of in
-      ap (λ b. if b then Some path else unencrypted_fields fields names path 0 values) (ap₂ (λ s t. s && t) (sym same) z ∙ not_both)
+      let z : (is_encrypted_data names && begin_with_zero fields values) ≡ both = subst (λ fs. AreUnencrypted fs names octets both) f.1 are values fields_of in
+      ap (λ b. if b then Some path else unencrypted_fields fields names path 0 values) (z ∙ not_both)
       ∙ subst (λ fs. FindsInFields fs names 0 octets more) f.1 found values fields_of path
-  finds-inside slots term encryption nought more f same begin not_both found values a path = absurd f
+  finds-inside slots term both more f are not_both found values a path = absurd f
 
 -- ---- items
 -- those that are left have what there is

@@ -9,7 +9,7 @@ ghost use Rattle.krb_msg.specs.Table.{IsNode, IsSlot, fields_from};
 ghost use Rattle.krb_msg.specs.Views.{message_der, IsInProfile};
 ghost use Rattle.krb_msg.specs.declared.message.Message.{Message};
 ghost use Rattle.krb_json.specs.Unencrypted.{is_encrypted_data, unencrypted_in};
-ghost use Rattle.krb_json.specs.inner.Searching.{BeginWithZero, Finds, FindsInFields, FindsInItems, FindsInMessage, IsZero, is_single_zero};
+ghost use Rattle.krb_json.specs.inner.Searching.{AreUnencrypted, BeginWithZero, Finds, FindsInFields, FindsInItems, FindsInMessage, IsZero, is_single_zero};
 
 use crate::writing::node_of;
 use itoa::Buffer;
@@ -136,7 +136,7 @@ fn find(
 {
     match form_of(node) {
         Form::Fields { fields } => {
-            if is_encrypted_data(names) & begins_with_zero(fields, contents) {
+            if is_unencrypted(names, fields, contents) {
                 Ok(Some(String::new(alloc)))
             } else {
                 find_in_fields(alloc, fields, names, 0, contents)
@@ -153,6 +153,16 @@ fn find(
         Form::Time => Ok(None),
         Form::Bits { .. } => Ok(None),
     }
+}
+
+/// Returns whether a type is EncryptedData, and the fields that its octets are begin with encryption
+/// type 0.
+fn is_unencrypted(names: Names, slots: &[Slot], octets: &[u8]) -> bool
+    requires known { AllByRecursion IsSlot slots.now }
+    requires short { length octets.now < 2 ^ 31 }
+    ensures { AreUnencrypted (fields_from nodes slots.now) names octets.now result }
+{
+    is_encrypted_data(names) && begins_with_zero(slots, octets)
 }
 
 /// Returns whether the first of fields is the number 0.

@@ -1,5 +1,5 @@
 -- What is found of what is not encrypted, in octets that are contents of a value, fields, or items: a path, after that of the value.
-use Rattle.std.specs.Prelude.{ℕ, ◌≡◌, ◌==◌, if◌then◌else◌, Bool, false, length, slice_index, List, ◌++◌, Option}
+use Rattle.std.specs.Prelude.{ℕ, ◌≡◌, ◌==◌, ◌&&◌, if◌then◌else◌, Bool, false, length, slice_index, List, ◌++◌, Option}
 use Rattle.std.specs.Option.{option_map}
 use Rattle.std.specs.List.{AllByRecursion, flat_map}
 use Rattle.krb_der.specs.declared.profile.Profile.TheVariants.{Lenient}
@@ -9,7 +9,7 @@ use Rattle.krb_msg.specs.Views.{kind_of, message_der, IsInProfile}
 use Rattle.krb_msg.specs.declared.message.Kind.{Kind}
 use Rattle.krb_msg.specs.declared.message.Message.{Message}
 use Rattle.krb_judge.specs.declared.locating.names.Names.{Names}
-use Rattle.krb_json.specs.Unencrypted.{unencrypted, unencrypted_fields, unencrypted_items, unencrypted_in, is_zero, begin_with_zero}
+use Rattle.krb_json.specs.Unencrypted.{unencrypted, unencrypted_fields, unencrypted_items, unencrypted_in, is_encrypted_data, is_zero, begin_with_zero}
 
 -- a path, and what follows it
 abbrev pub after_path : List ℕ → Option (List ℕ) → Option (List ℕ)
@@ -35,6 +35,9 @@ IsZero term contents zero = (value : Value term) → AreContents term contents v
 
 abbrev pub BeginWithZero : (fields : Fields) → (octets : List ℕ) → Bool → Type 0
 BeginWithZero fields octets zero = (values : Values fields) → AreFields fields octets values → begin_with_zero fields values ≡ zero
+
+abbrev pub AreUnencrypted : (fields : Fields) → Names → (octets : List ℕ) → Bool → Type 0
+AreUnencrypted fields names octets result = (values : Values fields) → AreFields fields octets values → (is_encrypted_data names && begin_with_zero fields values) ≡ result
 
 abbrev pub FindsInMessage : Kind → (octets : List ℕ) → (path : Option (List ℕ)) → Type 0
 FindsInMessage kind octets path = (m : Message) → IsInProfile Lenient m → kind_of m ≡ kind → message_der m ≡ octets → unencrypted_in m ≡ path

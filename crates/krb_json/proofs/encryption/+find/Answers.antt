@@ -8,15 +8,15 @@ use Rattle.krb_json.proofs.Searches.{if-ok, finds-here, finds-inside, finds-list
 use Rattle.krb_msg.proofs.ItemViews.{passed_smaller}
 use Rattle.krb_json.proofs.encryption.+find.Goals as goal
 
-pub find-returns-then-is_encrypted_data-begins_with_zero : goal.find-returns-then-is_encrypted_data-begins_with_zero
-find-returns-then-is_encrypted_data-begins_with_zero t c value a path =
-    finds-here c.args.names c.args.contents.now c.in-Fields.fields (term_at c.args.node) c.is_encrypted_data.result c.begins_with_zero.result c.in-Fields.ensures c.is_encrypted_data.ensures c.begins_with_zero.ensures c.if-is_encrypted_data-begins_with_zero.true value a path
+pub find-returns-then-is_unencrypted : goal.find-returns-then-is_unencrypted
+find-returns-then-is_unencrypted t c value a path =
+    finds-here c.args.names c.args.contents.now c.in-Fields.fields (term_at c.args.node) c.is_unencrypted.result c.in-Fields.ensures c.is_unencrypted.ensures c.if-is_unencrypted.true value a path
     ∙ ap (λ m. Some (path ++ m)) (sym c.new.ensures.bytes)
 
-pub find-returns-else-is_encrypted_data-begins_with_zero : goal.find-returns-else-is_encrypted_data-begins_with_zero
-find-returns-else-is_encrypted_data-begins_with_zero t c =
+pub find-returns-else-is_unencrypted : goal.find-returns-else-is_unencrypted
+find-returns-else-is_unencrypted t c =
     if-ok c.find_in_fields.result
-    (λ more f. finds-inside c.args.names c.args.contents.now c.in-Fields.fields (term_at c.args.node) c.is_encrypted_data.result c.begins_with_zero.result (option_map string_bytes more) c.in-Fields.ensures c.is_encrypted_data.ensures c.begins_with_zero.ensures c.if-is_encrypted_data-begins_with_zero.false f)
+    (λ more f. finds-inside c.args.names c.args.contents.now c.in-Fields.fields (term_at c.args.node) c.is_unencrypted.result (option_map string_bytes more) c.in-Fields.ensures c.is_unencrypted.ensures c.if-is_unencrypted.false f)
     c.find_in_fields.ensures
 
 pub find-returns-in-Items : goal.find-returns-in-Items
