@@ -1,6 +1,6 @@
 //! The message that a line spells.
 
-ghost use Rattle.std.specs.Prelude.{◌≡◌, ◌<◌, ◌≤◌, ◌^◌, ◌+◌, ◌++◌, length, vec_len, IfOk, IfErr, IfSome, Some, Ok, Err, option_map, string_bytes};
+ghost use Rattle.std.specs.Prelude.{◌≡◌, ◌==◌, ◌&&◌, ◌<◌, ◌≤◌, ◌^◌, ◌+◌, ◌++◌, not, length, vec_len, IfOk, IfErr, IfSome, Some, Ok, Err, option_map, string_bytes};
 ghost use Rattle.std.specs.List.{AllByRecursion, flat_map};
 ghost use Rattle.std.specs.Option.{option_and_then};
 ghost use Rattle.json.specs.Find.{as_object};
@@ -207,10 +207,18 @@ fn read_list(
     let Value::Array(items) = value else {
         return Err(fault_here(alloc, Wrong::NotAnArray));
     };
-    if !empty & items.is_empty() {
+    let items = items.as_slice();
+    if lacks_items(empty, items) {
         return Err(fault_here(alloc, Wrong::Empty));
     }
-    read_items(alloc, out, node, names, items.as_slice())
+    read_items(alloc, out, node, names, items)
+}
+
+/// Returns whether there are no items where a SEQUENCE OF, which may be `empty` or not, needs some.
+fn lacks_items(empty: bool, items: &[Value]) -> bool
+    ensures { result ≡ (not empty && length items.now == 0) }
+{
+    !empty && items.is_empty()
 }
 
 /// Appends the items that JSON values spell.

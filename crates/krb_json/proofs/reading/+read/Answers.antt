@@ -1,4 +1,4 @@
-use Rattle.std.proofs.Common.{[], ◌+◌, ◌-◌, Some, not, ◌&&◌, ◌==◌, sym, ap, subst, ◌∙◌, arith}
+use Rattle.std.proofs.Common.{[], ◌+◌, ◌-◌, Some, not, ◌&&◌, sym, ap, subst, ◌∙◌, arith}
 use Rattle.std.specs.List.{flat_map}
 use Rattle.std.proofs.lemmas.Result.{err_from_is_err_and}
 use Rattle.json.specs.Find.{as_array}
@@ -117,9 +117,9 @@ read_items-loop-index-preserved t c =
 
 pub read_list-returns : goal.read_list-returns
 read_list-returns t c =
-    array-read c.args.empty (spelled (term_at c.args.node) c.args.names) (flat_map (der (term_at c.args.node))) (value_view c.args.value.now) (items_view c.as_slice.result.now) c.args.out.now.items c.read_items.new.out.items
-    (ap (λ v. as_array (value_view v)) c.in-Array.is ∙ ap as_array (view-Array c.in-Array.items) ∙ ap (λ l. Some (items_view l)) (sym c.as_slice.ensures.value))
-    c.read_items.result (ap (λ b. not c.args.empty && b) (empty-view c.as_slice.result.now ∙ ap (λ n. n == 0) c.as_slice.ensures.len ∙ sym c.is_empty.ensures) ∙ c.if-empty-is_empty.false) c.read_items.ensures
+    array-read c.args.empty (spelled (term_at c.args.node) c.args.names) (flat_map (der (term_at c.args.node))) (value_view c.args.value.now) (items_view c.as_slice-items.result.now) c.args.out.now.items c.read_items.new.out.items
+    (ap (λ v. as_array (value_view v)) c.in-Array.is ∙ ap as_array (view-Array c.in-Array.items) ∙ ap (λ l. Some (items_view l)) (sym c.as_slice-items.ensures.value))
+    c.read_items.result (ap (λ b. not c.args.empty && b) (empty-view c.as_slice-items.result.now) ∙ sym c.lacks_items.ensures ∙ c.if-lacks_items.false) c.read_items.ensures
 
 pub read_sequence-returns : goal.read_sequence-returns
 read_sequence-returns t c =
