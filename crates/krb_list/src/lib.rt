@@ -6,8 +6,7 @@
 //!
 //! The main calls are [`put_message_in`] and [`message_line`] for messages, [`put_record`] for
 //! keytabs, [`put_credential`] for caches, and [`put_captured_message`] for captures. Nothing here
-//! reads or writes a file, and no octet of a key is shown ([`keys_are_not_shown`],
-//! [`session_keys_are_not_shown`]).
+//! reads or writes a file, and no octet of a key is shown, as `krb_text_laws` proves.
 #![tactic(auto)]
 
 mod ccache;
@@ -22,12 +21,10 @@ pub use keytab::{
 };
 pub use krb_text::{
     CaptureCounts, Extent, FileName, Form, InputFault, MessageOrigin, Notes, Origin, Shown,
-    TextBuffer, TicketFlags, Transport, capture_is_one_line_each, dates_are_the_calendars,
-    end_is_one_line, escape_is_graphic, message_is_one_line, message_line, notes_of,
-    principal_text, principal_text_is_injective, put_capture_end, put_capture_refusal,
-    put_captured_message, put_captured_refusal, put_counted_stream_end, put_escaped, put_file,
-    put_file_refusal, put_input_refusal, put_joined, put_lost, put_message, put_message_from,
-    put_message_in, put_message_refusal, put_password, put_principal, put_stream_end,
-    put_stream_refusal, put_ticket, put_time, put_untold_message_refusal,
+    TextBuffer, TicketFlags, Transport, message_line, notes_of, principal_text, put_capture_end,
+    put_capture_refusal, put_captured_message, put_captured_refusal, put_counted_stream_end,
+    put_escaped, put_file, put_file_refusal, put_input_refusal, put_joined, put_lost, put_message,
+    put_message_from, put_message_in, put_message_refusal, put_password, put_principal,
+    put_stream_end, put_stream_refusal, put_ticket, put_time, put_untold_message_refusal,
     put_untold_stream_refusal, time_text,
 };
