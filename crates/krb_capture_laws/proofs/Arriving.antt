@@ -19,7 +19,6 @@ use Rattle.krb_flow.specs.declared.direction.Beginning.{Beginning}
 use Rattle.krb_flow.specs.declared.direction.Beginning.TheVariants.{Syn, Joined}
 use Rattle.krb_flow.specs.declared.direction.State.{State}
 use Rattle.krb_flow.specs.declared.direction.State.TheVariants.{Fresh, Open, Ended}
-use Rattle.krb_flow.specs.declared.stream.TheConstants.{MOST_AHEAD, MOST_OCTETS, MOST_WAITING}
 use Rattle.krb_flow.specs.Serial.{ahead, behind, distance}
 use Rattle.krb_flow.specs.Waiting.{Waiting, keep_one, keep, ready, early}
 use Rattle.krb_flow.specs.Progress.{Progress, begun}
@@ -27,7 +26,7 @@ use Rattle.krb_flow.specs.Directions.{Outcome, first_number, distance_to, start,
 use Rattle.krb_flow.specs.Laws.{at_first, HasAt, Piece, IsPiece, IsFair, IsCaptured}
 use Rattle.krb_flow.specs.Arrivals.{AllCaptured, BeginsWith, IsSegmentOf}
 use Rattle.krb_flow.specs.declared.had.Had.{Had}
-use Rattle.krb_capture_laws.proofs.Pieces.{Agree, GoesTo, taking_goes, deliver_near, on_copy, at_syn, at_joined, number_of, same_number, ahead_by, behind_by}
+use Rattle.krb_capture_laws.proofs.Pieces.{most_ahead, most_octets, most_waiting, Agree, GoesTo, taking_goes, deliver_near, on_copy, at_syn, at_joined, number_of, same_number, ahead_by, behind_by}
 use Rattle.krb_capture_laws.proofs.Captured.{Waits, Sorted, Was, Clear, AtEnd, onward_clear, onward_was, onward_captures, not_waiting, end_is, fin_at_end, reached, by_fin, got}
 
 -- ---- which octets wait, or are taken: none that was not captured
@@ -307,7 +306,7 @@ module _ (stream : List ℕ) (short : length stream < 2 ^ 61) (first : ℕ) (bef
       let far : ahead (distance_to progress piece.1) ≤ 1048576 =
       subst (λ (n : ℕ). ahead (distance (number_of progress.first progress.expected) n) ≤ 1048576) (number_by stream progress piece is_piece)
       (ahead_few progress.first progress.expected piece.0 late_by (omega (arith, early_by))) in
-      ap₂ (λ (a b : Bool). a || b) (le-ltb MOST_AHEAD (ahead (distance_to progress piece.1)) far) (lt-leb MOST_OCTETS (progress.expected + piece.1.payload.size) size_few)
+      ap₂ (λ (a b : Bool). a || b) (le-ltb most_ahead (ahead (distance_to progress piece.1)) far) (lt-leb most_octets (progress.expected + piece.1.payload.size) size_few)
 
   abbrev octets : List ℕ
   octets = delivered progress piece.1
@@ -331,11 +330,11 @@ module _ (stream : List ℕ) (short : length stream < 2 ^ 61) (first : ℕ) (bef
   only_next : (place : ℕ) → Was place next → IsCaptured place (piece ∷ before)
   only_next place was = elim (onward_only stream place progress piece is_piece was) [ inl there ↦ inl there | inr old ↦ inr (h.only place old) ]
 
-  few_next : nat_lt MOST_WAITING (length next.waiting) ≡ false
+  few_next : nat_lt most_waiting (length next.waiting) ≡ false
   few_next =
       let few : suc next.expected + length next.waiting ≤ next.expected + 1048576 =
       few_between (suc next.expected) (next.expected + 1048576) next.waiting (onward_clear progress piece.1 h.clear) (λ place waits. near_next place (only_next place (inr waits))) (omega arith) in
-      le-ltb MOST_WAITING (length next.waiting) (omega (arith, few))
+      le-ltb most_waiting (length next.waiting) (omega (arith, few))
 
   fair : piece.1.rst ≡ false → IsFair stream progress piece
   fair no_reset = record { near = not_passed; no_reset = no_reset; fin = s.fin; few_wait = few_next }
@@ -365,7 +364,7 @@ module _ (stream : List ℕ) (short : length stream < 2 ^ 61) (first : ℕ) (bef
       subst ByWent (sym (deliver_near progress piece.1 not_passed))
       (elim (is_over next) as (λ (over : Bool). is_over next ≡ over → Comes stream first (piece ∷ before) progress.expected how (joined (None, how, Open progress) (when over (λ _. (octets, Some (ending next), Ended (had next))) (λ _. (octets, None, Open next))))) [
         | true ↦ λ over.
-            let end : is_reached next.fin next.expected ≡ true = by_fin (is_reached next.fin next.expected) (nat_lt MOST_WAITING (length next.waiting)) over few_next in
+            let end : is_reached next.fin next.expected ≡ true = by_fin (is_reached next.fin next.expected) (nat_lt most_waiting (length next.waiting)) over few_next in
             let full : length stream ≤ next.expected = reached (length stream) next.fin next.expected (holds_next no_reset).fin end in
             Ends octets (had next)
             (ap (λ (e : End). outcome how octets (Some e) (Ended (had next))) (is_complete stream first (piece ∷ before) next (holds_next no_reset) full))

@@ -22,9 +22,8 @@ use Rattle.krb_flow.specs.Serial.{behind, distance}
 use Rattle.krb_flow.specs.Waiting.{Waiting, keep_one, keep, ready, early}
 use Rattle.krb_flow.specs.Progress.{Progress}
 use Rattle.krb_flow.specs.Directions.{deliver, Outcome, first_number, distance_to, start, end_place, kept, delivered, earlier, advanced, is_skipped, had, is_reached, is_over, ending, Begun, begins, unless_over, goes_on, joined, step}
-use Rattle.krb_flow.specs.declared.stream.TheConstants.{MOST_WAITING}
 use Rattle.krb_flow.specs.Laws.{at_first, IsFirst, HasAt, Piece, IsPiece, PiecesOf, delivered_of, IsFair, AllFair, IsCaptured, DeliversAll}
-use Rattle.krb_capture_laws.proofs.Pieces.{delivers_the_stream, when_both, number_of, same_number, ahead_by, behind_by, deliver_near, on_plain, at_syn}
+use Rattle.krb_capture_laws.proofs.Pieces.{most_waiting, delivers_the_stream, when_both, number_of, same_number, ahead_by, behind_by, deliver_near, on_plain, at_syn}
 
 -- ---- which places wait
 
@@ -321,7 +320,7 @@ reach_on stream pieces p piece went is fair at goes later =
     (elim goes.1 [
       | inl opens ↦ later opens fin
       | inr over ↦
-          let full : length stream ≤ next.expected = reached (length stream) next.fin next.expected fin (by_fin (is_reached next.fin next.expected) (nat_lt MOST_WAITING (length next.waiting)) over.1 fair.few_wait) in
+          let full : length stream ≤ next.expected = reached (length stream) next.fin next.expected fin (by_fin (is_reached next.fin next.expected) (nat_lt most_waiting (length next.waiting)) over.1 fair.few_wait) in
           omega arith
     ])
 

@@ -25,6 +25,16 @@ use Rattle.krb_flow.specs.Directions.{Outcome, first_number, distance_to, start,
 use Rattle.krb_flow.specs.Laws.{at_first, IsFirst, HasAt, Piece, IsPiece, PieceOf, PiecesOf, delivered_of, DeliversTheStream}
 use Rattle.krb_capture_laws.proofs.Distances.{only_one}
 
+-- ---- the limits of krb_flow/src/stream.rt, which krb_flow keeps to itself
+abbrev pub most_ahead : ℕ
+most_ahead = 2 ^ 20
+
+abbrev pub most_waiting : ℕ
+most_waiting = 2 ^ 20
+
+abbrev pub most_octets : ℕ
+most_octets = 2 ^ 62
+
 -- ---- octets that wait are those of the stream
 
 unfoldable pub Agree : List ℕ → Waiting → Type 0

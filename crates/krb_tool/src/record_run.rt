@@ -11,7 +11,7 @@ ghost use Rattle.krb_tool.specs.inner.RecordRuns.{AddsRefusal, IsRefusal, Moves,
 ghost use Rattle.std.specs.Io.KnownBytes.{Appends};
 
 use crate::extent::extent_of;
-use crate::file_path::file_path;
+use crate::field_path::file_path;
 use crate::run::{PIECE_OCTETS, RunEnd, RunFault};
 use crate::transfer::{MOST_ASKS, too_many_reads, write_all};
 use krb_ccache::Credentials;
