@@ -16,7 +16,7 @@ use Rattle.krb_tool.specs.declared.run.RunEnd.{RunEnd}
 use Rattle.krb_tool.specs.declared.run.RunFault.{RunFault}
 use Rattle.krb_tool.specs.declared.run.RunFault.TheVariants as fault
 use Rattle.krb_tool.specs.Faults.{IsRead, IsWrite}
-use Rattle.krb_tool.specs.Files.{RecordListing, text_of, after_line, end_of, AppendsPrefix, ListsRecords}
+use Rattle.krb_tool.specs.Files.{AddsLine, RecordListing, text_of, after_line, end_of, AppendsPrefix, ListsRecords}
 use Rattle.krb_tool.specs.inner.RecordRuns.{AddsRefusal, Moves, WritesBefore, left_of, AreLeft}
 
 -- ---- what is left of items, one after another

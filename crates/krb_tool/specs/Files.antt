@@ -1,5 +1,5 @@
 -- The listings of files, and what a run on one does to its reader and its writer.
-use Rattle.std.specs.Prelude.{ℕ, ◌≡◌, List, [], ◌++◌, length, Option, Some, Result, Ok, Err}
+use Rattle.std.specs.Prelude.{ℕ, ◌≡◌, List, [], ◌++◌, length, Option, Some, None, Result, Ok, Err}
 use Rattle.std.specs.List.{flat_map}
 use Rattle.std.specs.Io.KnownBytes.{Consumes, Appends, Keeps, IsAtEnd}
 use Rattle.krb_file.specs.Fields.{Source, Fault}
@@ -147,4 +147,4 @@ ListsRecords listing written_before written_after (Err fault.Memory) = AppendsPr
 abbrev pub AddsLine : (RecordListing → Type 0) → RecordListing → List ℕ → List ℕ → Result (Option RunEnd) RunFault → Type 0
 AddsLine IsLeft left old new (Ok None) = (line : List ℕ) × (others : RecordListing) × (new ≡ old ++ line) × (left ≡ after_line line others) × IsLeft others
 AddsLine IsLeft left old new (Ok (Some ended)) = (new ≡ old ++ left.last) × (left.lines ≡ []) × (ended ≡ left.end)
-AddsLine IsLeft left old new (Err fault) = Unit {0}
+AddsLine IsLeft left old new (Err failed) = Unit {0}
