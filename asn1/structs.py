@@ -4,7 +4,7 @@ from model import option, owned, viewed
 from module import Basic, Sequence
 from text import an, brought, doc, fill, nested, pairs
 
-FIELDS = "Application Borrowed Cut Encode EncodeFields End FieldOf Fixed Noted NotedView Optional Owned Required Sequence View ViewFields optional_notes optional_view_notes view_by_call"
+FIELDS = "Application Borrowed Cut Encode EncodeFields End FieldOf Fixed Noted NotedView Optional Owned Required Sequence View ViewFields no_optional_notes no_optional_view_notes optional_list_notes optional_list_view_notes optional_notes optional_view_notes view_by_call"
 BASIC = "Der Flags Int32 KString KerberosTime Many Memory Micros Octets Wide32"
 
 
@@ -183,19 +183,24 @@ def in_one_step(it):
 
 def view_impls(it):
     """The impls of the view: how it is made, noted and copied."""
-    notes = noted(it, noted_in_view, "seen")
-    uses = fill("view_uses.rt", type=it.term, Type=it.rust, seen="seen" if "seen" in notes else "_seen", noted=notes, copy=copy(it))
-    return f"{view_impl(it, 'Layout::<Owned>', *in_one_step(it))}\n{uses}"
+    impls = [view_impl(it, "Layout::<Owned>", *in_one_step(it))]
+    impls += [fill("noted_view.rt", type=it.term, Type=it.rust, noted=noted(it, noted_in_view, "seen"))] if has_notes(it) else []
+    return "\n".join([*impls, fill("view_uses.rt", type=it.term, Type=it.rust, copy=copy(it))])
+
+
+def noting(field, notes):
+    """The call that returns the notes on a field that may be left out."""
+    return f"optional_list_{notes}" if field.is_list else f"optional_{notes}" if has_notes(field.part) else f"no_optional_{notes}"
 
 
 def noted_of_value(field, value):
     """The notes on a field of a value."""
-    return f"optional_notes(&{value})" if field.optional else f"{value}.notes()"
+    return f"{noting(field, 'notes')}(&{value})" if field.optional else f"{value}.notes()"
 
 
 def noted_in_view(field, value):
     """The notes on a field of a view."""
-    return f"optional_view_notes::<{owned(field.type)}>(&{value})" if field.optional else f"<{owned(field.type)} as NotedView<'_>>::notes(&{value})"
+    return f"{noting(field, 'view_notes')}::<{owned(field.type)}>(&{value})" if field.optional else f"<{owned(field.type)} as NotedView<'_>>::notes(&{value})"
 
 
 def may_have_notes(field):
@@ -205,8 +210,7 @@ def may_have_notes(field):
 
 def noted(it, call, value):
     """The notes on a value or on a view, field by field."""
-    calls = [call(field, f"{value}.{field.rust}") for field in it.kept if may_have_notes(field)]
-    return f"any_of!({', '.join(calls)})" if calls else "Notes::none()"
+    return f"any_of!({', '.join(call(field, f'{value}.{field.rust}') for field in it.kept if may_have_notes(field))})"
 
 
 def copied(field):
@@ -228,13 +232,14 @@ def struct_file(module, it):
     else:
         parts.append(f"impl {it.rust} {{\n{layout_function(it)}}}\n")
     parts += [fill("cut.rt")] if it.cut else []
-    parts += [] if it.is_parametric else [fill("der.rt", type=it.term, Type=it.rust, term=term_name(it), noted=noted(it, noted_of_value, "self"))]
+    parts += [] if it.is_parametric else [fill("der.rt", type=it.term, Type=it.rust, term=term_name(it))]
+    parts += [] if it.is_parametric or not has_notes(it) else [fill("noted.rt", type=it.term, Type=it.rust, noted=noted(it, noted_of_value, "self"))]
     parts += [cut_views(it)] if it.cut else []
     parts += [] if it.is_parametric else [view_impls(it)]
     parts += [fill("list_copy.rt", about=doc(made.about), type=it.term, Type=it.rust, term=term_name(it)) for made in module.lists if made.item is it]
     body = "\n".join(parts)
     # traits are brought in where their methods are called
-    code = "FromView\n" * ("::from_view" in body) + "Noted NotedView\n"
+    code = "FromView\n" * ("::from_view" in body) + "Noted NotedView\n" * has_notes(it)
     code += "\n".join(line for line in body.splitlines() if not line.lstrip().startswith("//"))
     return f"//! {it.name}. `asn1/generate` wrote this from `asn1/krb5.asn1`.\n\n{ghost_uses(module, it, code)}\n{uses(module, it, code)}\n{body}"
 
@@ -270,6 +275,11 @@ def has_notes(type):
 def noted_lists_file(module):
     """krb_msg/src/notes/lists.rt: the notes on the lists of the grammar."""
     items = lists_of_items(module)
-    calls = {True: ("", "*seen"), False: ("no_", "seen")}
-    noted = "\n".join(fill("list_notes.rt", Type=owned(item), no=calls[has_notes(item)][0], seen=calls[has_notes(item)][1]) for item in items)
-    return fill("noted_lists.rt", uses=uses_of_items(items), noted=noted)
+    optional = {field.part.rust for it in module.types for field in it.kept if field.is_list and field.optional}
+    noted = []
+    for item in items:
+        no = "" if has_notes(item) else "no_"
+        in_view = "notes_of_strings_in_view(seen)" if item.rust == "KString" else f"{no}notes_of_items_in_view::<{owned(item)}>({'seen' if no else '*seen'})"
+        noted.append(fill("list_notes.rt", Type=owned(item), no=no, in_view=in_view))
+        noted += [fill("optional_list_notes.rt", Type=owned(item))] if item.rust in optional else []
+    return fill("noted_lists.rt", uses=uses_of_items(items), noted="\n".join(noted))

@@ -1,10 +1,10 @@
 -- The notes on values of terms, part by part.
-use Rattle.std.proofs.Common.{◌≡◌, Bool, false, ◌||◌, Option, None, Some, List, [], ◌∷◌, map, refl, sym, ap}
+use Rattle.std.proofs.Common.{◌≡◌, Bool, false, ◌||◌, Option, None, Some, List, [], ◌∷◌, map, refl, sym, ap, ◌∙◌}
 use Rattle.std.proofs.lemmas.List.{map-id}
 use Rattle.std.specs.List.{list_any}
 use Rattle.std.specs.Option.{option_map}
 use Rattle.krb_msg.specs.Notes.{Note, HighOctet, FewFlags, Negative, EmptyList, list_has, is_list_that_has, has, option_any, notes_by, either}
-use Rattle.krb_msg.specs.inner.Notes.{empty_list_note, HasNoNotes}
+use Rattle.krb_msg.specs.inner.Notes.{empty_list_note, HasNoNotes, is_list}
 use Rattle.krb_msg.specs.Term.{Term, SequenceOf, Tagged, Value}
 
 -- The notes by two tests are the same if the tests are.
@@ -28,6 +28,25 @@ list_notes other value = refl
 -- the notes on a value of a field that may be left out
 pub optional-has : (term : Term) (value : Value term) → either (empty_list_note (is_list_that_has EmptyList term value)) (notes_by (λ note. has note term value)) ≡ notes_by (λ note. is_list_that_has note term value || has note term value)
 optional-has term value = ap (λ notes. either notes (notes_by (λ note. has note term value))) (list_notes term value)
+
+-- ---- what is no list
+no_list-has : (note : Note) (term : Term) (value : Value term) → is_list term ≡ false → is_list_that_has note term value ≡ false
+no_list-has note (SequenceOf empty term) value no_list = absurd cc
+no_list-has note (Tagged index term) value no_list = no_list-has note term value no_list
+no_list-has note other value no_list = refl
+
+-- the notes on a value of a field that may be left out
+pub optional_other-has : (term : Term) (value : Value term) → is_list term ≡ false → notes_by (λ note. has note term value) ≡ notes_by (λ note. is_list_that_has note term value || has note term value)
+optional_other-has term value no_list =
+    let no = λ (note : Note). no_list-has note term value no_list in
+    rw (no HighOctet, no EmptyList) refl
+
+-- none hold in a field that may be left out, if none can
+pub none-have : (term : Term) → is_list term ≡ false → HasNoNotes term → (value : Option (Value term)) → notes_by (λ note. false) ≡ notes_by (λ note. option_any (λ value. is_list_that_has note term value || has note term value) value)
+none-have term no_list none None = refl
+none-have term no_list none (Some value) =
+    let has_none = λ (note : Note). none note value in
+    rw (has_none HighOctet, has_none FewFlags, has_none Negative, has_none EmptyList) refl ∙ optional_other-has term value no_list
 
 -- the notes on a field that may be left out, of which a value is itself
 pub same_option : (term : Term) (value : Option (Value term)) → notes_by (λ note. option_any (λ value. is_list_that_has note term value || has note term value) (option_map (λ v. v) value)) ≡ notes_by (λ note. option_any (λ value. is_list_that_has note term value || has note term value) value)

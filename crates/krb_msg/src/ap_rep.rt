@@ -78,11 +78,6 @@ impl Item for ApRep {
 }
 
 impl Noted for ApRep {
-    #[inline(always)]
-    fn is_empty_list(&self) -> bool {
-        false
-    }
-
     fn notes(&self) -> Notes {
         any_of!(self.enc_part.notes())
     }
@@ -114,11 +109,6 @@ impl<'a> View<'a> for ApRep {
 }
 
 impl<'a> NotedView<'a> for ApRep {
-    #[inline(always)]
-    fn is_empty_list(_seen: &ApRepView<'a>) -> bool {
-        false
-    }
-
     #[inline(always)]
     fn notes(seen: &ApRepView<'a>) -> Notes {
         any_of!(<EncryptedData as NotedView<'_>>::notes(&seen.enc_part))

@@ -105,11 +105,6 @@ impl Item for ApReq {
 }
 
 impl Noted for ApReq {
-    #[inline(always)]
-    fn is_empty_list(&self) -> bool {
-        false
-    }
-
     fn notes(&self) -> Notes {
         any_of!(
             self.ap_options.notes(),
@@ -150,11 +145,6 @@ impl<'a> View<'a> for ApReq {
 }
 
 impl<'a> NotedView<'a> for ApReq {
-    #[inline(always)]
-    fn is_empty_list(_seen: &ApReqView<'a>) -> bool {
-        false
-    }
-
     #[inline(always)]
     fn notes(seen: &ApReqView<'a>) -> Notes {
         any_of!(

@@ -9,11 +9,8 @@ ghost use Rattle.krb_msg.specs.inner.PrefixFree.{begins, type_is_prefix_free};
 ghost use Rattle.krb_msg.specs.inner.RoundTrips.{checksum-back};
 
 use crate::copying::FromView;
-use crate::fields::{
-    Borrowed, Encode, End, FieldOf, Noted, NotedView, Owned, Required, Sequence, View,
-};
+use crate::fields::{Borrowed, Encode, End, FieldOf, Owned, Required, Sequence, View};
 use crate::item::Item;
-use crate::notes::Notes;
 use krb_der::{Der, Int32, Memory, Octets};
 use std::alloc::Global;
 
@@ -75,17 +72,6 @@ impl Item for Checksum {
     ghost fits = { λ it fits. fits };
 }
 
-impl Noted for Checksum {
-    #[inline(always)]
-    fn is_empty_list(&self) -> bool {
-        false
-    }
-
-    fn notes(&self) -> Notes {
-        Notes::none()
-    }
-}
-
 impl<'a> View<'a> for Checksum {
     type Of = ChecksumView<'a>;
 
@@ -111,18 +97,6 @@ impl<'a> View<'a> for Checksum {
             cksumtype,
             checksum,
         })
-    }
-}
-
-impl<'a> NotedView<'a> for Checksum {
-    #[inline(always)]
-    fn is_empty_list(_seen: &ChecksumView<'a>) -> bool {
-        false
-    }
-
-    #[inline(always)]
-    fn notes(_seen: &ChecksumView<'a>) -> Notes {
-        Notes::none()
     }
 }
 

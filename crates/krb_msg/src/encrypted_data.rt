@@ -90,11 +90,6 @@ impl Item for EncryptedData {
 }
 
 impl Noted for EncryptedData {
-    #[inline(always)]
-    fn is_empty_list(&self) -> bool {
-        false
-    }
-
     fn notes(&self) -> Notes {
         any_of!(optional_notes(&self.kvno))
     }
@@ -130,11 +125,6 @@ impl<'a> View<'a> for EncryptedData {
 }
 
 impl<'a> NotedView<'a> for EncryptedData {
-    #[inline(always)]
-    fn is_empty_list(_seen: &EncryptedDataView<'a>) -> bool {
-        false
-    }
-
     #[inline(always)]
     fn notes(seen: &EncryptedDataView<'a>) -> Notes {
         any_of!(optional_view_notes::<Wide32>(&seen.kvno))

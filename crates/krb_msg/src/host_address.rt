@@ -9,11 +9,8 @@ ghost use Rattle.krb_msg.specs.inner.PrefixFree.{begins, type_is_prefix_free};
 ghost use Rattle.krb_msg.specs.inner.RoundTrips.{host_address-back};
 
 use crate::copying::FromView;
-use crate::fields::{
-    Borrowed, Encode, End, FieldOf, Noted, NotedView, Owned, Required, Sequence, View,
-};
+use crate::fields::{Borrowed, Encode, End, FieldOf, Owned, Required, Sequence, View};
 use crate::item::Item;
-use crate::notes::Notes;
 use krb_der::{Der, Int32, Memory, Octets};
 use std::alloc::Global;
 
@@ -75,17 +72,6 @@ impl Item for HostAddress {
     ghost fits = { λ it fits. fits };
 }
 
-impl Noted for HostAddress {
-    #[inline(always)]
-    fn is_empty_list(&self) -> bool {
-        false
-    }
-
-    fn notes(&self) -> Notes {
-        Notes::none()
-    }
-}
-
 impl<'a> View<'a> for HostAddress {
     type Of = HostAddressView<'a>;
 
@@ -108,18 +94,6 @@ impl<'a> View<'a> for HostAddress {
             return None;
         };
         Some(HostAddressView { addr_type, address })
-    }
-}
-
-impl<'a> NotedView<'a> for HostAddress {
-    #[inline(always)]
-    fn is_empty_list(_seen: &HostAddressView<'a>) -> bool {
-        false
-    }
-
-    #[inline(always)]
-    fn notes(_seen: &HostAddressView<'a>) -> Notes {
-        Notes::none()
     }
 }
 

@@ -15,7 +15,7 @@ use crate::copying::{FromView, copy_item_option};
 use crate::encrypted_data::{EncryptedData, EncryptedDataView};
 use crate::fields::{
     Application, Borrowed, Encode, End, FieldOf, Fixed, Noted, NotedView, Optional, Owned,
-    Required, Sequence, optional_notes, optional_view_notes,
+    Required, Sequence, optional_list_notes, optional_list_view_notes,
 };
 use crate::notes::{Notes, any_of};
 use crate::pa_data::PaData;
@@ -130,7 +130,7 @@ impl KdcRep {
         ensures { result ≡ notes_by (λ note. has note (ApplicationTerm N (kdc_rep N)) (kdc_rep_value N self.now)) }
     {
         any_of!(
-            optional_notes(&self.padata),
+            optional_list_notes(&self.padata),
             self.crealm.notes(),
             self.cname.notes(),
             self.ticket.notes(),
@@ -184,7 +184,7 @@ impl<'a> KdcRepView<'a> {
         ensures { result ≡ notes_by (λ note. has note (ApplicationTerm N (kdc_rep N)) (kdc_rep_view_value N self.now)) }
     {
         any_of!(
-            optional_view_notes::<Many<PaData>>(&self.padata),
+            optional_list_view_notes::<Many<PaData>>(&self.padata),
             <KString as NotedView<'_>>::notes(&self.crealm),
             <PrincipalName as NotedView<'_>>::notes(&self.cname),
             <Ticket as NotedView<'_>>::notes(&self.ticket),

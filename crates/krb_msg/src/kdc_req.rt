@@ -14,7 +14,7 @@ ghost use Rattle.krb_msg.specs.inner.Fitting.{IsSized};
 use crate::copying::{FromView, copy_item_option};
 use crate::fields::{
     Application, Borrowed, Encode, End, FieldOf, Fixed, Noted, NotedView, Optional, Owned,
-    Required, Sequence, optional_notes, optional_view_notes,
+    Required, Sequence, optional_list_notes, optional_list_view_notes,
 };
 use crate::kdc_req_body::{KdcReqBody, KdcReqBodyView};
 use crate::notes::{Notes, any_of};
@@ -94,7 +94,7 @@ impl KdcReq {
     pub(crate) fn notes<const N: u8>(&self) -> Notes
         ensures { result ≡ notes_by (λ note. has note (ApplicationTerm N (kdc_req N)) (kdc_req_value N self.now)) }
     {
-        any_of!(optional_notes(&self.padata), self.body.notes())
+        any_of!(optional_list_notes(&self.padata), self.body.notes())
     }
 
     /// Returns a view of the message of a number and a message type that octets are, if they are
@@ -132,7 +132,7 @@ impl<'a> KdcReqView<'a> {
         ensures { result ≡ notes_by (λ note. has note (ApplicationTerm N (kdc_req N)) (kdc_req_view_value N self.now)) }
     {
         any_of!(
-            optional_view_notes::<Many<PaData>>(&self.padata),
+            optional_list_view_notes::<Many<PaData>>(&self.padata),
             <KdcReqBody as NotedView<'_>>::notes(&self.body)
         )
     }

@@ -12,7 +12,8 @@ use crate::copying::{FromView, copy_item_option, copy_items, copy_option};
 use crate::encrypted_data::{EncryptedData, EncryptedDataView};
 use crate::fields::{
     Borrowed, Cut, Encode, EncodeFields, End, FieldOf, Noted, NotedView, Optional, Owned, Required,
-    Sequence, View, ViewFields, optional_notes, optional_view_notes,
+    Sequence, View, ViewFields, no_optional_notes, no_optional_view_notes, optional_list_notes,
+    optional_list_view_notes, optional_notes, optional_view_notes,
 };
 use crate::host_address::HostAddress;
 use crate::item::Item;
@@ -210,24 +211,19 @@ impl Item for KdcReqBody {
 }
 
 impl Noted for KdcReqBody {
-    #[inline(always)]
-    fn is_empty_list(&self) -> bool {
-        false
-    }
-
     fn notes(&self) -> Notes {
         any_of!(
             self.kdc_options.notes(),
             optional_notes(&self.cname),
             self.realm.notes(),
             optional_notes(&self.sname),
-            optional_notes(&self.from),
-            optional_notes(&self.rtime),
+            no_optional_notes(&self.from),
+            no_optional_notes(&self.rtime),
             self.nonce.notes(),
             self.etype.notes(),
-            optional_notes(&self.addresses),
+            optional_list_notes(&self.addresses),
             optional_notes(&self.enc_authorization_data),
-            optional_notes(&self.additional_tickets)
+            optional_list_notes(&self.additional_tickets)
         )
     }
 }
@@ -321,24 +317,19 @@ impl<'a> View<'a> for KdcReqBody {
 
 impl<'a> NotedView<'a> for KdcReqBody {
     #[inline(always)]
-    fn is_empty_list(_seen: &KdcReqBodyView<'a>) -> bool {
-        false
-    }
-
-    #[inline(always)]
     fn notes(seen: &KdcReqBodyView<'a>) -> Notes {
         any_of!(
             <Flags as NotedView<'_>>::notes(&seen.kdc_options),
             optional_view_notes::<PrincipalName>(&seen.cname),
             <KString as NotedView<'_>>::notes(&seen.realm),
             optional_view_notes::<PrincipalName>(&seen.sname),
-            optional_view_notes::<KerberosTime>(&seen.from),
-            optional_view_notes::<KerberosTime>(&seen.rtime),
+            no_optional_view_notes::<KerberosTime>(&seen.from),
+            no_optional_view_notes::<KerberosTime>(&seen.rtime),
             <Wide32 as NotedView<'_>>::notes(&seen.nonce),
             <Many<Int32> as NotedView<'_>>::notes(&seen.etype),
-            optional_view_notes::<Many<HostAddress>>(&seen.addresses),
+            optional_list_view_notes::<Many<HostAddress>>(&seen.addresses),
             optional_view_notes::<EncryptedData>(&seen.enc_authorization_data),
-            optional_view_notes::<Many<Ticket>>(&seen.additional_tickets)
+            optional_list_view_notes::<Many<Ticket>>(&seen.additional_tickets)
         )
     }
 }

@@ -94,11 +94,6 @@ impl Item for KrbCred {
 }
 
 impl Noted for KrbCred {
-    #[inline(always)]
-    fn is_empty_list(&self) -> bool {
-        false
-    }
-
     fn notes(&self) -> Notes {
         any_of!(self.tickets.notes(), self.enc_part.notes())
     }
@@ -130,11 +125,6 @@ impl<'a> View<'a> for KrbCred {
 }
 
 impl<'a> NotedView<'a> for KrbCred {
-    #[inline(always)]
-    fn is_empty_list(_seen: &KrbCredView<'a>) -> bool {
-        false
-    }
-
     #[inline(always)]
     fn notes(seen: &KrbCredView<'a>) -> Notes {
         any_of!(

@@ -11,7 +11,8 @@ ghost use Rattle.krb_msg.specs.inner.RoundTrips.{krb_error-back};
 use crate::copying::{FromView, copy_option};
 use crate::fields::{
     Application, Borrowed, Cut, Encode, EncodeFields, End, FieldOf, Fixed, Noted, NotedView,
-    Optional, Owned, Required, Sequence, View, ViewFields, optional_notes, optional_view_notes,
+    Optional, Owned, Required, Sequence, View, ViewFields, no_optional_notes,
+    no_optional_view_notes, optional_notes, optional_view_notes,
 };
 use crate::item::Item;
 use crate::notes::{Notes, any_of};
@@ -199,21 +200,16 @@ impl Item for KrbError {
 }
 
 impl Noted for KrbError {
-    #[inline(always)]
-    fn is_empty_list(&self) -> bool {
-        false
-    }
-
     fn notes(&self) -> Notes {
         any_of!(
-            optional_notes(&self.ctime),
-            optional_notes(&self.cusec),
+            no_optional_notes(&self.ctime),
+            no_optional_notes(&self.cusec),
             optional_notes(&self.crealm),
             optional_notes(&self.cname),
             self.realm.notes(),
             self.sname.notes(),
             optional_notes(&self.e_text),
-            optional_notes(&self.e_data)
+            no_optional_notes(&self.e_data)
         )
     }
 }
@@ -303,21 +299,16 @@ impl<'a> View<'a> for KrbError {
 
 impl<'a> NotedView<'a> for KrbError {
     #[inline(always)]
-    fn is_empty_list(_seen: &KrbErrorView<'a>) -> bool {
-        false
-    }
-
-    #[inline(always)]
     fn notes(seen: &KrbErrorView<'a>) -> Notes {
         any_of!(
-            optional_view_notes::<KerberosTime>(&seen.ctime),
-            optional_view_notes::<Micros>(&seen.cusec),
+            no_optional_view_notes::<KerberosTime>(&seen.ctime),
+            no_optional_view_notes::<Micros>(&seen.cusec),
             optional_view_notes::<KString>(&seen.crealm),
             optional_view_notes::<PrincipalName>(&seen.cname),
             <KString as NotedView<'_>>::notes(&seen.realm),
             <PrincipalName as NotedView<'_>>::notes(&seen.sname),
             optional_view_notes::<KString>(&seen.e_text),
-            optional_view_notes::<Octets>(&seen.e_data)
+            no_optional_view_notes::<Octets>(&seen.e_data)
         )
     }
 }

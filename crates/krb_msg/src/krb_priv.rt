@@ -78,11 +78,6 @@ impl Item for KrbPriv {
 }
 
 impl Noted for KrbPriv {
-    #[inline(always)]
-    fn is_empty_list(&self) -> bool {
-        false
-    }
-
     fn notes(&self) -> Notes {
         any_of!(self.enc_part.notes())
     }
@@ -114,11 +109,6 @@ impl<'a> View<'a> for KrbPriv {
 }
 
 impl<'a> NotedView<'a> for KrbPriv {
-    #[inline(always)]
-    fn is_empty_list(_seen: &KrbPrivView<'a>) -> bool {
-        false
-    }
-
     #[inline(always)]
     fn notes(seen: &KrbPrivView<'a>) -> Notes {
         any_of!(<EncryptedData as NotedView<'_>>::notes(&seen.enc_part))

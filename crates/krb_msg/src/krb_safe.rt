@@ -93,11 +93,6 @@ impl Item for KrbSafe {
 }
 
 impl Noted for KrbSafe {
-    #[inline(always)]
-    fn is_empty_list(&self) -> bool {
-        false
-    }
-
     fn notes(&self) -> Notes {
         any_of!(self.body.notes())
     }
@@ -129,11 +124,6 @@ impl<'a> View<'a> for KrbSafe {
 }
 
 impl<'a> NotedView<'a> for KrbSafe {
-    #[inline(always)]
-    fn is_empty_list(_seen: &KrbSafeView<'a>) -> bool {
-        false
-    }
-
     #[inline(always)]
     fn notes(seen: &KrbSafeView<'a>) -> Notes {
         any_of!(<KrbSafeBody as NotedView<'_>>::notes(&seen.body))

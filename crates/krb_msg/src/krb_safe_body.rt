@@ -11,7 +11,7 @@ ghost use Rattle.krb_msg.specs.inner.RoundTrips.{krb_safe_body-back};
 use crate::copying::{FromView, copy_option};
 use crate::fields::{
     Borrowed, Encode, End, FieldOf, Noted, NotedView, Optional, Owned, Required, Sequence, View,
-    optional_notes, optional_view_notes,
+    no_optional_notes, no_optional_view_notes, optional_notes, optional_view_notes,
 };
 use crate::host_address::{HostAddress, HostAddressView};
 use crate::item::Item;
@@ -124,17 +124,12 @@ impl Item for KrbSafeBody {
 }
 
 impl Noted for KrbSafeBody {
-    #[inline(always)]
-    fn is_empty_list(&self) -> bool {
-        false
-    }
-
     fn notes(&self) -> Notes {
         any_of!(
-            optional_notes(&self.timestamp),
-            optional_notes(&self.usec),
+            no_optional_notes(&self.timestamp),
+            no_optional_notes(&self.usec),
             optional_notes(&self.seq_number),
-            optional_notes(&self.r_address)
+            no_optional_notes(&self.r_address)
         )
     }
 }
@@ -174,17 +169,12 @@ impl<'a> View<'a> for KrbSafeBody {
 
 impl<'a> NotedView<'a> for KrbSafeBody {
     #[inline(always)]
-    fn is_empty_list(_seen: &KrbSafeBodyView<'a>) -> bool {
-        false
-    }
-
-    #[inline(always)]
     fn notes(seen: &KrbSafeBodyView<'a>) -> Notes {
         any_of!(
-            optional_view_notes::<KerberosTime>(&seen.timestamp),
-            optional_view_notes::<Micros>(&seen.usec),
+            no_optional_view_notes::<KerberosTime>(&seen.timestamp),
+            no_optional_view_notes::<Micros>(&seen.usec),
             optional_view_notes::<Wide32>(&seen.seq_number),
-            optional_view_notes::<HostAddress>(&seen.r_address)
+            no_optional_view_notes::<HostAddress>(&seen.r_address)
         )
     }
 }

@@ -9,11 +9,8 @@ ghost use Rattle.krb_msg.specs.inner.PrefixFree.{begins, type_is_prefix_free};
 ghost use Rattle.krb_msg.specs.inner.RoundTrips.{pa_data-back};
 
 use crate::copying::{FromView, copy_items};
-use crate::fields::{
-    Borrowed, Encode, End, FieldOf, Noted, NotedView, Owned, Required, Sequence, View,
-};
+use crate::fields::{Borrowed, Encode, End, FieldOf, Owned, Required, Sequence, View};
 use crate::item::Item;
-use crate::notes::Notes;
 use crate::view::items::ItemsView;
 use krb_der::{Der, Int32, Many, Memory, Octets};
 use std::alloc::Global;
@@ -76,17 +73,6 @@ impl Item for PaData {
     ghost fits = { λ it fits. fits };
 }
 
-impl Noted for PaData {
-    #[inline(always)]
-    fn is_empty_list(&self) -> bool {
-        false
-    }
-
-    fn notes(&self) -> Notes {
-        Notes::none()
-    }
-}
-
 impl<'a> View<'a> for PaData {
     type Of = PaDataView<'a>;
 
@@ -112,18 +98,6 @@ impl<'a> View<'a> for PaData {
             padata_type,
             padata_value,
         })
-    }
-}
-
-impl<'a> NotedView<'a> for PaData {
-    #[inline(always)]
-    fn is_empty_list(_seen: &PaDataView<'a>) -> bool {
-        false
-    }
-
-    #[inline(always)]
-    fn notes(_seen: &PaDataView<'a>) -> Notes {
-        Notes::none()
     }
 }
 

@@ -79,11 +79,6 @@ impl Item for PrincipalName {
 }
 
 impl Noted for PrincipalName {
-    #[inline(always)]
-    fn is_empty_list(&self) -> bool {
-        false
-    }
-
     fn notes(&self) -> Notes {
         any_of!(self.name.notes())
     }
@@ -120,11 +115,6 @@ impl<'a> View<'a> for PrincipalName {
 }
 
 impl<'a> NotedView<'a> for PrincipalName {
-    #[inline(always)]
-    fn is_empty_list(_seen: &PrincipalNameView<'a>) -> bool {
-        false
-    }
-
     #[inline(always)]
     fn notes(seen: &PrincipalNameView<'a>) -> Notes {
         any_of!(<Many<KString> as NotedView<'_>>::notes(&seen.name))

@@ -100,11 +100,6 @@ impl Item for Ticket {
 }
 
 impl Noted for Ticket {
-    #[inline(always)]
-    fn is_empty_list(&self) -> bool {
-        false
-    }
-
     fn notes(&self) -> Notes {
         any_of!(
             self.realm.notes(),
@@ -153,11 +148,6 @@ impl<'a> View<'a> for Ticket {
 }
 
 impl<'a> NotedView<'a> for Ticket {
-    #[inline(always)]
-    fn is_empty_list(_seen: &TicketView<'a>) -> bool {
-        false
-    }
-
     #[inline(always)]
     fn notes(seen: &TicketView<'a>) -> Notes {
         any_of!(

@@ -5,7 +5,7 @@ use Rattle.std.specs.List.{flat_map}
 use Rattle.krb_msg.specs.Grammar.{int32, pa_data}
 use Rattle.krb_msg.specs.Term.{Term}
 use Rattle.krb_msg.specs.Viewed.{IsFirstItem, IsFirstType, items_of}
-use Rattle.krb_text.specs.declared.item.ItemForm.{ItemForm}
+use Rattle.krb_text.specs.declared.item.NumberForm.{NumberForm}
 use Rattle.krb_text.specs.inner.Items.{IsFirstNumber, item_number, number_item}
 use Rattle.krb_text.specs.Text.{joined, list_text}
 
@@ -36,7 +36,7 @@ module _ {R : Type 0} (left : R → List ℕ) (octets : List ℕ) where
   first_type (Some found) is = record { value = is.value; first = is.first; same = is.same }
 
 -- after a comma and the number of the first item come those of the others
-module _ (term : Term) (form : ItemForm) where
+module _ (term : Term) (form : NumberForm) where
   abbrev shown : List ℕ → List ℕ
   shown octets = flat_map (λ item. codes "," ++ number_item form (item_number term item)) (items_of term octets)
 

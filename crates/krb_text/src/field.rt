@@ -1,7 +1,7 @@
 //! Fields of records, by the form.
 
 ghost use Rattle.std.specs.Prelude.{◌≡◌, ◌++◌, OnOk};
-ghost use Rattle.krb_text.specs.Forms.{closing, labelled, opening};
+ghost use Rattle.krb_text.specs.Forms.{closing, labelled, members, opening};
 ghost use Rattle.krb_text.specs.Text.{line_feed};
 
 use crate::form::Form;
@@ -33,6 +33,15 @@ macro_rules! put_field {
     };
 }
 
+/// Appends the members of a value in an object, by a call, so that what has many fields stays small
+/// enough for lines of it to be compiled in place.
+#[inline(never)]
+fn put_members<T: Shown>(object: &mut TextBuffer, begin: &str, value: &T) -> Result<(), AllocError>
+    ensures { OnOk result (object.new ≡ object.old ++ members begin.now (T.shown value.now)) }
+{
+    value.put_members(object, begin)
+}
+
 /// Appends a field: in a line the label, ` NAME=`, and the text of the value; in an object the
 /// members that `begin`, which is `,"NAME`, begins.
 #[inline(always)]
@@ -47,7 +56,7 @@ pub fn put_field<T: Shown>(
     ensures { OnOk result (text.new ≡ text.old ++ labelled form label.now begin.now (T.shown value.now)) }
 {
     match form.names() {
-        None => value.put_members(text, begin),
+        None => put_members(text, begin, value),
         Some(names) => {
             text.push_str(label)?;
             value.put_text(text, names)

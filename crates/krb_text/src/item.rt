@@ -1,40 +1,73 @@
 //! Numbers of registries and octets, as lists have them.
 
-ghost use Rattle.std.specs.Prelude.{◌≡◌, ◌++◌, OnOk, codes, true};
+ghost use Rattle.std.specs.Prelude.{◌≡◌, ◌++◌, List, OnOk, codes, true, ℕ};
 ghost use Rattle.krb_registry.specs.Rows.{name_of};
-ghost use Rattle.krb_text.specs.Forms.{name_string, number_text};
-ghost use Rattle.krb_text.specs.Text.{or_dash};
-ghost use Rattle.krb_text.specs.inner.Items.{number_item, octets_item};
+ghost use Rattle.krb_text.specs.Forms.{name_string, number_text, octets_string};
+ghost use Rattle.krb_text.specs.Text.{escape, or_dash};
+ghost use Rattle.krb_text.specs.declared.json.Escape.TheVariants as escapes;
+ghost use Rattle.krb_text.specs.inner.Items.{number_item};
+ghost use Rattle.krb_text.specs.inner.Strings.{quoted};
 
-use crate::escape::{put_each, put_escaped};
+use crate::escape::put_escaped;
 use crate::json::{Escape, put_octets_string, put_plain_string, put_quoted};
 use crate::text_buffer::TextBuffer;
 use krb_registry::{Registry, name_of};
 use std::alloc::AllocError;
 
-/// How a number of a registry is written, or octets are.
+/// How a number of a registry is written.
 #[derive(Clone, Copy)]
-pub(crate) enum ItemForm {
-    /// As in a line: the number in decimal, the octets escaped.
+pub(crate) enum NumberForm {
+    /// As it is, in decimal.
     Line,
     /// As in a line with names: the number, `:` and its name, or `-` if it has none.
     Named(Registry),
-    /// As in an object: the name of the number, or null if it has none.
+    /// As in an object: its name, or null if it has none.
     Name(Registry),
-    /// As a part of a string of an object: the octets escaped as in a line.
-    Part,
-    /// As in an object: the octets as a string.
-    Object,
 }
 
-/// Appends `:` and the name of a number, or `-` if it has none.
-fn put_name(line: &mut TextBuffer, registry: Registry, number: i64) -> Result<(), AllocError>
-    ensures { OnOk result (line.new ≡ line.old ++ codes ":" ++ or_dash (λ name. name) (name_of registry number)) }
-{
-    line.push_str(":")?;
-    match name_of(registry, number) {
-        None => line.push_str("-"),
-        Some(name) => line.push_str(name),
+/// How octets are written.
+pub(crate) trait OctetsForm {
+    /// Their text.
+    ghost text: { List ℕ → List ℕ };
+
+    /// Appends octets.
+    fn put(out: &mut TextBuffer, octets: &[u8]) -> Result<(), AllocError>
+        ensures { OnOk result (out.new ≡ out.old ++ text octets.now) };
+}
+
+/// Octets as in a line, escaped.
+pub(crate) struct InLine;
+
+impl OctetsForm for InLine {
+    ghost text = { escape };
+
+    #[inline(always)]
+    fn put(out: &mut TextBuffer, octets: &[u8]) -> Result<(), AllocError> {
+        put_escaped(out, octets)
+    }
+}
+
+/// Octets as a part of a string of an object, escaped as in a line.
+pub(crate) struct InString;
+
+impl OctetsForm for InString {
+    ghost text = { quoted escapes.Line };
+
+    #[inline(always)]
+    fn put(out: &mut TextBuffer, octets: &[u8]) -> Result<(), AllocError> {
+        put_quoted(out, Escape::Line, octets)
+    }
+}
+
+/// Octets as in an object, a string.
+pub(crate) struct InObject;
+
+impl OctetsForm for InObject {
+    ghost text = { octets_string };
+
+    #[inline(always)]
+    fn put(out: &mut TextBuffer, octets: &[u8]) -> Result<(), AllocError> {
+        put_octets_string(out, octets)
     }
 }
 
@@ -58,7 +91,11 @@ fn put_with_name(line: &mut TextBuffer, registry: Registry, number: i64) -> Resu
     ensures { OnOk result (line.new ≡ line.old ++ number_text true registry number) }
 {
     line.push_signed(number)?;
-    put_name(line, registry, number)
+    line.push_str(":")?;
+    match name_of(registry, number) {
+        None => line.push_str("-"),
+        Some(name) => line.push_str(name),
+    }
 }
 
 /// Appends a number, and with names `:` and its name, or `-` if it has none.
@@ -97,47 +134,14 @@ pub(crate) fn put_name_member(
 #[inline(always)]
 pub(crate) fn put_number_item(
     text: &mut TextBuffer,
-    form: ItemForm,
+    form: NumberForm,
     number: i64,
 ) -> Result<(), AllocError>
     ensures { OnOk result (text.new ≡ text.old ++ number_item form number) }
 {
     match form {
-        ItemForm::Named(registry) => put_with_name(text, registry, number),
-        ItemForm::Name(registry) => put_name_string(text, registry, number),
-        ItemForm::Line | ItemForm::Part | ItemForm::Object => text.push_signed(number),
-    }
-}
-
-/// Appends octets.
-#[inline(always)]
-pub(crate) fn put_octets_item(
-    text: &mut TextBuffer,
-    form: ItemForm,
-    octets: &[u8],
-) -> Result<(), AllocError>
-    ensures { OnOk result (text.new ≡ text.old ++ octets_item form octets.now) }
-{
-    match form {
-        ItemForm::Part => put_quoted(text, Escape::Line, octets),
-        ItemForm::Object => put_octets_string(text, octets),
-        ItemForm::Line | ItemForm::Named(_) | ItemForm::Name(_) => put_escaped(text, octets),
-    }
-}
-
-/// Appends octets as [`put_octets_item`] does, but by calls alone, so that what has it in a loop stays
-/// small enough to be compiled where it is called. It is for what is in objects.
-#[inline(always)]
-pub(crate) fn put_octets_by_call(
-    text: &mut TextBuffer,
-    form: ItemForm,
-    octets: &[u8],
-) -> Result<(), AllocError>
-    ensures { OnOk result (text.new ≡ text.old ++ octets_item form octets.now) }
-{
-    match form {
-        ItemForm::Part => put_quoted(text, Escape::Line, octets),
-        ItemForm::Object => put_octets_string(text, octets),
-        ItemForm::Line | ItemForm::Named(_) | ItemForm::Name(_) => put_each(text, octets),
+        NumberForm::Named(registry) => put_with_name(text, registry, number),
+        NumberForm::Name(registry) => put_name_string(text, registry, number),
+        NumberForm::Line => text.push_signed(number),
     }
 }

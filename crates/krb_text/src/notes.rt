@@ -7,7 +7,7 @@ ghost use Rattle.krb_text.specs.Messages.{notes};
 ghost use Rattle.krb_text.specs.Text.{joined, list_text};
 ghost use Rattle.krb_text.specs.inner.Items.{number_item};
 
-use crate::item::{ItemForm, put_number_item};
+use crate::item::{NumberForm, put_number_item};
 use crate::shown::{Shown, put_begin, put_names_begin};
 use crate::text_buffer::TextBuffer;
 use krb_msg::Notes;
@@ -16,7 +16,7 @@ use std::alloc::AllocError;
 
 /// Appends the number of a note.
 #[inline(always)]
-fn put_note(text: &mut TextBuffer, form: ItemForm, number: u8) -> Result<(), AllocError>
+fn put_note(text: &mut TextBuffer, form: NumberForm, number: u8) -> Result<(), AllocError>
     ensures { OnOk result (text.new ≡ text.old ++ number_item form (pos number)) }
 {
     put_number_item(text, form, i64::from(number))
@@ -24,7 +24,7 @@ fn put_note(text: &mut TextBuffer, form: ItemForm, number: u8) -> Result<(), All
 
 /// Appends the numbers of the notes, with commas between them.
 #[inline(always)]
-fn put_numbers(text: &mut TextBuffer, form: ItemForm, notes: &Notes) -> Result<(), AllocError>
+fn put_numbers(text: &mut TextBuffer, form: NumberForm, notes: &Notes) -> Result<(), AllocError>
     ensures { OnOk result (text.new ≡ text.old ++ joined [] (codes ",") (λ number. number_item form (pos number)) (filter (notes_have notes.now) (1 ∷ 2 ∷ 3 ∷ 4 ∷ []))) }
 {
     let mut separator = "";
@@ -48,7 +48,7 @@ pub(crate) fn has_any(notes: &Notes) -> bool
 
 /// Appends the numbers of notes in brackets, by a call, since mostly there are none.
 #[inline(never)]
-fn put_some(text: &mut TextBuffer, form: ItemForm, notes: &Notes) -> Result<(), AllocError>
+fn put_some(text: &mut TextBuffer, form: NumberForm, notes: &Notes) -> Result<(), AllocError>
     ensures { OnOk result (text.new ≡ text.old ++ codes "[" ++ joined [] (codes ",") (λ number. number_item form (pos number)) (filter (notes_have notes.now) (1 ∷ 2 ∷ 3 ∷ 4 ∷ [])) ++ codes "]") }
 {
     text.push_str("[")?;
@@ -59,7 +59,7 @@ fn put_some(text: &mut TextBuffer, form: ItemForm, notes: &Notes) -> Result<(), 
 /// Appends the numbers of the notes in brackets, with commas between them.
 #[inline(always)]
 #[tactic(auto, using(crate::proofs::Items::list_text_map))]
-fn put_number_list(text: &mut TextBuffer, form: ItemForm, notes: &Notes) -> Result<(), AllocError>
+fn put_number_list(text: &mut TextBuffer, form: NumberForm, notes: &Notes) -> Result<(), AllocError>
     ensures { OnOk result (text.new ≡ text.old ++ list_text (number_item form) (map pos (filter (notes_have notes.now) (1 ∷ 2 ∷ 3 ∷ 4 ∷ [])))) }
 {
     if has_any(notes) {
@@ -77,9 +77,9 @@ impl Shown for Notes {
     #[tactic(auto, unfolding(crate::specs::Forms::value_text))]
     fn put_text(&self, line: &mut TextBuffer, names: bool) -> Result<(), AllocError> {
         if names {
-            put_number_list(line, ItemForm::Named(Registry::Notes), self)
+            put_number_list(line, NumberForm::Named(Registry::Notes), self)
         } else {
-            put_number_list(line, ItemForm::Line, self)
+            put_number_list(line, NumberForm::Line, self)
         }
     }
 
@@ -87,8 +87,8 @@ impl Shown for Notes {
     #[tactic(auto, unfolding(crate::specs::Forms::members, crate::specs::Forms::json_value, crate::specs::Forms::names_member))]
     fn put_members(&self, object: &mut TextBuffer, begin: &str) -> Result<(), AllocError> {
         put_begin(object, begin)?;
-        put_number_list(object, ItemForm::Line, self)?;
+        put_number_list(object, NumberForm::Line, self)?;
         put_names_begin(object, begin)?;
-        put_number_list(object, ItemForm::Name(Registry::Notes), self)
+        put_number_list(object, NumberForm::Name(Registry::Notes), self)
     }
 }

@@ -1,19 +1,19 @@
 //! Names of principals.
 
-ghost use Rattle.std.specs.Prelude.{◌≡◌, ◌++◌, IfOk, List, OnOk, codes, length, ℕ, map, string_bytes};
+ghost use Rattle.std.specs.Prelude.{◌≡◌, ◌++◌, ◌∷◌, [], IfOk, List, MatchOption, OnOk, codes, length, ℕ, string_bytes};
 ghost use Rattle.std.specs.Fmt.{signed_decimal};
 ghost use Rattle.std.specs.List.{flat_map};
 ghost use Rattle.krb_msg.specs.Grammar.{kerberos_string};
 ghost use Rattle.krb_msg.specs.Viewed.{AreViewed, items_of};
 ghost use Rattle.krb_registry.specs.declared.registry.Registry.TheVariants.{NameTypes};
 ghost use Rattle.krb_text.specs.Forms.{json_character, json_string, name_string, octets_string, principal_object};
-ghost use Rattle.krb_text.specs.Text.{escape, joined, list_text, principal_text};
+ghost use Rattle.krb_text.specs.Text.{joined, list_text, principal_text};
 ghost use Rattle.krb_text.specs.Values.{Principal as IsPrincipal};
-ghost use Rattle.krb_text.specs.declared.item.ItemForm.TheVariants.{Part};
-ghost use Rattle.krb_text.specs.inner.Items.{octets_item};
+ghost use Rattle.krb_text.specs.declared.json.Escape.TheVariants.{Line};
+ghost use Rattle.krb_text.specs.inner.Strings.{quoted};
 
 use crate::escape::put_escaped;
-use crate::item::{ItemForm, put_octets_by_call, put_octets_item};
+use crate::item::{InLine, InObject, InString, OctetsForm};
 use crate::json::put_octets_string;
 use crate::number::put_number_and_name;
 use crate::shown::{Shown, put_begin};
@@ -25,48 +25,52 @@ use std::alloc::{AllocError, Global};
 use std::marker::Model;
 
 /// The components of a name.
-pub(crate) trait Components {
+pub(crate) trait Components: Drop {
     ghost components: { Self → List (List ℕ) };
 
-    /// Appends the components, with the separator, of one octet, between two, or another text if
-    /// there are none.
-    fn put_components(
-        &self,
-        text: &mut TextBuffer,
-        form: ItemForm,
-        none: &str,
-        separator: &str,
-    ) -> Result<(), AllocError>
-        requires { length separator.now ≡ 1 }
-        ensures { OnOk result (text.new ≡ text.old ++ joined none.now separator.now (octets_item form) (components self.now)) };
-
-    /// Appends the components as [`Components::put_components`] does, in an object.
-    fn put_in_object(
-        &self,
-        object: &mut TextBuffer,
-        form: ItemForm,
-        none: &str,
-        separator: &str,
-    ) -> Result<(), AllocError>
-        requires { length separator.now ≡ 1 }
-        ensures { OnOk result (object.new ≡ object.old ++ joined none.now separator.now (octets_item form) (components self.now)) };
+    /// Returns the first component and the others, or nothing if there are none.
+    fn next(&self) -> Option<(&[u8], Self)>
+        ensures { MatchOption result (components self.now ≡ []) (λ (first, others). components self.now ≡ first.now ∷ components others) };
 }
 
-/// Appends the separator and a component, for each of the components.
-fn put_others(
+/// Appends the separator, of one octet, and a component, for each of the components.
+#[inline(always)]
+fn put_others<F: OctetsForm, C: Components>(
     text: &mut TextBuffer,
-    form: ItemForm,
     separator: &str,
-    components: &[KString],
+    components: C,
 ) -> Result<(), AllocError>
     requires { length separator.now ≡ 1 }
-    ensures { OnOk result (text.new ≡ text.old ++ flat_map (λ c. separator.now ++ octets_item form c) components.now) }
+    ensures { OnOk result (text.new ≡ text.old ++ flat_map (λ c. separator.now ++ F.text c) (C.components components)) }
 {
-    for component in components {
+    let mut others = components;
+    'others: while let Some((component, rest)) = others.next() {
         text.push_sign(separator)?;
-        put_octets_item(text, form, component.octets())?;
+        F::put(text, component)?;
+        others = rest;
     }
     Ok(())
+}
+
+/// Appends the components, with a separator of one octet between two, or another text if there are
+/// none.
+#[inline(always)]
+fn put_components<F: OctetsForm, C: Components>(
+    text: &mut TextBuffer,
+    components: &C,
+    none: &str,
+    separator: &str,
+) -> Result<(), AllocError>
+    requires { length separator.now ≡ 1 }
+    ensures { OnOk result (text.new ≡ text.old ++ joined none.now separator.now F.text (C.components components.now)) }
+{
+    match components.next() {
+        None => text.push_str(none),
+        Some((first, others)) => {
+            F::put(text, first)?;
+            put_others::<F, C>(text, separator, others)
+        }
+    }
 }
 
 /// Components that are strings.
@@ -76,72 +80,13 @@ pub struct Strings<'a>(pub &'a [KString]);
 impl<'a> Components for Strings<'a> {
     ghost components = { λ strings. strings.0.now };
 
-    fn put_components(
-        &self,
-        text: &mut TextBuffer,
-        form: ItemForm,
-        none: &str,
-        separator: &str,
-    ) -> Result<(), AllocError> {
+    #[inline(always)]
+    fn next(&self) -> Option<(&[u8], Strings<'a>)> {
         match self.0.split_first() {
-            None => text.push_str(none),
-            Some((first, others)) => {
-                put_octets_item(text, form, first.octets())?;
-                put_others(text, form, separator, others)
-            }
+            None => None,
+            Some((first, others)) => Some((first.octets(), Strings(others))),
         }
     }
-
-    fn put_in_object(
-        &self,
-        object: &mut TextBuffer,
-        form: ItemForm,
-        none: &str,
-        separator: &str,
-    ) -> Result<(), AllocError> {
-        self.put_components(object, form, none, separator)
-    }
-}
-
-/// Appends the separator and a component, for each of the components that are viewed.
-#[inline(always)]
-fn put_other_viewed(
-    text: &mut TextBuffer,
-    form: ItemForm,
-    separator: &str,
-    components: ItemsView<'_>,
-) -> Result<(), AllocError>
-    requires sign { length separator.now ≡ 1 }
-    requires viewed { AreViewed kerberos_string components.octets.now }
-    ensures { OnOk result (text.new ≡ text.old ++ flat_map (λ c. separator.now ++ octets_item form c) (items_of kerberos_string components.entry.octets.now)) }
-{
-    let mut others = components;
-    'others: while let Some((component, rest)) = next_item::<KString>(others) {
-        text.push_sign(separator)?;
-        put_octets_item(text, form, component)?;
-        others = rest;
-    }
-    Ok(())
-}
-
-/// Appends the separator and a component, for each of the components that are viewed, in an object.
-#[inline(always)]
-fn put_others_in_object(
-    object: &mut TextBuffer,
-    form: ItemForm,
-    separator: &str,
-    components: ItemsView<'_>,
-) -> Result<(), AllocError>
-    requires { AreViewed kerberos_string components.octets.now }
-    ensures { OnOk result (object.new ≡ object.old ++ flat_map (λ c. separator.now ++ octets_item form c) (items_of kerberos_string components.entry.octets.now)) }
-{
-    let mut others = components;
-    'others: while let Some((component, rest)) = next_item::<KString>(others) {
-        object.push_str(separator)?;
-        put_octets_by_call(object, form, component)?;
-        others = rest;
-    }
-    Ok(())
 }
 
 /// Components that are viewed in octets. Contracts see the octets of each.
@@ -175,36 +120,10 @@ impl<'a> Components for ViewedStrings<'a> {
     ghost components = { λ strings. strings };
 
     #[inline(always)]
-    fn put_components(
-        &self,
-        text: &mut TextBuffer,
-        form: ItemForm,
-        none: &str,
-        separator: &str,
-    ) -> Result<(), AllocError> {
+    fn next(&self) -> Option<(&[u8], ViewedStrings<'a>)> {
         match next_item::<KString>(self.0) {
-            None => text.push_str(none),
-            Some((first, others)) => {
-                put_octets_item(text, form, first)?;
-                put_other_viewed(text, form, separator, others)
-            }
-        }
-    }
-
-    #[inline(always)]
-    fn put_in_object(
-        &self,
-        object: &mut TextBuffer,
-        form: ItemForm,
-        none: &str,
-        separator: &str,
-    ) -> Result<(), AllocError> {
-        match next_item::<KString>(self.0) {
-            None => object.push_str(none),
-            Some((first, others)) => {
-                put_octets_by_call(object, form, first)?;
-                put_others_in_object(object, form, separator, others)
-            }
+            None => None,
+            Some((first, others)) => Some((first, ViewedStrings(others))),
         }
     }
 }
@@ -226,11 +145,11 @@ fn put_text_parts<C: Components>(
     components: &C,
     realm: &[u8],
 ) -> Result<(), AllocError>
-    ensures { OnOk result (object.new ≡ object.old ++ (joined (codes "\\\\-") (codes "/") (octets_item Part) (C.components components.now) ++ codes "@" ++ octets_item Part realm.now)) }
+    ensures { OnOk result (object.new ≡ object.old ++ (joined (codes "\\\\-") (codes "/") (quoted Line) (C.components components.now) ++ codes "@" ++ quoted Line realm.now)) }
 {
-    components.put_in_object(object, ItemForm::Part, "\\\\-", "/")?;
+    put_components::<InString, C>(object, components, "\\\\-", "/")?;
     object.push_sign("@")?;
-    put_octets_by_call(object, ItemForm::Part, realm)
+    InString::put(object, realm)
 }
 
 /// Appends the text of a principal as it is in a string.
@@ -273,7 +192,7 @@ fn put_parts<C: Components>(
     ensures { OnOk result (object.new ≡ object.old ++ codes ",\"components\":" ++ list_text octets_string (C.components components.now) ++ codes ",\"realm\":" ++ octets_string realm.now ++ codes "}") }
 {
     object.push_str(",\"components\":[")?;
-    components.put_in_object(object, ItemForm::Object, "", ",")?;
+    put_components::<InObject, C>(object, components, "", ",")?;
     object.push_str("],\"realm\":")?;
     put_octets_string(object, realm)?;
     object.push_str("}")
@@ -298,8 +217,7 @@ impl<'a, C: Components> Shown for Principal<'a, C> {
     #[inline(never)]
     #[tactic(auto, unfolding(crate::specs::Forms::value_text, crate::specs::Text::principal_text))]
     fn put_text(&self, line: &mut TextBuffer, _names: bool) -> Result<(), AllocError> {
-        self.components
-            .put_components(line, ItemForm::Line, "\\-", "/")?;
+        put_components::<InLine, C>(line, &self.components, "\\-", "/")?;
         line.push_sign("@")?;
         put_escaped(line, self.realm)
     }
@@ -321,7 +239,7 @@ pub fn put_principal(
 ) -> Result<(), AllocError>
     ensures { OnOk result (line.new ≡ line.old ++ principal_text components.now realm.now) }
 {
-    Strings(components).put_components(line, ItemForm::Line, "\\-", "/")?;
+    put_components::<InLine, Strings<'_>>(line, &Strings(components), "\\-", "/")?;
     line.push_sign("@")?;
     put_escaped(line, realm.octets())
 }

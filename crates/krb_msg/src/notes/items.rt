@@ -2,6 +2,7 @@
 
 ghost use Rattle.std.specs.Prelude.{◌≡◌, true, map};
 ghost use Rattle.std.specs.List.{list_any};
+ghost use Rattle.krb_msg.specs.Grammar.{kerberos_string};
 ghost use Rattle.krb_msg.specs.Shape.{has_octet_tags, is_unambiguous};
 ghost use Rattle.krb_msg.specs.Viewed.{AreViewed, items_of};
 ghost use Rattle.krb_msg.specs.Notes.{EmptyList, has, list_has, notes_by};
@@ -10,8 +11,9 @@ ghost use Rattle.krb_msg.specs.inner.Notes.{HasNoNotes, empty_list_note};
 use crate::fields::{Noted, NotedView, View};
 use crate::item::Item;
 use crate::notes::Notes;
+use crate::notes::scalars::has_high_octet;
 use crate::view::items::{ItemsView, next_item};
-use krb_der::Many;
+use krb_der::{KString, Many};
 
 /// Returns the note on a list that may be left out, if it is there and has no items.
 #[inline(always)]
@@ -75,6 +77,19 @@ pub fn notes_of_items_in_view<'a, T: NotedView<'a>>(items: ItemsView<'a>) -> Not
         rest = others;
     }
     notes
+}
+
+/// Returns the notes that hold in some of the strings of a list that is viewed. Mostly none does,
+/// which one look at all octets of the list tells.
+pub fn notes_of_strings_in_view(items: &ItemsView<'_>) -> Notes
+    requires { AreViewed kerberos_string items.now.octets.now }
+    ensures { result ≡ notes_by (λ note. list_any (has note kerberos_string) (items_of kerberos_string items.now.octets.now)) }
+{
+    if has_high_octet(items.octets) {
+        notes_of_items_in_view::<KString>(*items)
+    } else {
+        Notes::none()
+    }
 }
 
 /// Returns the notes on a list that is viewed, in whose items none can hold.

@@ -1,11 +1,11 @@
 //! The notes on the lists of the grammar. `asn1/generate` wrote this from `asn1/krb5.asn1`.
 
-use crate::fields::{Noted, NotedView};
+use crate::fields::{Noted, NotedList, NotedListView, NotedView};
 use crate::host_address::HostAddress;
 use crate::notes::Notes;
 use crate::notes::items::{
     has_no_items, has_no_items_in_view, no_notes_of_items, no_notes_of_items_in_view,
-    notes_of_items, notes_of_items_in_view,
+    notes_of_items, notes_of_items_in_view, notes_of_strings_in_view,
 };
 use crate::pa_data::PaData;
 use crate::ticket::Ticket;
@@ -14,11 +14,6 @@ use krb_der::{Int32, KString, Many};
 
 impl Noted for Many<HostAddress> {
     #[inline(always)]
-    fn is_empty_list(&self) -> bool {
-        has_no_items(self)
-    }
-
-    #[inline(always)]
     fn notes(&self) -> Notes {
         no_notes_of_items(self)
     }
@@ -26,22 +21,26 @@ impl Noted for Many<HostAddress> {
 
 impl<'a> NotedView<'a> for Many<HostAddress> {
     #[inline(always)]
-    fn is_empty_list(seen: &ItemsView<'a>) -> bool {
-        has_no_items_in_view::<HostAddress>(seen)
-    }
-
-    #[inline(always)]
     fn notes(seen: &ItemsView<'a>) -> Notes {
         no_notes_of_items_in_view::<HostAddress>(seen)
     }
 }
 
-impl Noted for Many<Int32> {
+impl NotedList for Many<HostAddress> {
     #[inline(always)]
     fn is_empty_list(&self) -> bool {
         has_no_items(self)
     }
+}
 
+impl<'a> NotedListView<'a> for Many<HostAddress> {
+    #[inline(always)]
+    fn is_empty_list(seen: &ItemsView<'a>) -> bool {
+        has_no_items_in_view::<HostAddress>(seen)
+    }
+}
+
+impl Noted for Many<Int32> {
     #[inline(always)]
     fn notes(&self) -> Notes {
         no_notes_of_items(self)
@@ -50,22 +49,12 @@ impl Noted for Many<Int32> {
 
 impl<'a> NotedView<'a> for Many<Int32> {
     #[inline(always)]
-    fn is_empty_list(seen: &ItemsView<'a>) -> bool {
-        has_no_items_in_view::<Int32>(seen)
-    }
-
-    #[inline(always)]
     fn notes(seen: &ItemsView<'a>) -> Notes {
         no_notes_of_items_in_view::<Int32>(seen)
     }
 }
 
 impl Noted for Many<KString> {
-    #[inline(always)]
-    fn is_empty_list(&self) -> bool {
-        has_no_items(self)
-    }
-
     #[inline(always)]
     fn notes(&self) -> Notes {
         notes_of_items(self)
@@ -74,22 +63,12 @@ impl Noted for Many<KString> {
 
 impl<'a> NotedView<'a> for Many<KString> {
     #[inline(always)]
-    fn is_empty_list(seen: &ItemsView<'a>) -> bool {
-        has_no_items_in_view::<KString>(seen)
-    }
-
-    #[inline(always)]
     fn notes(seen: &ItemsView<'a>) -> Notes {
-        notes_of_items_in_view::<KString>(*seen)
+        notes_of_strings_in_view(seen)
     }
 }
 
 impl Noted for Many<PaData> {
-    #[inline(always)]
-    fn is_empty_list(&self) -> bool {
-        has_no_items(self)
-    }
-
     #[inline(always)]
     fn notes(&self) -> Notes {
         no_notes_of_items(self)
@@ -98,22 +77,26 @@ impl Noted for Many<PaData> {
 
 impl<'a> NotedView<'a> for Many<PaData> {
     #[inline(always)]
-    fn is_empty_list(seen: &ItemsView<'a>) -> bool {
-        has_no_items_in_view::<PaData>(seen)
-    }
-
-    #[inline(always)]
     fn notes(seen: &ItemsView<'a>) -> Notes {
         no_notes_of_items_in_view::<PaData>(seen)
     }
 }
 
-impl Noted for Many<Ticket> {
+impl NotedList for Many<PaData> {
     #[inline(always)]
     fn is_empty_list(&self) -> bool {
         has_no_items(self)
     }
+}
 
+impl<'a> NotedListView<'a> for Many<PaData> {
+    #[inline(always)]
+    fn is_empty_list(seen: &ItemsView<'a>) -> bool {
+        has_no_items_in_view::<PaData>(seen)
+    }
+}
+
+impl Noted for Many<Ticket> {
     #[inline(always)]
     fn notes(&self) -> Notes {
         notes_of_items(self)
@@ -122,12 +105,21 @@ impl Noted for Many<Ticket> {
 
 impl<'a> NotedView<'a> for Many<Ticket> {
     #[inline(always)]
-    fn is_empty_list(seen: &ItemsView<'a>) -> bool {
-        has_no_items_in_view::<Ticket>(seen)
-    }
-
-    #[inline(always)]
     fn notes(seen: &ItemsView<'a>) -> Notes {
         notes_of_items_in_view::<Ticket>(*seen)
+    }
+}
+
+impl NotedList for Many<Ticket> {
+    #[inline(always)]
+    fn is_empty_list(&self) -> bool {
+        has_no_items(self)
+    }
+}
+
+impl<'a> NotedListView<'a> for Many<Ticket> {
+    #[inline(always)]
+    fn is_empty_list(seen: &ItemsView<'a>) -> bool {
+        has_no_items_in_view::<Ticket>(seen)
     }
 }

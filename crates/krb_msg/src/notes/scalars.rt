@@ -1,4 +1,4 @@
-//! The notes on the scalars (RFC 4120, 5.2), as values and as views.
+//! The notes on scalars (RFC 4120, 5.2), as values and as views. None can hold in one of another type.
 
 ghost use Rattle.std.specs.Prelude.{◌≡◌, ◌+◌, ◌≤◌, length, nat_lt};
 ghost use Rattle.std.specs.List.{list_any};
@@ -6,7 +6,7 @@ ghost use Rattle.std.specs.List.{list_any};
 use crate::fields::{Noted, NotedView};
 use crate::notes::Notes;
 use crate::view::scalars::FlagsView;
-use krb_der::{Flags, Int32, KString, KerberosTime, Micros, Octets, Wide32};
+use krb_der::{Flags, KString, Wide32};
 use std::simd::Simd;
 
 /// Returns whether one of N octets is above 7F. All are looked at at once.
@@ -47,7 +47,7 @@ fn is_any_high(octets: &[u8]) -> bool
 }
 
 /// Returns whether an octet is above 7F. Most names have 4 to 32, which are looked at many at a time.
-fn has_high_octet(octets: &[u8]) -> bool
+pub(crate) fn has_high_octet(octets: &[u8]) -> bool
     ensures { result ≡ list_any (λ octet. nat_lt 0x7F octet) octets.now }
 {
     match octets.len() {
@@ -59,11 +59,6 @@ fn has_high_octet(octets: &[u8]) -> bool
 }
 
 impl Noted for KString {
-    #[inline(always)]
-    fn is_empty_list(&self) -> bool {
-        false
-    }
-
     fn notes(&self) -> Notes {
         Notes {
             high_octet: has_high_octet(self.octets()),
@@ -73,11 +68,6 @@ impl Noted for KString {
 }
 
 impl<'a> NotedView<'a> for KString {
-    #[inline(always)]
-    fn is_empty_list(_seen: &&'a [u8]) -> bool {
-        false
-    }
-
     #[inline(always)]
     fn notes(seen: &&'a [u8]) -> Notes {
         Notes {
@@ -89,11 +79,6 @@ impl<'a> NotedView<'a> for KString {
 
 impl Noted for Flags {
     #[inline(always)]
-    fn is_empty_list(&self) -> bool {
-        false
-    }
-
-    #[inline(always)]
     fn notes(&self) -> Notes {
         Notes {
             few_flags: self.bits() < 32,
@@ -103,11 +88,6 @@ impl Noted for Flags {
 }
 
 impl<'a> NotedView<'a> for Flags {
-    #[inline(always)]
-    fn is_empty_list(_seen: &FlagsView<'a>) -> bool {
-        false
-    }
-
     #[inline(always)]
     fn notes(seen: &FlagsView<'a>) -> Notes {
         let bits = (8 * seen.octets.len() as u128).saturating_sub(u128::from(seen.unused));
@@ -121,11 +101,6 @@ impl<'a> NotedView<'a> for Flags {
 /// A number of the type of kvno, nonce and seq-number.
 impl Noted for Wide32 {
     #[inline(always)]
-    fn is_empty_list(&self) -> bool {
-        false
-    }
-
-    #[inline(always)]
     fn notes(&self) -> Notes {
         Notes {
             negative: self.get() < 0,
@@ -136,111 +111,10 @@ impl Noted for Wide32 {
 
 impl<'a> NotedView<'a> for Wide32 {
     #[inline(always)]
-    fn is_empty_list(_seen: &i64) -> bool {
-        false
-    }
-
-    #[inline(always)]
     fn notes(seen: &i64) -> Notes {
         Notes {
             negative: *seen < 0,
             ..Notes::none()
         }
-    }
-}
-
-impl Noted for Int32 {
-    #[inline(always)]
-    fn is_empty_list(&self) -> bool {
-        false
-    }
-
-    #[inline(always)]
-    fn notes(&self) -> Notes {
-        Notes::none()
-    }
-}
-
-impl<'a> NotedView<'a> for Int32 {
-    #[inline(always)]
-    fn is_empty_list(_seen: &i64) -> bool {
-        false
-    }
-
-    #[inline(always)]
-    fn notes(_seen: &i64) -> Notes {
-        Notes::none()
-    }
-}
-
-impl Noted for Micros {
-    #[inline(always)]
-    fn is_empty_list(&self) -> bool {
-        false
-    }
-
-    #[inline(always)]
-    fn notes(&self) -> Notes {
-        Notes::none()
-    }
-}
-
-impl<'a> NotedView<'a> for Micros {
-    #[inline(always)]
-    fn is_empty_list(_seen: &i64) -> bool {
-        false
-    }
-
-    #[inline(always)]
-    fn notes(_seen: &i64) -> Notes {
-        Notes::none()
-    }
-}
-
-impl Noted for Octets {
-    #[inline(always)]
-    fn is_empty_list(&self) -> bool {
-        false
-    }
-
-    #[inline(always)]
-    fn notes(&self) -> Notes {
-        Notes::none()
-    }
-}
-
-impl<'a> NotedView<'a> for Octets {
-    #[inline(always)]
-    fn is_empty_list(_seen: &&'a [u8]) -> bool {
-        false
-    }
-
-    #[inline(always)]
-    fn notes(_seen: &&'a [u8]) -> Notes {
-        Notes::none()
-    }
-}
-
-impl Noted for KerberosTime {
-    #[inline(always)]
-    fn is_empty_list(&self) -> bool {
-        false
-    }
-
-    #[inline(always)]
-    fn notes(&self) -> Notes {
-        Notes::none()
-    }
-}
-
-impl<'a> NotedView<'a> for KerberosTime {
-    #[inline(always)]
-    fn is_empty_list(_seen: &&'a [u8]) -> bool {
-        false
-    }
-
-    #[inline(always)]
-    fn notes(_seen: &&'a [u8]) -> Notes {
-        Notes::none()
     }
 }

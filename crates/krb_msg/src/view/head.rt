@@ -68,9 +68,6 @@ fn long_item(tag: u8, octets: &[u8]) -> Option<(&[u8], &[u8])>
     requires { length octets.now < 2 ^ 31 }
     ensures { MatchOption result (HasNoItem tag octets.now) (λ (contents, rest). octets.now ≡ item tag contents.now ++ rest.now) }
 {
-    if let Some(found) = wide_item(tag, octets) {
-        return Some(found);
-    }
     let head = find_head(tag, octets);
     if head.before == 0 {
         None
@@ -98,6 +95,19 @@ fn wide_item(tag: u8, octets: &[u8]) -> Option<(&[u8], &[u8])>
 /// Returns where the contents of the first item are, if it has a tag, by a call.
 #[inline(never)]
 fn find_head(tag: u8, octets: &[u8]) -> Head
+    requires { length octets.now < 2 ^ 31 }
+    ensures none { result.before ≡ 0 → HasNoItem tag octets.now }
+    ensures some { 0 < result.before → IsHead (item tag) octets.now result.before result.size }
+{
+    match wide_item(tag, octets) {
+        Some((contents, rest)) => head_of(octets, contents, rest),
+        None => find_other_head(tag, octets),
+    }
+}
+
+/// Returns the same as [`find_head`], for other lengths.
+#[inline(never)]
+fn find_other_head(tag: u8, octets: &[u8]) -> Head
     requires { length octets.now < 2 ^ 31 }
     ensures none { result.before ≡ 0 → HasNoItem tag octets.now }
     ensures some { 0 < result.before → IsHead (item tag) octets.now result.before result.size }
@@ -133,26 +143,18 @@ pub(crate) fn first_field(outer: u8, tag: u8, octets: &[u8]) -> Option<(&[u8], &
     requires { length octets.now < 2 ^ 31 }
     ensures { MatchOption result (HasNoField outer tag octets.now) (λ (contents, rest). octets.now ≡ item outer (item tag contents.now) ++ rest.now) }
 {
-    match short_field(outer, tag, octets) {
-        Some(found) => Some(found),
-        None => long_field(outer, tag, octets),
+    if let [first, size, second, inner, rest @ ..] = octets {
+        let inner_size = usize::from(*inner);
+        if *first == outer
+            && *size < 0x80
+            && *second == tag
+            && inner_size + 2 == usize::from(*size)
+            && inner_size <= rest.len()
+        {
+            return Some(rest.split_at(inner_size));
+        }
     }
-}
-
-/// Returns the same as [`first_field`], if both lengths have one octet.
-#[inline(always)]
-fn short_field(outer: u8, tag: u8, octets: &[u8]) -> Option<(&[u8], &[u8])>
-    ensures { IfSome result (λ (contents, rest). octets.now ≡ item outer (item tag contents.now) ++ rest.now) }
-{
-    let [first, size, second, inner, rest @ ..] = octets else {
-        return None;
-    };
-    let inner_size = usize::from(*inner);
-    if *first == outer && *size < 0x80 && *second == tag && inner_size + 2 == usize::from(*size) {
-        split(rest, inner_size)
-    } else {
-        None
-    }
+    long_field(outer, tag, octets)
 }
 
 /// Returns what follows a field with which octets begin, of an INTEGER of one octet that is known.

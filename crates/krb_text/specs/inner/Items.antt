@@ -1,28 +1,16 @@
--- The items of lists as records show them.
+-- The numbers of lists as records show them.
 use Rattle.std.specs.Prelude.{ℕ, ℤ, ◌≡◌, pos, true, List}
 use Rattle.std.specs.Fmt.{signed_decimal}
 use Rattle.krb_msg.specs.Term.{Term, Integer, Sequence, Tagged, Required, Value}
 use Rattle.krb_msg.specs.Viewed.{IsFirstItem}
-use Rattle.krb_text.specs.declared.item.ItemForm.{ItemForm}
-use Rattle.krb_text.specs.declared.item.ItemForm.TheVariants as form
-use Rattle.krb_text.specs.declared.json.Escape.TheVariants as escapes
-use Rattle.krb_text.specs.Forms.{name_string, number_text, octets_string}
-use Rattle.krb_text.specs.Text.{escape}
-use Rattle.krb_text.specs.inner.Strings.{quoted}
+use Rattle.krb_text.specs.declared.item.NumberForm.{NumberForm}
+use Rattle.krb_text.specs.declared.item.NumberForm.TheVariants as form
+use Rattle.krb_text.specs.Forms.{name_string, number_text}
 
-abbrev pub number_item : ItemForm → ℤ → List ℕ
+abbrev pub number_item : NumberForm → ℤ → List ℕ
 number_item form.Line number = signed_decimal number
 number_item (form.Named registry) number = number_text true registry number
 number_item (form.Name registry) number = name_string registry number
-number_item form.Part number = signed_decimal number
-number_item form.Object number = signed_decimal number
-
-abbrev pub octets_item : ItemForm → List ℕ → List ℕ
-octets_item form.Line octets = escape octets
-octets_item (form.Named registry) octets = escape octets
-octets_item (form.Name registry) octets = escape octets
-octets_item form.Part octets = quoted escapes.Line octets
-octets_item form.Object octets = octets_string octets
 
 -- the number that an item is, or that a SEQUENCE begins with
 abbrev pub item_number : (term : Term) → Value term → ℤ

@@ -1,8 +1,12 @@
-use Rattle.std.proofs.Common.{◌≡◌, ◌++◌, take}
+use Rattle.std.proofs.Common.{◌≡◌, ◌++◌, length}
 use Rattle.std.specs.List.{flat_map}
-use Rattle.krb_text.specs.inner.Items.{octets_item}
 use Rattle.krb_text.proofs.principal.put_others.Given as goal
 
--- the separators and components so far
-abbrev pub invariant-loop-component : goal.invariant-loop-component
-invariant-loop-component l = l.text ≡ l.initial.text ++ flat_map (λ c. l.separator ++ octets_item l.form c) (take l.component-index l.components)
+-- the text so far, and that of the components that are left
+abbrev pub invariant-others : goal.invariant-others
+invariant-others g l =
+    l.text ++ flat_map (λ c. l.separator ++ g.F.OctetsForm.text c) (g.C.Components.components l.others)
+    ≡ l.initial.text ++ flat_map (λ c. l.separator ++ g.F.OctetsForm.text c) (g.C.Components.components l.initial.others)
+
+abbrev pub decreases-others : goal.decreases-others
+decreases-others g l = length (g.C.Components.components l.others)

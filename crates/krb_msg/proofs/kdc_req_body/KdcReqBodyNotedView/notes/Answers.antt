@@ -3,4 +3,4 @@ use Rattle.std.proofs.Common.{refl}
 use Rattle.krb_msg.proofs.kdc_req_body.KdcReqBodyNotedView.notes.Goals as goal
 
 pub returns : goal.returns
-returns c = rw (c.or-11.ensures, c.or-10.ensures, c.or-9.ensures, c.or-8.ensures, c.or-7.ensures, c.or-6.ensures, c.or-5.ensures, c.or-4.ensures, c.or-3.ensures, c.or-2.ensures, c.or.ensures, c.none.ensures, c.notes.ensures, c.optional_view_notes.ensures, c.notes-2.ensures, c.optional_view_notes-2.ensures, c.optional_view_notes-3.ensures, c.optional_view_notes-4.ensures, c.notes-3.ensures, c.notes-4.ensures, c.optional_view_notes-5.ensures, c.optional_view_notes-6.ensures, c.optional_view_notes-7.ensures) refl
+returns c = rw (c.or-11.ensures, c.or-10.ensures, c.or-9.ensures, c.or-8.ensures, c.or-7.ensures, c.or-6.ensures, c.or-5.ensures, c.or-4.ensures, c.or-3.ensures, c.or-2.ensures, c.or.ensures, c.none.ensures, c.notes.ensures, c.optional_view_notes.ensures, c.notes-2.ensures, c.optional_view_notes-2.ensures, c.no_optional_view_notes.ensures, c.no_optional_view_notes-2.ensures, c.notes-3.ensures, c.notes-4.ensures, c.optional_list_view_notes.ensures, c.optional_view_notes-3.ensures, c.optional_list_view_notes-2.ensures) refl
