@@ -59,7 +59,9 @@ impl<'a> Listed<'a> for PaData {
     ghost registry = { PreAuthenticationData };
 
     #[inline(always)]
-    fn registry() -> Registry {
+    fn registry() -> Registry
+        ensures { result ≡ PreAuthenticationData }
+    {
         Registry::PreAuthenticationData
     }
 
