@@ -15,7 +15,7 @@ ghost use Rattle.krb_text.specs.Values.{ErrorCode, Number, Numbers, Quoted, Word
 use crate::form::Form;
 use crate::inside::put_list;
 use crate::item::{put_name_member, put_named};
-use crate::list::{PaDataTypes, types_of};
+use crate::list::PaDataTypes;
 use crate::part::view_judged;
 use crate::put_field;
 use crate::record::HasRecord;
@@ -104,7 +104,7 @@ fn methods_of<'a>(error: &KrbErrorView<'a>) -> Option<PaDataTypes<'a>>
     match error.e_data {
         Some(octets) if error.error_code == PREAUTH_REQUIRED => match method_data(octets) {
             None => None,
-            Some(items) => Some(types_of(items)),
+            Some(items) => Some(PaDataTypes::new(items)),
         },
         _ => None,
     }

@@ -15,7 +15,7 @@ ghost use Rattle.krb_text.specs.inner.Parts.{Tells, separator};
 use crate::error::{PREAUTH_REQUIRED, method_data};
 use crate::field::put_closing;
 use crate::form::Form;
-use crate::list::types_of;
+use crate::list::PaDataTypes;
 use crate::padata::put_padata;
 use crate::part::{PartPlace, put_each, put_part_opening};
 use crate::put_field;
@@ -146,7 +146,7 @@ fn put_methods_part(
     ensures { OnOk result (text.new ≡ text.old ++ separator form false ++ part_text form (methods_part (map pa_data_of (items_of pa_data items.entry.octets.now)))) }
 {
     put_part_opening(text, PartPlace { form, told: 0 }, "METHOD-DATA")?;
-    put_field!(text, form, "methods": &types_of(items))?;
+    put_field!(text, form, "methods": &PaDataTypes::new(items))?;
     put_closing(text, form)
 }
 

@@ -2,14 +2,13 @@
 
 ghost use Rattle.std.specs.Prelude.{◌≡◌, ◌≤◌, ◌++◌, [], true, length, map, MatchOption, OnOk, codes};
 ghost use Rattle.std.specs.List.{flat_map};
-ghost use Rattle.krb_registry.specs.declared.registry.Registry.{Registry};
-ghost use Rattle.krb_registry.specs.declared.registry.Registry.TheVariants.{EncryptionTypes, PreAuthenticationData};
 ghost use Rattle.krb_msg.specs.Grammar.{int32, pa_data};
-ghost use Rattle.krb_msg.specs.Types.{pa_data_of};
+ghost use Rattle.krb_registry.specs.declared.registry.Registry.TheVariants.{EncryptionTypes, PreAuthenticationData};
 ghost use Rattle.krb_msg.specs.Shape.{is_unambiguous, has_octet_tags};
 ghost use Rattle.krb_msg.specs.Viewed.{AreViewed, items_of};
+ghost use Rattle.krb_msg.specs.Types.{pa_data_of};
 ghost use Rattle.std.specs.Fmt.{signed_decimal};
-ghost use Rattle.krb_text.specs.Forms.{name_string};
+ghost use Rattle.krb_text.specs.Forms.{members, name_string, number_text, value_text};
 ghost use Rattle.krb_text.specs.Messages.{padata};
 ghost use Rattle.krb_text.specs.Text.{joined, list_text};
 ghost use Rattle.krb_text.specs.Values.{Numbers};
@@ -22,32 +21,17 @@ use krb_der::Int32;
 use krb_msg::{ItemsView, PaData, View, next_item, next_type};
 use krb_registry::Registry;
 use std::alloc::AllocError;
-use std::marker::{Model, PhantomData};
+use std::marker::Model;
 
 /// A type of items that are numbers of a registry, or begin with one.
 pub(crate) trait Listed<'a>: View<'a> {
-    /// The registry of the numbers.
-    ghost registry: { Registry };
-
-    /// Returns the registry of the numbers.
-    fn registry() -> Registry
-        ensures { result ≡ registry };
-
     /// Returns the number of the first of items that were viewed, and the items after it.
     fn next_number(items: ItemsView<'a>) -> Option<(i64, ItemsView<'a>)>
         requires { AreViewed Self.View.term items.octets.now }
         ensures { MatchOption result (items_of Self.View.term items.entry.octets.now ≡ []) (λ (number, rest). IsFirstNumber Self.View.term items.entry.octets.now number rest.octets.now) };
 }
 
-/// An encryption type.
 impl<'a> Listed<'a> for Int32 {
-    ghost registry = { EncryptionTypes };
-
-    #[inline(always)]
-    fn registry() -> Registry {
-        Registry::EncryptionTypes
-    }
-
     #[inline(always)]
     fn next_number(items: ItemsView<'a>) -> Option<(i64, ItemsView<'a>)> {
         next_item::<Int32>(items)
@@ -56,15 +40,6 @@ impl<'a> Listed<'a> for Int32 {
 
 /// Its type alone.
 impl<'a> Listed<'a> for PaData {
-    ghost registry = { PreAuthenticationData };
-
-    #[inline(always)]
-    fn registry() -> Registry
-        ensures { result ≡ PreAuthenticationData }
-    {
-        Registry::PreAuthenticationData
-    }
-
     #[inline(always)]
     fn next_number(items: ItemsView<'a>) -> Option<(i64, ItemsView<'a>)> {
         next_type(items)
@@ -149,6 +124,43 @@ fn put_name_list<'a, T: Listed<'a>>(
     put_list::<T>(object, NumberForm::Name(registry), items)
 }
 
+/// Appends what a line shows of numbers of a registry.
+#[inline(always)]
+#[tactic(auto, unfolding(crate::specs::Forms::value_text))]
+fn put_numbers_text<'a, T: Listed<'a>>(
+    line: &mut TextBuffer,
+    names: bool,
+    registry: Registry,
+    items: ItemsView<'a>,
+) -> Result<(), AllocError>
+    requires { AreViewed T.View.term items.octets.now }
+    ensures { OnOk result (line.new ≡ line.old ++ value_text names (Numbers registry (map (item_number T.View.term) (items_of T.View.term items.entry.octets.now)))) }
+{
+    if names {
+        put_list::<T>(line, NumberForm::Named(registry), items)
+    } else {
+        put_list::<T>(line, NumberForm::Line, items)
+    }
+}
+
+/// Appends the members of numbers of a registry.
+#[inline(always)]
+#[tactic(auto, unfolding(crate::specs::Forms::members, crate::specs::Forms::json_value, crate::specs::Forms::names_member))]
+fn put_numbers_members<'a, T: Listed<'a>>(
+    object: &mut TextBuffer,
+    begin: &str,
+    registry: Registry,
+    items: ItemsView<'a>,
+) -> Result<(), AllocError>
+    requires { AreViewed T.View.term items.octets.now }
+    ensures { OnOk result (object.new ≡ object.old ++ members begin.now (Numbers registry (map (item_number T.View.term) (items_of T.View.term items.entry.octets.now)))) }
+{
+    put_begin(object, begin)?;
+    put_plain_list::<T>(object, items)?;
+    put_names_begin(object, begin)?;
+    put_name_list::<T>(object, registry, items)
+}
+
 /// Returns how many items there are.
 pub(crate) fn count_items<'a, T: View<'a>>(items: ItemsView<'a>) -> usize
     requires tags { has_octet_tags T.term ≡ true }
@@ -166,77 +178,88 @@ pub(crate) fn count_items<'a, T: View<'a>>(items: ItemsView<'a>) -> usize
     count
 }
 
-/// Numbers of a registry that are viewed in octets. Contracts see the numbers.
+/// Encryption types that are viewed in octets. Contracts see the numbers.
 #[derive(Drop)]
-pub(crate) struct ViewedNumbers<'a, T: Listed<'a>>(ItemsView<'a>, PhantomData<T>);
+pub(crate) struct EncryptionTypes<'a>(ItemsView<'a>);
 
-impl<'a, T: Listed<'a>> Model for ViewedNumbers<'a, T> {
+impl<'a> Model for EncryptionTypes<'a> {
     ghost use Rattle.std.specs.Prelude.{List, ℤ, map};
+    ghost use Rattle.krb_msg.specs.Grammar.{int32};
     ghost use Rattle.krb_msg.specs.Viewed.{AreViewed, items_of};
     ghost use Rattle.krb_text.specs.inner.Items.{item_number};
 
     ghost Value = { List ℤ };
 
-    ghost view = { λ seen. map (item_number T.View.term) (items_of T.View.term seen.0.octets.now) };
+    ghost view = { λ seen. map (item_number int32) (items_of int32 seen.0.octets.now) };
 
-    ghost invariant = { λ seen. AreViewed T.View.term seen.0.octets.now };
+    ghost invariant = { λ seen. AreViewed int32 seen.0.octets.now };
 }
 
-impl<'a, T: Listed<'a>> ViewedNumbers<'a, T> {
+impl<'a> EncryptionTypes<'a> {
     /// Takes the items of a list.
     #[inline(always)]
-    pub(crate) fn new(items: ItemsView<'a>) -> ViewedNumbers<'a, T>
-        requires { AreViewed T.View.term items.octets.now }
-        ensures { result ≡ map (item_number T.View.term) (items_of T.View.term items.entry.octets.now) }
+    pub(crate) fn new(items: ItemsView<'a>) -> EncryptionTypes<'a>
+        requires { AreViewed int32 items.octets.now }
+        ensures { result ≡ items_of int32 items.entry.octets.now }
     {
-        ViewedNumbers(items, PhantomData)
+        EncryptionTypes(items)
     }
 }
 
 /// The numbers in brackets, with commas between them.
-impl<'a, T: Listed<'a>> Shown for ViewedNumbers<'a, T> {
-    ghost shown = { λ numbers. Numbers T.registry numbers };
+impl<'a> Shown for EncryptionTypes<'a> {
+    ghost shown = { λ numbers. Numbers EncryptionTypes numbers };
 
     #[inline(never)]
-    #[tactic(auto, unfolding(crate::specs::Forms::value_text))]
     fn put_text(&self, line: &mut TextBuffer, names: bool) -> Result<(), AllocError> {
-        if names {
-            put_list::<T>(line, NumberForm::Named(T::registry()), self.0)
-        } else {
-            put_list::<T>(line, NumberForm::Line, self.0)
-        }
+        put_numbers_text::<Int32>(line, names, Registry::EncryptionTypes, self.0)
     }
 
     #[inline(always)]
-    #[tactic(auto, unfolding(crate::specs::Forms::members, crate::specs::Forms::json_value, crate::specs::Forms::names_member))]
     fn put_members(&self, object: &mut TextBuffer, begin: &str) -> Result<(), AllocError> {
-        put_begin(object, begin)?;
-        put_plain_list::<T>(object, self.0)?;
-        put_names_begin(object, begin)?;
-        put_name_list::<T>(object, T::registry(), self.0)
+        put_numbers_members::<Int32>(object, begin, Registry::EncryptionTypes, self.0)
     }
 }
 
-/// Encryption types.
-pub(crate) type EncryptionTypes<'a> = ViewedNumbers<'a, Int32>;
+/// The types of pre-authentication data that are viewed in octets. Contracts see the numbers.
+#[derive(Drop)]
+pub(crate) struct PaDataTypes<'a>(ItemsView<'a>);
 
-/// Types of pre-authentication data.
-pub(crate) type PaDataTypes<'a> = ViewedNumbers<'a, PaData>;
+impl<'a> Model for PaDataTypes<'a> {
+    ghost use Rattle.std.specs.Prelude.{List, ℤ, map};
+    ghost use Rattle.krb_msg.specs.Grammar.{pa_data};
+    ghost use Rattle.krb_msg.specs.Viewed.{AreViewed, items_of};
+    ghost use Rattle.krb_text.specs.inner.Items.{item_number};
 
-/// Returns encryption types that are viewed in octets.
-#[inline(always)]
-pub(crate) fn encryption_types_of(items: ItemsView<'_>) -> EncryptionTypes<'_>
-    requires { AreViewed int32 items.octets.now }
-    ensures { result ≡ items_of int32 items.entry.octets.now }
-{
-    ViewedNumbers::new(items)
+    ghost Value = { List ℤ };
+
+    ghost view = { λ seen. map (item_number pa_data) (items_of pa_data seen.0.octets.now) };
+
+    ghost invariant = { λ seen. AreViewed pa_data seen.0.octets.now };
 }
 
-/// Returns the types of pre-authentication data that is viewed in octets.
-#[inline(always)]
-pub(crate) fn types_of(items: ItemsView<'_>) -> PaDataTypes<'_>
-    requires { AreViewed pa_data items.octets.now }
-    ensures { Numbers PreAuthenticationData result ≡ padata (map pa_data_of (items_of pa_data items.entry.octets.now)) }
-{
-    ViewedNumbers::new(items)
+impl<'a> PaDataTypes<'a> {
+    /// Takes the items of a list.
+    #[inline(always)]
+    pub(crate) fn new(items: ItemsView<'a>) -> PaDataTypes<'a>
+        requires { AreViewed pa_data items.octets.now }
+        ensures { Numbers PreAuthenticationData result ≡ padata (map pa_data_of (items_of pa_data items.entry.octets.now)) }
+    {
+        PaDataTypes(items)
+    }
+}
+
+/// The numbers in brackets, with commas between them.
+impl<'a> Shown for PaDataTypes<'a> {
+    ghost shown = { λ numbers. Numbers PreAuthenticationData numbers };
+
+    #[inline(never)]
+    fn put_text(&self, line: &mut TextBuffer, names: bool) -> Result<(), AllocError> {
+        put_numbers_text::<PaData>(line, names, Registry::PreAuthenticationData, self.0)
+    }
+
+    #[inline(always)]
+    fn put_members(&self, object: &mut TextBuffer, begin: &str) -> Result<(), AllocError> {
+        put_numbers_members::<PaData>(object, begin, Registry::PreAuthenticationData, self.0)
+    }
 }

@@ -12,7 +12,7 @@ use crate::field::put_closing;
 use crate::flags::FlagBits;
 use crate::form::Form;
 use crate::inside::put_list;
-use crate::list::encryption_types_of;
+use crate::list::EncryptionTypes;
 use crate::put_field;
 use crate::record::HasRecord;
 use crate::shown::Text;
@@ -70,7 +70,7 @@ fn put_kdc_req_last_fields(
 {
     let body: &KdcReqBodyView<'_> = &req.body;
     put_field!(text, form, "nonce": &body.nonce)?;
-    put_field!(text, form, "etypes": &encryption_types_of(body.etype))?;
+    put_field!(text, form, "etypes": &EncryptionTypes::new(body.etype))?;
     put_field!(text, form, "padata": &optional_types_of(req.padata))?;
     put_field!(text, form, "addresses": &optional_address_count(body.addresses))?;
     put_field!(text, form, "authdata": &body.enc_authorization_data)?;

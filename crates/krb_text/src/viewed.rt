@@ -12,7 +12,7 @@ ghost use Rattle.krb_text.specs.Messages.{padata};
 ghost use Rattle.krb_text.specs.Values.{Hex, Number, Numbers, Principal as IsPrincipal, Quoted, Word, client, count, if_there, principal};
 ghost use Rattle.krb_registry.specs.declared.registry.Registry.TheVariants.{PreAuthenticationData};
 
-use crate::list::{PaDataTypes, count_items, types_of};
+use crate::list::{PaDataTypes, count_items};
 use crate::principal::{Principal, ViewedStrings};
 use crate::shown::{HexText, Plain, QuotedText};
 use krb_msg::{HostAddress, ItemsView, PrincipalNameView, Ticket};
@@ -128,7 +128,7 @@ pub(crate) fn optional_types_of(items: Option<ItemsView<'_>>) -> Option<PaDataTy
 {
     match items {
         None => None,
-        Some(items) => Some(types_of(items)),
+        Some(items) => Some(PaDataTypes::new(items)),
     }
 }
 

@@ -1,9 +1,9 @@
-use Rattle.std.proofs.Common.{◌∙◌, ap, sym}
+use Rattle.std.proofs.Common.{ap, sym}
 use Rattle.krb_msg.specs.Types.{pa_data_of}
 use Rattle.krb_registry.specs.declared.registry.Registry.TheVariants.{PreAuthenticationData}
 use Rattle.krb_text.specs.Values.{Numbers}
 use Rattle.krb_text.proofs.Items.{map-map}
-use Rattle.krb_text.proofs.list.types_of.Goals as goal
+use Rattle.krb_text.proofs.list.PaDataTypes.new.Goals as goal
 
 pub returns : goal.returns
-returns c = ap (Numbers PreAuthenticationData) (c.new.ensures ∙ sym (map-map (λ p. p.padata_type) pa_data_of _))
+returns c = ap (Numbers PreAuthenticationData) (sym (map-map (λ p. p.padata_type) pa_data_of _))
