@@ -32,11 +32,21 @@ def again(field, seen, lets):
     return f"(sym (to_z-of_z w64 {seen} fits_{len(lets) - 1}) i)"
 
 
+def fields_seen(it):
+    """What is known of the views of the fields, and where each of them is."""
+    if is_call(it):
+        return "c.in-Some.ensures", lambda at: f"c.in-Some.{it.kept[at].rust}"
+    call = "view_whole_into" if it.is_parametric else "view_into"
+    seen, first = f"c.{call}.new.seen", len(it.kept[: it.cut])
+    return f"c.if-not-{call}.ensures", lambda at: path(seen, at) if at < first else f"{seen}{'.1' * first}.{it.kept[at].rust}"
+
+
 def view_answer(it):
     """That a view is made of those of the fields. A number is kept as what its 64 bits say, and one that may be left out is mapped to itself."""
-    form, values, fits, lets, numbers = "c.in-Some.ensures.0", [], {}, "", []
+    known_of_fields, seen_in = fields_seen(it)
+    form, values, fits, lets, numbers = f"{known_of_fields}.0", [], {}, "", []
     for field in it.fields:
-        seen = f"c.in-Some.{'rest.' * (it.cut is not None and field in it.kept[it.cut :])}{field.rust}"
+        seen = None if field.is_fixed else seen_in(it.kept.index(field))
         value = fixed_value(field) if field.is_fixed else seen_value(field, seen)
         if value == seen and not field.optional:
             lets += f"    let fits_{field.rust} : FitsSigned w64 {seen} = search rules in\n"
@@ -59,8 +69,8 @@ def view_answer(it):
         ("Rattle.krb_msg.specs.Types", [f"{part.term}_view_value" for part in parts_in(it) if isinstance(part, Sequence)]),
         ("Rattle.krb_msg.specs.Basic", ["flags_of_view"]),
     ]
-    function, given = (f"{it.rust}.view", "g c") if it.is_parametric else (f"{it.rust}ViewImpl.view", "c")
-    body = f"returns {given} ={chr(10) + lets + '   ' if lets else ''} ({form}, ({valid(it, 'c.in-Some.ensures.1', fits)}))\n"
+    function, given = (f"{it.rust}.view_into", "g c") if it.is_parametric else (f"{it.rust}ViewImpl.view_into", "c")
+    body = f"returns {given} ={chr(10) + lets + '   ' if lets else ''} ({form}, ({valid(it, f'{known_of_fields}.1', fits)}))\n"
     return f"{brought(body, homes)}use Rattle.krb_msg.proofs.{it.term}.{function}.Goals as goal\n\npub returns : goal.returns\n{body}"
 
 
@@ -132,7 +142,7 @@ def type_answers(it):
         names[f"{it.rust}Der/put"] = "put" if it.application is None else "put_tagged"
     made = {name: fill(f"answers/{template}.antt", type=it.term, Type=it.rust) for name, template in names.items()}
     if it.is_parametric or not is_plain(it):
-        made[f"{it.rust}/view" if it.is_parametric else f"{it.rust}ViewImpl/view"] = view_answer(it)
+        made[f"{it.rust}/view_into" if it.is_parametric else f"{it.rust}ViewImpl/view_into"] = view_answer(it)
     if it.cut:
         made[f"{it.rust}Noted/notes"] = notes_answer(it, "Noted", noted_of_value, "self")
         made[f"{it.rust}NotedView/notes"] = notes_answer(it, "NotedView", noted_in_view, "seen")
@@ -161,7 +171,7 @@ def answers(module):
     """All answers, by their paths in krb_msg/proofs."""
     made = {name: text for it in module.types for name, text in type_answers(it).items()}
     for words in messages_of(module):
-        for name in ("view", "notes"):
+        for name in ("view_into", "notes"):
             made[f"message_kinds/{words['Kind']}KindMessageKind/{name}"] = fill(f"answers/kind_{name}.antt", **words)
     for list_of in module.lists:
         item = list_of.item

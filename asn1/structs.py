@@ -18,7 +18,7 @@ def uses(module, it, body):
         ("crate::notes", ["Notes", "any_of"]),
         ("crate::view::items", ["ItemsView"]),
         ("crate::view::scalars", ["FlagsView"]),
-        ("crate::view", ["view_whole"]),
+        ("crate::view", ["view_whole_into"]),
         ("krb_der", BASIC.split()),
         ("std::alloc", ["Global"]),
     ]
@@ -33,7 +33,7 @@ def term_name(it):
 
 
 # What the clauses that an impl of `View` inherits are written in.
-INHERITED = " ^ < true length MatchOption AreContents AreNoContents\n"
+INHERITED = " ^ < true length AreContents AreNoContents IfElse\n"
 
 
 def ghost_uses(module, it, body):
@@ -49,7 +49,7 @@ def ghost_uses(module, it, body):
         ("Rattle.krb_msg.specs.Notes", ["has", "notes_by"]),
         ("Rattle.krb_msg.specs.Grammar", [term] + [name for name in lists if name != it.term]),
         ("Rattle.krb_msg.specs.Types", [f"{it.term}_{word}" for word in "value of view_value of_view".split()] + [f"IsValid{it.rust}"]),
-        ("Rattle.krb_msg.specs.Viewed", ["AreContents", "AreNoContents", "IsNotWhole", "IsViewOf", "items_of"]),
+        ("Rattle.krb_msg.specs.Viewed", ["AreContents", "AreNoContents", "IfElse", "IsNotWhole", "IsViewOf", "items_of"]),
         ("Rattle.krb_msg.specs.inner.Fitting", ["IsSized"]),
         ("Rattle.krb_msg.specs.inner.PrefixFree", ["begins", "type_is_prefix_free"]),
         ("Rattle.krb_msg.specs.inner.RoundTrips", [f"{it.term}-back"]),
@@ -151,8 +151,8 @@ def is_call(it):
 def view_impl(it, layout, seen, made):
     """How a view is made of the views of the fields."""
     tag = 0x30 if it.application is None else 0x60 + it.application
-    call = f"view_by_call::<{layout.replace('::<', '<')}>" if is_call(it) else f"{layout}::view"
-    return fill("view.rt", tag=f"{tag:02X}", call=call, seen=seen, made=made, type=it.term, Type=it.rust, term=term_name(it))
+    found = fill("found_by_call.rt", layout=layout.replace("::<", "<"), seen=seen) if is_call(it) else fill("found.rt", layout=layout, seen=seen)
+    return fill("view.rt", tag=f"{tag:02X}", found=found, made=made, type=it.term, Type=it.rust, term=term_name(it))
 
 
 def word_by_word(field, seen):

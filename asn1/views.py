@@ -23,10 +23,10 @@ def uses(module, it, body):
 def ghost_uses(it, body):
     """The lines that bring in what the contracts of a type need."""
     homes = [
-        ("Rattle.std.specs.Prelude", "◌≡◌ ◌^◌ ◌<◌ true length MatchOption".split()),
+        ("Rattle.std.specs.Prelude", "◌≡◌ ◌^◌ ◌<◌ true length".split()),
         ("Rattle.krb_msg.specs.Term", ["tag_of"]),
         ("Rattle.krb_msg.specs.Basic", ["sequence_of"]),
-        ("Rattle.krb_msg.specs.Viewed", ["AreContents", "AreNoContents", "AreViewed", "items_of"]),
+        ("Rattle.krb_msg.specs.Viewed", ["AreContents", "AreNoContents", "AreViewed", "IfElse", "items_of"]),
         (f"Rattle.{it.crate}.specs.Grammar", [it.term]),
         (f"Rattle.{it.crate}.specs.Types", [f"{it.term}_view_value", f"IsValid{it.rust}"]),
     ]

@@ -1,5 +1,5 @@
 -- Views of fields, of items and of scalars.
-use Rattle.std.proofs.Common.{◌≡◌, ℕ, get_or, ◌+◌, ◌<◌, ◌≤◌, ℤ, pos, negsuc, true, false, not, List, [], ◌∷◌, ◌++◌, length, Option, Some, None, MatchOption, IfSome, refl, sym, ap, ◌∙◌, subst, arith, eq-eqb, eqb-true}
+use Rattle.std.proofs.Common.{◌≡◌, ℕ, get_or, ◌+◌, ◌<◌, ◌≤◌, ℤ, pos, negsuc, Bool, true, false, not, List, [], ◌∷◌, ◌++◌, length, Option, Some, None, MatchOption, IfSome, refl, sym, ap, ◌∙◌, subst, arith, eq-eqb, eqb-true}
 use Rattle.std.specs.Prelude.{◌≤ℤ◌}
 use Rattle.std.proofs.lemmas.Bool.{not-true, true≢false}
 use Rattle.std.proofs.lemmas.Int.{ints}
@@ -12,7 +12,7 @@ use Rattle.krb_msg.specs.Shape.{may_begin}
 use Rattle.krb_msg.specs.inner.Values.{contents, der_is, may_begin_from_der}
 use Rattle.krb_msg.proofs.Integers.{is_padded-shortest, shortest_some, IsShortestInteger-from_unpadded}
 use Rattle.krb_msg.specs.inner.Fields.{HasNoField}
-use Rattle.krb_msg.specs.Viewed.{IsNoItem, AreContents, AreNoContents, AreFields, AreNoFields, BeginsWithValue, BeginsWithNoValue, MayBeginWithValue, IsMalformedField, IsNumberIn, IsNoNumberIn}
+use Rattle.krb_msg.specs.Viewed.{IfElse, IsNoItem, AreContents, AreNoContents, AreFields, AreNoFields, BeginsWithValue, BeginsWithNoValue, MayBeginWithValue, IsMalformedField, IsNumberIn, IsNoNumberIn}
 
 -- a fact of a result, from what is known of it
 pub match_map : {A : Type 0} (o : Option A) (P P' : Type 0) (Q Q' : A → Type 0) → (P → P') → ((a : A) → Q a → Q' a) → MatchOption o P Q → MatchOption o P' Q'
@@ -23,6 +23,15 @@ match_map (Some a) P P' Q Q' f g m = g a m
 pub match_both : {A : Type 0} (o : Option A) (P P' : Type 0) (Q Q' R : A → Type 0) → (P → P') → ((a : A) → Q a → Q' a) → ((a : A) → Q a → R a) → MatchOption o P Q → MatchOption o P' (λ a. Q' a × R a)
 match_both None P P' Q Q' R f g h m = f m
 match_both (Some a) P P' Q Q' R f g h m = (g a m, h a m)
+
+-- the same of a view that was made, from what is known of the one that it is made of
+pub else_both : (made : Bool) (P P' Q Q' R R' : Type 0) → (P → P') → (Q → Q') → (R → R') → IfElse made (Q × R) P → IfElse made (Q' × R') P'
+else_both true P P' Q Q' R R' f g h m = (g m.0, h m.1)
+else_both false P P' Q Q' R R' f g h m = f m
+
+pub not_made : (made : Bool) (P Q : Type 0) → made ≡ false → IfElse made Q P → P
+not_made true P Q e m = absurd (true≢false e)
+not_made false P Q e m = m
 
 -- of a result that is there alone
 pub match_some : {A : Type 0} (o : Option A) (P : Type 0) (Q Q' : A → Type 0) → ((a : A) → Q a → Q' a) → MatchOption o P Q → IfSome o Q'

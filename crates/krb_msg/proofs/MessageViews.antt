@@ -1,6 +1,5 @@
 -- A message as it is viewed: its first octet chooses the term by which it is judged.
-use Rattle.std.proofs.Common.{◌≡◌, ℕ, ◌^◌, ◌<◌, List, [], ◌∷◌, length, get_or, Option, Some, None, sym, ◌∙◌, ap, subst, arith}
-use Rattle.std.specs.Prelude.{MatchOption}
+use Rattle.std.proofs.Common.{◌≡◌, ℕ, ◌^◌, ◌<◌, List, [], ◌∷◌, length, get_or, Bool, true, false, Some, None, sym, ◌∙◌, ap, subst, arith}
 use Rattle.krb_der.specs.Octets.{AreOctets}
 use Rattle.krb_der.specs.declared.profile.Profile.{Profile}
 use Rattle.krb_der.specs.declared.profile.Profile.TheVariants as profile
@@ -11,13 +10,12 @@ use Rattle.krb_msg.specs.Judgement.{judgement, term_judgement}
 use Rattle.krb_msg.specs.Laws.{AreMessage}
 use Rattle.krb_msg.specs.Views.{message_of_der, message_of_kind, kind_of, kind_of_tag, kind_tag, kind_term, kind_with_tag, message_der, message_of, message_value, IsInProfile}
 use Rattle.krb_msg.specs.Term.{Value}
-use Rattle.krb_msg.proofs.FieldViews.{match_map}
 use Rattle.krb_msg.proofs.Judged.{lenient_whole, whole_is_message}
 use Rattle.krb_msg.proofs.KindLaws.{chosen, kind_from_tag, kind_tags}
 use Rattle.krb_msg.proofs.KindSteps.{some_is_none}
 use Rattle.krb_msg.specs.inner.Values.{der_is}
 use Rattle.krb_msg.proofs.MessageOfDer.{message_of_der_is_message}
-use Rattle.krb_msg.specs.Viewed.{IsViewOf, IsNotWhole}
+use Rattle.krb_msg.specs.Viewed.{IfElse, IsViewOf, IsNotWhole}
 use Rattle.krb_msg.specs.ViewValues.{BeginAs, IsMessageView, IsNoMessage, IsValidMessage, message_of_view}
 use Rattle.krb_msg.specs.declared.message_view.MessageView.{MessageView}
 
@@ -58,11 +56,11 @@ pub none_of_kind : (k : Kind) (octets : List ℕ) → BeginAs k octets → IsNot
 none_of_kind k octets b none short = kind_not_whole k octets b.some b.first none
 
 -- a view of a type, as that of a message of a kind
-pub viewed_as : {Seen : Type 0} (k : Kind) (octets : List ℕ) (as_message : Seen → MessageView) (value : Seen → Value (kind_term k)) → ((seen : Seen) → message_of k (value seen) ≡ message_of_view (as_message seen)) → AreOctets octets → BeginAs k octets → (result : Option Seen) → MatchOption result (IsNotWhole (kind_term k) octets) (λ seen. IsViewOf (kind_term k) octets (value seen) × IsValidMessage (as_message seen)) → MatchOption result (IsNoMessage octets) (λ seen. IsMessageView octets (as_message seen))
-viewed_as k octets as_message value same a b result =
-    match_map result _ _ _ _ (none_of_kind k octets b) (λ seen v.
+pub made_as : {Seen : Type 0} (k : Kind) (octets : List ℕ) (as_message : Seen → MessageView) (value : Seen → Value (kind_term k)) → ((seen : Seen) → message_of k (value seen) ≡ message_of_view (as_message seen)) → AreOctets octets → BeginAs k octets → (made : Bool) (seen : Seen) → IfElse made (IsViewOf (kind_term k) octets (value seen) × IsValidMessage (as_message seen)) (IsNotWhole (kind_term k) octets) → IfElse made (IsMessageView octets (as_message seen)) (IsNoMessage octets)
+made_as k octets as_message value same a b true seen v =
     let o : IsMessageOf octets (message_of_view (as_message seen)) = subst (IsMessageOf octets) (same seen) (message_viewed k octets (value seen) a b.short b.some b.first v.0) in
-    record { whole = o.whole; in_profile = o.in_profile; form = o.form; read = o.read; lists = v.1 })
+    record { whole = o.whole; in_profile = o.in_profile; form = o.form; read = o.read; lists = v.1 }
+made_as k octets as_message value same a b false seen none = none_of_kind k octets b none
 
 -- the kind that the first octet chooses, if it chooses one
 pub begin_as : (k : Kind) (octets : List ℕ) → length octets < 2 ^ 31 → 0 < length octets → kind_with_tag (get_or octets 0 0) ≡ Some k → BeginAs k octets

@@ -1,10 +1,10 @@
 //! AP-REP. `asn1/generate` wrote this from `asn1/krb5.asn1`.
 
-ghost use Rattle.std.specs.Prelude.{◌≡◌, refl, ◌^◌, ◌<◌, true, length, MatchOption};
+ghost use Rattle.std.specs.Prelude.{◌≡◌, refl, ◌^◌, ◌<◌, true, length};
 ghost use Rattle.krb_msg.specs.Term.{der, Fits, tag_of};
 ghost use Rattle.krb_msg.specs.Grammar.{ap_rep};
 ghost use Rattle.krb_msg.specs.Types.{ap_rep_value, ap_rep_of, ap_rep_view_value, ap_rep_of_view, IsValidApRep};
-ghost use Rattle.krb_msg.specs.Viewed.{AreContents, AreNoContents};
+ghost use Rattle.krb_msg.specs.Viewed.{AreContents, AreNoContents, IfElse};
 ghost use Rattle.krb_msg.specs.inner.PrefixFree.{begins, type_is_prefix_free};
 ghost use Rattle.krb_msg.specs.inner.RoundTrips.{ap_rep-back};
 
@@ -28,7 +28,7 @@ pub struct ApRep {
 }
 
 /// A view of an AP-REP: its strings and lists are borrowed from the octets.
-#[derive(Clone, Copy)]
+#[derive(Clone, Copy, Default)]
 pub struct ApRepView<'a> {
     /// The encrypted EncAPRepPart.
     pub enc_part: EncryptedDataView<'a>,
@@ -100,11 +100,14 @@ impl<'a> View<'a> for ApRep {
     }
 
     #[inline(always)]
-    fn view(contents: &'a [u8]) -> Option<ApRepView<'a>> {
-        let Some((enc_part, ())) = Layout::<Owned>::view(contents) else {
-            return None;
-        };
-        Some(ApRepView { enc_part })
+    fn view_into(contents: &'a [u8], seen: &mut ApRepView<'a>) -> bool {
+        let mut fields = Default::default();
+        if !Layout::<Owned>::view_into(contents, &mut fields) {
+            return false;
+        }
+        let (enc_part, ()) = fields;
+        *seen = ApRepView { enc_part };
+        true
     }
 }
 

@@ -1,10 +1,10 @@
 //! AP-REQ. `asn1/generate` wrote this from `asn1/krb5.asn1`.
 
-ghost use Rattle.std.specs.Prelude.{◌≡◌, refl, ◌^◌, ◌<◌, true, length, MatchOption};
+ghost use Rattle.std.specs.Prelude.{◌≡◌, refl, ◌^◌, ◌<◌, true, length};
 ghost use Rattle.krb_msg.specs.Term.{der, Fits, tag_of};
 ghost use Rattle.krb_msg.specs.Grammar.{ap_req};
 ghost use Rattle.krb_msg.specs.Types.{ap_req_value, ap_req_of, ap_req_view_value, ap_req_of_view, IsValidApReq};
-ghost use Rattle.krb_msg.specs.Viewed.{AreContents, AreNoContents};
+ghost use Rattle.krb_msg.specs.Viewed.{AreContents, AreNoContents, IfElse};
 ghost use Rattle.krb_msg.specs.inner.PrefixFree.{begins, type_is_prefix_free};
 ghost use Rattle.krb_msg.specs.inner.RoundTrips.{ap_req-back};
 
@@ -34,7 +34,7 @@ pub struct ApReq {
 }
 
 /// A view of an AP-REQ: its strings and lists are borrowed from the octets.
-#[derive(Clone, Copy)]
+#[derive(Clone, Copy, Default)]
 pub struct ApReqView<'a> {
     /// APOptions.
     pub ap_options: FlagsView<'a>,
@@ -131,16 +131,18 @@ impl<'a> View<'a> for ApReq {
     }
 
     #[inline(always)]
-    fn view(contents: &'a [u8]) -> Option<ApReqView<'a>> {
-        let Some((ap_options, (ticket, (authenticator, ())))) = Layout::<Owned>::view(contents)
-        else {
-            return None;
-        };
-        Some(ApReqView {
+    fn view_into(contents: &'a [u8], seen: &mut ApReqView<'a>) -> bool {
+        let mut fields = Default::default();
+        if !Layout::<Owned>::view_into(contents, &mut fields) {
+            return false;
+        }
+        let (ap_options, (ticket, (authenticator, ()))) = fields;
+        *seen = ApReqView {
             ap_options,
             ticket,
             authenticator,
-        })
+        };
+        true
     }
 }
 

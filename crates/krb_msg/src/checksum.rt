@@ -1,10 +1,10 @@
 //! Checksum. `asn1/generate` wrote this from `asn1/krb5.asn1`.
 
-ghost use Rattle.std.specs.Prelude.{◌≡◌, refl, ◌^◌, ◌<◌, true, length, MatchOption};
+ghost use Rattle.std.specs.Prelude.{◌≡◌, refl, ◌^◌, ◌<◌, true, length};
 ghost use Rattle.krb_msg.specs.Term.{der, Fits, tag_of};
 ghost use Rattle.krb_msg.specs.Grammar.{checksum as checksum_term};
 ghost use Rattle.krb_msg.specs.Types.{checksum_value, checksum_of, checksum_view_value, checksum_of_view, IsValidChecksum};
-ghost use Rattle.krb_msg.specs.Viewed.{AreContents, AreNoContents};
+ghost use Rattle.krb_msg.specs.Viewed.{AreContents, AreNoContents, IfElse};
 ghost use Rattle.krb_msg.specs.inner.PrefixFree.{begins, type_is_prefix_free};
 ghost use Rattle.krb_msg.specs.inner.RoundTrips.{checksum-back};
 
@@ -24,7 +24,7 @@ pub struct Checksum {
 }
 
 /// A view of a Checksum: its strings and lists are borrowed from the octets.
-#[derive(Clone, Copy)]
+#[derive(Clone, Copy, Default)]
 pub struct ChecksumView<'a> {
     /// How it is made.
     pub cksumtype: i64,
@@ -89,14 +89,17 @@ impl<'a> View<'a> for Checksum {
     }
 
     #[inline(always)]
-    fn view(contents: &'a [u8]) -> Option<ChecksumView<'a>> {
-        let Some((cksumtype, (checksum, ()))) = Layout::<Owned>::view(contents) else {
-            return None;
-        };
-        Some(ChecksumView {
+    fn view_into(contents: &'a [u8], seen: &mut ChecksumView<'a>) -> bool {
+        let mut fields = Default::default();
+        if !Layout::<Owned>::view_into(contents, &mut fields) {
+            return false;
+        }
+        let (cksumtype, (checksum, ())) = fields;
+        *seen = ChecksumView {
             cksumtype,
             checksum,
-        })
+        };
+        true
     }
 }
 

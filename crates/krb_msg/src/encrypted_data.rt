@@ -1,10 +1,10 @@
 //! EncryptedData. `asn1/generate` wrote this from `asn1/krb5.asn1`.
 
-ghost use Rattle.std.specs.Prelude.{◌≡◌, refl, ◌^◌, ◌<◌, true, length, MatchOption};
+ghost use Rattle.std.specs.Prelude.{◌≡◌, refl, ◌^◌, ◌<◌, true, length};
 ghost use Rattle.krb_msg.specs.Term.{der, Fits, tag_of};
 ghost use Rattle.krb_msg.specs.Grammar.{encrypted_data};
 ghost use Rattle.krb_msg.specs.Types.{encrypted_data_value, encrypted_data_of, encrypted_data_view_value, encrypted_data_of_view, IsValidEncryptedData};
-ghost use Rattle.krb_msg.specs.Viewed.{AreContents, AreNoContents};
+ghost use Rattle.krb_msg.specs.Viewed.{AreContents, AreNoContents, IfElse};
 ghost use Rattle.krb_msg.specs.inner.PrefixFree.{begins, type_is_prefix_free};
 ghost use Rattle.krb_msg.specs.inner.RoundTrips.{encrypted_data-back};
 
@@ -30,7 +30,7 @@ pub struct EncryptedData {
 }
 
 /// A view of an EncryptedData: its strings and lists are borrowed from the octets.
-#[derive(Clone, Copy)]
+#[derive(Clone, Copy, Default)]
 pub struct EncryptedDataView<'a> {
     /// The encryption type (RFC 3961), of which none is refused.
     pub etype: i64,
@@ -112,15 +112,18 @@ impl<'a> View<'a> for EncryptedData {
     }
 
     #[inline(always)]
-    fn view(contents: &'a [u8]) -> Option<EncryptedDataView<'a>> {
-        let Some((etype, (kvno, (cipher, ())))) = Layout::<Owned>::view(contents) else {
-            return None;
-        };
-        Some(EncryptedDataView {
+    fn view_into(contents: &'a [u8], seen: &mut EncryptedDataView<'a>) -> bool {
+        let mut fields = Default::default();
+        if !Layout::<Owned>::view_into(contents, &mut fields) {
+            return false;
+        }
+        let (etype, (kvno, (cipher, ()))) = fields;
+        *seen = EncryptedDataView {
             etype,
             kvno,
             cipher,
-        })
+        };
+        true
     }
 }
 

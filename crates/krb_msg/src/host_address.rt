@@ -1,10 +1,10 @@
 //! HostAddress. `asn1/generate` wrote this from `asn1/krb5.asn1`.
 
-ghost use Rattle.std.specs.Prelude.{◌≡◌, refl, ◌^◌, ◌<◌, true, length, MatchOption};
+ghost use Rattle.std.specs.Prelude.{◌≡◌, refl, ◌^◌, ◌<◌, true, length};
 ghost use Rattle.krb_msg.specs.Term.{der, Fits, tag_of};
 ghost use Rattle.krb_msg.specs.Grammar.{host_address};
 ghost use Rattle.krb_msg.specs.Types.{host_address_value, host_address_of, host_address_view_value, host_address_of_view, IsValidHostAddress};
-ghost use Rattle.krb_msg.specs.Viewed.{AreContents, AreNoContents};
+ghost use Rattle.krb_msg.specs.Viewed.{AreContents, AreNoContents, IfElse};
 ghost use Rattle.krb_msg.specs.inner.PrefixFree.{begins, type_is_prefix_free};
 ghost use Rattle.krb_msg.specs.inner.RoundTrips.{host_address-back};
 
@@ -24,7 +24,7 @@ pub struct HostAddress {
 }
 
 /// A view of a HostAddress: its strings and lists are borrowed from the octets.
-#[derive(Clone, Copy)]
+#[derive(Clone, Copy, Default)]
 pub struct HostAddressView<'a> {
     /// What kind of address it is (7.5.3).
     pub addr_type: i64,
@@ -89,11 +89,14 @@ impl<'a> View<'a> for HostAddress {
     }
 
     #[inline(always)]
-    fn view(contents: &'a [u8]) -> Option<HostAddressView<'a>> {
-        let Some((addr_type, (address, ()))) = Layout::<Owned>::view(contents) else {
-            return None;
-        };
-        Some(HostAddressView { addr_type, address })
+    fn view_into(contents: &'a [u8], seen: &mut HostAddressView<'a>) -> bool {
+        let mut fields = Default::default();
+        if !Layout::<Owned>::view_into(contents, &mut fields) {
+            return false;
+        }
+        let (addr_type, (address, ())) = fields;
+        *seen = HostAddressView { addr_type, address };
+        true
     }
 }
 

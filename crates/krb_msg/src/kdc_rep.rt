@@ -1,6 +1,6 @@
 //! KDC-REP. `asn1/generate` wrote this from `asn1/krb5.asn1`.
 
-ghost use Rattle.std.specs.Prelude.{◌≡◌, ◌+◌, ◌^◌, ◌<◌, ◌≤◌, true, IfOk, length, MatchOption};
+ghost use Rattle.std.specs.Prelude.{◌≡◌, ◌+◌, ◌^◌, ◌<◌, ◌≤◌, true, IfOk, length};
 ghost use Rattle.std.specs.Vec.{vec_len, vec_capacity};
 ghost use Rattle.krb_der.specs.Puts.{Puts};
 ghost use Rattle.krb_msg.specs.Shape.{has_octet_tags};
@@ -8,7 +8,7 @@ ghost use Rattle.krb_msg.specs.Term.{Application as ApplicationTerm, der, Fits};
 ghost use Rattle.krb_msg.specs.Notes.{has, notes_by};
 ghost use Rattle.krb_msg.specs.Grammar.{kdc_rep};
 ghost use Rattle.krb_msg.specs.Types.{kdc_rep_value, kdc_rep_view_value, kdc_rep_of_view, IsValidKdcRep};
-ghost use Rattle.krb_msg.specs.Viewed.{IsNotWhole, IsViewOf};
+ghost use Rattle.krb_msg.specs.Viewed.{IfElse, IsNotWhole, IsViewOf};
 ghost use Rattle.krb_msg.specs.inner.Fitting.{IsSized};
 
 use crate::copying::{FromView, copy_item_option};
@@ -22,7 +22,7 @@ use crate::pa_data::PaData;
 use crate::principal_name::{PrincipalName, PrincipalNameView};
 use crate::ticket::{Ticket, TicketView};
 use crate::view::items::ItemsView;
-use crate::view::view_whole;
+use crate::view::view_whole_into;
 use krb_der::{KString, Many, Memory};
 use std::alloc::Global;
 
@@ -43,7 +43,7 @@ pub struct KdcRep {
 }
 
 /// A view of a KDC-REP: its strings and lists are borrowed from the octets.
-#[derive(Clone, Copy)]
+#[derive(Clone, Copy, Default)]
 pub struct KdcRepView<'a> {
     /// Pre-authentication data, if there is some.
     pub padata: Option<ItemsView<'a>>,
@@ -138,26 +138,27 @@ impl KdcRep {
         )
     }
 
-    /// Returns a view of the message of a number and a message type that octets are, if they are
-    /// one.
+    /// Makes `seen` the view of the message of a number and a message type that octets are, and
+    /// returns whether they are one.
     #[inline(always)]
-    pub(crate) fn view<const N: u8>(octets: &[u8]) -> Option<KdcRepView<'_>>
+    pub(crate) fn view_into<'a, const N: u8>(octets: &'a [u8], seen: &mut KdcRepView<'a>) -> bool
         requires short { length octets.now < 2 ^ 31 }
         requires tags { has_octet_tags (ApplicationTerm N (kdc_rep N)) ≡ true }
-        ensures { MatchOption result (IsNotWhole (ApplicationTerm N (kdc_rep N)) octets.now) (λ seen. IsViewOf (ApplicationTerm N (kdc_rep N)) octets.now (kdc_rep_view_value N seen) × IsValidKdcRep seen) }
+        ensures { IfElse result (IsViewOf (ApplicationTerm N (kdc_rep N)) octets.now (kdc_rep_view_value N seen.new) × IsValidKdcRep seen.new) (IsNotWhole (ApplicationTerm N (kdc_rep N)) octets.now) }
     {
-        let Some((padata, (crealm, (cname, (ticket, (enc_part, ())))))) = view_whole::<
-            Layout<Owned, N>,
-        >(octets) else {
-            return None;
-        };
-        Some(KdcRepView {
+        let mut fields = Default::default();
+        if !view_whole_into::<Layout<Owned, N>>(octets, &mut fields) {
+            return false;
+        }
+        let (padata, (crealm, (cname, (ticket, (enc_part, ()))))) = fields;
+        *seen = KdcRepView {
             padata,
             crealm,
             cname,
             ticket,
             enc_part,
-        })
+        };
+        true
     }
 
     /// Returns the value of a view of a message. Nothing is judged again, and each string of octets

@@ -1,6 +1,6 @@
 //! KDC-REQ. `asn1/generate` wrote this from `asn1/krb5.asn1`.
 
-ghost use Rattle.std.specs.Prelude.{◌≡◌, ◌+◌, ◌^◌, ◌<◌, ◌≤◌, true, IfOk, length, MatchOption};
+ghost use Rattle.std.specs.Prelude.{◌≡◌, ◌+◌, ◌^◌, ◌<◌, ◌≤◌, true, IfOk, length};
 ghost use Rattle.std.specs.Vec.{vec_len, vec_capacity};
 ghost use Rattle.krb_der.specs.Puts.{Puts};
 ghost use Rattle.krb_msg.specs.Shape.{has_octet_tags};
@@ -8,7 +8,7 @@ ghost use Rattle.krb_msg.specs.Term.{Application as ApplicationTerm, der, Fits};
 ghost use Rattle.krb_msg.specs.Notes.{has, notes_by};
 ghost use Rattle.krb_msg.specs.Grammar.{kdc_req};
 ghost use Rattle.krb_msg.specs.Types.{kdc_req_value, kdc_req_view_value, kdc_req_of_view, IsValidKdcReq};
-ghost use Rattle.krb_msg.specs.Viewed.{IsNotWhole, IsViewOf};
+ghost use Rattle.krb_msg.specs.Viewed.{IfElse, IsNotWhole, IsViewOf};
 ghost use Rattle.krb_msg.specs.inner.Fitting.{IsSized};
 
 use crate::copying::{FromView, copy_item_option};
@@ -20,7 +20,7 @@ use crate::kdc_req_body::{KdcReqBody, KdcReqBodyView};
 use crate::notes::{Notes, any_of};
 use crate::pa_data::PaData;
 use crate::view::items::ItemsView;
-use crate::view::view_whole;
+use crate::view::view_whole_into;
 use krb_der::{Many, Memory};
 use std::alloc::Global;
 
@@ -36,7 +36,7 @@ pub struct KdcReq {
 }
 
 /// A view of a KDC-REQ: its strings and lists are borrowed from the octets.
-#[derive(Clone, Copy)]
+#[derive(Clone, Copy, Default)]
 pub struct KdcReqView<'a> {
     /// Pre-authentication data, if there is some.
     pub padata: Option<ItemsView<'a>>,
@@ -97,18 +97,21 @@ impl KdcReq {
         any_of!(optional_list_notes(&self.padata), self.body.notes())
     }
 
-    /// Returns a view of the message of a number and a message type that octets are, if they are
-    /// one.
+    /// Makes `seen` the view of the message of a number and a message type that octets are, and
+    /// returns whether they are one.
     #[inline(always)]
-    pub(crate) fn view<const N: u8>(octets: &[u8]) -> Option<KdcReqView<'_>>
+    pub(crate) fn view_into<'a, const N: u8>(octets: &'a [u8], seen: &mut KdcReqView<'a>) -> bool
         requires short { length octets.now < 2 ^ 31 }
         requires tags { has_octet_tags (ApplicationTerm N (kdc_req N)) ≡ true }
-        ensures { MatchOption result (IsNotWhole (ApplicationTerm N (kdc_req N)) octets.now) (λ seen. IsViewOf (ApplicationTerm N (kdc_req N)) octets.now (kdc_req_view_value N seen) × IsValidKdcReq seen) }
+        ensures { IfElse result (IsViewOf (ApplicationTerm N (kdc_req N)) octets.now (kdc_req_view_value N seen.new) × IsValidKdcReq seen.new) (IsNotWhole (ApplicationTerm N (kdc_req N)) octets.now) }
     {
-        let Some((padata, (body, ()))) = view_whole::<Layout<Owned, N>>(octets) else {
-            return None;
-        };
-        Some(KdcReqView { padata, body })
+        let mut fields = Default::default();
+        if !view_whole_into::<Layout<Owned, N>>(octets, &mut fields) {
+            return false;
+        }
+        let (padata, (body, ())) = fields;
+        *seen = KdcReqView { padata, body };
+        true
     }
 
     /// Returns the value of a view of a message. Nothing is judged again, and each string of octets

@@ -1,10 +1,10 @@
 //! KDC-REQ-BODY. `asn1/generate` wrote this from `asn1/krb5.asn1`.
 
-ghost use Rattle.std.specs.Prelude.{◌≡◌, refl, ◌^◌, ◌<◌, true, length, MatchOption};
+ghost use Rattle.std.specs.Prelude.{◌≡◌, refl, ◌^◌, ◌<◌, true, length};
 ghost use Rattle.krb_msg.specs.Term.{der, Fits, tag_of};
 ghost use Rattle.krb_msg.specs.Grammar.{kdc_req_body};
 ghost use Rattle.krb_msg.specs.Types.{kdc_req_body_value, kdc_req_body_of, kdc_req_body_view_value, kdc_req_body_of_view, IsValidKdcReqBody};
-ghost use Rattle.krb_msg.specs.Viewed.{AreContents, AreNoContents};
+ghost use Rattle.krb_msg.specs.Viewed.{AreContents, AreNoContents, IfElse};
 ghost use Rattle.krb_msg.specs.inner.PrefixFree.{begins, type_is_prefix_free};
 ghost use Rattle.krb_msg.specs.inner.RoundTrips.{kdc_req_body-back};
 
@@ -55,7 +55,7 @@ pub struct KdcReqBody {
 }
 
 /// A view of a KDC-REQ-BODY: its strings and lists are borrowed from the octets.
-#[derive(Clone, Copy)]
+#[derive(Clone, Copy, Default)]
 pub struct KdcReqBodyView<'a> {
     /// KDCOptions.
     pub kdc_options: FlagsView<'a>,
@@ -229,7 +229,7 @@ impl Noted for KdcReqBody {
 }
 
 /// A view of the second half of its fields.
-#[derive(Clone, Copy)]
+#[derive(Clone, Copy, Default)]
 pub struct RestView<'a> {
     /// Until when it is to be renewable.
     rtime: Option<&'a [u8]>,
@@ -255,23 +255,24 @@ impl<'a> ViewFields<'a> for Cut<Rest<Owned>> {
     ghost IsValid = { λ seen. ⟦<Rest<Owned> as ViewFields<'static>>⟧.IsValid (seen.rtime, (seen.nonce, (seen.etype, (seen.addresses, (seen.enc_authorization_data, (seen.additional_tickets, tt)))))) };
 
     #[inline(always)]
-    fn view_fields(octets: &'a [u8]) -> Option<RestView<'a>> {
-        let Some(
-            (
-                rtime,
-                (nonce, (etype, (addresses, (enc_authorization_data, (additional_tickets, ()))))),
-            ),
-        ) = Rest::<Owned>::view_fields(octets) else {
-            return None;
-        };
-        Some(RestView {
+    fn view_fields(octets: &'a [u8], seen: &mut RestView<'a>) -> bool {
+        let mut fields = Default::default();
+        if !Rest::<Owned>::view_fields(octets, &mut fields) {
+            return false;
+        }
+        let (
+            rtime,
+            (nonce, (etype, (addresses, (enc_authorization_data, (additional_tickets, ()))))),
+        ) = fields;
+        *seen = RestView {
             rtime,
             nonce,
             etype,
             addresses,
             enc_authorization_data,
             additional_tickets,
-        })
+        };
+        true
     }
 }
 
@@ -292,13 +293,13 @@ impl<'a> View<'a> for KdcReqBody {
     }
 
     #[inline(always)]
-    fn view(contents: &'a [u8]) -> Option<KdcReqBodyView<'a>> {
-        let Some((kdc_options, (cname, (realm, (sname, (from, (till, rest))))))) = Layout::<
-            Owned,
-        >::view(contents) else {
-            return None;
-        };
-        Some(KdcReqBodyView {
+    fn view_into(contents: &'a [u8], seen: &mut KdcReqBodyView<'a>) -> bool {
+        let mut fields = Default::default();
+        if !Layout::<Owned>::view_into(contents, &mut fields) {
+            return false;
+        }
+        let (kdc_options, (cname, (realm, (sname, (from, (till, rest)))))) = fields;
+        *seen = KdcReqBodyView {
             kdc_options,
             cname,
             realm,
@@ -311,7 +312,8 @@ impl<'a> View<'a> for KdcReqBody {
             addresses: rest.addresses,
             enc_authorization_data: rest.enc_authorization_data,
             additional_tickets: rest.additional_tickets,
-        })
+        };
+        true
     }
 }
 

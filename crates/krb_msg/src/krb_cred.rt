@@ -1,10 +1,10 @@
 //! KRB-CRED. `asn1/generate` wrote this from `asn1/krb5.asn1`.
 
-ghost use Rattle.std.specs.Prelude.{◌≡◌, refl, ◌^◌, ◌<◌, true, length, MatchOption};
+ghost use Rattle.std.specs.Prelude.{◌≡◌, refl, ◌^◌, ◌<◌, true, length};
 ghost use Rattle.krb_msg.specs.Term.{der, Fits, tag_of};
 ghost use Rattle.krb_msg.specs.Grammar.{krb_cred};
 ghost use Rattle.krb_msg.specs.Types.{krb_cred_value, krb_cred_of, krb_cred_view_value, krb_cred_of_view, IsValidKrbCred};
-ghost use Rattle.krb_msg.specs.Viewed.{AreContents, AreNoContents};
+ghost use Rattle.krb_msg.specs.Viewed.{AreContents, AreNoContents, IfElse};
 ghost use Rattle.krb_msg.specs.inner.PrefixFree.{begins, type_is_prefix_free};
 ghost use Rattle.krb_msg.specs.inner.RoundTrips.{krb_cred-back};
 
@@ -32,7 +32,7 @@ pub struct KrbCred {
 }
 
 /// A view of a KRB-CRED: its strings and lists are borrowed from the octets.
-#[derive(Clone, Copy)]
+#[derive(Clone, Copy, Default)]
 pub struct KrbCredView<'a> {
     /// The tickets.
     pub tickets: ItemsView<'a>,
@@ -116,11 +116,14 @@ impl<'a> View<'a> for KrbCred {
     }
 
     #[inline(always)]
-    fn view(contents: &'a [u8]) -> Option<KrbCredView<'a>> {
-        let Some((tickets, (enc_part, ()))) = Layout::<Owned>::view(contents) else {
-            return None;
-        };
-        Some(KrbCredView { tickets, enc_part })
+    fn view_into(contents: &'a [u8], seen: &mut KrbCredView<'a>) -> bool {
+        let mut fields = Default::default();
+        if !Layout::<Owned>::view_into(contents, &mut fields) {
+            return false;
+        }
+        let (tickets, (enc_part, ())) = fields;
+        *seen = KrbCredView { tickets, enc_part };
+        true
     }
 }
 

@@ -1,10 +1,10 @@
 //! KRB-ERROR. `asn1/generate` wrote this from `asn1/krb5.asn1`.
 
-ghost use Rattle.std.specs.Prelude.{◌≡◌, refl, ◌^◌, ◌<◌, true, length, MatchOption};
+ghost use Rattle.std.specs.Prelude.{◌≡◌, refl, ◌^◌, ◌<◌, true, length};
 ghost use Rattle.krb_msg.specs.Term.{der, Fits, tag_of};
 ghost use Rattle.krb_msg.specs.Grammar.{krb_error};
 ghost use Rattle.krb_msg.specs.Types.{krb_error_value, krb_error_of, krb_error_view_value, krb_error_of_view, IsValidKrbError};
-ghost use Rattle.krb_msg.specs.Viewed.{AreContents, AreNoContents};
+ghost use Rattle.krb_msg.specs.Viewed.{AreContents, AreNoContents, IfElse};
 ghost use Rattle.krb_msg.specs.inner.PrefixFree.{begins, type_is_prefix_free};
 ghost use Rattle.krb_msg.specs.inner.RoundTrips.{krb_error-back};
 
@@ -49,7 +49,7 @@ pub struct KrbError {
 }
 
 /// A view of a KRB-ERROR: its strings and lists are borrowed from the octets.
-#[derive(Clone, Copy)]
+#[derive(Clone, Copy, Default)]
 pub struct KrbErrorView<'a> {
     /// The time of the client.
     pub ctime: Option<&'a [u8]>,
@@ -215,7 +215,7 @@ impl Noted for KrbError {
 }
 
 /// A view of the second half of its fields.
-#[derive(Clone, Copy)]
+#[derive(Clone, Copy, Default)]
 pub struct RestView<'a> {
     /// The realm of the client.
     crealm: Option<&'a [u8]>,
@@ -241,20 +241,21 @@ impl<'a> ViewFields<'a> for Cut<Rest<Owned>> {
     ghost IsValid = { λ seen. ⟦<Rest<Owned> as ViewFields<'static>>⟧.IsValid (seen.crealm, (seen.cname, (seen.realm, (seen.sname, (seen.e_text, (seen.e_data, tt)))))) };
 
     #[inline(always)]
-    fn view_fields(octets: &'a [u8]) -> Option<RestView<'a>> {
-        let Some((crealm, (cname, (realm, (sname, (e_text, (e_data, ()))))))) = Rest::<
-            Owned,
-        >::view_fields(octets) else {
-            return None;
-        };
-        Some(RestView {
+    fn view_fields(octets: &'a [u8], seen: &mut RestView<'a>) -> bool {
+        let mut fields = Default::default();
+        if !Rest::<Owned>::view_fields(octets, &mut fields) {
+            return false;
+        }
+        let (crealm, (cname, (realm, (sname, (e_text, (e_data, ())))))) = fields;
+        *seen = RestView {
             crealm,
             cname,
             realm,
             sname,
             e_text,
             e_data,
-        })
+        };
+        true
     }
 }
 
@@ -275,13 +276,13 @@ impl<'a> View<'a> for KrbError {
     }
 
     #[inline(always)]
-    fn view(contents: &'a [u8]) -> Option<KrbErrorView<'a>> {
-        let Some((ctime, (cusec, (stime, (susec, (error_code, rest)))))) = Layout::<Owned>::view(
-            contents,
-        ) else {
-            return None;
-        };
-        Some(KrbErrorView {
+    fn view_into(contents: &'a [u8], seen: &mut KrbErrorView<'a>) -> bool {
+        let mut fields = Default::default();
+        if !Layout::<Owned>::view_into(contents, &mut fields) {
+            return false;
+        }
+        let (ctime, (cusec, (stime, (susec, (error_code, rest))))) = fields;
+        *seen = KrbErrorView {
             ctime,
             cusec,
             stime,
@@ -293,7 +294,8 @@ impl<'a> View<'a> for KrbError {
             sname: rest.sname,
             e_text: rest.e_text,
             e_data: rest.e_data,
-        })
+        };
+        true
     }
 }
 

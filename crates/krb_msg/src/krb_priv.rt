@@ -1,10 +1,10 @@
 //! KRB-PRIV. `asn1/generate` wrote this from `asn1/krb5.asn1`.
 
-ghost use Rattle.std.specs.Prelude.{◌≡◌, refl, ◌^◌, ◌<◌, true, length, MatchOption};
+ghost use Rattle.std.specs.Prelude.{◌≡◌, refl, ◌^◌, ◌<◌, true, length};
 ghost use Rattle.krb_msg.specs.Term.{der, Fits, tag_of};
 ghost use Rattle.krb_msg.specs.Grammar.{krb_priv};
 ghost use Rattle.krb_msg.specs.Types.{krb_priv_value, krb_priv_of, krb_priv_view_value, krb_priv_of_view, IsValidKrbPriv};
-ghost use Rattle.krb_msg.specs.Viewed.{AreContents, AreNoContents};
+ghost use Rattle.krb_msg.specs.Viewed.{AreContents, AreNoContents, IfElse};
 ghost use Rattle.krb_msg.specs.inner.PrefixFree.{begins, type_is_prefix_free};
 ghost use Rattle.krb_msg.specs.inner.RoundTrips.{krb_priv-back};
 
@@ -28,7 +28,7 @@ pub struct KrbPriv {
 }
 
 /// A view of a KRB-PRIV: its strings and lists are borrowed from the octets.
-#[derive(Clone, Copy)]
+#[derive(Clone, Copy, Default)]
 pub struct KrbPrivView<'a> {
     /// The encrypted EncKrbPrivPart.
     pub enc_part: EncryptedDataView<'a>,
@@ -100,11 +100,14 @@ impl<'a> View<'a> for KrbPriv {
     }
 
     #[inline(always)]
-    fn view(contents: &'a [u8]) -> Option<KrbPrivView<'a>> {
-        let Some((enc_part, ())) = Layout::<Owned>::view(contents) else {
-            return None;
-        };
-        Some(KrbPrivView { enc_part })
+    fn view_into(contents: &'a [u8], seen: &mut KrbPrivView<'a>) -> bool {
+        let mut fields = Default::default();
+        if !Layout::<Owned>::view_into(contents, &mut fields) {
+            return false;
+        }
+        let (enc_part, ()) = fields;
+        *seen = KrbPrivView { enc_part };
+        true
     }
 }
 

@@ -1,10 +1,10 @@
 //! KRB-SAFE. `asn1/generate` wrote this from `asn1/krb5.asn1`.
 
-ghost use Rattle.std.specs.Prelude.{◌≡◌, refl, ◌^◌, ◌<◌, true, length, MatchOption};
+ghost use Rattle.std.specs.Prelude.{◌≡◌, refl, ◌^◌, ◌<◌, true, length};
 ghost use Rattle.krb_msg.specs.Term.{der, Fits, tag_of};
 ghost use Rattle.krb_msg.specs.Grammar.{krb_safe};
 ghost use Rattle.krb_msg.specs.Types.{krb_safe_value, krb_safe_of, krb_safe_view_value, krb_safe_of_view, IsValidKrbSafe};
-ghost use Rattle.krb_msg.specs.Viewed.{AreContents, AreNoContents};
+ghost use Rattle.krb_msg.specs.Viewed.{AreContents, AreNoContents, IfElse};
 ghost use Rattle.krb_msg.specs.inner.PrefixFree.{begins, type_is_prefix_free};
 ghost use Rattle.krb_msg.specs.inner.RoundTrips.{krb_safe-back};
 
@@ -31,7 +31,7 @@ pub struct KrbSafe {
 }
 
 /// A view of a KRB-SAFE: its strings and lists are borrowed from the octets.
-#[derive(Clone, Copy)]
+#[derive(Clone, Copy, Default)]
 pub struct KrbSafeView<'a> {
     /// What is protected.
     pub body: KrbSafeBodyView<'a>,
@@ -115,11 +115,14 @@ impl<'a> View<'a> for KrbSafe {
     }
 
     #[inline(always)]
-    fn view(contents: &'a [u8]) -> Option<KrbSafeView<'a>> {
-        let Some((body, (cksum, ()))) = Layout::<Owned>::view(contents) else {
-            return None;
-        };
-        Some(KrbSafeView { body, cksum })
+    fn view_into(contents: &'a [u8], seen: &mut KrbSafeView<'a>) -> bool {
+        let mut fields = Default::default();
+        if !Layout::<Owned>::view_into(contents, &mut fields) {
+            return false;
+        }
+        let (body, (cksum, ())) = fields;
+        *seen = KrbSafeView { body, cksum };
+        true
     }
 }
 

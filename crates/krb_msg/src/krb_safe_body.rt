@@ -1,10 +1,10 @@
 //! KRB-SAFE-BODY. `asn1/generate` wrote this from `asn1/krb5.asn1`.
 
-ghost use Rattle.std.specs.Prelude.{◌≡◌, refl, ◌^◌, ◌<◌, true, length, MatchOption};
+ghost use Rattle.std.specs.Prelude.{◌≡◌, refl, ◌^◌, ◌<◌, true, length};
 ghost use Rattle.krb_msg.specs.Term.{der, Fits, tag_of};
 ghost use Rattle.krb_msg.specs.Grammar.{krb_safe_body};
 ghost use Rattle.krb_msg.specs.Types.{krb_safe_body_value, krb_safe_body_of, krb_safe_body_view_value, krb_safe_body_of_view, IsValidKrbSafeBody};
-ghost use Rattle.krb_msg.specs.Viewed.{AreContents, AreNoContents};
+ghost use Rattle.krb_msg.specs.Viewed.{AreContents, AreNoContents, IfElse};
 ghost use Rattle.krb_msg.specs.inner.PrefixFree.{begins, type_is_prefix_free};
 ghost use Rattle.krb_msg.specs.inner.RoundTrips.{krb_safe_body-back};
 
@@ -37,7 +37,7 @@ pub struct KrbSafeBody {
 }
 
 /// A view of a KRB-SAFE-BODY: its strings and lists are borrowed from the octets.
-#[derive(Clone, Copy)]
+#[derive(Clone, Copy, Default)]
 pub struct KrbSafeBodyView<'a> {
     /// What the sender has to say.
     pub user_data: &'a [u8],
@@ -151,19 +151,21 @@ impl<'a> View<'a> for KrbSafeBody {
     }
 
     #[inline(always)]
-    fn view(contents: &'a [u8]) -> Option<KrbSafeBodyView<'a>> {
-        let Some((user_data, (timestamp, (usec, (seq_number, (s_address, (r_address, ()))))))) =
-            Layout::<Owned>::view(contents) else {
-            return None;
-        };
-        Some(KrbSafeBodyView {
+    fn view_into(contents: &'a [u8], seen: &mut KrbSafeBodyView<'a>) -> bool {
+        let mut fields = Default::default();
+        if !Layout::<Owned>::view_into(contents, &mut fields) {
+            return false;
+        }
+        let (user_data, (timestamp, (usec, (seq_number, (s_address, (r_address, ())))))) = fields;
+        *seen = KrbSafeBodyView {
             user_data,
             timestamp,
             usec,
             seq_number,
             s_address,
             r_address,
-        })
+        };
+        true
     }
 }
 

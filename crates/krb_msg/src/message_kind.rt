@@ -3,6 +3,7 @@
 ghost use Rattle.std.specs.Prelude.{◌≡◌, MatchOption};
 ghost use Rattle.krb_msg.specs.Notes.{notes_of};
 ghost use Rattle.krb_msg.specs.ViewValues.{BeginAs, IsMessageView, IsNoMessage, IsValidMessage, message_of_view};
+ghost use Rattle.krb_msg.specs.Viewed.{IfElse};
 ghost use Rattle.krb_msg.specs.declared.message.Kind.{Kind};
 ghost use Rattle.krb_msg.specs.declared.message_view.MessageView.{MessageView};
 
@@ -10,8 +11,8 @@ use crate::notes::Notes;
 
 /// A kind of message, whose octets are viewed in place (RFC 4120, 5.4 to 5.9).
 pub trait MessageKind<'a> {
-    /// The view of a message.
-    type View: Copy;
+    /// The view of a message. Its default is a view of none.
+    type View: Copy + Default;
 
     /// The kind.
     ghost kind: { Kind };
@@ -19,14 +20,28 @@ pub trait MessageKind<'a> {
     /// A view as that of a message of any kind.
     ghost as_message: { Self.View → MessageView };
 
-    /// Returns a view of the message of this kind that octets are, if they are one: all of them,
-    /// judged and viewed in one pass. It allocates nothing.
-    fn view(octets: &'a [u8]) -> Option<Self::View>
+    /// Makes `seen` the view of the message of this kind that octets are, and returns whether they are
+    /// one: all of them, judged and viewed in one pass. It allocates nothing.
+    fn view_into(octets: &'a [u8], seen: &mut Self::View) -> bool
         requires { BeginAs kind octets.now }
-        ensures { MatchOption result (IsNoMessage octets.now) (λ m. IsMessageView octets.now (as_message m)) };
+        ensures { IfElse result (IsMessageView octets.now (as_message seen.new)) (IsNoMessage octets.now) };
 
     /// Returns the notes that hold in a message. It allocates nothing.
     fn notes(view: &Self::View) -> Notes
         requires { IsValidMessage (as_message view.now) }
         ensures { result ≡ notes_of (message_of_view (as_message view.now)) };
+}
+
+/// Returns a view of the message of a kind that octets are, if they are one.
+#[inline(always)]
+pub(crate) fn view_of<'a, K: MessageKind<'a>>(octets: &'a [u8]) -> Option<K::View>
+    requires { BeginAs K.kind octets.now }
+    ensures { MatchOption result (IsNoMessage octets.now) (λ m. IsMessageView octets.now (K.as_message m)) }
+{
+    let mut seen = Default::default();
+    if K::view_into(octets, &mut seen) {
+        Some(seen)
+    } else {
+        None
+    }
 }

@@ -14,7 +14,7 @@ use crate::krb_priv::{KrbPriv, KrbPrivView};
 use crate::krb_safe::{KrbSafe, KrbSafeView};
 use crate::message_kind::MessageKind;
 use crate::notes::Notes;
-use crate::view::view_whole;
+use crate::view::view_whole_into;
 
 /// AS-REQ.
 pub struct AsReqKind;
@@ -27,8 +27,8 @@ impl<'a> MessageKind<'a> for AsReqKind {
     ghost as_message = { λ view. views.AsReq view };
 
     #[inline(always)]
-    fn view(octets: &'a [u8]) -> Option<KdcReqView<'a>> {
-        KdcReq::view::<10>(octets)
+    fn view_into(octets: &'a [u8], seen: &mut KdcReqView<'a>) -> bool {
+        KdcReq::view_into::<10>(octets, seen)
     }
 
     #[inline(always)]
@@ -48,8 +48,8 @@ impl<'a> MessageKind<'a> for AsRepKind {
     ghost as_message = { λ view. views.AsRep view };
 
     #[inline(always)]
-    fn view(octets: &'a [u8]) -> Option<KdcRepView<'a>> {
-        KdcRep::view::<11>(octets)
+    fn view_into(octets: &'a [u8], seen: &mut KdcRepView<'a>) -> bool {
+        KdcRep::view_into::<11>(octets, seen)
     }
 
     #[inline(always)]
@@ -69,8 +69,8 @@ impl<'a> MessageKind<'a> for TgsReqKind {
     ghost as_message = { λ view. views.TgsReq view };
 
     #[inline(always)]
-    fn view(octets: &'a [u8]) -> Option<KdcReqView<'a>> {
-        KdcReq::view::<12>(octets)
+    fn view_into(octets: &'a [u8], seen: &mut KdcReqView<'a>) -> bool {
+        KdcReq::view_into::<12>(octets, seen)
     }
 
     #[inline(always)]
@@ -90,8 +90,8 @@ impl<'a> MessageKind<'a> for TgsRepKind {
     ghost as_message = { λ view. views.TgsRep view };
 
     #[inline(always)]
-    fn view(octets: &'a [u8]) -> Option<KdcRepView<'a>> {
-        KdcRep::view::<13>(octets)
+    fn view_into(octets: &'a [u8], seen: &mut KdcRepView<'a>) -> bool {
+        KdcRep::view_into::<13>(octets, seen)
     }
 
     #[inline(always)]
@@ -111,8 +111,8 @@ impl<'a> MessageKind<'a> for ApReqKind {
     ghost as_message = { λ view. views.ApReq view };
 
     #[inline(always)]
-    fn view(octets: &'a [u8]) -> Option<ApReqView<'a>> {
-        view_whole::<ApReq>(octets)
+    fn view_into(octets: &'a [u8], seen: &mut ApReqView<'a>) -> bool {
+        view_whole_into::<ApReq>(octets, seen)
     }
 
     #[inline(always)]
@@ -132,8 +132,8 @@ impl<'a> MessageKind<'a> for ApRepKind {
     ghost as_message = { λ view. views.ApRep view };
 
     #[inline(always)]
-    fn view(octets: &'a [u8]) -> Option<ApRepView<'a>> {
-        view_whole::<ApRep>(octets)
+    fn view_into(octets: &'a [u8], seen: &mut ApRepView<'a>) -> bool {
+        view_whole_into::<ApRep>(octets, seen)
     }
 
     #[inline(always)]
@@ -153,8 +153,8 @@ impl<'a> MessageKind<'a> for KrbSafeKind {
     ghost as_message = { λ view. views.KrbSafe view };
 
     #[inline(always)]
-    fn view(octets: &'a [u8]) -> Option<KrbSafeView<'a>> {
-        view_whole::<KrbSafe>(octets)
+    fn view_into(octets: &'a [u8], seen: &mut KrbSafeView<'a>) -> bool {
+        view_whole_into::<KrbSafe>(octets, seen)
     }
 
     #[inline(always)]
@@ -174,8 +174,8 @@ impl<'a> MessageKind<'a> for KrbPrivKind {
     ghost as_message = { λ view. views.KrbPriv view };
 
     #[inline(always)]
-    fn view(octets: &'a [u8]) -> Option<KrbPrivView<'a>> {
-        view_whole::<KrbPriv>(octets)
+    fn view_into(octets: &'a [u8], seen: &mut KrbPrivView<'a>) -> bool {
+        view_whole_into::<KrbPriv>(octets, seen)
     }
 
     #[inline(always)]
@@ -195,8 +195,8 @@ impl<'a> MessageKind<'a> for KrbCredKind {
     ghost as_message = { λ view. views.KrbCred view };
 
     #[inline(always)]
-    fn view(octets: &'a [u8]) -> Option<KrbCredView<'a>> {
-        view_whole::<KrbCred>(octets)
+    fn view_into(octets: &'a [u8], seen: &mut KrbCredView<'a>) -> bool {
+        view_whole_into::<KrbCred>(octets, seen)
     }
 
     #[inline(always)]
@@ -216,8 +216,8 @@ impl<'a> MessageKind<'a> for KrbErrorKind {
     ghost as_message = { λ view. views.KrbError view };
 
     #[inline(always)]
-    fn view(octets: &'a [u8]) -> Option<KrbErrorView<'a>> {
-        view_whole::<KrbError>(octets)
+    fn view_into(octets: &'a [u8], seen: &mut KrbErrorView<'a>) -> bool {
+        view_whole_into::<KrbError>(octets, seen)
     }
 
     #[inline(always)]

@@ -18,7 +18,7 @@ use crate::krb_error::{KrbError, KrbErrorView};
 use crate::krb_priv::{KrbPriv, KrbPrivView};
 use crate::krb_safe::{KrbSafe, KrbSafeView};
 use crate::message::{Kind, Message};
-use crate::message_kind::MessageKind;
+use crate::message_kind::{MessageKind, view_of};
 use crate::message_kinds::{
     ApRepKind, ApReqKind, AsRepKind, AsReqKind, KrbCredKind, KrbErrorKind, KrbPrivKind,
     KrbSafeKind, TgsRepKind, TgsReqKind,
@@ -143,15 +143,15 @@ pub(crate) fn view_of_kind(kind: Kind, octets: &[u8]) -> Option<MessageView<'_>>
     ensures { MatchOption result (IsNoMessage octets.now) (λ m. IsMessageView octets.now m) }
 {
     match kind {
-        Kind::AsReq => Some(MessageView::AsReq(AsReqKind::view(octets)?)),
-        Kind::AsRep => Some(MessageView::AsRep(AsRepKind::view(octets)?)),
-        Kind::TgsReq => Some(MessageView::TgsReq(TgsReqKind::view(octets)?)),
-        Kind::TgsRep => Some(MessageView::TgsRep(TgsRepKind::view(octets)?)),
-        Kind::ApReq => Some(MessageView::ApReq(ApReqKind::view(octets)?)),
-        Kind::ApRep => Some(MessageView::ApRep(ApRepKind::view(octets)?)),
-        Kind::KrbSafe => Some(MessageView::KrbSafe(KrbSafeKind::view(octets)?)),
-        Kind::KrbPriv => Some(MessageView::KrbPriv(KrbPrivKind::view(octets)?)),
-        Kind::KrbCred => Some(MessageView::KrbCred(KrbCredKind::view(octets)?)),
-        Kind::KrbError => Some(MessageView::KrbError(KrbErrorKind::view(octets)?)),
+        Kind::AsReq => Some(MessageView::AsReq(view_of::<AsReqKind>(octets)?)),
+        Kind::AsRep => Some(MessageView::AsRep(view_of::<AsRepKind>(octets)?)),
+        Kind::TgsReq => Some(MessageView::TgsReq(view_of::<TgsReqKind>(octets)?)),
+        Kind::TgsRep => Some(MessageView::TgsRep(view_of::<TgsRepKind>(octets)?)),
+        Kind::ApReq => Some(MessageView::ApReq(view_of::<ApReqKind>(octets)?)),
+        Kind::ApRep => Some(MessageView::ApRep(view_of::<ApRepKind>(octets)?)),
+        Kind::KrbSafe => Some(MessageView::KrbSafe(view_of::<KrbSafeKind>(octets)?)),
+        Kind::KrbPriv => Some(MessageView::KrbPriv(view_of::<KrbPrivKind>(octets)?)),
+        Kind::KrbCred => Some(MessageView::KrbCred(view_of::<KrbCredKind>(octets)?)),
+        Kind::KrbError => Some(MessageView::KrbError(view_of::<KrbErrorKind>(octets)?)),
     }
 }

@@ -1,10 +1,10 @@
 //! PA-DATA. `asn1/generate` wrote this from `asn1/krb5.asn1`.
 
-ghost use Rattle.std.specs.Prelude.{◌≡◌, refl, ◌^◌, ◌<◌, true, length, map, MatchOption};
+ghost use Rattle.std.specs.Prelude.{◌≡◌, refl, ◌^◌, ◌<◌, true, length, map};
 ghost use Rattle.krb_msg.specs.Term.{der, Fits, tag_of};
 ghost use Rattle.krb_msg.specs.Grammar.{pa_data};
 ghost use Rattle.krb_msg.specs.Types.{pa_data_value, pa_data_of, pa_data_view_value, pa_data_of_view, IsValidPaData};
-ghost use Rattle.krb_msg.specs.Viewed.{AreContents, AreNoContents, items_of};
+ghost use Rattle.krb_msg.specs.Viewed.{AreContents, AreNoContents, IfElse, items_of};
 ghost use Rattle.krb_msg.specs.inner.PrefixFree.{begins, type_is_prefix_free};
 ghost use Rattle.krb_msg.specs.inner.RoundTrips.{pa_data-back};
 
@@ -25,7 +25,7 @@ pub struct PaData {
 }
 
 /// A view of a PA-DATA: its strings and lists are borrowed from the octets.
-#[derive(Clone, Copy)]
+#[derive(Clone, Copy, Default)]
 pub struct PaDataView<'a> {
     /// What kind of data it is (7.5.2).
     pub padata_type: i64,
@@ -90,14 +90,17 @@ impl<'a> View<'a> for PaData {
     }
 
     #[inline(always)]
-    fn view(contents: &'a [u8]) -> Option<PaDataView<'a>> {
-        let Some((padata_type, (padata_value, ()))) = Layout::<Owned>::view(contents) else {
-            return None;
-        };
-        Some(PaDataView {
+    fn view_into(contents: &'a [u8], seen: &mut PaDataView<'a>) -> bool {
+        let mut fields = Default::default();
+        if !Layout::<Owned>::view_into(contents, &mut fields) {
+            return false;
+        }
+        let (padata_type, (padata_value, ())) = fields;
+        *seen = PaDataView {
             padata_type,
             padata_value,
-        })
+        };
+        true
     }
 }
 

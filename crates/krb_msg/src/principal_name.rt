@@ -1,10 +1,10 @@
 //! PrincipalName. `asn1/generate` wrote this from `asn1/krb5.asn1`.
 
-ghost use Rattle.std.specs.Prelude.{◌≡◌, refl, ◌^◌, ◌<◌, true, length, MatchOption};
+ghost use Rattle.std.specs.Prelude.{◌≡◌, refl, ◌^◌, ◌<◌, true, length};
 ghost use Rattle.krb_msg.specs.Term.{der, Fits, tag_of};
 ghost use Rattle.krb_msg.specs.Grammar.{principal_name};
 ghost use Rattle.krb_msg.specs.Types.{principal_name_value, principal_name_of, principal_name_view_value, principal_name_of_view, IsValidPrincipalName};
-ghost use Rattle.krb_msg.specs.Viewed.{AreContents, AreNoContents};
+ghost use Rattle.krb_msg.specs.Viewed.{AreContents, AreNoContents, IfElse};
 ghost use Rattle.krb_msg.specs.inner.PrefixFree.{begins, type_is_prefix_free};
 ghost use Rattle.krb_msg.specs.inner.RoundTrips.{principal_name-back};
 
@@ -28,7 +28,7 @@ pub struct PrincipalName {
 }
 
 /// A view of a PrincipalName: its strings and lists are borrowed from the octets.
-#[derive(Clone, Copy)]
+#[derive(Clone, Copy, Default)]
 pub struct PrincipalNameView<'a> {
     /// How the name is meant (6.2). Two names that differ in this alone name one principal.
     pub name_type: i64,
@@ -101,16 +101,17 @@ impl<'a> View<'a> for PrincipalName {
     }
 
     #[inline(always)]
-    fn view(contents: &'a [u8]) -> Option<PrincipalNameView<'a>> {
+    fn view_into(contents: &'a [u8], seen: &mut PrincipalNameView<'a>) -> bool {
         let Some((name_type, (name, ()))) = view_by_call::<Layout<Owned>>(contents) else {
-            return None;
+            return false;
         };
-        Some(PrincipalNameView {
+        *seen = PrincipalNameView {
             name_type,
             name: ItemsView {
                 octets: &*name.octets,
             },
-        })
+        };
+        true
     }
 }
 

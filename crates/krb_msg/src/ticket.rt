@@ -1,10 +1,10 @@
 //! Ticket. `asn1/generate` wrote this from `asn1/krb5.asn1`.
 
-ghost use Rattle.std.specs.Prelude.{◌≡◌, refl, ◌^◌, ◌<◌, true, length, MatchOption};
+ghost use Rattle.std.specs.Prelude.{◌≡◌, refl, ◌^◌, ◌<◌, true, length};
 ghost use Rattle.krb_msg.specs.Term.{der, Fits, tag_of};
 ghost use Rattle.krb_msg.specs.Grammar.{ticket as ticket_term};
 ghost use Rattle.krb_msg.specs.Types.{ticket_value, ticket_of, ticket_view_value, ticket_of_view, IsValidTicket};
-ghost use Rattle.krb_msg.specs.Viewed.{AreContents, AreNoContents};
+ghost use Rattle.krb_msg.specs.Viewed.{AreContents, AreNoContents, IfElse};
 ghost use Rattle.krb_msg.specs.inner.PrefixFree.{begins, type_is_prefix_free};
 ghost use Rattle.krb_msg.specs.inner.RoundTrips.{ticket-back};
 
@@ -33,7 +33,7 @@ pub struct Ticket {
 }
 
 /// A view of a Ticket: its strings and lists are borrowed from the octets.
-#[derive(Clone, Copy)]
+#[derive(Clone, Copy, Default)]
 pub struct TicketView<'a> {
     /// The realm that issued it, and that of its server.
     pub realm: &'a [u8],
@@ -126,11 +126,11 @@ impl<'a> View<'a> for Ticket {
     }
 
     #[inline(always)]
-    fn view(contents: &'a [u8]) -> Option<TicketView<'a>> {
+    fn view_into(contents: &'a [u8], seen: &mut TicketView<'a>) -> bool {
         let Some((realm, (sname, (enc_part, ())))) = view_by_call::<Layout<Owned>>(contents) else {
-            return None;
+            return false;
         };
-        Some(TicketView {
+        *seen = TicketView {
             realm: &*realm,
             sname: PrincipalNameView {
                 name_type: sname.name_type,
@@ -143,7 +143,8 @@ impl<'a> View<'a> for Ticket {
                 kvno: enc_part.kvno,
                 cipher: &*enc_part.cipher,
             },
-        })
+        };
+        true
     }
 }
 

@@ -2,7 +2,7 @@
 
 ghost use Rattle.std.specs.Prelude.{◌≡◌, ◌^◌, ◌<◌, true, length, MatchOption};
 ghost use Rattle.krb_msg.specs.Shape.{is_unambiguous, has_octet_tags};
-ghost use Rattle.krb_msg.specs.Viewed.{IsViewOf, IsNotWhole};
+ghost use Rattle.krb_msg.specs.Viewed.{IfElse, IsViewOf, IsNotWhole};
 
 pub mod head;
 pub mod items;
@@ -10,7 +10,7 @@ mod lists;
 pub mod number;
 pub mod scalars;
 
-use crate::fields::View;
+use crate::fields::{View, view_item};
 use head::only_item;
 
 /// Returns a view of the item that octets are, if they are one: all of them, judged and viewed in
@@ -23,5 +23,20 @@ pub fn view_whole<'a, T: View<'a>>(octets: &'a [u8]) -> Option<T::Of>
     ensures { MatchOption result (IsNotWhole T.term octets.now) (λ seen. IsViewOf T.term octets.now (T.value seen) × T.IsValid seen) }
 {
     let contents = only_item(T::tag(), octets)?;
-    T::view(contents)
+    view_item::<T>(contents)
+}
+
+/// Makes `seen` the view of the item that octets are, and returns whether they are one: the same as
+/// [`view_whole`].
+#[inline(always)]
+pub(crate) fn view_whole_into<'a, T: View<'a>>(octets: &'a [u8], seen: &mut T::Of) -> bool
+    requires short { length octets.now < 2 ^ 31 }
+    requires tags { has_octet_tags T.term ≡ true }
+    requires unambiguous { is_unambiguous T.term ≡ true }
+    ensures { IfElse result (IsViewOf T.term octets.now (T.value seen.new) × T.IsValid seen.new) (IsNotWhole T.term octets.now) }
+{
+    match only_item(T::tag(), octets) {
+        None => false,
+        Some(contents) => T::view_into(contents, seen),
+    }
 }

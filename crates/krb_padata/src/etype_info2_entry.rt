@@ -1,9 +1,9 @@
 //! ETYPE-INFO2-ENTRY. `asn1/generate` wrote this from `asn1/padata.asn1`.
 
-ghost use Rattle.std.specs.Prelude.{◌≡◌, ◌^◌, ◌<◌, true, length, MatchOption};
+ghost use Rattle.std.specs.Prelude.{◌≡◌, ◌^◌, ◌<◌, true, length};
 ghost use Rattle.krb_msg.specs.Term.{tag_of};
 ghost use Rattle.krb_msg.specs.Basic.{sequence_of};
-ghost use Rattle.krb_msg.specs.Viewed.{AreContents, AreNoContents, AreViewed, items_of};
+ghost use Rattle.krb_msg.specs.Viewed.{AreContents, AreNoContents, AreViewed, IfElse, items_of};
 ghost use Rattle.krb_padata.specs.Grammar.{etype_info2_entry};
 ghost use Rattle.krb_padata.specs.Types.{etype_info2_entry_view_value, IsValidEtypeInfo2Entry};
 
@@ -23,7 +23,7 @@ pub struct EtypeInfo2Entry {
 }
 
 /// A view of an ETYPE-INFO2-ENTRY: its strings and lists are borrowed from the octets.
-#[derive(Clone, Copy)]
+#[derive(Clone, Copy, Default)]
 pub struct EtypeInfo2EntryView<'a> {
     /// The encryption type (RFC 3961).
     pub etype: i64,
@@ -53,15 +53,18 @@ impl<'a> View<'a> for EtypeInfo2Entry {
     }
 
     #[inline(always)]
-    fn view(contents: &'a [u8]) -> Option<EtypeInfo2EntryView<'a>> {
-        let Some((etype, (salt, (s2kparams, ())))) = Layout::view(contents) else {
-            return None;
-        };
-        Some(EtypeInfo2EntryView {
+    fn view_into(contents: &'a [u8], seen: &mut EtypeInfo2EntryView<'a>) -> bool {
+        let mut fields = Default::default();
+        if !Layout::view_into(contents, &mut fields) {
+            return false;
+        }
+        let (etype, (salt, (s2kparams, ()))) = fields;
+        *seen = EtypeInfo2EntryView {
             etype,
             salt,
             s2kparams,
-        })
+        };
+        true
     }
 }
 
@@ -85,7 +88,7 @@ impl<'a> View<'a> for EtypeInfo2 {
     }
 
     #[inline(always)]
-    fn view(contents: &'a [u8]) -> Option<ItemsView<'a>> {
-        view_items::<EtypeInfo2Entry>(contents)
+    fn view_into(contents: &'a [u8], seen: &mut ItemsView<'a>) -> bool {
+        view_items::<EtypeInfo2Entry>(contents, seen)
     }
 }

@@ -1,9 +1,9 @@
 //! ETYPE-INFO-ENTRY. `asn1/generate` wrote this from `asn1/padata.asn1`.
 
-ghost use Rattle.std.specs.Prelude.{◌≡◌, ◌^◌, ◌<◌, true, length, MatchOption};
+ghost use Rattle.std.specs.Prelude.{◌≡◌, ◌^◌, ◌<◌, true, length};
 ghost use Rattle.krb_msg.specs.Term.{tag_of};
 ghost use Rattle.krb_msg.specs.Basic.{sequence_of};
-ghost use Rattle.krb_msg.specs.Viewed.{AreContents, AreNoContents, AreViewed, items_of};
+ghost use Rattle.krb_msg.specs.Viewed.{AreContents, AreNoContents, AreViewed, IfElse, items_of};
 ghost use Rattle.krb_padata.specs.Grammar.{etype_info_entry};
 ghost use Rattle.krb_padata.specs.Types.{etype_info_entry_view_value, IsValidEtypeInfoEntry};
 
@@ -20,7 +20,7 @@ pub struct EtypeInfoEntry {
 }
 
 /// A view of an ETYPE-INFO-ENTRY: its strings and lists are borrowed from the octets.
-#[derive(Clone, Copy)]
+#[derive(Clone, Copy, Default)]
 pub struct EtypeInfoEntryView<'a> {
     /// The encryption type (RFC 3961).
     pub etype: i64,
@@ -48,11 +48,14 @@ impl<'a> View<'a> for EtypeInfoEntry {
     }
 
     #[inline(always)]
-    fn view(contents: &'a [u8]) -> Option<EtypeInfoEntryView<'a>> {
-        let Some((etype, (salt, ()))) = Layout::view(contents) else {
-            return None;
-        };
-        Some(EtypeInfoEntryView { etype, salt })
+    fn view_into(contents: &'a [u8], seen: &mut EtypeInfoEntryView<'a>) -> bool {
+        let mut fields = Default::default();
+        if !Layout::view_into(contents, &mut fields) {
+            return false;
+        }
+        let (etype, (salt, ())) = fields;
+        *seen = EtypeInfoEntryView { etype, salt };
+        true
     }
 }
 
@@ -76,7 +79,7 @@ impl<'a> View<'a> for EtypeInfo {
     }
 
     #[inline(always)]
-    fn view(contents: &'a [u8]) -> Option<ItemsView<'a>> {
-        view_items::<EtypeInfoEntry>(contents)
+    fn view_into(contents: &'a [u8], seen: &mut ItemsView<'a>) -> bool {
+        view_items::<EtypeInfoEntry>(contents, seen)
     }
 }

@@ -1,8 +1,8 @@
 //! KrbFastArmor. `asn1/generate` wrote this from `asn1/padata.asn1`.
 
-ghost use Rattle.std.specs.Prelude.{◌≡◌, ◌^◌, ◌<◌, true, length, MatchOption};
+ghost use Rattle.std.specs.Prelude.{◌≡◌, ◌^◌, ◌<◌, true, length};
 ghost use Rattle.krb_msg.specs.Term.{tag_of};
-ghost use Rattle.krb_msg.specs.Viewed.{AreContents, AreNoContents};
+ghost use Rattle.krb_msg.specs.Viewed.{AreContents, AreNoContents, IfElse};
 ghost use Rattle.krb_padata.specs.Grammar.{krb_fast_armor};
 ghost use Rattle.krb_padata.specs.Types.{krb_fast_armor_view_value, IsValidKrbFastArmor};
 
@@ -19,7 +19,7 @@ pub struct KrbFastArmor {
 }
 
 /// A view of a KrbFastArmor: its strings and lists are borrowed from the octets.
-#[derive(Clone, Copy)]
+#[derive(Clone, Copy, Default)]
 pub struct KrbFastArmorView<'a> {
     /// What kind of armor it is: 1 is an AP-REQ (RFC 6113, 5.4.1.1).
     pub armor_type: i64,
@@ -47,13 +47,16 @@ impl<'a> View<'a> for KrbFastArmor {
     }
 
     #[inline(always)]
-    fn view(contents: &'a [u8]) -> Option<KrbFastArmorView<'a>> {
-        let Some((armor_type, (armor_value, ()))) = Layout::view(contents) else {
-            return None;
-        };
-        Some(KrbFastArmorView {
+    fn view_into(contents: &'a [u8], seen: &mut KrbFastArmorView<'a>) -> bool {
+        let mut fields = Default::default();
+        if !Layout::view_into(contents, &mut fields) {
+            return false;
+        }
+        let (armor_type, (armor_value, ())) = fields;
+        *seen = KrbFastArmorView {
             armor_type,
             armor_value,
-        })
+        };
+        true
     }
 }

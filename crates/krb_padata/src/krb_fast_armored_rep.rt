@@ -1,8 +1,8 @@
 //! KrbFastArmoredRep. `asn1/generate` wrote this from `asn1/padata.asn1`.
 
-ghost use Rattle.std.specs.Prelude.{◌≡◌, ◌^◌, ◌<◌, true, length, MatchOption};
+ghost use Rattle.std.specs.Prelude.{◌≡◌, ◌^◌, ◌<◌, true, length};
 ghost use Rattle.krb_msg.specs.Term.{tag_of};
-ghost use Rattle.krb_msg.specs.Viewed.{AreContents, AreNoContents};
+ghost use Rattle.krb_msg.specs.Viewed.{AreContents, AreNoContents, IfElse};
 ghost use Rattle.krb_padata.specs.Grammar.{krb_fast_armored_rep};
 ghost use Rattle.krb_padata.specs.Types.{krb_fast_armored_rep_view_value, IsValidKrbFastArmoredRep};
 
@@ -16,7 +16,7 @@ pub struct KrbFastArmoredRep {
 }
 
 /// A view of a KrbFastArmoredRep: its strings and lists are borrowed from the octets.
-#[derive(Clone, Copy)]
+#[derive(Clone, Copy, Default)]
 pub struct KrbFastArmoredRepView<'a> {
     /// The encrypted KrbFastResponse.
     pub enc_fast_rep: EncryptedDataView<'a>,
@@ -42,11 +42,14 @@ impl<'a> View<'a> for KrbFastArmoredRep {
     }
 
     #[inline(always)]
-    fn view(contents: &'a [u8]) -> Option<KrbFastArmoredRepView<'a>> {
-        let Some((enc_fast_rep, ())) = Layout::view(contents) else {
-            return None;
-        };
-        Some(KrbFastArmoredRepView { enc_fast_rep })
+    fn view_into(contents: &'a [u8], seen: &mut KrbFastArmoredRepView<'a>) -> bool {
+        let mut fields = Default::default();
+        if !Layout::view_into(contents, &mut fields) {
+            return false;
+        }
+        let (enc_fast_rep, ()) = fields;
+        *seen = KrbFastArmoredRepView { enc_fast_rep };
+        true
     }
 }
 

@@ -1,8 +1,8 @@
 //! KrbFastArmoredReq. `asn1/generate` wrote this from `asn1/padata.asn1`.
 
-ghost use Rattle.std.specs.Prelude.{◌≡◌, ◌^◌, ◌<◌, true, length, MatchOption};
+ghost use Rattle.std.specs.Prelude.{◌≡◌, ◌^◌, ◌<◌, true, length};
 ghost use Rattle.krb_msg.specs.Term.{tag_of};
-ghost use Rattle.krb_msg.specs.Viewed.{AreContents, AreNoContents};
+ghost use Rattle.krb_msg.specs.Viewed.{AreContents, AreNoContents, IfElse};
 ghost use Rattle.krb_padata.specs.Grammar.{krb_fast_armored_req};
 ghost use Rattle.krb_padata.specs.Types.{krb_fast_armored_req_view_value, IsValidKrbFastArmoredReq};
 
@@ -24,7 +24,7 @@ pub struct KrbFastArmoredReq {
 }
 
 /// A view of a KrbFastArmoredReq: its strings and lists are borrowed from the octets.
-#[derive(Clone, Copy)]
+#[derive(Clone, Copy, Default)]
 pub struct KrbFastArmoredReqView<'a> {
     /// The armor, unless it is the ticket of a PA-TGS-REQ.
     pub armor: Option<KrbFastArmorView<'a>>,
@@ -56,15 +56,18 @@ impl<'a> View<'a> for KrbFastArmoredReq {
     }
 
     #[inline(always)]
-    fn view(contents: &'a [u8]) -> Option<KrbFastArmoredReqView<'a>> {
-        let Some((armor, (req_checksum, (enc_fast_req, ())))) = Layout::view(contents) else {
-            return None;
-        };
-        Some(KrbFastArmoredReqView {
+    fn view_into(contents: &'a [u8], seen: &mut KrbFastArmoredReqView<'a>) -> bool {
+        let mut fields = Default::default();
+        if !Layout::view_into(contents, &mut fields) {
+            return false;
+        }
+        let (armor, (req_checksum, (enc_fast_req, ()))) = fields;
+        *seen = KrbFastArmoredReqView {
             armor,
             req_checksum,
             enc_fast_req,
-        })
+        };
+        true
     }
 }
 

@@ -1,8 +1,8 @@
 //! PA-FOR-USER. `asn1/generate` wrote this from `asn1/padata.asn1`.
 
-ghost use Rattle.std.specs.Prelude.{◌≡◌, ◌^◌, ◌<◌, true, length, MatchOption};
+ghost use Rattle.std.specs.Prelude.{◌≡◌, ◌^◌, ◌<◌, true, length};
 ghost use Rattle.krb_msg.specs.Term.{tag_of};
-ghost use Rattle.krb_msg.specs.Viewed.{AreContents, AreNoContents};
+ghost use Rattle.krb_msg.specs.Viewed.{AreContents, AreNoContents, IfElse};
 ghost use Rattle.krb_padata.specs.Grammar.{pa_for_user};
 ghost use Rattle.krb_padata.specs.Types.{pa_for_user_view_value, IsValidPaForUser};
 
@@ -25,7 +25,7 @@ pub struct PaForUser {
 }
 
 /// A view of a PA-FOR-USER: its strings and lists are borrowed from the octets.
-#[derive(Clone, Copy)]
+#[derive(Clone, Copy, Default)]
 pub struct PaForUserView<'a> {
     /// The user.
     pub user_name: PrincipalNameView<'a>,
@@ -63,16 +63,18 @@ impl<'a> View<'a> for PaForUser {
     }
 
     #[inline(always)]
-    fn view(contents: &'a [u8]) -> Option<PaForUserView<'a>> {
-        let Some((user_name, (user_realm, (cksum, (auth_package, ()))))) = Layout::view(contents)
-        else {
-            return None;
-        };
-        Some(PaForUserView {
+    fn view_into(contents: &'a [u8], seen: &mut PaForUserView<'a>) -> bool {
+        let mut fields = Default::default();
+        if !Layout::view_into(contents, &mut fields) {
+            return false;
+        }
+        let (user_name, (user_realm, (cksum, (auth_package, ())))) = fields;
+        *seen = PaForUserView {
             user_name,
             user_realm,
             cksum,
             auth_package,
-        })
+        };
+        true
     }
 }

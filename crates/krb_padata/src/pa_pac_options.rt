@@ -1,8 +1,8 @@
 //! PA-PAC-OPTIONS. `asn1/generate` wrote this from `asn1/padata.asn1`.
 
-ghost use Rattle.std.specs.Prelude.{◌≡◌, ◌^◌, ◌<◌, true, length, MatchOption};
+ghost use Rattle.std.specs.Prelude.{◌≡◌, ◌^◌, ◌<◌, true, length};
 ghost use Rattle.krb_msg.specs.Term.{tag_of};
-ghost use Rattle.krb_msg.specs.Viewed.{AreContents, AreNoContents};
+ghost use Rattle.krb_msg.specs.Viewed.{AreContents, AreNoContents, IfElse};
 ghost use Rattle.krb_padata.specs.Grammar.{pa_pac_options};
 ghost use Rattle.krb_padata.specs.Types.{pa_pac_options_view_value, IsValidPaPacOptions};
 
@@ -17,7 +17,7 @@ pub struct PaPacOptions {
 }
 
 /// A view of a PA-PAC-OPTIONS: its strings and lists are borrowed from the octets.
-#[derive(Clone, Copy)]
+#[derive(Clone, Copy, Default)]
 pub struct PaPacOptionsView<'a> {
     /// PAC-OPTIONS-FLAGS.
     pub flags: FlagsView<'a>,
@@ -43,10 +43,13 @@ impl<'a> View<'a> for PaPacOptions {
     }
 
     #[inline(always)]
-    fn view(contents: &'a [u8]) -> Option<PaPacOptionsView<'a>> {
-        let Some((flags, ())) = Layout::view(contents) else {
-            return None;
-        };
-        Some(PaPacOptionsView { flags })
+    fn view_into(contents: &'a [u8], seen: &mut PaPacOptionsView<'a>) -> bool {
+        let mut fields = Default::default();
+        if !Layout::view_into(contents, &mut fields) {
+            return false;
+        }
+        let (flags, ()) = fields;
+        *seen = PaPacOptionsView { flags };
+        true
     }
 }

@@ -104,9 +104,10 @@ where
     requires recorded { (view : K.View) → IsRecordedAs kind (K.View.IsValid view) (K.View.fields view) (K.View.inside view) (K.as_message view) }
     ensures { IfOk result (PutsMessage profile octets.now (text_after form from.entry) text.old text.new) }
 {
-    let Some(view) = K::view(octets) else {
+    let mut view = Default::default();
+    if !K::view_into(octets, &mut view) {
         return Ok(false);
-    };
+    }
     let notes = K::notes(&view);
     if !is_kept(profile, &notes) {
         return Ok(false);

@@ -1,6 +1,6 @@
 //! Text that grows.
 
-ghost use Rattle.std.specs.Prelude.{◌≡◌, ◌+◌, ◌++◌, ◌^◌, ◌<◌, ◌≤◌, ◌∷◌, [], IfSome, OnErr, OnOk, decimal, drop, length, string_bytes, take};
+ghost use Rattle.std.specs.Prelude.{◌≡◌, ◌+◌, ◌/◌, ◌%◌, ◌++◌, ◌^◌, ◌<◌, ◌≤◌, ◌∷◌, [], IfSome, OnErr, OnOk, decimal, drop, length, string_bytes, take};
 ghost use Rattle.std.specs.Fmt.{signed_decimal};
 ghost use Rattle.std.specs.Str.{IsAscii, IsUtf8};
 
@@ -350,14 +350,23 @@ impl TextBuffer {
         }
     }
 
+    /// Appends the two digits of a number below 100.
+    #[inline(always)]
+    fn push_digit_pair(&mut self, number: u8) -> Result<(), AllocError>
+        requires { number < 100 }
+        ensures { OnOk result (self.new ≡ self.old ++ (48 + number / 10) ∷ (48 + number % 10) ∷ []) }
+    {
+        let place = usize::from(number) * 2;
+        self.push_ascii(&[PAIRS[place], PAIRS[place + 1]])
+    }
+
     /// Appends a number of two digits.
     #[inline(always)]
     fn push_two_digits(&mut self, number: u8) -> Result<(), AllocError>
         requires { (10 ≤ number) × (number < 100) }
         ensures { OnOk result (self.new ≡ self.old ++ decimal number) }
     {
-        let place = usize::from(number) * 2;
-        self.push_ascii(&[PAIRS[place], PAIRS[place + 1]])
+        self.push_digit_pair(number)
     }
 
     /// Appends a number of three digits or more.
@@ -379,12 +388,8 @@ impl TextBuffer {
         requires { (100 ≤ number) × (number < 1000) }
         ensures { OnOk result (self.new ≡ self.old ++ decimal number) }
     {
-        let (hundreds, others) = (number / 100, number % 100);
-        self.push_ascii(&[
-            b'0' + hundreds as u8,
-            b'0' + (others / 10) as u8,
-            b'0' + (others % 10) as u8,
-        ])
+        self.push_octet(b'0' + (number / 100) as u8)?;
+        self.push_digit_pair((number % 100) as u8)
     }
 
     /// Returns how many octets the text has.

@@ -5,7 +5,7 @@ ghost use Rattle.std.specs.Option.{option_map};
 ghost use Rattle.krb_msg.specs.Term.{Term, Fields as TermFields, Value, Values, Sequence as SequenceTerm, Application as ApplicationTerm, Tagged as TaggedTerm, End as NoField, Required as RequiredField, Optional as OptionalField, IfPresent, tag_of};
 ghost use Rattle.krb_msg.specs.Grammar.{exactly};
 ghost use Rattle.krb_msg.specs.Shape.{is_unambiguous, are_unambiguous, has_octet_tags, have_octet_tags};
-ghost use Rattle.krb_msg.specs.Viewed.{AreContents, AreNoContents, AreFields, AreNoFields, BeginsWithValue, BeginsWithNoValue, MayBeginWithValue, IsMalformedField};
+ghost use Rattle.krb_msg.specs.Viewed.{AreContents, AreNoContents, AreFields, AreNoFields, IfElse, BeginsWithValue, BeginsWithNoValue, MayBeginWithValue, IsMalformedField};
 
 use crate::fields::{Application, End, Fixed, Optional, Required, Sequence, Tagged};
 use crate::view::head::{after_octet, first_field, only_item};
@@ -13,8 +13,8 @@ use crate::view::scalars::Exactly;
 
 /// A type whose items are judged and viewed in place.
 pub trait View<'a> {
-    /// The view of an item.
-    type Of: Copy;
+    /// The view of an item. Its default is a view of none.
+    type Of: Copy + Default;
 
     /// The term.
     ghost term: { Term };
@@ -30,18 +30,19 @@ pub trait View<'a> {
         requires { has_octet_tags term ≡ true }
         ensures { result ≡ tag_of term };
 
-    /// Returns a view of the item with these contents, if they are contents of one.
-    fn view(contents: &'a [u8]) -> Option<Self::Of>
+    /// Makes `seen` the view of the item with these contents, and returns whether they are contents
+    /// of one. So a large view is made where it stays, and not moved.
+    fn view_into(contents: &'a [u8], seen: &mut Self::Of) -> bool
         requires short { length contents.now < 2 ^ 31 }
         requires tags { has_octet_tags term ≡ true }
         requires unambiguous { is_unambiguous term ≡ true }
-        ensures { MatchOption result (AreNoContents term contents.now) (λ seen. AreContents term contents.now (value seen) × IsValid seen) };
+        ensures { IfElse result (AreContents term contents.now (value seen.new) × IsValid seen.new) (AreNoContents term contents.now) };
 }
 
 /// Fields, from one on, that are judged and viewed in place.
 pub trait ViewFields<'a> {
-    /// The views of them.
-    type Of: Copy;
+    /// The views of them. Their default are views of none.
+    type Of: Copy + Default;
 
     /// The fields of the grammar.
     ghost fields: { TermFields };
@@ -52,12 +53,28 @@ pub trait ViewFields<'a> {
     /// What is known of a view: lists are items, times are times, and so on.
     ghost IsValid: { Self.Of → Type 0 };
 
-    /// Returns a view of the fields that octets are, if they are those.
-    fn view_fields(octets: &'a [u8]) -> Option<Self::Of>
+    /// Makes `seen` the views of the fields that octets are, and returns whether they are those.
+    fn view_fields(octets: &'a [u8], seen: &mut Self::Of) -> bool
         requires short { length octets.now < 2 ^ 31 }
         requires tags { have_octet_tags fields ≡ true }
         requires unambiguous { are_unambiguous fields ≡ true }
-        ensures { MatchOption result (AreNoFields fields octets.now) (λ seen. AreFields fields octets.now (values seen) × IsValid seen) };
+        ensures { IfElse result (AreFields fields octets.now (values seen.new) × IsValid seen.new) (AreNoFields fields octets.now) };
+}
+
+/// Returns a view of the item with these contents, if they are contents of one.
+#[inline(always)]
+pub(crate) fn view_item<'a, T: View<'a>>(contents: &'a [u8]) -> Option<T::Of>
+    requires short { length contents.now < 2 ^ 31 }
+    requires tags { has_octet_tags T.term ≡ true }
+    requires unambiguous { is_unambiguous T.term ≡ true }
+    ensures { MatchOption result (AreNoContents T.term contents.now) (λ seen. AreContents T.term contents.now (T.value seen) × T.IsValid seen) }
+{
+    let mut seen = Default::default();
+    if T::view_into(contents, &mut seen) {
+        Some(seen)
+    } else {
+        None
+    }
 }
 
 /// Returns the view of an item, by a call. What a call returns whole stays in memory, and words go
@@ -69,26 +86,29 @@ pub(crate) fn view_by_call<'a, T: View<'a>>(contents: &'a [u8]) -> Option<T::Of>
     requires unambiguous { is_unambiguous T.term ≡ true }
     ensures { MatchOption result (AreNoContents T.term contents.now) (λ seen. AreContents T.term contents.now (T.value seen) × T.IsValid seen) }
 {
-    T::view(contents)
+    view_item::<T>(contents)
 }
 
-/// Returns the field `[INDEX]` with which octets begin, and what follows it.
+/// Makes `seen` the view of the field `[INDEX]` with which octets begin, and returns what follows
+/// it, if they begin with one.
 #[inline(always)]
 pub(crate) fn view_field<'a, const INDEX: u8, T: View<'a>>(
     octets: &'a [u8],
-) -> Option<(T::Of, &'a [u8])>
+    seen: &mut T::Of,
+) -> Option<&'a [u8]>
     requires short { length octets.now < 2 ^ 31 }
     requires tags { has_octet_tags (TaggedTerm INDEX T.term) ≡ true }
     requires unambiguous { is_unambiguous T.term ≡ true }
-    ensures { MatchOption result (BeginsWithNoValue (TaggedTerm INDEX T.term) octets.now) (λ (seen, rest). BeginsWithValue (TaggedTerm INDEX T.term) octets.now (T.value seen) rest.now × T.IsValid seen) }
+    ensures { MatchOption result (BeginsWithNoValue (TaggedTerm INDEX T.term) octets.now) (λ rest. BeginsWithValue (TaggedTerm INDEX T.term) octets.now (T.value seen.new) rest.now × T.IsValid seen.new) }
 {
     let Some((contents, rest)) = first_field(0xA0 + INDEX, T::tag(), octets) else {
         return None;
     };
-    let Some(seen) = T::view(contents) else {
-        return None;
-    };
-    Some((seen, rest))
+    if T::view_into(contents, seen) {
+        Some(rest)
+    } else {
+        None
+    }
 }
 
 /// Returns what follows the field `[INDEX]` of a number with which octets begin.
@@ -111,30 +131,34 @@ fn find_fixed<const INDEX: u8, const NUMBER: u8>(octets: &[u8]) -> Option<&[u8]>
     requires tags { has_octet_tags (TaggedTerm INDEX (exactly NUMBER)) ≡ true }
     ensures { MatchOption result (BeginsWithNoValue (TaggedTerm INDEX (exactly NUMBER)) octets.now) (λ rest. BeginsWithValue (TaggedTerm INDEX (exactly NUMBER)) octets.now (pos NUMBER) rest.now) }
 {
-    match view_field::<INDEX, Exactly<NUMBER>>(octets) {
-        Some((_, rest)) => Some(rest),
-        None => None,
-    }
+    view_field::<INDEX, Exactly<NUMBER>>(octets, &mut ())
 }
 
-/// Returns the field `[INDEX]`, if octets begin with its tag, and what follows it.
+/// Makes `seen` the view of the field `[INDEX]`, if octets begin with its tag, and returns what
+/// follows it, if it is well formed.
 #[inline(always)]
 fn view_optional<'a, const INDEX: u8, T: View<'a>>(
     octets: &'a [u8],
-) -> Option<(Option<T::Of>, &'a [u8])>
+    seen: &mut Option<T::Of>,
+) -> Option<&'a [u8]>
     requires short { length octets.now < 2 ^ 31 }
     requires tags { has_octet_tags (TaggedTerm INDEX T.term) ≡ true }
     requires unambiguous { is_unambiguous T.term ≡ true }
-    ensures { MatchOption result (IsMalformedField (TaggedTerm INDEX T.term) octets.now) (λ (seen, rest). MayBeginWithValue (TaggedTerm INDEX T.term) octets.now (option_map T.value seen) rest.now × IfPresent T.IsValid seen) }
+    ensures { MatchOption result (IsMalformedField (TaggedTerm INDEX T.term) octets.now) (λ rest. MayBeginWithValue (TaggedTerm INDEX T.term) octets.now (option_map T.value seen.new) rest.now × IfPresent T.IsValid seen.new) }
 {
     match octets.first() {
         Some(tag) if *tag == 0xA0 + INDEX => {
-            let Some((seen, rest)) = view_field::<INDEX, T>(octets) else {
+            let mut found = Default::default();
+            let Some(rest) = view_field::<INDEX, T>(octets, &mut found) else {
                 return None;
             };
-            Some((Some(seen), rest))
+            *seen = Some(found);
+            Some(rest)
         }
-        _ => Some((None, octets)),
+        _ => {
+            *seen = None;
+            Some(octets)
+        }
     }
 }
 
@@ -148,8 +172,8 @@ impl<'a> ViewFields<'a> for End {
     ghost IsValid = { λ seen. ⊤ };
 
     #[inline(always)]
-    fn view_fields(octets: &'a [u8]) -> Option<()> {
-        if octets.is_empty() { Some(()) } else { None }
+    fn view_fields(octets: &'a [u8], _seen: &mut ()) -> bool {
+        octets.is_empty()
     }
 }
 
@@ -163,14 +187,11 @@ impl<'a, const INDEX: u8, T: View<'a>, F: ViewFields<'a>> ViewFields<'a> for Req
     ghost IsValid = { λ seen. T.IsValid seen.0 × F.IsValid seen.1 };
 
     #[inline(always)]
-    fn view_fields(octets: &'a [u8]) -> Option<(T::Of, F::Of)> {
-        let Some(first) = view_field::<INDEX, T>(octets) else {
-            return None;
-        };
-        let Some(fields) = F::view_fields(first.1) else {
-            return None;
-        };
-        Some((first.0, fields))
+    fn view_fields(octets: &'a [u8], seen: &mut (T::Of, F::Of)) -> bool {
+        match view_field::<INDEX, T>(octets, &mut seen.0) {
+            None => false,
+            Some(rest) => F::view_fields(rest, &mut seen.1),
+        }
     }
 }
 
@@ -184,14 +205,11 @@ impl<'a, const INDEX: u8, T: View<'a>, F: ViewFields<'a>> ViewFields<'a> for Opt
     ghost IsValid = { λ seen. IfPresent T.IsValid seen.0 × F.IsValid seen.1 };
 
     #[inline(always)]
-    fn view_fields(octets: &'a [u8]) -> Option<(Option<T::Of>, F::Of)> {
-        let Some((value, rest)) = view_optional::<INDEX, T>(octets) else {
-            return None;
-        };
-        let Some(fields) = F::view_fields(rest) else {
-            return None;
-        };
-        Some((value, fields))
+    fn view_fields(octets: &'a [u8], seen: &mut (Option<T::Of>, F::Of)) -> bool {
+        match view_optional::<INDEX, T>(octets, &mut seen.0) {
+            None => false,
+            Some(rest) => F::view_fields(rest, &mut seen.1),
+        }
     }
 }
 
@@ -206,11 +224,11 @@ impl<'a, const INDEX: u8, const NUMBER: u8, F: ViewFields<'a>> ViewFields<'a>
     ghost IsValid = { λ seen. F.IsValid seen };
 
     #[inline(always)]
-    fn view_fields(octets: &'a [u8]) -> Option<F::Of> {
-        let Some(rest) = view_fixed::<INDEX, NUMBER>(octets) else {
-            return None;
-        };
-        F::view_fields(rest)
+    fn view_fields(octets: &'a [u8], seen: &mut F::Of) -> bool {
+        match view_fixed::<INDEX, NUMBER>(octets) {
+            None => false,
+            Some(rest) => F::view_fields(rest, seen),
+        }
     }
 }
 
@@ -229,8 +247,8 @@ impl<'a, F: ViewFields<'a>> View<'a> for Sequence<F> {
     }
 
     #[inline(always)]
-    fn view(contents: &'a [u8]) -> Option<F::Of> {
-        F::view_fields(contents)
+    fn view_into(contents: &'a [u8], seen: &mut F::Of) -> bool {
+        F::view_fields(contents, seen)
     }
 }
 
@@ -249,11 +267,11 @@ impl<'a, const INDEX: u8, E: View<'a>> View<'a> for Tagged<INDEX, E> {
     }
 
     #[inline(always)]
-    fn view(contents: &'a [u8]) -> Option<E::Of> {
-        let Some(inner) = only_item(E::tag(), contents) else {
-            return None;
-        };
-        E::view(inner)
+    fn view_into(contents: &'a [u8], seen: &mut E::Of) -> bool {
+        match only_item(E::tag(), contents) {
+            None => false,
+            Some(inner) => E::view_into(inner, seen),
+        }
     }
 }
 
@@ -272,10 +290,10 @@ impl<'a, const NUMBER: u8, E: View<'a>> View<'a> for Application<NUMBER, E> {
     }
 
     #[inline(always)]
-    fn view(contents: &'a [u8]) -> Option<E::Of> {
-        let Some(inner) = only_item(E::tag(), contents) else {
-            return None;
-        };
-        E::view(inner)
+    fn view_into(contents: &'a [u8], seen: &mut E::Of) -> bool {
+        match only_item(E::tag(), contents) {
+            None => false,
+            Some(inner) => E::view_into(inner, seen),
+        }
     }
 }

@@ -5,29 +5,31 @@ ghost use Rattle.krb_msg.specs.Grammar.{pa_data, sequence_of};
 ghost use Rattle.krb_msg.specs.Shape.{is_unambiguous, has_octet_tags};
 ghost use Rattle.krb_msg.specs.Viewed.{AreContents, AreNoContents, AreViewed, IfElse, IsFirstItem, IsFirstType, items_of};
 
-use crate::fields::{View, view_field};
+use crate::fields::{View, view_field, view_item};
 use crate::view::head::first_item;
 use krb_der::Int32;
 
 /// A view of a list: its items, one after another.
-#[derive(Clone, Copy)]
+#[derive(Clone, Copy, Default)]
 pub struct ItemsView<'a> {
     /// Their octets.
     pub octets: &'a [u8],
 }
 
-/// Returns a view of the items that octets are, if they are items of a type, one after another.
+/// Makes `seen` the view of the items that octets are, and returns whether they are items of a type,
+/// one after another.
 #[inline(always)]
-pub fn view_items<'a, T: View<'a>>(octets: &'a [u8]) -> Option<ItemsView<'a>>
+pub fn view_items<'a, T: View<'a>>(octets: &'a [u8], seen: &mut ItemsView<'a>) -> bool
     requires short { length octets.now < 2 ^ 31 }
     requires tags { has_octet_tags T.term ≡ true }
     requires unambiguous { is_unambiguous T.term ≡ true }
-    ensures { MatchOption result (AreNoContents (sequence_of T.term) octets.now) (λ seen. AreContents (sequence_of T.term) octets.now (items_of T.term seen.octets.now) × AreViewed T.term seen.octets.now) }
+    ensures { IfElse result (AreContents (sequence_of T.term) octets.now (items_of T.term seen.new.octets.now) × AreViewed T.term seen.new.octets.now) (AreNoContents (sequence_of T.term) octets.now) }
 {
     if are_items::<T>(octets) {
-        Some(ItemsView { octets })
+        *seen = ItemsView { octets };
+        true
     } else {
-        None
+        false
     }
 }
 
@@ -43,7 +45,7 @@ fn are_items<'a, T: View<'a>>(octets: &'a [u8]) -> bool
         let Some((inner, left)) = first_item(T::tag(), rest) else {
             return false;
         };
-        let Some(_seen) = T::view(inner) else {
+        let Some(_seen) = view_item::<T>(inner) else {
             return false;
         };
         rest = left;
@@ -65,7 +67,7 @@ pub fn next_item<'a, T: View<'a>>(items: ItemsView<'a>) -> Option<(T::Of, ItemsV
     let Some((inner, rest)) = first_item(T::tag(), items.octets) else {
         unreachable!()
     };
-    let Some(seen) = T::view(inner) else {
+    let Some(seen) = view_item::<T>(inner) else {
         unreachable!()
     };
     Some((seen, ItemsView { octets: rest }))
@@ -84,7 +86,8 @@ pub fn next_type(items: ItemsView<'_>) -> Option<(i64, ItemsView<'_>)>
     let Some((inner, rest)) = first_item(0x30, items.octets) else {
         unreachable!()
     };
-    let Some((number, _)) = view_field::<1, Int32>(inner) else {
+    let mut number = 0;
+    let Some(_) = view_field::<1, Int32>(inner, &mut number) else {
         unreachable!()
     };
     Some((number, ItemsView { octets: rest }))

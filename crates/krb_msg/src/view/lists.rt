@@ -30,8 +30,8 @@ impl<'a> View<'a> for Many<HostAddress> {
     }
 
     #[inline(always)]
-    fn view(contents: &'a [u8]) -> Option<ItemsView<'a>> {
-        view_items::<HostAddress>(contents)
+    fn view_into(contents: &'a [u8], seen: &mut ItemsView<'a>) -> bool {
+        view_items::<HostAddress>(contents, seen)
     }
 }
 
@@ -52,8 +52,8 @@ impl<'a> View<'a> for Many<Int32> {
     }
 
     #[inline(always)]
-    fn view(contents: &'a [u8]) -> Option<ItemsView<'a>> {
-        view_items::<Int32>(contents)
+    fn view_into(contents: &'a [u8], seen: &mut ItemsView<'a>) -> bool {
+        view_items::<Int32>(contents, seen)
     }
 }
 
@@ -74,8 +74,8 @@ impl<'a> View<'a> for Many<KString> {
     }
 
     #[inline(always)]
-    fn view(contents: &'a [u8]) -> Option<ItemsView<'a>> {
-        view_items::<KString>(contents)
+    fn view_into(contents: &'a [u8], seen: &mut ItemsView<'a>) -> bool {
+        view_items::<KString>(contents, seen)
     }
 }
 
@@ -96,8 +96,8 @@ impl<'a> View<'a> for Many<PaData> {
     }
 
     #[inline(always)]
-    fn view(contents: &'a [u8]) -> Option<ItemsView<'a>> {
-        view_items::<PaData>(contents)
+    fn view_into(contents: &'a [u8], seen: &mut ItemsView<'a>) -> bool {
+        view_items::<PaData>(contents, seen)
     }
 }
 
@@ -118,7 +118,7 @@ impl<'a> View<'a> for Many<Ticket> {
     }
 
     #[inline(always)]
-    fn view(contents: &'a [u8]) -> Option<ItemsView<'a>> {
-        view_items::<Ticket>(contents)
+    fn view_into(contents: &'a [u8], seen: &mut ItemsView<'a>) -> bool {
+        view_items::<Ticket>(contents, seen)
     }
 }

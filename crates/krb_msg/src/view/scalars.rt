@@ -28,10 +28,10 @@ impl<'a, const NUMBER: u8> View<'a> for Exactly<NUMBER> {
     }
 
     #[inline(always)]
-    fn view(contents: &'a [u8]) -> Option<()> {
+    fn view_into(contents: &'a [u8], _seen: &mut ()) -> bool {
         match number(i64::from(NUMBER), i64::from(NUMBER), contents) {
-            Some(_) => Some(()),
-            None => None,
+            None => false,
+            Some(_) => true,
         }
     }
 }
@@ -51,8 +51,14 @@ impl<'a> View<'a> for Int32 {
     }
 
     #[inline(always)]
-    fn view(contents: &'a [u8]) -> Option<i64> {
-        number(-0x8000_0000, 0x7FFF_FFFF, contents)
+    fn view_into(contents: &'a [u8], seen: &mut i64) -> bool {
+        match number(-0x8000_0000, 0x7FFF_FFFF, contents) {
+            None => false,
+            Some(found) => {
+                *seen = found;
+                true
+            }
+        }
     }
 }
 
@@ -71,8 +77,14 @@ impl<'a> View<'a> for Wide32 {
     }
 
     #[inline(always)]
-    fn view(contents: &'a [u8]) -> Option<i64> {
-        number(-0x8000_0000, 0xFFFF_FFFF, contents)
+    fn view_into(contents: &'a [u8], seen: &mut i64) -> bool {
+        match number(-0x8000_0000, 0xFFFF_FFFF, contents) {
+            None => false,
+            Some(found) => {
+                *seen = found;
+                true
+            }
+        }
     }
 }
 
@@ -93,8 +105,9 @@ impl<'a> View<'a> for KString {
     }
 
     #[inline(always)]
-    fn view(contents: &'a [u8]) -> Option<&'a [u8]> {
-        Some(contents)
+    fn view_into(contents: &'a [u8], seen: &mut &'a [u8]) -> bool {
+        *seen = contents;
+        true
     }
 }
 
@@ -115,8 +128,9 @@ impl<'a> View<'a> for Octets {
     }
 
     #[inline(always)]
-    fn view(contents: &'a [u8]) -> Option<&'a [u8]> {
-        Some(contents)
+    fn view_into(contents: &'a [u8], seen: &mut &'a [u8]) -> bool {
+        *seen = contents;
+        true
     }
 }
 
@@ -135,8 +149,14 @@ impl<'a> View<'a> for Micros {
     }
 
     #[inline(always)]
-    fn view(contents: &'a [u8]) -> Option<i64> {
-        number(0, 999_999, contents)
+    fn view_into(contents: &'a [u8], seen: &mut i64) -> bool {
+        match number(0, 999_999, contents) {
+            None => false,
+            Some(found) => {
+                *seen = found;
+                true
+            }
+        }
     }
 }
 
@@ -171,11 +191,12 @@ impl<'a> View<'a> for KerberosTime {
     }
 
     #[inline(always)]
-    fn view(contents: &'a [u8]) -> Option<&'a [u8]> {
+    fn view_into(contents: &'a [u8], seen: &mut &'a [u8]) -> bool {
         if is_time(contents) {
-            Some(contents)
+            *seen = contents;
+            true
         } else {
-            None
+            false
         }
     }
 }
@@ -189,7 +210,7 @@ fn are_bits(unused: u8, octets: &[u8]) -> bool
 }
 
 /// A view of a BIT STRING.
-#[derive(Clone, Copy)]
+#[derive(Clone, Copy, Default)]
 pub struct FlagsView<'a> {
     /// How many low bits of the last octet are unused.
     pub unused: u8,
@@ -214,17 +235,18 @@ impl<'a> View<'a> for Flags {
     }
 
     #[inline(always)]
-    fn view(contents: &'a [u8]) -> Option<FlagsView<'a>> {
+    fn view_into(contents: &'a [u8], seen: &mut FlagsView<'a>) -> bool {
         let [unused, octets @ ..] = contents else {
-            return None;
+            return false;
         };
         if are_bits(*unused, octets) {
-            Some(FlagsView {
+            *seen = FlagsView {
                 unused: *unused,
                 octets,
-            })
+            };
+            true
         } else {
-            None
+            false
         }
     }
 }

@@ -10,4 +10,4 @@ returns-in_err-contents g c =
 pub returns : goal.returns
 returns g c =
     match_both _ _ _ _ _ _ (no_contents_whole g.T.View.term c.tag.result c.args.octets.now c.in_ok-contents.contents.now (AreOctets-slice c.args.octets.now c.type_inv.octets) c.tag.ensures c.in_ok-contents.ensures)
-    (λ seen a. is_view_of g.T.View.term c.tag.result c.args.octets.now c.in_ok-contents.contents.now (g.T.View.value seen) c.requires.unambiguous c.requires.short c.tag.ensures c.in_ok-contents.ensures a.0) (λ seen a. a.1) c.view.ensures
+    (λ seen a. is_view_of g.T.View.term c.tag.result c.args.octets.now c.in_ok-contents.contents.now (g.T.View.value seen) c.requires.unambiguous c.requires.short c.tag.ensures c.in_ok-contents.ensures a.0) (λ seen a. a.1) c.view_item.ensures

@@ -15,19 +15,19 @@ returns-in_default g c =
     let some : 0 < length c.items.rest.now = search rules in
     (many_none g.T.View.term c.args.octets.now (λ a. no_items g.T.View.term c.tag.result c.items.rest.now c.tag.ensures some c.in_default.ensures (c.items.invariant.from a)))
 
-pub view-requires : goal.view-requires
-view-requires g c κs = ((refl, tt), (item_small c.tag.result c.items.rest.now c.in-Some.inner.now c.in-Some.left.now (omega (arith, c.items.invariant.within, c.requires.short)) c.in-Some.ensures, (c.requires.tags, c.requires.unambiguous)))
+pub view_item-requires : goal.view_item-requires
+view_item-requires g c κs = ((refl, tt), (item_small c.tag.result c.items.rest.now c.in-Some.inner.now c.in-Some.left.now (omega (arith, c.items.invariant.within, c.requires.short)) c.in-Some.ensures, (c.requires.tags, c.requires.unambiguous)))
 
-pub returns-in_default-view : goal.returns-in_default-view
-returns-in_default-view g c =
-    (many_none g.T.View.term c.args.octets.now (λ a. no_first g.T.View.term c.tag.result c.items.rest.now c.in-Some.inner.now c.in-Some.left.now c.tag.ensures c.in-Some.ensures c.in_default-view.ensures (c.items.invariant.from a)))
+pub returns-in_default-view_item : goal.returns-in_default-view_item
+returns-in_default-view_item g c =
+    (many_none g.T.View.term c.args.octets.now (λ a. no_first g.T.View.term c.tag.result c.items.rest.now c.in-Some.inner.now c.in-Some.left.now c.tag.ensures c.in-Some.ensures c.in_default-view_item.ensures (c.items.invariant.from a)))
 
 pub items-smaller : goal.items-smaller
 items-smaller g c = passed_smaller c.tag.result c.items.rest.now c.in-Some.inner.now c.in-Some.left.now c.in-Some.ensures
 
 pub items-preserved : goal.items-preserved
 items-preserved g c =
-    passed_more g.T.View.term c.tag.result c.args.octets.now c.items.rest.now c.in-Some.inner.now c.in-Some.left.now (g.T.View.value c.in-Some-view._seen) c.tag.ensures c.items.invariant c.in-Some.ensures c.in-Some-view.ensures.0
+    passed_more g.T.View.term c.tag.result c.args.octets.now c.items.rest.now c.in-Some.inner.now c.in-Some.left.now (g.T.View.value c.in-Some-view_item._seen) c.tag.ensures c.items.invariant c.in-Some.ensures c.in-Some-view_item.ensures.0
 
 pub returns : goal.returns
 returns g c =

@@ -16,6 +16,6 @@ unreachable-requires-in_default-view_field c =
 
 pub returns : goal.returns
 returns c =
-    let fits : FitsSigned w64 c.in-Some-view_field.number = search rules in
-    let s = first_field_some (Tagged 1 int32) _ c.args.items.octets.now c.in-Some.inner.now c.in-Some.rest.now _ c.in-Some-view_field.number refl refl c.requires c.in-Some.ensures c.in-Some-view_field.ensures.0 in
-    record { value = s.0; first = s.1; same = to_z-of_z w64 c.in-Some-view_field.number fits ∙ s.2 }
+    let fits : FitsSigned w64 c.view_field.new.seen = search rules in
+    let s = first_field_some (Tagged 1 int32) _ c.args.items.octets.now c.in-Some.inner.now c.in-Some.rest.now _ c.view_field.new.seen refl refl c.requires c.in-Some.ensures c.in-Some-view_field.ensures.0 in
+    record { value = s.0; first = s.1; same = to_z-of_z w64 c.view_field.new.seen fits ∙ s.2 }

@@ -1,21 +1,5 @@
-use Rattle.std.proofs.Common.{◌≡◌, ℕ, ◌+◌, ◌*◌, ◌/◌, ◌%◌, ◌<◌, [], ◌∷◌, get_or, arith}
-use Rattle.std.proofs.lemmas.Str.Ascii.{IsAscii-cons, IsAscii-nil}
-use Rattle.itoa.proofs.Decimal.{PAIRS_at, decimal_two}
-use Rattle.krb_text.specs.declared.text_buffer.TheConstants.{PAIRS}
+use Rattle.itoa.proofs.Decimal.{decimal_two}
 use Rattle.krb_text.proofs.text_buffer.TextBuffer.push_two_digits.Goals as goal
 
--- the table is that of itoa
-two : (n : ℕ) → n < 100 → (get_or PAIRS (n * 2) 0 ≡ 48 + n / 10) × (get_or PAIRS (n * 2 + 1) 0 ≡ 48 + n % 10)
-two n h = PAIRS_at n h
-
-pub push_ascii-requires : goal.push_ascii-requires
-push_ascii-requires c =
-    let n = c.from-place.result in
-    let few : n < 100 = omega (arith, c.from-place.ensures, c.requires.1) in
-    let pair = two n few in
-    IsAscii-cons (get_or PAIRS (n * 2) 0) (get_or PAIRS (n * 2 + 1) 0 ∷ []) (omega (arith, pair.0, few)) (IsAscii-cons (get_or PAIRS (n * 2 + 1) 0) [] (omega (arith, pair.1)) IsAscii-nil)
-
 pub returns : goal.returns
-returns c =
-    let pair = two c.from-place.result (omega (arith, c.from-place.ensures, c.requires.1)) in
-    rw (decimal_two c.args.number c.requires.0 c.requires.1) (rw (pair.0, pair.1, c.from-place.ensures) at c.push_ascii.ensures)
+returns c = rw (decimal_two c.args.number c.requires.0 c.requires.1) c.push_digit_pair.ensures

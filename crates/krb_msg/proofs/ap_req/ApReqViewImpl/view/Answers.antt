@@ -1,5 +1,0 @@
--- asn1/generate wrote this from asn1/krb5.asn1
-use Rattle.krb_msg.proofs.ap_req.ApReqViewImpl.view.Goals as goal
-
-pub returns : goal.returns
-returns c = (c.in-Some.ensures.0, (c.in-Some.ensures.1.1.0, c.in-Some.ensures.1.1.1.0))

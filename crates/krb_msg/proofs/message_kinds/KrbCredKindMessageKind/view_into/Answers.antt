@@ -1,0 +1,11 @@
+-- asn1/generate wrote this from asn1/krb5.asn1
+use Rattle.std.proofs.Common.{refl}
+use Rattle.krb_der.specs.inner.Numbers.{AreOctets-slice}
+use Rattle.krb_msg.specs.declared.message.Kind.TheVariants as kind
+use Rattle.krb_msg.specs.declared.message_view.MessageView.TheVariants as view
+use Rattle.krb_msg.specs.Types.{krb_cred_view_value}
+use Rattle.krb_msg.proofs.MessageViews.{made_as}
+use Rattle.krb_msg.proofs.message_kinds.KrbCredKindMessageKind.view_into.Goals as goal
+
+pub returns : goal.returns
+returns c = made_as kind.KrbCred c.args.octets.now (λ seen. view.KrbCred seen) (λ seen. krb_cred_view_value seen) (λ seen. refl) (AreOctets-slice c.args.octets.now c.type_inv.octets) c.requires c.view_whole_into.result c.view_whole_into.new.seen c.view_whole_into.ensures

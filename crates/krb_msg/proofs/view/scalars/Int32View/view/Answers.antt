@@ -1,5 +1,0 @@
-use Rattle.krb_msg.proofs.FieldViews.{match_both, integer_none, integer_some}
-use Rattle.krb_msg.proofs.view.scalars.Int32View.view.Goals as goal
-
-pub returns : goal.returns
-returns c = match_both _ _ _ _ _ _ (integer_none _ _ c.args.contents.now) (λ n a. integer_some _ _ c.args.contents.now n a) (λ n a. tt) c.number.ensures
