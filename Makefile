@@ -1,4 +1,4 @@
-# krbls: build, run, test and measure. Needs the Rattle toolchain's `rt`; `make test` and `make bench` also need python3.
+# krbls: build, run, test and measure. Needs the Rattle toolchain's `rt`, and python3.
 .PHONY: run needs first try build changed library install install-library uninstall gate test edits fuzz bench clean
 
 # Where `make install` puts the program.
@@ -9,21 +9,20 @@ DESTDIR :=
 CRATES := $(shell sed -n 's/^\([a-z_0-9]*\):.*/\1/p' crates.txt)
 uses = $(filter $(CRATES),$(shell sed -n 's/^$(1):\(.*\)/\1/p' crates.txt))
 
-# Lists a real stream: if nothing is built yet first by what is not proved yet, which takes a minute, and then by bin/krbls.
+# Lists a real stream by bin/krbls. If nothing is built yet, the program as it stands, not proved, lists it while its proofs
+# begin, after a minute.
 run: needs
-	@test -x bin/krbls || $(MAKE) --no-print-directory first
-	@$(MAKE) --no-print-directory build
+	@if test ! -x bin/krbls; then nice $(MAKE) --no-print-directory first & fi; $(MAKE) --no-print-directory build; built=$$?; wait; exit $$built
 	bin/krbls stream < examples/morning.stream
 
 first:
-	@echo 'examples/morning.stream, listed by the program as it stands, before its proofs:'
-	@$(MAKE) --no-print-directory try FILE=examples/morning.stream
-	@echo 'That was run unproved. Now all of it is proved, compiled and put at bin/krbls.'
+	@echo 'All of krbls is proved, compiled and put at bin/krbls. Not proved yet, it lists examples/morning.stream in a minute.'
+	@listed=$$($(MAKE) --no-print-directory try FILE=examples/morning.stream) && printf '\n%s\nThat was not proved yet.\n' "$$listed"
 
 # Says what is missing, before anything is proved.
 needs:
 	@command -v rt > /dev/null || { echo "krbls: no rt: it comes with Rattle's kit, in the folder bin of the kit" >&2; exit 1; }
-	@command -v python3 > /dev/null || { echo 'krbls: no python3: the tests need it' >&2; exit 1; }
+	@command -v python3 > /dev/null || { echo 'krbls: no python3: the build and the tests need it' >&2; exit 1; }
 	@test -w . || { echo "krbls: cannot write in $$PWD: a build leaves its files here" >&2; exit 1; }
 
 # Lists a file of one's own without a proof, which takes a minute: make try FILE=a.pcap

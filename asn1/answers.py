@@ -32,6 +32,11 @@ def again(field, seen, lets):
     return f"(sym (to_z-of_z w64 {seen} fits_{len(lets) - 1}) i)"
 
 
+def is_number(field):
+    """Whether a field is always there and a number."""
+    return not field.optional and not field.is_list and isinstance(field.type, Basic) and field.type.form in ("number", "micros")
+
+
 def fields_seen(it):
     """What is known of the views of the fields, and where each of them is."""
     if is_call(it):
@@ -64,14 +69,15 @@ def view_answer(it):
         ("Rattle.std.specs.Option", ["option_map"]),
         ("Rattle.std.proofs.lemmas.Int", ["to_z-of_z"]),
         ("Rattle.std.proofs.lemmas.Iterator.Adapters", ["option_map_id"]),
-        ("Rattle.krb_msg.specs.Grammar", sorted({it.term} | {field.part.term for field in it.kept if field.is_list})),
+        ("Rattle.krb_msg.specs.Grammar", sorted(field.part.term for field in it.kept if field.is_list)),
+        (f"Rattle.{it.crate}.specs.Grammar", [it.term]),
         ("Rattle.krb_msg.specs.Viewed", ["AreContents", "items_of"]),
         ("Rattle.krb_msg.specs.Types", [f"{part.term}_view_value" for part in parts_in(it) if isinstance(part, Sequence)]),
         ("Rattle.krb_msg.specs.Basic", ["flags_of_view"]),
     ]
     function, given = (f"{it.rust}.view_into", "g c") if it.is_parametric else (f"{it.rust}ViewImpl.view_into", "c")
     body = f"returns {given} ={chr(10) + lets + '   ' if lets else ''} ({form}, ({valid(it, f'{known_of_fields}.1', fits)}))\n"
-    return f"{brought(body, homes)}use Rattle.krb_msg.proofs.{it.term}.{function}.Goals as goal\n\npub returns : goal.returns\n{body}"
+    return f"{brought(body, homes)}use Rattle.{it.crate}.proofs.{it.term}.{function}.Goals as goal\n\npub returns : goal.returns\n{body}"
 
 
 def copied_part(field, call):
@@ -149,6 +155,13 @@ def type_answers(it):
     if any(field.is_list for field in it.kept):
         made[f"{it.rust}/copy" if it.is_parametric else f"{it.rust}FromView/from_view"] = copy_answer(it)
     return {f"{it.term}/{name}": text for name, text in made.items()}
+
+
+def padata_answers(it):
+    """The answer of a type of krb_padata, by its path in the crates: of one with a number and with a field that may be left out."""
+    if any(field.optional for field in it.kept) and any(is_number(field) for field in it.kept):
+        return {f"{it.crate}/proofs/{it.term}/{it.rust}ViewImpl/view_into/Answers.antt": f"-- asn1/generate wrote this from {it.home.path}\n{view_answer(it)}"}
+    return {}
 
 
 def rows_answer(module):

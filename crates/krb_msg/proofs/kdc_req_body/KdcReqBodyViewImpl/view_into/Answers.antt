@@ -2,7 +2,8 @@
 use Rattle.std.proofs.Common.{subst, sym, w64, FitsSigned, rules}
 use Rattle.std.specs.Option.{option_map}
 use Rattle.std.proofs.lemmas.Int.{to_z-of_z}
-use Rattle.krb_msg.specs.Grammar.{host_address, int32, kdc_req_body, ticket}
+use Rattle.krb_msg.specs.Grammar.{host_address, int32, ticket}
+use Rattle.krb_msg.specs.Grammar.{kdc_req_body}
 use Rattle.krb_msg.specs.Viewed.{AreContents, items_of}
 use Rattle.krb_msg.specs.Types.{principal_name_view_value, encrypted_data_view_value}
 use Rattle.krb_msg.specs.Basic.{flags_of_view}
