@@ -1,11 +1,11 @@
 -- The field at fault: lemmas of the functions that find it.
 use Rattle.std.proofs.Common.{◌≡◌, ℕ, zero, suc, ◌+◌, ◌-◌, ◌<◌, ◌≤◌, Bool, true, false, List, [], ◌∷◌, length, drop, get_or, add-one, refl, sym, ap, ◌∙◌, arith}
 use Rattle.std.proofs.Math.Seq.{drop-cons}
-use Rattle.krb_der.specs.Octets.{begins_with}
+use Rattle.krb_der.specs.Octets.{when, begins_with}
 use Rattle.krb_msg.specs.Nodes.{nodes, term_at}
 use Rattle.krb_msg.specs.Shape.{depth_of_fields}
 use Rattle.krb_msg.specs.Table.{IsFormOf, with_slot, fields_from}
-use Rattle.krb_msg.specs.Term.{Term, Fields, SequenceOf, tag_of}
+use Rattle.krb_msg.specs.Term.{Term, Fields, Required, SequenceOf, tag_of}
 use Rattle.krb_msg.specs.declared.grammar.Form.TheVariants as form
 use Rattle.krb_msg.specs.declared.grammar.Slot.{Slot}
 use Rattle.krb_msg.specs.declared.grammar.Slot.TheVariants as slot
@@ -24,6 +24,28 @@ slot_next slots k none h = ap (fields_from nodes) (drop-cons slots k none h ∙ 
 slot_shallow : (it : Slot) (fields : Fields) → depth_of_fields fields ≤ depth_of_fields (with_slot nodes it fields)
 slot_shallow (slot.Required node) fields = omega arith
 slot_shallow (slot.Optional node) fields = omega arith
+
+required_some : (term : Term) (room : ℕ) (octets : List ℕ) (fields : Fields) (names : Names) (path : List ℕ) (index : ℕ) → (room ≡ 0 → ⊥)
+    → fields_path (Required term fields) names path index room octets
+    ≡ when (begins_with (tag_of term) octets)
+    (λ _. first_item term (field_path path (field_at names index).name) room octets (contents_path term (field_at names index).inside (field_path path (field_at names index).name)) (fields_path fields names path (index + 1)))
+    (λ _. path)
+required_some term zero octets fields names path index some = absurd (some refl)
+required_some term (suc room) octets fields names path index some = refl
+
+-- a field in a room that is not full, by whether its item begins there
+module _ (node : ℕ) (rest : Rest) (fields : Fields) (names : Names) (path : List ℕ) (index : ℕ) where
+  pub required_begins : (rest.room ≡ 0 → ⊥) → begins_with (tag_of (term_at node)) rest.octets.now ≡ true → fields_path (with_slot nodes (slot.Required node) fields) names path index rest.room rest.octets.now ≡ presence_path (presence.Item node) rest fields names path index
+  required_begins some e = required_some (term_at node) rest.room rest.octets.now fields names path index some ∙ rw e refl
+
+  pub required_else : (rest.room ≡ 0 → ⊥) → begins_with (tag_of (term_at node)) rest.octets.now ≡ false → fields_path (with_slot nodes (slot.Required node) fields) names path index rest.room rest.octets.now ≡ path
+  required_else some e = required_some (term_at node) rest.room rest.octets.now fields names path index some ∙ rw e refl
+
+  pub optional_begins : begins_with (tag_of (term_at node)) rest.octets.now ≡ true → fields_path (with_slot nodes (slot.Optional node) fields) names path index rest.room rest.octets.now ≡ presence_path (presence.Item node) rest fields names path index
+  optional_begins e = rw e refl
+
+  pub optional_else : begins_with (tag_of (term_at node)) rest.octets.now ≡ false → fields_path (with_slot nodes (slot.Optional node) fields) names path index rest.room rest.octets.now ≡ presence_path presence.Absent rest fields names path index
+  optional_else e = rw e refl
 
 -- whether the field at an index is present
 pub field_presence :

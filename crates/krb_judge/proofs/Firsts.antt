@@ -7,7 +7,8 @@ use Rattle.krb_der.specs.declared.why.Why.TheVariants as why
 use Rattle.krb_der.specs.declared.verdict.Verdict.TheVariants as verdict
 use Rattle.krb_msg.specs.Term.{Term, tag_of}
 use Rattle.krb_msg.specs.Viewed.{HasNoLength}
-use Rattle.krb_msg.specs.Judgement.{Bad, Done, Got, head, has_size, contents_outcome, item_outcome, term_judgement, verdict_of}
+use Rattle.krb_judge.specs.Paths.{after_done}
+use Rattle.krb_msg.specs.Judgement.{Outcome, Open, Bad, Done, Got, head, has_size, contents_outcome, item_outcome, term_judgement, verdict_of}
 use Rattle.krb_msg.proofs.Grammars.{whole_outcome}
 use Rattle.krb_msg.proofs.Heads.{IsHead, IsHead-head, head-length_octets}
 use Rattle.krb_msg.proofs.Items.{item_done}
@@ -94,3 +95,9 @@ head_overrun room octets rest contents tag first size are all parts over header 
 -- a slice from a place on
 pub rest_taken : (octets : List ℕ) (count : ℕ) → take (length octets - count) (drop count octets) ≡ drop count octets
 rest_taken octets count = take_all (length octets - count) (drop count octets) (omega (arith, length-drop count octets))
+
+-- what is in the first item, if that is not done
+pub first_into : (outcome : Outcome) (after : ℕ → List ℕ) (into : Unit {0} → List ℕ) → ((count : ℕ) → outcome ≡ Done count → ⊥) → after_done outcome after into ≡ into tt
+first_into Open after into other = refl
+first_into (Bad offset reason) after into other = refl
+first_into (Done count) after into other = absurd (other count refl)

@@ -12,7 +12,7 @@ use Rattle.krb_packet.specs.declared.order.ByteOrder.TheVariants as orders
 use Rattle.krb_packet.specs.declared.block.Head.{Head}
 use Rattle.krb_packet.specs.Numbers.{in_order, checked_at, checked_number, checked}
 use Rattle.krb_packet.specs.Bodies.{byte_order, body_size, after_byte_order, section_head_at}
-use Rattle.krb_packet.proofs.Options.{Continues, continues_from, continues_then}
+use Rattle.krb_packet.proofs.Options.{Continues, continues_from, continues_read, continues_fails, continues_then, then_fails}
 use Rattle.krb_packet.proofs.Checking.{checked_fails}
 
 abbrev after_size : ℕ → List ℕ → ByteOrder → ℕ → Reader Head
@@ -23,6 +23,19 @@ after_order place octets order = checked_at fields.Length place (body_size (in_o
 
 abbrev after_octets : ℕ → List ℕ → Reader Head
 after_octets place octets = checked_number fields.ByteOrder w32 orders.BigEndian byte_order >>= after_order place octets
+
+-- its first field is refused, or its second one
+pub octets_fail : (e : FileFault) (MayFail : Type 0) (old : Cursor) → FailsBy e (called fields.Length (next_octets_at None 4)) MayFail old → FailsBy e section_head_at MayFail old
+octets_fail e MayFail old fails =
+    continues_fails section_head_at (called fields.Length (next_octets_at None 4) >>= after_octets old.place) e MayFail old old
+    (continues_from (λ place. called fields.Length (next_octets_at None 4) >>= after_octets place) old)
+    (then_fails (called fields.Length (next_octets_at None 4)) (after_octets old.place) e MayFail old fails)
+
+pub order_fails : (octets : List ℕ) (e : FileFault) (MayFail : Type 0) (old mid : Cursor) → HasRead (called fields.Length (next_octets_at None 4)) octets old mid → FailsBy e (checked_number fields.ByteOrder w32 orders.BigEndian byte_order) MayFail mid → FailsBy e section_head_at MayFail old
+order_fails octets e MayFail old mid first fails =
+    continues_fails section_head_at (after_octets old.place octets) e MayFail old mid
+    (continues_then section_head_at (called fields.Length (next_octets_at None 4)) (after_octets old.place) octets old old mid (continues_from (λ place. called fields.Length (next_octets_at None 4) >>= after_octets place) old) first)
+    (then_fails (checked_number fields.ByteOrder w32 orders.BigEndian byte_order) (after_order old.place octets) e MayFail mid fails)
 
 module _ (octets : List ℕ) (order : ByteOrder) (MayFail : Type 0) (old mid new : Cursor) (first : HasRead (called fields.Length (next_octets_at None 4)) octets old mid) (second : HasRead (checked_number fields.ByteOrder w32 orders.BigEndian byte_order) order mid new) where
   on_order : Continues section_head_at (after_order old.place octets order) old new
@@ -48,6 +61,14 @@ module _ (octets : List ℕ) (order : ByteOrder) (MayFail : Type 0) (old mid new
   left_fails size place e here read is =
       checked_fails section_head_at fields.ByteOrder (old.place + 4) (after_byte_order size) (λ left. succeed (record { order = order; length = in_order w32 order octets; left = left })) e MayFail old new
       (subst (λ (p : ℕ). checked fields.ByteOrder (p + 4) (after_byte_order size) ≡ Err e) here is) (on_size size read)
+
+  pub head_read : (size left : ℕ) → body_size (in_order w32 order octets) ≡ Ok size → after_byte_order size ≡ Ok left → HasRead section_head_at (record { order = order; length = in_order w32 order octets; left = left }) old new
+  head_read size left is also =
+      let head : ℕ → Head = λ n. record { order = order; length = in_order w32 order octets; left = n } in
+      continues_read section_head_at (succeed (head left)) (head left) old new new
+      (continues_then section_head_at (checked_at fields.ByteOrder (old.place + 4) (after_byte_order size)) (λ n. succeed (head n)) left old new new (on_size size is)
+      (record { same_bounds = refl; from = λ rest there. (rest, there, ap (λ (r : Result ℕ FileWhy). checked_at fields.ByteOrder (old.place + 4) r new.bounds (source_at new.place rest)) also) }))
+      (record { same_bounds = refl; from = λ rest there. (rest, there, refl) })
 
 pub checked_ok : (name : FieldName) (place : ℕ) (check : Result ℕ FileWhy) (value : ℕ) → checked name place check ≡ Ok value → check ≡ Ok value
 checked_ok name place (Ok v) value is = let same : v ≡ value = cc in ap (λ (n : ℕ). let it : Result ℕ FileWhy = Ok n in it) same

@@ -2,9 +2,11 @@
 
 ghost use Rattle.std.specs.Prelude.{◌≡◌, ◌^◌, ◌<◌, IfErr};
 ghost use Rattle.std.specs.Int.{w16, w32};
+ghost use Rattle.std.specs.Result.{result_map_both};
 ghost use Rattle.krb_file.specs.Fields.{Agrees, IsStreamFaultIn};
 ghost use Rattle.krb_file.specs.FieldReaders.{Follows, Keeps};
 ghost use Rattle.krb_file.specs.declared.field_name.FieldName.TheVariants as fields;
+ghost use Rattle.krb_packet.specs.declared.body.Content.TheVariants as contents;
 ghost use Rattle.krb_packet.specs.Numbers.{checked_number};
 ghost use Rattle.krb_packet.specs.Bodies.{announced, section_version, timestamp_at, timed_packet_at, enhanced_packet_at, old_packet_at, first_interface, most_of, simple_packet_at, content_at, in_body};
 
@@ -213,6 +215,17 @@ fn simple_packet<F: FieldReader>(
     })
 }
 
+/// Returns what the block of a packet has, if the packet was read.
+#[inline(always)]
+fn packet_content(read: Result<Packet, FileFault>) -> Result<Content, FileFault>
+    ensures { result ≡ result_map_both contents.Packet (λ fault. fault) read }
+{
+    match read {
+        Ok(packet) => Ok(Content::Packet(packet)),
+        Err(fault) => Err(fault),
+    }
+}
+
 /// Reads the body of a block of a kind.
 fn read_content<F: FieldReader>(
     alloc: Global,
@@ -236,16 +249,13 @@ fn read_content<F: FieldReader>(
             Ok(Content::Interface(interface))
         }
         BlockKind::OldPacket => {
-            let packet = old_packet(alloc, order, count, interfaces, reader)?;
-            Ok(Content::Packet(packet))
+            packet_content(old_packet(alloc, order, count, interfaces, reader))
         }
         BlockKind::SimplePacket => {
-            let packet = simple_packet(alloc, order, count, interfaces, reader)?;
-            Ok(Content::Packet(packet))
+            packet_content(simple_packet(alloc, order, count, interfaces, reader))
         }
         BlockKind::EnhancedPacket => {
-            let packet = enhanced_packet(alloc, order, count, interfaces, reader)?;
-            Ok(Content::Packet(packet))
+            packet_content(enhanced_packet(alloc, order, count, interfaces, reader))
         }
         BlockKind::Other => Ok(Content::Other),
     }
