@@ -13,3 +13,4 @@ pub mod Layouts
 pub mod Tickets
 pub mod Streams
 pub mod Reaching
+pub mod Grouped

@@ -11,7 +11,7 @@ use Rattle.krb_file.proofs.Steps.{Steps-succeed, Steps-component, Steps-times}
 use Rattle.krb_file.proofs.Reaching.{AtLeast, AtLeast-then, AtLeast-none, AtLeast-called, AtLeast-in_part, AtLeast-one_part, AtLeast-number, AtLeast-signed, AtLeast-counted, goes_on, item_stays}
 use Rattle.krb_ccache.specs.declared.value.Credential.{Credential}
 use Rattle.krb_ccache.specs.declared.value.FilePrincipal.{FilePrincipal}
-use Rattle.krb_ccache.specs.Reading.{principal_at, principal_in, typed_at, typed_list_at, credential_from, again_at, credential_fields_at, credential_at}
+use Rattle.krb_ccache.specs.Reading.{principal_at, principal_in, typed_at, typed_list_at, validity_at, contents_at, credential_from, again_at, credential_fields_at, credential_at}
 use Rattle.krb_ccache.proofs.Faults.{Steps-typed_items, Steps-again}
 
 -- ---- a header, whose fields have their own end
@@ -43,6 +43,24 @@ pub AtLeast-typed_list : (name : FieldName) (part : ℕ → FilePart) → AtLeas
 AtLeast-typed_list name part =
     AtLeast-then 4 0 (called name (number_at w32)) _ (AtLeast-called 4 name (number_at w32) (AtLeast-number w32)) (λ count.
     AtLeast-none (times count (λ index. in_part (part index) typed_at)) (Steps-typed_items part count))
+
+pub AtLeast-validity : AtLeast 21 validity_at
+AtLeast-validity =
+    AtLeast-then 4 17 (called field.AuthTime (number_at w32)) _ (AtLeast-called 4 field.AuthTime (number_at w32) (AtLeast-number w32)) (λ authtime.
+    AtLeast-then 4 13 (called field.StartTime (number_at w32)) _ (AtLeast-called 4 field.StartTime (number_at w32) (AtLeast-number w32)) (λ starttime.
+    AtLeast-then 4 9 (called field.EndTime (number_at w32)) _ (AtLeast-called 4 field.EndTime (number_at w32) (AtLeast-number w32)) (λ endtime.
+    AtLeast-then 4 5 (called field.RenewTill (number_at w32)) _ (AtLeast-called 4 field.RenewTill (number_at w32) (AtLeast-number w32)) (λ renew_till.
+    AtLeast-then 1 4 (called field.IsSkey (number_at w8)) _ (AtLeast-called 1 field.IsSkey (number_at w8) (AtLeast-number w8)) (λ is_skey.
+    AtLeast-then 4 0 (called field.TicketFlags (number_at w32)) _ (AtLeast-called 4 field.TicketFlags (number_at w32) (AtLeast-number w32)) (λ flags.
+    nothing (record { authtime = authtime; starttime = starttime; endtime = endtime; renew_till = renew_till; is_skey = is_skey; flags = flags })))))))
+
+pub AtLeast-contents : AtLeast 16 contents_at
+AtLeast-contents =
+    AtLeast-then 4 12 (typed_list_at field.AddressCount parts.Address) _ (AtLeast-typed_list field.AddressCount parts.Address) (λ addresses.
+    AtLeast-then 4 8 (typed_list_at field.AuthdataCount parts.Authdata) _ (AtLeast-typed_list field.AuthdataCount parts.Authdata) (λ authdata.
+    AtLeast-then 4 4 (called field.Ticket (counted_at w32)) _ (AtLeast-called 4 field.Ticket (counted_at w32) (AtLeast-counted w32)) (λ ticket.
+    AtLeast-then 4 0 (called field.SecondTicket (counted_at w32)) _ (AtLeast-called 4 field.SecondTicket (counted_at w32) (AtLeast-counted w32)) (λ second_ticket.
+    nothing (record { addresses = addresses; authdata = authdata; ticket = ticket; second_ticket = second_ticket })))))
 
 AtLeast-from_key : (client server : FilePrincipal) (enctype : ℕ) → AtLeast 41 (credential_from client server enctype)
 AtLeast-from_key client server enctype =

@@ -16,7 +16,9 @@ use Rattle.krb_ccache.specs.declared.value.FilePrincipal.{FilePrincipal}
 use Rattle.krb_ccache.specs.declared.value.Header.{Header}
 use Rattle.krb_ccache.specs.declared.value.HeaderField.{HeaderField}
 use Rattle.krb_ccache.specs.declared.value.Typed.{Typed}
+use Rattle.krb_ccache.specs.declared.reading.Contents.{Contents}
 use Rattle.krb_ccache.specs.declared.reading.Start.{Start}
+use Rattle.krb_ccache.specs.declared.reading.Validity.{Validity}
 use Rattle.krb_ccache.specs.Spelling.{no_header}
 
 -- ---- a principal
@@ -113,6 +115,28 @@ header_at = do
   size ← called field.HeaderLength (number_at w16)
   fields ← within size (header_fields_at size 0)
   succeed (record { fields = fields })
+
+-- ---- groups of fields of a credential
+
+-- the times, whether the key is that of the second ticket, and the flags
+abbrev pub validity_at : Reader Validity
+validity_at = do
+  authtime ← called field.AuthTime (number_at w32)
+  starttime ← called field.StartTime (number_at w32)
+  endtime ← called field.EndTime (number_at w32)
+  renew_till ← called field.RenewTill (number_at w32)
+  is_skey ← called field.IsSkey (number_at w8)
+  flags ← called field.TicketFlags (number_at w32)
+  succeed (record { authtime = authtime; starttime = starttime; endtime = endtime; renew_till = renew_till; is_skey = is_skey; flags = flags })
+
+-- the addresses, the authorization data and the tickets
+abbrev pub contents_at : Reader Contents
+contents_at = do
+  addresses ← typed_list_at field.AddressCount parts.Address
+  authdata ← typed_list_at field.AuthdataCount parts.Authdata
+  ticket ← called field.Ticket (counted_at w32)
+  second_ticket ← called field.SecondTicket (counted_at w32)
+  succeed (record { addresses = addresses; authdata = authdata; ticket = ticket; second_ticket = second_ticket })
 
 -- ---- what is before the credentials
 

@@ -9,7 +9,7 @@ ghost use Rattle.krb_ccache.specs.declared.value.Cache3.{Cache3 as Cache3Value};
 ghost use Rattle.krb_ccache.specs.declared.value.Ccache.{Ccache as CcacheValue};
 ghost use Rattle.krb_ccache.specs.declared.value.Credential.{Credential as CredentialValue};
 ghost use Rattle.krb_ccache.specs.Spelling.{CcacheSpells, Spells3};
-ghost use Rattle.krb_ccache.specs.Reading.{principal_at, principal_in, typed_at, typed_list_at, credential_from, again_at, credential_fields_at, credential_at, one_enctype, both_enctypes, header_field_at, header_fields_at, header_at, header_in, start_at, next_at, credentials_after, read_in, read, read3};
+ghost use Rattle.krb_ccache.specs.Reading.{principal_at, principal_in, typed_at, typed_list_at, validity_at, contents_at, credential_from, again_at, credential_fields_at, credential_at, one_enctype, both_enctypes, header_field_at, header_fields_at, header_at, header_in, start_at, next_at, credentials_after, read_in, read, read3};
 
 use crate::value::{
     Cache3, Ccache, Credential, Credential3, FilePrincipal, Header, HeaderField, Typed,
@@ -126,6 +126,68 @@ fn authdata<F: FieldReader>(alloc: Global, reader: &mut F) -> Result<Many<Typed>
 /// The least number of octets of a credential after its key.
 const LEAST_AFTER_KEY: u64 = 37;
 
+/// The times of a credential, whether its key is that of the second ticket, and its flags.
+#[derive(Clone, Copy)]
+struct Validity {
+    authtime: u32,
+    starttime: u32,
+    endtime: u32,
+    renew_till: u32,
+    is_skey: u8,
+    flags: u32,
+}
+
+/// Reads the times of a credential, whether its key is that of the second ticket, and its flags.
+#[inline(always)]
+fn validity_fields<F: FieldReader>(reader: &mut F) -> Result<Validity, FileFault>
+    ensures read { Follows (λ validity. validity) result validity_at F.MayFail (F.cursor reader.old) (F.cursor reader.new) }
+    ensures stays { OnOk result (Stays (F.cursor reader.old) (F.cursor reader.new)) }
+{
+    let authtime = reader.field32(FieldName::AuthTime)?;
+    let starttime = reader.field32(FieldName::StartTime)?;
+    let endtime = reader.field32(FieldName::EndTime)?;
+    let renew_till = reader.field32(FieldName::RenewTill)?;
+    let is_skey = reader.field8(FieldName::IsSkey)?;
+    let flags = reader.field32(FieldName::TicketFlags)?;
+    Ok(Validity {
+        authtime,
+        starttime,
+        endtime,
+        renew_till,
+        is_skey,
+        flags,
+    })
+}
+
+/// The addresses, the authorization data and the tickets of a credential.
+#[derive(Drop)]
+struct Contents {
+    addresses: Many<Typed>,
+    authdata: Many<Typed>,
+    ticket: Octets,
+    second_ticket: Octets,
+}
+
+/// Reads the addresses, the authorization data and the tickets of a credential.
+#[inline(always)]
+fn contents_fields<F: FieldReader>(alloc: Global, reader: &mut F) -> Result<Contents, FileFault>
+    ensures read { Follows (λ contents. contents) result contents_at F.MayFail (F.cursor reader.old) (F.cursor reader.new) }
+    ensures stays { OnOk result (Stays (F.cursor reader.old) (F.cursor reader.new)) }
+{
+    let addresses = addresses(alloc, reader)?;
+    let authdata = authdata(alloc, reader)?;
+    let mut ticket = reader.spare_octets(alloc);
+    reader.counted_field32(alloc, FieldName::Ticket, &mut ticket)?;
+    let mut second_ticket = reader.spare_octets(alloc);
+    reader.counted_field32(alloc, FieldName::SecondTicket, &mut second_ticket)?;
+    Ok(Contents {
+        addresses,
+        authdata,
+        ticket: Octets::new(ticket),
+        second_ticket: Octets::new(second_ticket),
+    })
+}
+
 /// Reads what is left of a credential from its key on.
 fn credential_from<F: FieldReader>(
     alloc: Global,
@@ -140,33 +202,23 @@ fn credential_from<F: FieldReader>(
     let mut key = reader.spare_octets(alloc);
     reader.counted_field32(alloc, FieldName::Key, &mut key)?;
     reader.look_ahead(LEAST_AFTER_KEY)?;
-    let authtime = reader.field32(FieldName::AuthTime)?;
-    let starttime = reader.field32(FieldName::StartTime)?;
-    let endtime = reader.field32(FieldName::EndTime)?;
-    let renew_till = reader.field32(FieldName::RenewTill)?;
-    let is_skey = reader.field8(FieldName::IsSkey)?;
-    let flags = reader.field32(FieldName::TicketFlags)?;
-    let addresses = addresses(alloc, reader)?;
-    let authdata = authdata(alloc, reader)?;
-    let mut ticket = reader.spare_octets(alloc);
-    reader.counted_field32(alloc, FieldName::Ticket, &mut ticket)?;
-    let mut second_ticket = reader.spare_octets(alloc);
-    reader.counted_field32(alloc, FieldName::SecondTicket, &mut second_ticket)?;
+    let validity = validity_fields(reader)?;
+    let contents = contents_fields(alloc, reader)?;
     Ok(Credential {
         client,
         server,
         enctype,
         key: Octets::new(key),
-        authtime,
-        starttime,
-        endtime,
-        renew_till,
-        is_skey,
-        flags,
-        addresses,
-        authdata,
-        ticket: Octets::new(ticket),
-        second_ticket: Octets::new(second_ticket),
+        authtime: validity.authtime,
+        starttime: validity.starttime,
+        endtime: validity.endtime,
+        renew_till: validity.renew_till,
+        is_skey: validity.is_skey,
+        flags: validity.flags,
+        addresses: contents.addresses,
+        authdata: contents.authdata,
+        ticket: contents.ticket,
+        second_ticket: contents.second_ticket,
     })
 }
 

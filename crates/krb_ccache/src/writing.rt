@@ -95,35 +95,19 @@ impl Part for Typed {
     }
 }
 
-type CredentialBack<'a> = Then<
-    &'a Octets,
-    Then<
-        u32,
-        Then<
-            u32,
-            Then<
-                u32,
-                Then<
-                    u32,
-                    Then<
-                        u8,
-                        Then<
-                            u32,
-                            Then<
-                                Listed<'a, Typed>,
-                                Then<Listed<'a, Typed>, Then<&'a Octets, &'a Octets>>,
-                            >,
-                        >,
-                    >,
-                >,
-            >,
-        >,
-    >,
->;
+type Times = Then<u32, Then<u32, Then<u32, u32>>>;
+
+type Flags = Then<u8, u32>;
+
+type Lists<'a> = Then<Listed<'a, Typed>, Listed<'a, Typed>>;
+
+type Tickets<'a> = Then<&'a Octets, &'a Octets>;
+
+type CredentialBack<'a> = Then<&'a Octets, Then<Then<Times, Flags>, Then<Lists<'a>, Tickets<'a>>>>;
 
 type CredentialLayout<'a> = Then<
-    &'a FilePrincipal,
-    Then<&'a FilePrincipal, Then<u16, CredentialBack<'a>>>,
+    Then<&'a FilePrincipal, &'a FilePrincipal>,
+    Then<u16, CredentialBack<'a>>,
 >;
 
 impl Credential {
@@ -133,14 +117,15 @@ impl Credential {
         ensures is_long { ⟦<CredentialLayout<'static> as Part>⟧.is_long result ≡ is_long_credential self.now }
         ensures fits { ⟦<CredentialLayout<'static> as Part>⟧.Fits result → CredentialFits self.now }
     {
-        let tickets = Then(&self.ticket, &self.second_ticket);
-        let authdata = Then(Listed(self.authdata.as_slice()), tickets);
-        let lists = Then(Listed(self.addresses.as_slice()), authdata);
-        let flags = Then(self.is_skey, Then(self.flags, lists));
-        let ends = Then(self.endtime, Then(self.renew_till, flags));
+        let principals = Then(&self.client, &self.server);
+        let ends = Then(self.endtime, self.renew_till);
         let times = Then(self.authtime, Then(self.starttime, ends));
-        let suffix = Then(&self.key, times);
-        Then(&self.client, Then(&self.server, Then(self.enctype, suffix)))
+        let flags = Then(self.is_skey, self.flags);
+        let tickets = Then(&self.ticket, &self.second_ticket);
+        let authdata = Listed(self.authdata.as_slice());
+        let lists = Then(Listed(self.addresses.as_slice()), authdata);
+        let after_key = Then(Then(times, flags), Then(lists, tickets));
+        Then(principals, Then(self.enctype, Then(&self.key, after_key)))
     }
 }
 

@@ -6,6 +6,7 @@ pub mod KindTexts
 mod Printable
 mod Texts
 pub mod Messages
+mod FirstOctets
 mod Walks
 mod Searches
 mod ReadLemmas

@@ -159,7 +159,7 @@ same-gives view read other (Err (At found)) same given = λ path. same path ∙ 
 same-gives view read other (Err Memory) same given = tt
 
 -- and of a member
-member-gives : {R A : Type 0} (view : R → A) (read : (path : List ℕ) → Json → Result A Fault) (name : List ℕ) (j part : Json) (inner outer : Result R ValueFault) → Some part ≡ get name j → IsUnder (codes "." ++ name) inner outer → Gives view (λ path. read path part) inner → Gives view (member_spelled read name j) outer
+pub member-gives : {R A : Type 0} (view : R → A) (read : (path : List ℕ) → Json → Result A Fault) (name : List ℕ) (j part : Json) (inner outer : Result R ValueFault) → Some part ≡ get name j → IsUnder (codes "." ++ name) inner outer → Gives view (λ path. read path part) inner → Gives view (member_spelled read name j) outer
 member-gives view read name j part inner outer found under given =
     same-gives view (λ path. read (path ++ (codes "." ++ name)) part) (member_spelled read name j) outer
     (λ path. ap (λ o. or_fault (field_path path name) Missing o >>= read (field_path path name)) (sym found) ∙ ap (λ p. read p part) (append_assoc path (codes ".") name))

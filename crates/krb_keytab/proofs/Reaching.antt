@@ -4,7 +4,7 @@ use Rattle.std.proofs.lemmas.Int.{to_z-of_z}
 use Rattle.std.specs.Int.RustNames.{FitsSigned}
 use lib.IntN.{nat_abs}
 use mir.Val.{to_z, of_z}
-use Rattle.std.specs.Prelude.{OnErr}
+use Rattle.std.specs.Prelude.{OnErr, OnOk}
 use Rattle.std.specs.Int.{w8, w16, w32}
 use Rattle.krb_file.specs.Fields.{Source, Fault, Bounds, succeed, called, is_empty, number_at, signed_at, counted_at, names_at, rest_at, within, version_at}
 use Rattle.krb_file.specs.FieldReaders.{Cursor, source_at, fetched, FetchesTo, FetchesToAnnounced, Stays, LooksAheadTo, HasRead, ended_at}
@@ -60,6 +60,14 @@ size_of_content (negsuc n) size k fits is same = same ∙ is ∙ ap nat_abs (to_
 pub on_err : {T E P : Type 0} (r : Result T E) → P → OnErr r P
 on_err (Ok x) p = tt
 on_err (Err e) p = p
+
+pub on_err_so : {T E P Q : Type 0} (r : Result T E) → (P → Q) → OnErr r P → OnErr r Q
+on_err_so (Ok x) so p = tt
+on_err_so (Err e) so p = so p
+
+pub on_ok_so : {T E P Q : Type 0} (r : Result T E) → (P → Q) → OnOk r P → OnOk r Q
+on_ok_so (Ok x) so p = so p
+on_ok_so (Err e) so p = tt
 
 pub look_keeps : (old new : Cursor) → LooksAheadTo 4 old new → FetchesToAnnounced announced old new
 look_keeps old new looks = keeps_least announced 4 old new length_announced (λ far. looks.within (omega (arith, looks.same, far)))

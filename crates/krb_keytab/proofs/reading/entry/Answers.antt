@@ -8,6 +8,26 @@ use Rattle.krb_file.proofs.Chains.{read_none, read_from, read_then}
 use Rattle.krb_file.proofs.FieldReaders.{Keeps-same, Keeps-then}
 use Rattle.krb_keytab.proofs.reading.entry.Goals as goal
 
+pub returns-in_err-names16-clause-keeps : goal.returns-in_err-names16-clause-keeps
+returns-in_err-names16-clause-keeps g c =
+    Keeps-then (Keeps-same c.spare_octets-realm.ensures.same) (Keeps-then (Keeps-same c.spare_list-components.ensures.same) c.names16.ensures.keeps)
+
+pub returns-in_err-name_type-clause-keeps : goal.returns-in_err-name_type-clause-keeps
+returns-in_err-name_type-clause-keeps g c =
+    Keeps-then (Keeps-same c.spare_octets-realm.ensures.same) (Keeps-then (Keeps-same c.spare_list-components.ensures.same) (Keeps-then c.names16.ensures.keeps c.signed_field32.ensures.keeps))
+
+pub returns-in_err-time-clause-keeps : goal.returns-in_err-time-clause-keeps
+returns-in_err-time-clause-keeps g c =
+    Keeps-then (Keeps-same c.spare_octets-realm.ensures.same) (Keeps-then (Keeps-same c.spare_list-components.ensures.same) (Keeps-then c.names16.ensures.keeps (Keeps-then c.signed_field32.ensures.keeps c.field32.ensures.keeps)))
+
+pub returns-in_err-vno8-clause-keeps : goal.returns-in_err-vno8-clause-keeps
+returns-in_err-vno8-clause-keeps g c =
+    Keeps-then (Keeps-same c.spare_octets-realm.ensures.same) (Keeps-then (Keeps-same c.spare_list-components.ensures.same) (Keeps-then c.names16.ensures.keeps (Keeps-then c.signed_field32.ensures.keeps (Keeps-then c.field32.ensures.keeps c.field8.ensures.keeps))))
+
+pub returns-in_err-enctype-clause-keeps : goal.returns-in_err-enctype-clause-keeps
+returns-in_err-enctype-clause-keeps g c =
+    Keeps-then (Keeps-same c.spare_octets-realm.ensures.same) (Keeps-then (Keeps-same c.spare_list-components.ensures.same) (Keeps-then c.names16.ensures.keeps (Keeps-then c.signed_field32.ensures.keeps (Keeps-then c.field32.ensures.keeps (Keeps-then c.field8.ensures.keeps c.field16.ensures.keeps)))))
+
 pub returns-in_err-rest_field-clause-keeps : goal.returns-in_err-rest_field-clause-keeps
 returns-in_err-rest_field-clause-keeps g c =
     Keeps-then (Keeps-same c.spare_octets-realm.ensures.same) (Keeps-then (Keeps-same c.spare_list-components.ensures.same) (Keeps-then c.names16.ensures.keeps

@@ -4,7 +4,9 @@ use Rattle.krb_file.specs.declared.progress.Progress.TheVariants as states
 use Rattle.krb_keytab.specs.declared.value.Stop.{Stop}
 use Rattle.krb_keytab.proofs.Streams.{opens, version_refused, refusal_in_file}
 use Rattle.krb_keytab.specs.Streaming.{Reads, announced_in}
-use Rattle.krb_keytab.proofs.Reaching.{version_keeps, same_keeps}
+use Rattle.krb_keytab.proofs.Reaching.{version_keeps, same_keeps, opened_keeps, on_ok_so, on_err_so}
+use Rattle.krb_file.proofs.FieldReaders.{Stays-then}
+use Rattle.krb_file.proofs.Reaching.{none_ahead}
 use Rattle.krb_keytab.proofs.records.Records.next_record.Goals as goal
 
 pub returns-in-Open-clause-next : goal.returns-in-Open-clause-next
@@ -48,3 +50,19 @@ returns-in-Err-clause-announced g c = rw (c.in-Open.is, c.if-has_begun.false) (v
 
 pub returns-in-Failed-clause-announced : goal.returns-in-Failed-clause-announced
 returns-in-Failed-clause-announced g c = same_keeps (announced_in c.args.self.now.state) c.args.self.now.reader
+
+pub returns-in-Open-clause-announced : goal.returns-in-Open-clause-announced
+returns-in-Open-clause-announced g c = rw (c.in-Open.is, c.if-has_begun.true) c.read_next.ensures.announced
+
+pub returns-in-Ok-clause-announced : goal.returns-in-Ok-clause-announced
+returns-in-Ok-clause-announced g c =
+    rw (c.in-Open.is, c.if-has_begun.false)
+    (on_err_so c.read_next-in-Ok.result (opened_keeps c.in-Ok.field-0 c.args.self.now.reader c.version.new.self c.read_next-in-Ok.new.self.reader c.in-Ok.ensures.read c.version.ensures.keeps.stays) c.read_next-in-Ok.ensures.announced)
+
+pub returns-in-Open-clause-fetched : goal.returns-in-Open-clause-fetched
+returns-in-Open-clause-fetched g c =
+    on_ok_so c.read_next.result (none_ahead c.args.self.now.reader c.read_next.new.self.reader) c.read_next.ensures.stays
+
+pub returns-in-Ok-clause-fetched : goal.returns-in-Ok-clause-fetched
+returns-in-Ok-clause-fetched g c =
+    on_ok_so c.read_next-in-Ok.result (λ stays. none_ahead c.args.self.now.reader c.read_next-in-Ok.new.self.reader (Stays-then c.version.ensures.keeps.stays stays)) c.read_next-in-Ok.ensures.stays
