@@ -1,3 +1,4 @@
 pub mod Makes
+pub mod Parts
 pub mod Names
 pub mod NotRead

@@ -1,10 +1,11 @@
 //! The options and words of the commands, for `clap`.
 
-ghost use Rattle.std.specs.Prelude.{◌≡◌, false, IfOk};
-ghost use Rattle.clap.specs.Words.{App, Rule, app_of, new_app, rule_of, with_rule, with_subcommand};
+ghost use Rattle.std.specs.Prelude.{◌≡◌, false, map, IfOk};
+ghost use Rattle.clap.specs.Words.{app_of, new_app, rule_of, with_subcommand};
 ghost use Rattle.clap.specs.declared.builder.command.Command.TheViews.{out-Command};
-ghost use Rattle.krb_words.specs.Words.{now_option, option, with_output, with_files, number_option, limit_option, port_option, flag, file_names, names_flag, json_flag, strict_flag, with_filename_flag, with_messages, list_app, stream_app, message_app, keytab_app, ccache_app, capture_app, decode_app, encode_app, krbls_top, krbls};
+ghost use Rattle.krb_words.specs.Words.{now_option, option, number_option, limit_option, port_option, flag, file_names, file_option, json_flag, keep_going_flag, lines_flag, names_flag, strict_flag, unframed_flag, with_filename_flag, krbls_top, krbls};
 ghost use Rattle.krb_words.specs.inner.Makes.{Makes};
+ghost use Rattle.krb_words.specs.inner.Parts.{app_for, apps, rule_for, with_apps, with_rules};
 
 use crate::help::{
     CAPTURE_HELP, CCACHE_HELP, CommandHelp, DECODE_HELP, ENCODE_HELP, KEYTAB_HELP, KRBLS_HELP,
@@ -28,26 +29,15 @@ fn new_command<'a>(alloc: Global, name: &'a str, help: &CommandHelp) -> Command<
         .after_help(help.below)
 }
 
-/// Returns a command with its help and no options yet, to which options are added.
-#[tactic(auto, unfolding(crate::specs::inner::Makes::Makes))]
-fn start<'a>(alloc: Global, name: &'a str, help: &CommandHelp) -> Result<Command<'a>, AllocError>
-    ensures { Makes result (new_app name.entry.now) }
-{
-    Ok(new_command(alloc, name, help))
-}
-
 /// Returns the command `krbls` with no commands yet.
-#[tactic(auto, unfolding(crate::specs::inner::Makes::Makes))]
-fn top<'a>(alloc: Global) -> Result<Command<'a>, AllocError>
-    ensures { Makes result krbls_top }
+fn top<'a>(alloc: Global) -> Command<'a>
+    ensures { app_of result ≡ krbls_top }
 {
-    Ok(
-        new_command(alloc, "krbls", &KRBLS_HELP)
-            .no_binary_name(true)
-            .disable_help_subcommand(true)
-            .subcommand_required(true)
-            .version(VERSION),
-    )
+    new_command(alloc, "krbls", &KRBLS_HELP)
+        .no_binary_name(true)
+        .disable_help_subcommand(true)
+        .subcommand_required(true)
+        .version(VERSION)
 }
 
 /// Returns an option whose value is any text.
@@ -189,160 +179,272 @@ fn port_option<'a>(alloc: Global) -> Arg<'a>
     )
 }
 
-/// Adds an option to a command, if there was memory for the command.
-#[tactic(auto, unfolding(crate::specs::inner::Makes::Makes))]
-fn with_arg<'a>(
-    command: Result<Command<'a>, AllocError>,
-    arg: Arg<'a>,
-) -> Result<Command<'a>, AllocError>
-    requires local { arg.global ≡ false }
-    ensures { (app : App) (rule : Rule) → Makes command.entry app → rule_of arg.entry ≡ rule → Makes result (with_rule app rule) }
+/// Returns the option `--file PATH`.
+fn file_option<'a>(alloc: Global) -> Arg<'a>
+    ensures rule { rule_of result ≡ file_option }
+    ensures local { result.global ≡ false }
 {
-    command?.arg(arg)
-}
-
-/// Adds a command to those of another, if there was memory for both.
-#[tactic(auto, unfolding(crate::specs::inner::Makes::Makes))]
-fn with_command<'a>(
-    whole: Result<Command<'a>, AllocError>,
-    part: Result<Command<'a>, AllocError>,
-) -> Result<Command<'a>, AllocError>
-    ensures { (above below : App) → Makes whole.entry above → Makes part.entry below → Makes result (with_subcommand above below.top) }
-{
-    let part = part?;
-    whole?.subcommand(part)
-}
-
-/// Returns a command whose records may be printed with names, as JSON and with that of their file.
-fn with_output<'a>(
-    alloc: Global,
-    command: Result<Command<'a>, AllocError>,
-) -> Result<Command<'a>, AllocError>
-    ensures { (app : App) → Makes command.entry app → Makes result (with_output app) }
-{
-    let command = with_arg(command, names_flag(alloc));
-    let command = with_arg(command, json_flag(alloc));
-    with_arg(command, with_filename_flag(alloc))
-}
-
-/// Returns a command with the words that name files.
-fn with_files<'a>(
-    alloc: Global,
-    command: Result<Command<'a>, AllocError>,
-) -> Result<Command<'a>, AllocError>
-    ensures { (app : App) → Makes command.entry app → Makes result (with_files app) }
-{
-    let file = text_option(
+    text_option(
         alloc,
         "file",
         "PATH",
         "Reads this file before those that are named",
-    );
-    with_arg(with_arg(command, file), file_names(alloc))
+    )
 }
 
-/// Returns a command with the options and words of one that turns messages into another form.
-fn with_messages<'a>(
-    alloc: Global,
-    command: Result<Command<'a>, AllocError>,
-) -> Result<Command<'a>, AllocError>
-    ensures { (app : App) → Makes command.entry app → Makes result (with_messages app) }
+/// Returns the option `--keep-going`.
+fn keep_going_flag<'a>(alloc: Global) -> Arg<'a>
+    ensures rule { rule_of result ≡ keep_going_flag }
+    ensures local { result.global ≡ false }
 {
-    let unframed = flag(
-        alloc,
-        "unframed",
-        "Reads or writes one message, without its length",
-    );
-    let command = with_arg(command, limit_option(alloc));
-    let command = with_arg(command, strict_flag(alloc));
-    with_files(alloc, with_arg(command, unframed))
-}
-
-/// Returns the command `list`.
-fn list_command<'a>(alloc: Global) -> Result<Command<'a>, AllocError>
-    ensures { Makes result list_app }
-{
-    let command = with_arg(start(alloc, "list", &LIST_HELP), now_option(alloc));
-    with_files(alloc, with_output(alloc, command))
-}
-
-/// Returns the command `stream`.
-fn stream_command<'a>(alloc: Global) -> Result<Command<'a>, AllocError>
-    ensures { Makes result stream_app }
-{
-    let keep_going = flag(
+    flag(
         alloc,
         "keep-going",
         "Goes on with the next frame after one that is refused",
-    );
-    let command = start(alloc, "stream", &STREAM_HELP);
-    let command = with_arg(command, limit_option(alloc));
-    let command = with_arg(command, keep_going);
-    let command = with_arg(command, strict_flag(alloc));
-    with_files(alloc, with_output(alloc, command))
+    )
 }
 
-/// Returns the command `message`.
-fn message_command<'a>(alloc: Global) -> Result<Command<'a>, AllocError>
-    ensures { Makes result message_app }
+/// Returns the option `--lines`.
+fn lines_flag<'a>(alloc: Global) -> Arg<'a>
+    ensures rule { rule_of result ≡ lines_flag }
+    ensures local { result.global ≡ false }
 {
-    let lines = flag(alloc, "lines", "Reads a message from each line");
-    let command = with_arg(start(alloc, "message", &MESSAGE_HELP), lines);
-    let command = with_arg(command, strict_flag(alloc));
-    with_files(alloc, with_output(alloc, command))
+    flag(alloc, "lines", "Reads a message from each line")
 }
 
-/// Returns the command `keytab`.
-fn keytab_command<'a>(alloc: Global) -> Result<Command<'a>, AllocError>
-    ensures { Makes result keytab_app }
+/// Returns the option `--unframed`.
+fn unframed_flag<'a>(alloc: Global) -> Arg<'a>
+    ensures rule { rule_of result ≡ unframed_flag }
+    ensures local { result.global ≡ false }
 {
-    let command = start(alloc, "keytab", &KEYTAB_HELP);
-    with_files(alloc, with_output(alloc, command))
+    flag(
+        alloc,
+        "unframed",
+        "Reads or writes one message, without its length",
+    )
 }
 
-/// Returns the command `ccache`.
-fn ccache_command<'a>(alloc: Global) -> Result<Command<'a>, AllocError>
-    ensures { Makes result ccache_app }
-{
-    let command = with_arg(start(alloc, "ccache", &CCACHE_HELP), now_option(alloc));
-    with_files(alloc, with_output(alloc, command))
+/// What a command takes: an option, or the words that name files.
+#[derive(Clone, Copy)]
+enum Parameter {
+    /// `--now WHEN`.
+    Now,
+    /// `--limit OCTETS`.
+    Limit,
+    /// `--port PORT`.
+    Port,
+    /// `--keep-going`.
+    KeepGoing,
+    /// `--strict`.
+    Strict,
+    /// `--lines`.
+    Lines,
+    /// `--unframed`.
+    Unframed,
+    /// `--names`.
+    Names,
+    /// `--json`.
+    Json,
+    /// `-H`, `--with-filename`.
+    WithFilename,
+    /// `--file PATH`.
+    File,
+    /// `FILE..`, after all options.
+    FileNames,
 }
 
-/// Returns the command `capture`.
-fn capture_command<'a>(alloc: Global) -> Result<Command<'a>, AllocError>
-    ensures { Makes result capture_app }
-{
-    let command = start(alloc, "capture", &CAPTURE_HELP);
-    let command = with_arg(command, limit_option(alloc));
-    let command = with_arg(command, port_option(alloc));
-    with_files(alloc, with_output(alloc, command))
+impl Parameter {
+    /// Returns the option or the words as `clap` takes them.
+    fn arg<'a>(self, alloc: Global) -> Arg<'a>
+        ensures rule { rule_of result ≡ rule_for self }
+        ensures local { result.global ≡ false }
+    {
+        match self {
+            Parameter::Now => now_option(alloc),
+            Parameter::Limit => limit_option(alloc),
+            Parameter::Port => port_option(alloc),
+            Parameter::KeepGoing => keep_going_flag(alloc),
+            Parameter::Strict => strict_flag(alloc),
+            Parameter::Lines => lines_flag(alloc),
+            Parameter::Unframed => unframed_flag(alloc),
+            Parameter::Names => names_flag(alloc),
+            Parameter::Json => json_flag(alloc),
+            Parameter::WithFilename => with_filename_flag(alloc),
+            Parameter::File => file_option(alloc),
+            Parameter::FileNames => file_names(alloc),
+        }
+    }
 }
 
-/// Returns the command `decode`.
-fn decode_command<'a>(alloc: Global) -> Result<Command<'a>, AllocError>
-    ensures { Makes result decode_app }
-{
-    with_messages(alloc, start(alloc, "decode", &DECODE_HELP))
+/// A command of the program: its name, its help and what it takes, in the order of its help.
+#[derive(Clone, Copy)]
+struct Part {
+    name: &'static str,
+    help: &'static CommandHelp,
+    parameters: &'static [Parameter],
 }
 
-/// Returns the command `encode`.
-fn encode_command<'a>(alloc: Global) -> Result<Command<'a>, AllocError>
-    ensures { Makes result encode_app }
+/// The commands of the program.
+static PARTS: [Part; 8] = [
+    Part {
+        name: "list",
+        help: &LIST_HELP,
+        parameters: &[
+            Parameter::Now,
+            Parameter::Names,
+            Parameter::Json,
+            Parameter::WithFilename,
+            Parameter::File,
+            Parameter::FileNames,
+        ],
+    },
+    Part {
+        name: "stream",
+        help: &STREAM_HELP,
+        parameters: &[
+            Parameter::Limit,
+            Parameter::KeepGoing,
+            Parameter::Strict,
+            Parameter::Names,
+            Parameter::Json,
+            Parameter::WithFilename,
+            Parameter::File,
+            Parameter::FileNames,
+        ],
+    },
+    Part {
+        name: "message",
+        help: &MESSAGE_HELP,
+        parameters: &[
+            Parameter::Lines,
+            Parameter::Strict,
+            Parameter::Names,
+            Parameter::Json,
+            Parameter::WithFilename,
+            Parameter::File,
+            Parameter::FileNames,
+        ],
+    },
+    Part {
+        name: "keytab",
+        help: &KEYTAB_HELP,
+        parameters: &[
+            Parameter::Names,
+            Parameter::Json,
+            Parameter::WithFilename,
+            Parameter::File,
+            Parameter::FileNames,
+        ],
+    },
+    Part {
+        name: "ccache",
+        help: &CCACHE_HELP,
+        parameters: &[
+            Parameter::Now,
+            Parameter::Names,
+            Parameter::Json,
+            Parameter::WithFilename,
+            Parameter::File,
+            Parameter::FileNames,
+        ],
+    },
+    Part {
+        name: "capture",
+        help: &CAPTURE_HELP,
+        parameters: &[
+            Parameter::Limit,
+            Parameter::Port,
+            Parameter::Names,
+            Parameter::Json,
+            Parameter::WithFilename,
+            Parameter::File,
+            Parameter::FileNames,
+        ],
+    },
+    Part {
+        name: "decode",
+        help: &DECODE_HELP,
+        parameters: &[
+            Parameter::Limit,
+            Parameter::Strict,
+            Parameter::Unframed,
+            Parameter::File,
+            Parameter::FileNames,
+        ],
+    },
+    Part {
+        name: "encode",
+        help: &ENCODE_HELP,
+        parameters: &[
+            Parameter::Limit,
+            Parameter::Strict,
+            Parameter::Unframed,
+            Parameter::File,
+            Parameter::FileNames,
+        ],
+    },
+];
+
+/// Returns the commands of the program.
+fn parts() -> &'static [Part]
+    ensures { map app_for result.now ≡ apps }
 {
-    with_messages(alloc, start(alloc, "encode", &ENCODE_HELP))
+    &PARTS
+}
+
+/// Returns a command that takes parameters, too.
+#[tactic(auto, unfolding(crate::specs::inner::Makes::Makes))]
+fn with_parameters<'a>(
+    alloc: Global,
+    command: Command<'a>,
+    parameters: &[Parameter],
+) -> Result<Command<'a>, AllocError>
+    requires { (out-Command command).has_globals ≡ false }
+    ensures { Makes result (with_rules (app_of command.entry) parameters.now) }
+{
+    let mut command = command;
+    for parameter in parameters {
+        command = command.arg(parameter.arg(alloc))?;
+    }
+    Ok(command)
+}
+
+/// Returns a command of the program.
+#[tactic(auto, unfolding(crate::specs::inner::Makes::Makes))]
+fn command_of<'a>(alloc: Global, part: &Part) -> Result<Command<'a>, AllocError>
+    ensures { Makes result (app_for part.now) }
+{
+    let command = new_command(alloc, part.name, part.help);
+    with_parameters(alloc, command, part.parameters)
+}
+
+/// Returns a command with a command of the program among its own.
+#[tactic(auto, unfolding(crate::specs::inner::Makes::Makes))]
+fn with_part<'a>(alloc: Global, whole: Command<'a>, part: &Part) -> Result<Command<'a>, AllocError>
+    ensures { IfOk result (λ made. app_of made ≡ with_subcommand (app_of whole.entry) (app_for part.now).top) }
+{
+    let command = command_of(alloc, part)?;
+    whole.subcommand(command)
+}
+
+/// Returns a command with commands of the program among its own.
+fn with_parts<'a>(
+    alloc: Global,
+    whole: Command<'a>,
+    parts: &[Part],
+) -> Result<Command<'a>, AllocError>
+    ensures { IfOk result (λ made. app_of made ≡ with_apps (app_of whole.entry) (map app_for parts.now)) }
+{
+    let mut whole = whole;
+    for part in parts {
+        whole = with_part(alloc, whole, part)?;
+    }
+    Ok(whole)
 }
 
 /// Returns the command `krbls`, which `clap` calls simple.
 pub(crate) fn krbls_command<'a>(alloc: Global) -> Result<Command<'a>, AllocError>
     ensures { IfOk result (λ c. app_of c ≡ krbls) }
 {
-    let command = top(alloc);
-    let command = with_command(command, list_command(alloc));
-    let command = with_command(command, stream_command(alloc));
-    let command = with_command(command, message_command(alloc));
-    let command = with_command(command, keytab_command(alloc));
-    let command = with_command(command, ccache_command(alloc));
-    let command = with_command(command, capture_command(alloc));
-    let command = with_command(command, decode_command(alloc));
-    with_command(command, encode_command(alloc))
+    with_parts(alloc, top(alloc), parts())
 }

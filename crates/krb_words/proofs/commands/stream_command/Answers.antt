@@ -1,7 +1,0 @@
-use Rattle.krb_words.proofs.commands.stream_command.Goals as goal
-
-pub returns : goal.returns
-returns c =
-    let limited = c.with_arg-command.ensures _ _ c.start-command.ensures c.limit_option.ensures.rule in
-    let going = c.with_arg-command-2.ensures _ _ limited c.flag-keep_going.ensures.rule in
-    c.with_files.ensures _ (c.with_output.ensures _ (c.with_arg-command-3.ensures _ _ going c.strict_flag.ensures.rule))
