@@ -5,21 +5,21 @@ use Rattle.krb_text.specs.inner.Records.{is_kept, text_after}
 use Rattle.krb_text.proofs.Recorded.{kept_whole, no_message, not_kept, text_of_parts}
 use Rattle.krb_text.proofs.record.put_kind.Goals as goal
 
-pub returns-in_default : goal.returns-in_default
-returns-in_default g c = (no_message c.args.profile c.args.octets.now (AreOctets-slice c.args.octets.now c.type_inv.octets) c.in_default.ensures, refl)
+pub returns-then-not-view_into : goal.returns-then-not-view_into
+returns-then-not-view_into g c = (no_message c.args.profile c.args.octets.now (AreOctets-slice c.args.octets.now c.type_inv.octets) c.if-not-view_into.ensures, refl)
 
 pub returns-then-not-is_kept : goal.returns-then-not-is_kept
 returns-then-not-is_kept g c =
     let octets = c.args.octets.now in
     let kept = sym (ap (is_kept c.args.profile) c.notes-notes.ensures) ∙ sym c.is_kept.ensures ∙ c.if-not-is_kept.true in
-    (not_kept c.args.profile octets _ (AreOctets-slice octets c.type_inv.octets) c.in-Some.ensures kept, refl)
+    (not_kept c.args.profile octets _ (AreOctets-slice octets c.type_inv.octets) c.if-not-view_into.ensures kept, refl)
 
 -- the fields and the parts of the view are those of its message, which is the message that is read
 pub returns : goal.returns
 returns g c =
     let kept = sym (ap (is_kept c.args.profile) c.notes-notes.ensures) ∙ sym c.is_kept.ensures ∙ c.if-not-is_kept.false in
-    let m = message_of_view (g.K.MessageKind.as_message c.in-Some.view) in
-    let same = c.requires.recorded c.in-Some.view in
+    let m = message_of_view (g.K.MessageKind.as_message c.view_into.new.seen) in
+    let same = c.requires.recorded c.view_into.new.seen in
     let text = text_of_parts
     c.args.form
     c.args.from
@@ -29,4 +29,4 @@ returns g c =
     (rw (← same.same_fields) at c.in_ok-put_fields.ensures)
     (rw c.notes-notes.ensures at c.in_ok-put_field.ensures)
     (rw (← same.same_inside) at c.in_ok-put_ending.ensures) in
-    (kept_whole c.args.profile c.args.octets.now _ c.in-Some.ensures kept, subst (λ m. c.put_ending.new.text ≡ c.args.text.now ++ text_after c.args.form c.args.from m) c.in-Some.ensures.read text)
+    (kept_whole c.args.profile c.args.octets.now _ c.if-not-view_into.ensures kept, subst (λ m. c.put_ending.new.text ≡ c.args.text.now ++ text_after c.args.form c.args.from m) c.if-not-view_into.ensures.read text)
