@@ -1,5 +1,5 @@
 -- A number of JSON without a fraction and an exponent is digits, after a minus at most; so what is read of it is its value, if that fits.
-use Rattle.std.proofs.Common.{◌≡◌, ℕ, ℤ, pos, negsuc, zero, suc, ◌+◌, ◌<◌, ◌≤◌, true, false, cond, ◌&&◌, ◌||◌, ◌==◌, Bool, List, [], ◌∷◌, length, drop, Option, Some, None, refl, sym, ◌∙◌, ap, subst, arith, FitsSigned}
+use Rattle.std.proofs.Common.{◌≡◌, ℕ, ℤ, pos, negsuc, suc, ◌+◌, ◌<◌, ◌≤◌, true, false, cond, ◌&&◌, ◌||◌, ◌==◌, Bool, List, [], ◌∷◌, length, drop, Option, Some, None, refl, sym, ◌∙◌, ap, subst, arith, FitsSigned}
 use Rattle.std.specs.Prelude.{◌≤ℤ◌, int_le, nat_le}
 use Rattle.std.specs.Option.{option_and_then, ok_or, MatchOption}
 use Rattle.std.specs.List.{list_any, prefix_len}

@@ -1,5 +1,5 @@
 -- What is inside of messages fits JSON.
-use Rattle.std.proofs.Common.{◌≡◌, ℕ, ℤ, pos, negsuc, ◌==◌, ◌||◌, Bool, true, false, Option, Some, None, List, [], ◌∷◌, map, codes, refl, arith}
+use Rattle.std.proofs.Common.{◌≡◌, ℕ, ◌||◌, Bool, true, false, Option, Some, None, List, [], ◌∷◌, map, codes, refl, arith}
 use Rattle.std.specs.List.{AllByRecursion, flat_map}
 use Rattle.std.specs.Option.{option_map}
 use Rattle.krb_msg.specs.Grammar.{ap_req, encrypted_data, kdc_req_body, method_data, sequence_of, ticket}

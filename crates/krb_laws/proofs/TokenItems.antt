@@ -6,7 +6,7 @@ use Rattle.krb_der.specs.Octets.{AreOctets, item, length_octets}
 use Rattle.krb_der.specs.inner.Items.{length-item, item-append, same_from_cons}
 use Rattle.krb_der.specs.declared.why.Why.TheVariants as why
 use Rattle.krb_msg.proofs.Heads.{head-length_octets, IsHead, IsHead-head}
-use Rattle.krb_msg.specs.Judgement.{Head, Partial, Refused, Got, head}
+use Rattle.krb_msg.specs.Judgement.{Head, Got, head}
 use Rattle.krb_token.specs.Items.{Item, item_after, item_of_head, entered}
 use Rattle.krb_token.specs.Opened.{Part, fault_in}
 use Rattle.krb_laws.specs.Opened.{IsItem, BeginsWithItem}

@@ -235,7 +235,7 @@ fn put_octet(line: &mut TextBuffer, octet: u8) -> Result<(), AllocError>
 
 /// Appends octets, each escaped if it needs to be.
 #[inline(never)]
-pub(crate) fn put_each(line: &mut TextBuffer, octets: &[u8]) -> Result<(), AllocError>
+fn put_each(line: &mut TextBuffer, octets: &[u8]) -> Result<(), AllocError>
     ensures { OnOk result (line.new ≡ line.old ++ escape octets.now) }
 {
     for octet in octets {

@@ -1,4 +1,4 @@
-use Rattle.std.proofs.Common.{◌≡◌, subst, sym, w64, FitsSigned, rules}
+use Rattle.std.proofs.Common.{subst, sym, w64, FitsSigned, rules}
 use Rattle.std.proofs.lemmas.Int.{to_z-of_z}
 use Rattle.krb_msg.specs.Grammar.{int32}
 use Rattle.krb_msg.specs.Viewed.{AreContents}

@@ -1,4 +1,4 @@
-use Rattle.std.proofs.Common.{◌≡◌, pos, subst, sym, w64, FitsSigned, rules}
+use Rattle.std.proofs.Common.{pos, subst, sym, w64, FitsSigned, rules}
 use Rattle.std.specs.Prelude.{◌≤ℤ◌}
 use Rattle.std.proofs.lemmas.Int.{to_z-of_z}
 use Rattle.krb_msg.specs.Grammar.{microseconds}
