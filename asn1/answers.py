@@ -5,7 +5,7 @@ from model import back, fixed_value, is_plain, mapped
 from module import Basic, Sequence
 from structs import is_call, may_have_notes, noted_in_view, noted_of_value
 from tables import count_of_rows
-from text import BY, brought, fill, pairs, path, record
+from text import BY, brought, by, fill, pairs, path, record
 from values import known, parts_in, seen_value
 
 
@@ -160,7 +160,7 @@ def type_answers(it):
 def padata_answers(it):
     """The answer of a type of krb_padata, by its path in the crates: of one with a number and with a field that may be left out."""
     if any(field.optional for field in it.kept) and any(is_number(field) for field in it.kept):
-        return {f"{it.crate}/proofs/{it.term}/{it.rust}ViewImpl/view_into/Answers.antt": f"-- asn1/generate wrote this from {it.home.path}\n{view_answer(it)}"}
+        return {f"{it.crate}/proofs/{it.term}/{it.rust}ViewImpl/view_into/Answers.antt": f"-- {by(it.home.path)}\n{view_answer(it)}"}
     return {}
 
 
