@@ -3,7 +3,7 @@
 from kinds import file, messages_of
 from model import back, fixed_value, is_plain, mapped
 from module import Basic, Sequence
-from structs import is_call, may_have_notes, noted_in_view, noted_of_value
+from structs import in_order_of_copying, is_call, may_have_notes, noted_in_view, noted_of_value
 from tables import count_of_rows
 from text import BY, brought, by, fill, pairs, path, record
 from values import known, parts_in, seen_value
@@ -95,7 +95,7 @@ def copied_part(field, call):
 def copy_answer(it):
     """That the fields of a type with lists are copied, each by a call."""
     calls, rows = {}, []
-    for field in it.kept:
+    for field in in_order_of_copying(it):
         name = ("copy_item_option" if field.optional else "copy_items") if field.is_list else "copy_option" if field.optional else "from_view"
         calls[name] = calls.get(name, 0) + 1
         call = f"c.in_ok-{name}" + (f"-{calls[name]}" if calls[name] > 1 else "")
@@ -167,7 +167,7 @@ def padata_answers(it):
 def rows_answer(module):
     """The rows of the grammar, twenty at a time."""
     twenties = (2 * count_of_rows(module) - 1) // 20
-    return fill("answers/rows.antt", proof="twenty (search rules) (" * twenties + "search rules" + ")" * twenties)
+    return fill("answers/rows.antt", proof="twenty (search rows) (" * twenties + "search rows" + ")" * twenties)
 
 
 # The functions by cases of a kind.

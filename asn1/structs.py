@@ -219,8 +219,18 @@ def copied(field):
     return f"{'copy_option' if field.optional else f'{field.type.rust}::from_view'}(alloc, &seen.{field.rust})?"
 
 
+def owns(field):
+    """Whether a value of the field has memory of its own."""
+    return field.is_list or isinstance(field.type, Sequence) or field.type.form in ("text", "octets", "flags")
+
+
+def in_order_of_copying(it):
+    """The fields of a type as they are copied: what owns memory comes last, since each step that fails drops what was copied before it."""
+    return sorted(it.kept, key=owns)
+
+
 def copy(it):
-    return f"Ok({it.rust} {{ {', '.join(f'{field.rust}: {copied(field)}' for field in it.kept)} }})"
+    return f"Ok({it.rust} {{ {', '.join(f'{field.rust}: {copied(field)}' for field in in_order_of_copying(it))} }})"
 
 
 def struct_file(module, it):

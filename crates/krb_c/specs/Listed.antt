@@ -1,7 +1,7 @@
 -- The listings that C is given: those of the commands.
 use Rattle.std.specs.Prelude.{ℕ, ◌≡◌, Bool, List, [], Option, Some}
 use Rattle.krb_der.specs.declared.profile.Profile.{Profile}
-use Rattle.krb_text.specs.declared.form.Form.{Form}
+use Rattle.krb_record.specs.declared.form.Form.{Form}
 use Rattle.krb_capture_run.specs.Captures.{capture_listing}
 use Rattle.krb_tool.specs.Files.{FileListing, RecordListing, ccache_listing, keytab_listing, text_of}
 use Rattle.krb_tool.specs.GoingOn.{ListsStream}

@@ -3,7 +3,7 @@ use Rattle.std.proofs.Common.{◌≡◌, ℕ, Bool, true, false, List, [], Some,
 use Rattle.std.specs.Prelude.{Option, if◌then◌else◌}
 use Rattle.krb_der.specs.declared.verdict.Refusal.{Refusal}
 use Rattle.krb_flow.specs.declared.stream.End.{End}
-use Rattle.krb_text.specs.declared.extent.Extent.{Extent}
+use Rattle.krb_record.specs.declared.extent.Extent.{Extent}
 use Rattle.krb_text.specs.declared.origin.Origin.{Origin}
 use Rattle.krb_capture.specs.Found.{Faulty, Found, Written, with_all, with_found}
 use Rattle.krb_capture.specs.Streams.{Framed, before_frames, cut_refusal, end_found, entries_found, extent_at, framed, known_end, no_frames, open_path, refusal_found}

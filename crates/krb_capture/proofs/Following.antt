@@ -8,9 +8,9 @@ use Rattle.krb_packet.specs.declared.contents.Datagram.{Datagram}
 use Rattle.krb_packet.specs.declared.contents.Fragment.{Fragment}
 use Rattle.krb_packet.specs.declared.contents.Segment.{Segment}
 use Rattle.krb_text.specs.declared.capture.CaptureCounts.{CaptureCounts}
-use Rattle.krb_text.specs.declared.form.Form.{Form}
+use Rattle.krb_record.specs.declared.form.Form.{Form}
 use Rattle.krb_text.specs.declared.origin.Origin.{Origin}
-use Rattle.krb_text.specs.declared.origin.Transport.TheVariants as transports
+use Rattle.krb_record.specs.declared.flow.Transport.TheVariants as transports
 use Rattle.krb_capture.specs.Captures.{Finding, HasEnded, HasFollowed, Progress, Settings, Taken, all_counts, and_counted, contents_taken, nothing_in, whole_taken, counted_each, datagram_taken, end_taken, lines_of, over_tcp, over_udp, segment_taken, unread_taken, with_each}
 use Rattle.krb_capture.specs.Datagrams.{datagram_found}
 use Rattle.krb_capture.specs.Directions.{HoldsTable, followed, last_of}

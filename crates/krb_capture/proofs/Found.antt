@@ -10,10 +10,10 @@ use Rattle.krb_der.specs.declared.verdict.Verdict.{Verdict}
 use Rattle.krb_der.specs.declared.verdict.Verdict.TheVariants as verdict
 use Rattle.krb_der.specs.declared.why.Why.TheVariants as why
 use Rattle.krb_text.specs.Captures.{captured_line}
-use Rattle.krb_text.specs.Refusals.{extent_in, path_in}
-use Rattle.krb_text.specs.Values.{Field, Number, Reason, printed, the}
-use Rattle.krb_text.specs.declared.extent.Extent.{Extent}
-use Rattle.krb_text.specs.declared.form.Form.{Form}
+use Rattle.krb_record.specs.Refusals.{extent_in, path_in}
+use Rattle.krb_record.specs.Values.{Field, Number, Reason, printed, the}
+use Rattle.krb_record.specs.declared.extent.Extent.{Extent}
+use Rattle.krb_record.specs.declared.form.Form.{Form}
 use Rattle.krb_text.specs.declared.origin.Origin.{Origin}
 use Rattle.krb_msg.specs.Grammar.{messages}
 use Rattle.krb_msg.specs.Judgement.{judgement}

@@ -3,7 +3,7 @@ use Rattle.std.proofs.Common.{◌≡◌, ℕ, ◌+◌, ◌-◌, ◌≤◌, inl, 
 use Rattle.std.specs.Prelude.{nat_lt, if◌then◌else◌}
 use Rattle.std.proofs.lemmas.Bool.{cases_lt, lt-ltb}
 use Rattle.std.proofs.lemmas.List.{drop-drop}
-use Rattle.krb_text.specs.declared.extent.Extent.{Extent}
+use Rattle.krb_record.specs.declared.extent.Extent.{Extent}
 use Rattle.krb_text.specs.declared.origin.Origin.{Origin}
 use Rattle.krb_capture.specs.Found.{Password, Written, with_all, with_found}
 use Rattle.krb_capture.specs.Passwords.{and_then, checked, header, number, part_found, parts_found}

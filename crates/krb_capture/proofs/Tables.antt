@@ -15,7 +15,7 @@ use Rattle.krb_flow.specs.declared.direction.State.{State}
 use Rattle.krb_flow.specs.declared.direction.State.TheVariants as states
 use Rattle.krb_flow.specs.declared.had.Had.{Had}
 use Rattle.krb_packet.specs.declared.contents.Segment.{Segment}
-use Rattle.krb_text.specs.declared.origin.Transport.TheVariants as transports
+use Rattle.krb_record.specs.declared.flow.Transport.TheVariants as transports
 use Rattle.krb_capture.specs.Captures.{over_tcp, with_each}
 use Rattle.krb_capture.specs.Flows.{origin_of}
 use Rattle.krb_capture.specs.Found.{Written, with_all}

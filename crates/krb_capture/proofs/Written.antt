@@ -1,7 +1,7 @@
 -- What is written of several findings.
 use Rattle.std.proofs.Common.{◌≡◌, Result, Ok, Err, OnOk, List, [], ◌∷◌, ◌++◌, refl, sym, ◌∙◌, ap, append-nil, append_assoc}
 use Rattle.krb_text.specs.declared.origin.Origin.{Origin}
-use Rattle.krb_text.specs.declared.origin.Transport.TheVariants as transports
+use Rattle.krb_record.specs.declared.flow.Transport.TheVariants as transports
 use Rattle.krb_capture.specs.Captures.{Finding, counted_each, lines_of, over_tcp, over_udp, with_each}
 use Rattle.krb_capture.specs.Directions.{in_flow}
 use Rattle.krb_capture.specs.Flows.{origin_of}

@@ -13,10 +13,10 @@ use Rattle.krb_packet.specs.declared.packet.Packet.{Packet}
 use Rattle.krb_file.specs.declared.fault.FileWhy.{FileWhy}
 use Rattle.krb_text.specs.Captures.{capture_end_line, capture_refused_line}
 use Rattle.krb_text.specs.declared.capture.CaptureCounts.{CaptureCounts}
-use Rattle.krb_text.specs.declared.extent.Extent.{Extent}
-use Rattle.krb_text.specs.declared.form.Form.{Form}
+use Rattle.krb_record.specs.declared.extent.Extent.{Extent}
+use Rattle.krb_record.specs.declared.form.Form.{Form}
 use Rattle.krb_text.specs.declared.origin.Origin.{Origin}
-use Rattle.krb_text.specs.declared.origin.Transport.TheVariants as transports
+use Rattle.krb_record.specs.declared.flow.Transport.TheVariants as transports
 use Rattle.krb_capture.specs.Datagrams.{datagram_found}
 use Rattle.krb_capture.specs.Directions.{Followed, HoldsTable, Table, followed, last_of, no_directions}
 use Rattle.krb_capture.specs.Flows.{due_with, origin_of, service_of}

@@ -2,7 +2,7 @@
 use Rattle.std.specs.Prelude.{◌-◌, ◌==◌, Bool, true, false, if◌then◌else◌, List, [], ◌∷◌, length, Some, None, codes}
 use Rattle.krb_der.specs.declared.why.Why.TheVariants as why
 use Rattle.krb_packet.specs.Payloads.{Captured}
-use Rattle.krb_text.specs.declared.extent.Extent.{Extent}
+use Rattle.krb_record.specs.declared.extent.Extent.{Extent}
 use Rattle.krb_capture.specs.Found.{Found, Faulty, Missing}
 use Rattle.krb_capture.specs.Messages.{message_found, cut_found}
 use Rattle.krb_capture.specs.Passwords.{password_found}

@@ -4,8 +4,8 @@ use Rattle.krb_der.specs.declared.verdict.Refusal.{Refusal}
 use Rattle.krb_msg.specs.declared.message.Message.{Message}
 use Rattle.krb_text.specs.Captures.{captured_message_line, captured_refused_line, joined_line, lost_line, password_line}
 use Rattle.krb_text.specs.declared.capture.CaptureCounts.{CaptureCounts}
-use Rattle.krb_text.specs.declared.extent.Extent.{Extent}
-use Rattle.krb_text.specs.declared.form.Form.{Form}
+use Rattle.krb_record.specs.declared.extent.Extent.{Extent}
+use Rattle.krb_record.specs.declared.form.Form.{Form}
 use Rattle.krb_text.specs.declared.origin.Origin.{Origin}
 
 -- A message; a message or a frame that is refused, the path of the field at fault, and where the frame is and its length; that a direction begins without its SYN; octets that are not in the capture, and the path of the field that has the first of them; a message that changes a password, with the lengths of its parts.

@@ -13,7 +13,7 @@ use Rattle.krb_frame.specs.Frame.{length_fault}
 use Rattle.krb_frame.specs.GoingOn.{Entry, Contents, Fault, entries, entry_size}
 use Rattle.krb_flow.specs.declared.stream.End.{End}
 use Rattle.krb_flow.specs.declared.stream.End.TheVariants as ends
-use Rattle.krb_text.specs.declared.extent.Extent.{Extent}
+use Rattle.krb_record.specs.declared.extent.Extent.{Extent}
 use Rattle.krb_capture.specs.Found.{Found, Whole, Faulty, Missing, and_more}
 use Rattle.krb_capture.specs.Messages.{path_of}
 use Rattle.krb_capture.specs.Passwords.{password_found}

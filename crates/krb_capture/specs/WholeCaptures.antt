@@ -15,8 +15,8 @@ use Rattle.krb_flow.specs.Arrivals.{AreAllOf}
 use Rattle.krb_flow.specs.Laws.{Piece, segments_of}
 use Rattle.krb_flow.specs.declared.direction.Beginning.{Beginning}
 use Rattle.krb_text.specs.declared.origin.Origin.{Origin}
-use Rattle.krb_text.specs.declared.origin.Transport.{Transport}
-use Rattle.krb_text.specs.declared.origin.Transport.TheVariants as transports
+use Rattle.krb_record.specs.declared.flow.Transport.{Transport}
+use Rattle.krb_record.specs.declared.flow.Transport.TheVariants as transports
 use Rattle.krb_capture.specs.Captures.{Finding, Progress, Settings, at_first, contents_in, end_taken, packet_taken}
 use Rattle.krb_capture.specs.Datagrams.{datagram_found}
 use Rattle.krb_capture.specs.Flows.{flow_between, service_of}

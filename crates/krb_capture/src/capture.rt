@@ -16,9 +16,8 @@ use krb_der::Memory;
 use krb_file::FileWhy;
 use krb_frame::Limit;
 use krb_packet::{Contents, Datagram, Ends, Fragment, Fragments, Packet, Segment, contents_of};
-use krb_text::{
-    CaptureCounts, Extent, Form, TextBuffer, Transport, put_capture_end, put_capture_refusal,
-};
+use krb_record::{Extent, Form, TextBuffer, Transport};
+use krb_text::{CaptureCounts, put_capture_end, put_capture_refusal};
 use std::alloc::Global;
 
 /// What was found in the packets of a capture so far. It allocates for the fragments of datagrams

@@ -11,7 +11,8 @@ use crate::password::list_password;
 use krb_der::{Memory, Refusal, Why};
 use krb_flow::Lost;
 use krb_packet::Payload;
-use krb_text::{Extent, Origin};
+use krb_record::Extent;
+use krb_text::Origin;
 
 /// Lists the message of a datagram.
 #[tactic(auto, unfolding(crate::specs::Datagrams::datagram_found))]

@@ -4,7 +4,8 @@ ghost use Rattle.std.specs.Prelude.{◌≡◌};
 ghost use Rattle.krb_capture.specs.Flows.{due_with, flow_between, origin_of, service_of};
 
 use krb_packet::{Endpoint, Packet};
-use krb_text::{Origin, Transport};
+use krb_record::Transport;
+use krb_text::Origin;
 
 /// The port of changes of passwords (RFC 3244, 2).
 const PASSWORD_PORT: u16 = 464;

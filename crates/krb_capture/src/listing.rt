@@ -7,9 +7,10 @@ ghost use Rattle.krb_capture.specs.Listed.{IsListed};
 
 use krb_der::{Memory, Profile, Refusal};
 use krb_flow::Lost;
+use krb_record::{Extent, Form, TextBuffer};
 use krb_text::{
-    CaptureCounts, Extent, Form, Origin, TextBuffer, put_captured_message, put_captured_refusal,
-    put_joined, put_lost, put_password,
+    CaptureCounts, Origin, put_captured_message, put_captured_refusal, put_joined, put_lost,
+    put_password,
 };
 use std::alloc::Global;
 use std::marker::Model;

@@ -2,7 +2,7 @@
 
 ghost use Rattle.std.specs.Prelude.{◌≡◌, ◌+◌, ◌-◌, ◌^◌, ◌<◌, ◌≤◌, length, IfOk, OnOk, string_bytes};
 ghost use Rattle.std.specs.Option.{option_map};
-ghost use Rattle.krb_text.specs.Refusals.{path_in};
+ghost use Rattle.krb_record.specs.Refusals.{path_in};
 ghost use Rattle.krb_capture.specs.Found.{Missing, with_found};
 ghost use Rattle.krb_capture.specs.Messages.{cut_found, prefix_refusal, message_found, path_of, refused_found};
 
@@ -10,7 +10,8 @@ use crate::listing::Listing;
 use krb_der::{Memory, Profile, Refusal, Verdict, Why};
 use krb_flow::Lost;
 use krb_judge::{judge, path, read_message};
-use krb_text::{Extent, Form, Origin};
+use krb_record::{Extent, Form};
+use krb_text::Origin;
 use std::alloc::Global;
 
 /// The greatest number of octets of a message.

@@ -2,7 +2,7 @@
 
 ghost use Rattle.std.specs.Prelude.{◌≡◌, ◌+◌, ◌<◌, ◌≤◌, ℕ, true, false, List, [], ◌++◌, length, take, IfOk, OnOk, string_bytes};
 ghost use Rattle.std.specs.Option.{option_map};
-ghost use Rattle.krb_text.specs.Refusals.{path_in};
+ghost use Rattle.krb_record.specs.Refusals.{path_in};
 ghost use Rattle.krb_frame.specs.GoingOn.{Fault};
 ghost use Rattle.krb_capture.specs.Found.{IsFull, with_all, with_found};
 ghost use Rattle.krb_capture.specs.Listed.{ListsEntry};
@@ -14,7 +14,8 @@ use crate::listing::{Listing, and_more};
 use crate::message::path_of;
 use krb_der::{Memory, Profile, Refusal};
 use krb_frame::{Decoder, Delivered, Limit, Receiver, SkippingDecoder};
-use krb_text::{Extent, Form, Origin};
+use krb_record::{Extent, Form};
+use krb_text::Origin;
 use std::alloc::Global;
 
 /// The frames of messages that one end sends. It keeps the octets of the frame that is not whole

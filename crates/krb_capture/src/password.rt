@@ -7,7 +7,8 @@ ghost use Rattle.krb_capture.specs.Passwords.{checked, header, number, part_foun
 use crate::listing::Listing;
 use crate::message::list_message;
 use krb_der::{Memory, Refusal, Why};
-use krb_text::{Extent, Origin};
+use krb_record::Extent;
+use krb_text::Origin;
 
 /// How many octets precede the AP-REQ or AP-REP: the length, the version, and the length of that.
 const HEADER: usize = 6;

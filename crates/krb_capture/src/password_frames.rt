@@ -13,7 +13,8 @@ use crate::message_frames::extent_of;
 use crate::password::list_password;
 use krb_der::{Memory, Refusal, Why};
 use krb_frame::{Limit, first_frame, length_fault};
-use krb_text::{Extent, Origin};
+use krb_record::Extent;
+use krb_text::Origin;
 use std::alloc::Global;
 
 /// How many octets a frame's length has.

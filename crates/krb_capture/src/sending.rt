@@ -1,7 +1,7 @@
 //! What one end of a TCP connection sends.
 
 ghost use Rattle.std.specs.Prelude.{◌≡◌, ◌≤◌, ℕ, List, ◌++◌, drop, length, Some, IfOk, OnOk};
-ghost use Rattle.krb_text.specs.declared.origin.Transport.TheVariants as transports;
+ghost use Rattle.krb_record.specs.declared.flow.Transport.TheVariants as transports;
 ghost use Rattle.krb_capture.specs.Flows.{origin_of};
 ghost use Rattle.krb_capture.specs.Found.{Found, with_all};
 ghost use Rattle.krb_capture.specs.Rests.{RepresentsBut, Sends, Takes};
@@ -15,7 +15,8 @@ use krb_der::Memory;
 use krb_flow::{Beginning, Direction, End, Had};
 use krb_frame::Limit;
 use krb_packet::Segment;
-use krb_text::{Origin, Transport};
+use krb_record::Transport;
+use krb_text::Origin;
 use std::alloc::Global;
 use std::marker::Model;
 

@@ -13,8 +13,8 @@ use Rattle.krb_packet.specs.declared.contents.Endpoint.{Endpoint}
 use Rattle.krb_packet.specs.declared.contents.Segment.{Segment}
 use Rattle.krb_packet.specs.declared.fragments.Reassembled.{Reassembled}
 use Rattle.krb_packet.specs.declared.packet.Packet.{Packet}
-use Rattle.krb_text.specs.declared.origin.Transport.{Transport}
-use Rattle.krb_text.specs.declared.origin.Transport.TheVariants as transports
+use Rattle.krb_record.specs.declared.flow.Transport.{Transport}
+use Rattle.krb_record.specs.declared.flow.Transport.TheVariants as transports
 use Rattle.krb_capture.specs.Captures.{Finding, Progress, Settings, at_first, completed, contents_in, contents_taken, datagram_taken, over_tcp, over_udp, packet_taken, segment_taken, unread_taken, whole_taken, with_packet}
 use Rattle.krb_capture.specs.Datagrams.{datagram_found}
 use Rattle.krb_capture.specs.Directions.{Followed, Table, flow_of, followed, last_of, no_directions}

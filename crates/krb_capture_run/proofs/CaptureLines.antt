@@ -7,7 +7,7 @@ use Rattle.krb_file.specs.declared.fault.FileFault.TheVariants as faults
 use Rattle.krb_packet.specs.Captures.{packets}
 use Rattle.krb_packet.specs.Streaming.{ReturnsNext, PacketsModel, Reads}
 use Rattle.krb_packet.specs.declared.packet.Packet.{Packet}
-use Rattle.krb_text.specs.declared.form.Form.{Form}
+use Rattle.krb_record.specs.declared.form.Form.{Form}
 use Rattle.krb_capture.specs.Captures.{Finding, HasFollowed, Progress, Settings, at_first, counted_each, lines_of, packet_taken}
 use Rattle.krb_capture.specs.Found.{found_line}
 use Rattle.krb_capture.specs.Rests.{HasFollowedBut, Lists}

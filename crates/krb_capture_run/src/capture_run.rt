@@ -10,7 +10,7 @@ use krb_capture::{Capture, Rest};
 use krb_file::{FileFault, FileItem};
 use krb_frame::Limit;
 use krb_packet::Packets;
-use krb_text::{Form, TextBuffer};
+use krb_record::{Form, TextBuffer};
 use krb_tool::{
     RecordLines, RunEnd, RunFault, Watch, Watched, extent_of, file_path, in_pieces, list_records,
 };

@@ -15,14 +15,15 @@ use krb_frame::{Decoder, Limit, SkippingDecoder, Status, frame};
 use krb_json::{LineFault, Scratch, put_text, read_line, unencrypted_path};
 use krb_judge::{ParseFault, judge, parse, read_ticket};
 use krb_keytab::{Next, Record, Records};
-use krb_list::{Form, TextBuffer, message_line, principal_text};
 use krb_msg::{
     ApRep, EncodeFault, EncryptedData, Kind, Message, PrincipalName, encode, next_item, view_whole,
 };
 use krb_packet::{Packet, Packets};
 use krb_padata::{EtypeInfo2, EtypeInfo2Entry, view_pac_request};
+use krb_record::{Form, TextBuffer, principal_text};
 use krb_registry::{Registry, name_of};
 use krb_scan::Scanner;
+use krb_text::message_line;
 use krb_tool::{DecodeEnd, EncodeEnd, run_decode, run_encode, run_keytab, status};
 use krb_words::{Command, WordsFault, read_words};
 use std::alloc::{AllocError, Global};

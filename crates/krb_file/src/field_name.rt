@@ -188,16 +188,17 @@ impl fmt::Display for FilePart {
     ghost output = { λ part. Some (part_text part) };
 
     fn fmt<W: fmt::Write>(&self, f: &mut fmt::Formatter<W>) -> fmt::Result {
-        match self {
-            FilePart::Header(index) => write!(f, "header[{index}]"),
-            FilePart::Principal => f.write_str("principal"),
-            FilePart::Client => f.write_str("client"),
-            FilePart::Server => f.write_str("server"),
-            FilePart::Address(index) => write!(f, "address[{index}]"),
-            FilePart::Authdata(index) => write!(f, "authdata[{index}]"),
-            FilePart::Packet(index) => write!(f, "packet[{index}]"),
-            FilePart::Block(index) => write!(f, "block[{index}]"),
-        }
+        let (word, index) = match self {
+            FilePart::Principal => return f.write_str("principal"),
+            FilePart::Client => return f.write_str("client"),
+            FilePart::Server => return f.write_str("server"),
+            FilePart::Header(index) => ("header", *index),
+            FilePart::Address(index) => ("address", u64::from(*index)),
+            FilePart::Authdata(index) => ("authdata", u64::from(*index)),
+            FilePart::Packet(index) => ("packet", *index),
+            FilePart::Block(index) => ("block", *index),
+        };
+        write!(f, "{word}[{index}]")
     }
 }
 

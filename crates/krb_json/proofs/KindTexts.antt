@@ -8,8 +8,6 @@ use Rattle.krb_msg.specs.Shape as shape
 use Rattle.krb_msg.specs.Views.{kind_name, kind_term, kind_term_in}
 use Rattle.krb_msg.specs.declared.message.Kind.{Kind}
 use Rattle.krb_msg.specs.declared.message.Kind.TheVariants as kind
-use Rattle.krb_msg.specs.declared.message.Message.{Message}
-use Rattle.krb_msg.specs.declared.message.Message.TheVariants as message
 use Rattle.krb_judge.specs.FieldNames.{fields_of, names_of_kind}
 use Rattle.krb_judge.specs.declared.locating.names.Names.{Names}
 use Rattle.krb_judge.specs.declared.locating.names.Names.TheVariants as names

@@ -9,7 +9,7 @@ use Rattle.std.proofs.Math.Dec.{eqb-suc-zero}
 use Rattle.std.proofs.lemmas.List.{take_more}
 use Rattle.std.proofs.lemmas.List.Folds.{list_any-append}
 use Rattle.std.proofs.lemmas.Grind.{flat_map-append}
-use Rattle.json.specs.Json.{Json, null, array, object, Items, item, Members, member}
+use Rattle.json.specs.Json.{Json, null, object, Items, item, Members, member}
 use Rattle.json.specs.Find.{as_array, as_object, get, get_member}
 use Rattle.json.specs.Tree.{HasNumbers, ItemsHaveNumbers}
 use Rattle.json.specs.Value.{value_view, items_view, members_view}

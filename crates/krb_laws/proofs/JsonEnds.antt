@@ -13,22 +13,23 @@ use Rattle.krb_input.specs.declared.spelling.Spelling.TheVariants as spellings
 use Rattle.krb_msg.specs.Stream.{End, Boundary, Within, Refused}
 use Rattle.krb_packet.specs.declared.packet.Time.{Time}
 use Rattle.krb_text.specs.Captures.{capture_refused_record, count_fields, lost_record, origin_fields, password_record}
-use Rattle.krb_text.specs.Files.{file_record}
-use Rattle.krb_text.specs.Inputs.{input_refused_record, input_word}
-use Rattle.krb_text.specs.Messages.{message_origin}
-use Rattle.krb_text.specs.Refusals.{extent_in, file_refused_record, message_refused_record, path_in, refusal_record}
-use Rattle.krb_text.specs.Streams.{counted_end_record, end_record, refused_frame, refused_record}
-use Rattle.krb_text.specs.Text.{IsPrintable}
-use Rattle.krb_text.specs.Time.{instant_text}
-use Rattle.krb_text.specs.Values.{Field, Number, String, Word, if_there, printed, with_origin}
-use Rattle.krb_text.specs.declared.extent.Extent.{Extent}
-use Rattle.krb_text.specs.declared.form.Form.TheVariants as forms
-use Rattle.krb_text.specs.declared.input.InputFault.{InputFault}
-use Rattle.krb_text.specs.declared.input.InputFault.TheVariants as faults
+use Rattle.krb_record.specs.Files.{file_record}
+use Rattle.krb_record.specs.Inputs.{input_refused_record, input_word}
+use Rattle.krb_record.specs.Origins.{message_origin}
+use Rattle.krb_record.specs.Refusals.{extent_in, file_refused_record, message_refused_record, path_in, refusal_record}
+use Rattle.krb_text.specs.StreamEnds.{end_record}
+use Rattle.krb_record.specs.Streams.{counted_end_record, refused_frame, refused_record}
+use Rattle.krb_record.specs.Text.{IsPrintable}
+use Rattle.krb_record.specs.Time.{instant_text}
+use Rattle.krb_record.specs.Values.{Field, Number, String, Word, if_there, printed, with_origin}
+use Rattle.krb_record.specs.declared.extent.Extent.{Extent}
+use Rattle.krb_record.specs.declared.form.Form.TheVariants as forms
+use Rattle.krb_record.specs.declared.input.InputFault.{InputFault}
+use Rattle.krb_record.specs.declared.input.InputFault.TheVariants as faults
 use Rattle.krb_text.specs.declared.origin.Origin.{Origin}
-use Rattle.krb_text.proofs.Printable.{Prints, word}
-use Rattle.krb_text.proofs.Reasons as reasons
-use Rattle.krb_text.proofs.Times.{instant}
+use Rattle.krb_record.proofs.Printable.{Prints, word}
+use Rattle.krb_record.proofs.Reasons as reasons
+use Rattle.krb_record.proofs.Times.{instant}
 use Rattle.krb_text_laws.proofs.Tuples.{◌&◌}
 use Rattle.krb_laws.specs.JsonLaws.{CapturesAreJson, EndsAreJson, IsEnd, IsExtent, IsFlowOrigin, PrintsJson, ValueFits, are_different, is_plain}
 use Rattle.krb_laws.proofs.JsonMessages.{its_origin, message_from}
@@ -105,9 +106,9 @@ ends_are_json = record {
 }
 
 -- ---- captures
-its_time : (time : Option Time) → IfSome time (λ time. time.seconds < 2 ^ 32) → ValueFits (if_there (λ time. Word (instant_text time)) time)
+its_time : (time : Option Time) → IfSome time (λ time. time.seconds < 2 ^ 32) → ValueFits (if_there (λ time. Word (instant_text time.seconds time.nanoseconds)) time)
 its_time None h = tt
-its_time (Some time) h = (instant time h).all
+its_time (Some time) h = (instant time.seconds time.nanoseconds h).all
 
 flow_origin : (origin : Origin) → IsFlowOrigin origin → IsOrigin (origin_fields origin)
 flow_origin origin h = record {

@@ -35,11 +35,12 @@ use Rattle.krb_keytab.specs.declared.value.Stop.TheVariants as stops
 use Rattle.krb_list.specs.Ccaches.{cache_end, cache_record, config_record, credential_record, offset_value, state, state_record, ticket_server, ticketed_record}
 use Rattle.krb_list.specs.Configs.{config_value, is_shown}
 use Rattle.krb_list.specs.Keytabs.{entry_fields, keytab_end, printed_record}
-use Rattle.krb_text.specs.Time.{file_time, moment_text}
-use Rattle.krb_text.specs.Values.{Absent, NoTicket, Quoted, RefusedTicket, Value as Shown, Word, if_there, encrypted}
-use Rattle.krb_text.specs.declared.form.Form.TheVariants as forms
-use Rattle.krb_text.proofs.Printable.{word}
-use Rattle.krb_text.proofs.Times.{moment}
+use Rattle.krb_record.specs.Time.{file_time, moment_text}
+use Rattle.krb_text.specs.MessageValues.{encrypted}
+use Rattle.krb_record.specs.Values.{Absent, NoTicket, Quoted, RefusedTicket, Value as Shown, Word, if_there}
+use Rattle.krb_record.specs.declared.form.Form.TheVariants as forms
+use Rattle.krb_record.proofs.Printable.{word}
+use Rattle.krb_record.proofs.Times.{moment}
 use Rattle.krb_text_laws.proofs.Tuples.{◌&◌}
 use Rattle.krb_laws.specs.JsonFiles.{FilesAreJson, IsRecord}
 use Rattle.krb_laws.specs.JsonLaws.{IsSmall, PrintsJson, ValueFits}

@@ -16,7 +16,8 @@ use Rattle.krb_padata.specs.Types.{etype_info2_entry_of, etype_info_entry_of, kr
 use Rattle.krb_padata.specs.declared.krb_fast_armor.KrbFastArmor.{KrbFastArmor}
 use Rattle.krb_text.specs.Inside.{ap_req_if, ap_req_in, clear_parts, clear_type, each_if, etype_info2_part, etype_info_part, fast_reply_part, fast_request_part, for_user_part, is_ap_req_armor, item_parts, kdc_req_parts, krb_error_parts, method_data_if, method_parts, one_if, pac_options_part, pac_request_part, padata_parts, salt_part, encrypted_part, tgs_req_part, ticket_part, types_if}
 use Rattle.krb_text.specs.Judged.{asks_for_preauth, judged, says_preauth_failed}
-use Rattle.krb_text.specs.Values.{Hex, Number, Part, Quoted, if_there, principal, encrypted}
+use Rattle.krb_text.specs.MessageValues.{principal, encrypted}
+use Rattle.krb_record.specs.Values.{Hex, Number, Part, Quoted, if_there}
 use Rattle.krb_text.specs.declared.clear_type.ClearType.{ClearType}
 use Rattle.krb_text.specs.declared.clear_type.ClearType.TheVariants as types
 use Rattle.krb_laws.specs.JsonLaws.{PartFits, ValueFits}

@@ -11,8 +11,9 @@ use Rattle.krb_msg.specs.declared.message.Message.{Message}
 use Rattle.krb_msg.specs.declared.message.Message.TheVariants as message
 use Rattle.krb_msg.specs.declared.ticket.Ticket.{Ticket}
 use Rattle.krb_text.specs.Inside.{inside_of}
-use Rattle.krb_text.specs.Messages.{fields_of, message_origin, message_record, notes, ticket_record}
-use Rattle.krb_text.specs.Values.{Field, the, with_origin}
+use Rattle.krb_record.specs.Origins.{message_origin}
+use Rattle.krb_text.specs.Messages.{fields_of, message_record, notes, ticket_record}
+use Rattle.krb_record.specs.Values.{Field, the, with_origin}
 use Rattle.krb_text_laws.proofs.MessageOneLine.{record_is_plain}
 use Rattle.krb_input.specs.declared.layer.Layer.{Layer}
 use Rattle.krb_laws.specs.JsonLaws.{IsLine, MessagesAreJson, PartFits, PrintsJson}

@@ -21,7 +21,8 @@ use Rattle.krb_msg.specs.declared.pa_data.PaData.{PaData}
 use Rattle.krb_msg.specs.declared.principal_name.PrincipalName.{PrincipalName}
 use Rattle.krb_text.specs.Judged.{asks_for_preauth, judged}
 use Rattle.krb_text.specs.MessageFields.{ap_req_fields, kdc_rep_fields, kdc_req_fields, krb_cred_fields, krb_error_fields, krb_safe_fields, methods, notes, padata}
-use Rattle.krb_text.specs.Values.{Value as Shown, Number, Quoted, Word, address, checksum, client, count, if_there, principal, encrypted}
+use Rattle.krb_text.specs.MessageValues.{address, checksum, client, principal, encrypted}
+use Rattle.krb_record.specs.Values.{Value as Shown, Number, Quoted, Word, count, if_there}
 use Rattle.krb_text.proofs.Judged.{IsJudged, is_judged}
 use Rattle.krb_text_laws.proofs.Tuples.{◌&◌}
 use Rattle.krb_laws.specs.JsonLaws.{IsSmall}

@@ -12,7 +12,7 @@ use Rattle.json.specs.Value.{items_of}
 use Rattle.json.proofs.Printed.Decimals.{IsNumber-decimal, IsNumber-signed_decimal}
 use Rattle.json.proofs.Printed.Strings.{escape_byte_plain}
 use Rattle.json.proofs.Printed.Trees.{document-print}
-use Rattle.krb_text.specs.Text.{list_text}
+use Rattle.krb_record.specs.Text.{list_text}
 
 -- ---- what is to be shown of a text, of the text of items up to the bracket, and of that of members up to the brace
 abbrev pub comma : Bool → List ℕ

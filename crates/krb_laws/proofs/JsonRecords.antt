@@ -6,10 +6,10 @@ use Rattle.std.specs.List.{AllByRecursion, flat_map, list_all}
 use Rattle.json.specs.Json.{Json, Members, member, no_members, null, string}
 use Rattle.json.specs.Strict.{keys, AreDistinct}
 use Rattle.krb_registry.specs.declared.registry.Registry.TheVariants as registries
-use Rattle.krb_text.specs.Forms.{closing, ending, fields_text, heading, inside_text, json_value, labelled, members, name_string, names_member, opening, opening_from, part_text, record_text}
-use Rattle.krb_text.specs.Text.{list_text}
-use Rattle.krb_text.specs.Values.{Value, Named, Numbers, ErrorCode, Reason, NoReason, Field, Part, Printed}
-use Rattle.krb_text.specs.declared.form.Form.TheVariants as form
+use Rattle.krb_record.specs.Forms.{closing, ending, fields_text, heading, inside_text, json_value, labelled, members, name_string, names_member, opening, opening_from, part_text, record_text}
+use Rattle.krb_record.specs.Text.{list_text}
+use Rattle.krb_record.specs.Values.{Value, Named, Numbers, ErrorCode, Reason, NoReason, Field, Part, Printed}
+use Rattle.krb_record.specs.declared.form.Form.TheVariants as form
 use Rattle.krb_laws.specs.Json.{field_members, inside_members, json_of, json_of_value, list_of, members_of, name_json, names_of_value, object_of, part_json}
 use Rattle.krb_laws.specs.JsonLaws.{FitsJson, IsJson, PartFits, ValueFits, are_different, inside_name, is_plain, member_names}
 use Rattle.krb_laws.proofs.JsonNames.{AllOthers, distinct, distinct_cons, others}

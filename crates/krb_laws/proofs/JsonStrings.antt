@@ -18,8 +18,8 @@ use Rattle.krb_registry.specs.Laws.{is_plain as is_plain_in_rows}
 use Rattle.krb_registry.specs.Rows.{name_of, rows}
 use Rattle.krb_registry.specs.declared.registry.Registry.{Registry}
 use Rattle.krb_registry.proofs.Names.{all_plain, each_octet, name_is_plain, plain_octet}
-use Rattle.krb_text.specs.Forms.{json_character, json_string, set_names, shown_octet}
-use Rattle.krb_text.specs.Text.{escape, escape_octet, hex, is_plain as is_plain_in_lines, joined, principal_text, two_hex}
+use Rattle.krb_record.specs.Forms.{json_character, json_string, set_names, shown_octet}
+use Rattle.krb_record.specs.Text.{escape, escape_octet, hex, is_plain as is_plain_in_lines, joined, principal_text, two_hex}
 use Rattle.krb_laws.specs.JsonLaws.{is_plain}
 use Rattle.krb_laws.proofs.JsonPieces.{IsText, IsPlain, a_quoted}
 

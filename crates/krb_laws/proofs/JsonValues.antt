@@ -11,16 +11,16 @@ use Rattle.krb_der.specs.declared.verdict.Refusal.{Refusal}
 use Rattle.krb_der.specs.declared.why.Why.{Why}
 use Rattle.krb_der.specs.declared.why.Why.TheVariants as whys
 use Rattle.krb_msg.specs.Term.{IfPresent}
-use Rattle.krb_packet.specs.declared.contents.Endpoint.{Endpoint}
+use Rattle.std.specs.declared.net.ip_addr.IpAddr.{IpAddr}
 use Rattle.krb_registry.specs.Rows.{name_of}
 use Rattle.krb_registry.specs.declared.registry.Registry.{Registry}
 use Rattle.krb_registry.specs.declared.registry.Registry.TheVariants as registries
-use Rattle.krb_text.specs.Flows.{transport_name, endpoint_object, flow_object}
-use Rattle.krb_text.specs.Forms.{address_object, digest_object, flags_object, four_octets, json_string, json_value, name_string, octets_string, offset_object, or_null, principal_object, refused_object, encrypted_object, set_names, shown_octet, true_or_false}
-use Rattle.krb_text.specs.Text.{IsPrintable, hex, principal_text, list_text}
-use Rattle.krb_text.specs.Values.{Value, Absent, NoTicket, Number, Named, Numbers, ErrorCode, Reason, NoReason, String, Quoted, FileName, Word, Hex, Flags, TicketFlags, Encrypted, Principal, Address, Digest, YesNo, Offset, RefusedTicket, Flow, Layers}
-use Rattle.krb_text.specs.declared.origin.Transport.{Transport}
-use Rattle.krb_text.specs.declared.origin.Transport.TheVariants as transports
+use Rattle.krb_record.specs.Flows.{transport_name, endpoint_object, flow_object}
+use Rattle.krb_record.specs.Forms.{address_object, digest_object, flags_object, four_octets, json_string, json_value, name_string, octets_string, offset_object, or_null, principal_object, refused_object, encrypted_object, set_names, shown_octet, true_or_false}
+use Rattle.krb_record.specs.Text.{IsPrintable, hex, principal_text, list_text}
+use Rattle.krb_record.specs.Values.{Value, Absent, NoTicket, Number, Named, Numbers, ErrorCode, Reason, NoReason, String, Quoted, FileName, Word, Hex, Flags, TicketFlags, Encrypted, Principal, Address, Digest, YesNo, Offset, RefusedTicket, Flow, Layers}
+use Rattle.krb_record.specs.declared.flow.Transport.{Transport}
+use Rattle.krb_record.specs.declared.flow.Transport.TheVariants as transports
 use Rattle.krb_input.specs.Layers.{layer_name}
 use Rattle.krb_input.specs.declared.layer.Layer.{Layer}
 use Rattle.krb_input.specs.declared.layer.Layer.TheVariants as layers
@@ -155,18 +155,18 @@ some_refused r h =
         go b c d e = simp append_assoc refl
 
 -- ---- flows
-some_endpoint : (e : Endpoint) → IsEndpoint e → IsText (endpoint_object e) (endpoint_json e) 1
+some_endpoint : (e : IpAddr × ℕ) → IsEndpoint e → IsText (endpoint_object e) (endpoint_json e) 1
 some_endpoint e h =
     as_text
-    (first_plain {levels = 0} (codes "address") (ip_text e.address) refl (plain_address e.address h.0)
-    (next (codes "port") refl (a_number e.port h.1) no_more_members) refl)
-    (five (codes "{\"address\":\"") (ip_text e.address) (codes "\",\"port\":") (decimal e.port) (codes "}"))
+    (first_plain {levels = 0} (codes "address") (ip_text e.0) refl (plain_address e.0 h.0)
+    (next (codes "port") refl (a_number e.1 h.1) no_more_members) refl)
+    (five (codes "{\"address\":\"") (ip_text e.0) (codes "\",\"port\":") (decimal e.1) (codes "}"))
 
 plain_transport : (t : Transport) → IsPlain (transport_name t)
 plain_transport transports.Udp = is_plain-plain (codes "udp") refl
 plain_transport transports.Tcp = is_plain-plain (codes "tcp") refl
 
-some_flow : (t : Transport) (source target : Endpoint) → IsEndpoint source → IsEndpoint target → IsText (flow_object t source target) (json_of_value (Flow t source target)) 2
+some_flow : (t : Transport) (source target : IpAddr × ℕ) → IsEndpoint source → IsEndpoint target → IsText (flow_object t source target) (json_of_value (Flow t source target)) 2
 unfolding json_of_value
 some_flow t source target h k =
     as_text

@@ -7,14 +7,14 @@ use Rattle.json.specs.Json.{Json, null, boolean, number, string, array, object, 
 use Rattle.json.specs.Value.{items_of}
 use Rattle.krb_der.specs.Reasons.{reason_number, reason_name}
 use Rattle.krb_der.specs.declared.verdict.Refusal.{Refusal}
-use Rattle.krb_packet.specs.declared.contents.Endpoint.{Endpoint}
+use Rattle.std.specs.declared.net.ip_addr.IpAddr.{IpAddr}
 use Rattle.krb_registry.specs.Rows.{name_of}
 use Rattle.krb_registry.specs.declared.registry.Registry.{Registry}
 use Rattle.krb_registry.specs.declared.registry.Registry.TheVariants as registries
-use Rattle.krb_text.specs.Flows.{transport_name}
-use Rattle.krb_text.specs.Forms.{four_octets, set_names, shown_octet}
-use Rattle.krb_text.specs.Text.{hex, principal_text}
-use Rattle.krb_text.specs.Values.{Value, Absent, NoTicket, Number, Named, Numbers, ErrorCode, Reason, NoReason, String, Quoted, FileName, Word, Hex, Flags, TicketFlags, Encrypted, Principal, Address, Digest, YesNo, Offset, RefusedTicket, Flow, Layers, Field, Part, Printed}
+use Rattle.krb_record.specs.Flows.{transport_name}
+use Rattle.krb_record.specs.Forms.{four_octets, set_names, shown_octet}
+use Rattle.krb_record.specs.Text.{hex, principal_text}
+use Rattle.krb_record.specs.Values.{Value, Absent, NoTicket, Number, Named, Numbers, ErrorCode, Reason, NoReason, String, Quoted, FileName, Word, Hex, Flags, TicketFlags, Encrypted, Principal, Address, Digest, YesNo, Offset, RefusedTicket, Flow, Layers, Field, Part, Printed}
 use Rattle.krb_input.specs.Layers.{layer_name}
 
 -- ---- values of JSON
@@ -101,8 +101,8 @@ refused_json refusal =
     )
     ∷ [])
 
-abbrev pub endpoint_json : Endpoint → Json
-endpoint_json e = object_of ((codes "address", string (ip_text e.address)) ∷ (codes "port", count_of e.port) ∷ [])
+abbrev pub endpoint_json : IpAddr × ℕ → Json
+endpoint_json e = object_of ((codes "address", string (ip_text e.0)) ∷ (codes "port", count_of e.1) ∷ [])
 
 -- the value of a field
 unfoldable pub json_of_value : Value → Json

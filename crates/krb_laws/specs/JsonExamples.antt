@@ -4,8 +4,8 @@ use Rattle.std.specs.Fmt.{digits}
 use Rattle.json.specs.Json.{array, boolean, item, member, no_items, no_members, null, number, object, string}
 use Rattle.krb_registry.specs.Rows.{name_in, name_of, rows}
 use Rattle.krb_registry.specs.declared.registry.Registry.TheVariants as registries
-use Rattle.krb_text.specs.Streams.{counted_end_record}
-use Rattle.krb_text.specs.Values.{Absent, Named, Numbers, String, YesNo, Number, part, printed, the, with_inside, with_origin}
+use Rattle.krb_record.specs.Streams.{counted_end_record}
+use Rattle.krb_record.specs.Values.{Absent, Named, Numbers, String, YesNo, Number, part, printed, the, with_inside, with_origin}
 use Rattle.krb_laws.specs.Json.{json_of, json_of_value, names_of_value}
 
 end_of_stream : json_of (counted_end_record 8 0) ≡ object (member (codes "kind") (string (codes "end")) (member (codes "messages") (number (codes "8")) (member (codes "refused") (number (codes "0")) no_members)))

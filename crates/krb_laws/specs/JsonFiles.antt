@@ -11,7 +11,7 @@ use Rattle.krb_keytab.specs.declared.value.Record.TheVariants as records
 use Rattle.krb_keytab.specs.declared.value.Stop.{Stop}
 use Rattle.krb_list.specs.Ccaches.{cache_end, cache_record, credential_record}
 use Rattle.krb_list.specs.Keytabs.{keytab_end, printed_record}
-use Rattle.krb_text.specs.declared.form.Form.TheVariants as forms
+use Rattle.krb_record.specs.declared.form.Form.TheVariants as forms
 use Rattle.krb_laws.specs.JsonLaws.{PrintsJson}
 
 -- an entry that octets spell, and a hole of a size that holes have

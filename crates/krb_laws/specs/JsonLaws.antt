@@ -19,21 +19,23 @@ use Rattle.krb_msg.specs.Types.{ticket_value}
 use Rattle.krb_msg.specs.Views.{IsInProfile}
 use Rattle.krb_msg.specs.declared.message.Message.{Message}
 use Rattle.krb_msg.specs.declared.ticket.Ticket.{Ticket}
-use Rattle.krb_packet.specs.declared.contents.Endpoint.{Endpoint}
+use Rattle.std.specs.declared.net.ip_addr.IpAddr.{IpAddr}
 use Rattle.krb_text.specs.Captures.{capture_refused_record, count_fields, lost_record, origin_fields, password_record}
-use Rattle.krb_text.specs.Files.{file_record}
-use Rattle.krb_text.specs.Forms.{record_text}
-use Rattle.krb_text.specs.Inputs.{input_refused_record}
+use Rattle.krb_record.specs.Files.{file_record}
+use Rattle.krb_record.specs.Forms.{record_text}
+use Rattle.krb_record.specs.Inputs.{input_refused_record}
 use Rattle.krb_text.specs.Laws.{OriginIsInRange}
-use Rattle.krb_text.specs.Messages.{message_origin, message_record, ticket_record}
-use Rattle.krb_text.specs.Refusals.{extent_in, file_refused_record, message_refused_record, path_in, refusal_record}
-use Rattle.krb_text.specs.Streams.{counted_end_record, end_record, refused_frame}
-use Rattle.krb_text.specs.Text.{IsPrintable}
-use Rattle.krb_text.specs.Values.{Value, Number, Named, Numbers, ErrorCode, Reason, Word, Flags, Encrypted, Principal, Address, Digest, Offset, RefusedTicket, Flow, Field, Part, Printed, printed, with_origin}
+use Rattle.krb_record.specs.Origins.{message_origin}
+use Rattle.krb_text.specs.Messages.{message_record, ticket_record}
+use Rattle.krb_record.specs.Refusals.{extent_in, file_refused_record, message_refused_record, path_in, refusal_record}
+use Rattle.krb_text.specs.StreamEnds.{end_record}
+use Rattle.krb_record.specs.Streams.{counted_end_record, refused_frame}
+use Rattle.krb_record.specs.Text.{IsPrintable}
+use Rattle.krb_record.specs.Values.{Value, Number, Named, Numbers, ErrorCode, Reason, Word, Flags, Encrypted, Principal, Address, Digest, Offset, RefusedTicket, Flow, Field, Part, Printed, printed, with_origin}
 use Rattle.krb_text.specs.declared.capture.CaptureCounts.{CaptureCounts}
-use Rattle.krb_text.specs.declared.extent.Extent.{Extent}
-use Rattle.krb_text.specs.declared.form.Form.TheVariants as forms
-use Rattle.krb_text.specs.declared.input.InputFault.{InputFault}
+use Rattle.krb_record.specs.declared.extent.Extent.{Extent}
+use Rattle.krb_record.specs.declared.form.Form.TheVariants as forms
+use Rattle.krb_record.specs.declared.input.InputFault.{InputFault}
 use Rattle.krb_text.specs.declared.origin.Origin.{Origin}
 use Rattle.krb_input.specs.declared.layer.Layer.{Layer}
 use Rattle.krb_laws.specs.Json.{json_of}
@@ -61,8 +63,8 @@ are_different (first ∷ others) = list_all (λ other. not (bytes_eq first other
 abbrev pub IsSmall : ℤ → Type 0
 IsSmall n = unsigned_abs n < 2 ^ 63
 
-abbrev pub IsEndpoint : Endpoint → Type 0
-IsEndpoint e = MatchIp e.address IsIpv4Addr IsIpv6Addr × (e.port < 2 ^ 64)
+abbrev pub IsEndpoint : IpAddr × ℕ → Type 0
+IsEndpoint e = MatchIp e.0 IsIpv4Addr IsIpv6Addr × (e.1 < 2 ^ 64)
 
 -- numbers and sizes are of 64 bits, words are printable, and addresses are as their types have them; octets may be any
 abbrev pub ValueFits : Value → Type 0

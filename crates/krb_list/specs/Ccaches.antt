@@ -12,11 +12,12 @@ use Rattle.krb_ccache.specs.Spelling.{offset}
 use Rattle.krb_ccache.specs.Tickets.{state_of}
 use Rattle.krb_list.specs.Configs.{config_value}
 use Rattle.krb_registry.specs.declared.registry.Registry.TheVariants as registries
-use Rattle.krb_text.specs.declared.form.Form.{Form}
-use Rattle.krb_text.specs.Forms.{record_line}
-use Rattle.krb_text.specs.Refusals.{told}
-use Rattle.krb_text.specs.Time.{file_time}
-use Rattle.krb_text.specs.Values.{Value, Absent, NoTicket, Number, Named, Word, TicketFlags, Principal, Offset, RefusedTicket, Field, Printed, the, printed, if_there, count, encrypted}
+use Rattle.krb_record.specs.declared.form.Form.{Form}
+use Rattle.krb_record.specs.Forms.{record_line}
+use Rattle.krb_record.specs.Refusals.{told}
+use Rattle.krb_record.specs.Time.{file_time}
+use Rattle.krb_text.specs.MessageValues.{encrypted}
+use Rattle.krb_record.specs.Values.{Value, Absent, NoTicket, Number, Named, Word, TicketFlags, Principal, Offset, RefusedTicket, Field, Printed, the, printed, if_there, count}
 
 abbrev pub file_principal : FilePrincipal → Value
 file_principal p = Principal p.name_type p.components p.realm

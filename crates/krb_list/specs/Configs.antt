@@ -1,8 +1,8 @@
 -- The values of configuration entries that are shown.
-use Rattle.std.specs.Prelude.{ℕ, Bool, true, false, ◌&&◌, ◌||◌, List, [], ◌∷◌, codes, if◌then◌else◌}
+use Rattle.std.specs.Prelude.{ℕ, Bool, false, ◌||◌, List, [], ◌∷◌, codes, if◌then◌else◌}
 use Rattle.std.specs.Str.{bytes_eq}
 use Rattle.krb_ccache.specs.declared.value.Credential.{Credential}
-use Rattle.krb_text.specs.Values.{Value, Absent, Quoted}
+use Rattle.krb_record.specs.Values.{Value, Absent, Quoted}
 
 -- The keys whose values are shown. Values of others may be keys, or hold what a module put there.
 abbrev pub is_shown_key : List ℕ → Bool

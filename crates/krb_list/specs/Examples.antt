@@ -9,15 +9,15 @@ use Rattle.krb_ccache.specs.declared.value.Credential.{Credential}
 use Rattle.krb_ccache.specs.declared.value.FilePrincipal.{FilePrincipal}
 use Rattle.krb_ccache.specs.Tickets.{state_of}
 use Rattle.krb_registry.specs.Rows.{rows, name_in, name_of}
-use Rattle.krb_text.specs.declared.form.Form.TheVariants.{Lines, NamedLines, Json}
+use Rattle.krb_record.specs.declared.form.Form.TheVariants.{Lines, NamedLines, Json}
 use Rattle.krb_list.specs.Configs.{config_value}
 use Rattle.krb_list.specs.Ccaches.{cache_end, cache_record, config_record, credential_record, state, ticketed_record}
-use Rattle.krb_text.specs.Forms.{closing, json_value, labelled, members, named_flags_text, names_member, opening, record_text, set_names, unnamed, value_text}
+use Rattle.krb_record.specs.Forms.{closing, json_value, labelled, members, named_flags_text, names_member, opening, record_text, set_names, unnamed, value_text}
 use Rattle.krb_list.specs.Keytabs.{keytab_end, keytab_lines, printed_record}
-use Rattle.krb_text.specs.TicketFlags.{ticket_flags_text, names_text, flag_name, eight_hex}
-use Rattle.krb_text.specs.Text.{principal_text}
-use Rattle.krb_text.specs.Time.{civil_date, date_from, date_in_year, two_digits, date_text, clock_text}
-use Rattle.krb_text.specs.Values.{Word}
+use Rattle.krb_record.specs.TicketFlags.{ticket_flags_text, names_text, flag_name, eight_hex}
+use Rattle.krb_record.specs.Text.{principal_text}
+use Rattle.krb_record.specs.Time.{civil_date, date_from, date_in_year, two_digits, date_text, clock_text}
+use Rattle.krb_record.specs.Values.{Word}
 
 -- a key of h@A, version 258
 abbrev pub entry : Entry

@@ -10,10 +10,10 @@ use Rattle.krb_keytab.specs.declared.value.Entry.{Entry}
 use Rattle.krb_keytab.specs.Holes.{HoleModel}
 use Rattle.krb_keytab.specs.Spelling.{kvno}
 use Rattle.krb_registry.specs.declared.registry.Registry.TheVariants as registries
-use Rattle.krb_text.specs.declared.form.Form.{Form}
-use Rattle.krb_text.specs.Forms.{record_line}
-use Rattle.krb_text.specs.Time.{file_time}
-use Rattle.krb_text.specs.Values.{Value, Number, Named, Principal, YesNo, Field, Printed, the, printed, count}
+use Rattle.krb_record.specs.declared.form.Form.{Form}
+use Rattle.krb_record.specs.Forms.{record_line}
+use Rattle.krb_record.specs.Time.{file_time}
+use Rattle.krb_record.specs.Values.{Value, Number, Named, Principal, YesNo, Field, Printed, the, printed, count}
 
 -- the principal and how its name is meant, the version of its key; of the key and of what follows it, the number of octets alone
 abbrev pub entry_fields : Entry → List Field

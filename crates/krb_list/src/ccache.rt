@@ -5,17 +5,17 @@ ghost use Rattle.std.specs.Fmt.{signed_decimal};
 ghost use Rattle.krb_registry.specs.declared.registry.Registry.TheVariants.{NameTypes};
 ghost use Rattle.krb_ccache.specs.Spelling.{offset};
 ghost use Rattle.krb_list.specs.Ccaches.{file_principal, offset_value, cache_record, credential_lines, cache_end, ccache_lines};
-ghost use Rattle.krb_text.specs.Forms.{fields_text, offset_object, record_line, record_text};
-ghost use Rattle.krb_text.specs.Values.{Named, count, if_there, the};
+ghost use Rattle.krb_record.specs.Forms.{fields_text, offset_object, record_line, record_text};
+ghost use Rattle.krb_record.specs.Values.{Named, count, if_there, the};
 
 use crate::credential::put_credential;
 use krb_ccache::{Ccache, Credential, FilePrincipal, Header};
 use krb_der::Memory;
-use krb_registry::Registry;
-use krb_text::{
+use krb_record::{
     Form, Numbered, Principal, Shown, Strings, TextBuffer, put_begin, put_closing, put_field,
     put_opening,
 };
+use krb_registry::Registry;
 use std::alloc::{AllocError, Global};
 
 /// Returns what is shown of a principal.
@@ -68,7 +68,7 @@ struct Offset((i32, i32));
 impl Shown for Offset {
     ghost shown = { λ offset. offset_value offset.0 };
 
-    #[tactic(auto, unfolding(krb_text::specs::Forms::value_text))]
+    #[tactic(auto, unfolding(krb_record::specs::Forms::value_text))]
     fn put_text(&self, line: &mut TextBuffer, _names: bool) -> Result<(), AllocError> {
         let (seconds, microseconds) = self.0;
         line.push_integer(seconds)?;
@@ -76,7 +76,7 @@ impl Shown for Offset {
         line.push_integer(microseconds)
     }
 
-    #[tactic(auto, unfolding(krb_text::specs::Forms::members, krb_text::specs::Forms::json_value, krb_text::specs::Forms::names_member))]
+    #[tactic(auto, unfolding(krb_record::specs::Forms::members, krb_record::specs::Forms::json_value, krb_record::specs::Forms::names_member))]
     fn put_members(&self, object: &mut TextBuffer, begin: &str) -> Result<(), AllocError> {
         put_begin(object, begin)?;
         put_offset_object(object, self.0)
@@ -107,7 +107,7 @@ fn put_header(text: &mut TextBuffer, form: Form, header: &Header) -> Result<(), 
 }
 
 /// Appends the line of a cache without its line feed.
-#[tactic(auto, unfolding(krb_text::specs::Forms::record_text, crate::specs::Ccaches::cache_record))]
+#[tactic(auto, unfolding(krb_record::specs::Forms::record_text, crate::specs::Ccaches::cache_record))]
 fn put_cache_text(
     text: &mut TextBuffer,
     form: Form,
@@ -164,7 +164,7 @@ fn put_credentials(
 }
 
 /// Appends the line of the end of a cache without its line feed.
-#[tactic(auto, unfolding(krb_text::specs::Forms::record_text, crate::specs::Ccaches::cache_end))]
+#[tactic(auto, unfolding(krb_record::specs::Forms::record_text, crate::specs::Ccaches::cache_end))]
 fn put_end_text(text: &mut TextBuffer, form: Form, credentials: u64) -> Result<(), AllocError>
     ensures { OnOk result (text.new ≡ text.old ++ record_text form (cache_end credentials)) }
 {

@@ -2,13 +2,13 @@
 
 ghost use Rattle.std.specs.Prelude.{◌≡◌, ◌++◌, [], ◌∷◌, OnOk, codes};
 ghost use Rattle.krb_list.specs.Configs.{config_value, is_shown, is_shown_key};
-ghost use Rattle.krb_text.specs.Forms.{fields_text};
-ghost use Rattle.krb_text.specs.Refusals.{told};
-ghost use Rattle.krb_text.specs.Values.{Quoted, if_there, the};
+ghost use Rattle.krb_record.specs.Forms.{fields_text};
+ghost use Rattle.krb_record.specs.Refusals.{told};
+ghost use Rattle.krb_record.specs.Values.{Quoted, if_there, the};
 
 use krb_ccache::Credential;
 use krb_der::KString;
-use krb_text::{Form, QuotedText, TextBuffer, put_field};
+use krb_record::{Form, QuotedText, TextBuffer, put_field};
 use std::alloc::AllocError;
 
 /// The key that tells that a KDC offered FAST (RFC 6113, 5.4).

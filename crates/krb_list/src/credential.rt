@@ -6,19 +6,20 @@ ghost use Rattle.krb_msg.specs.Types.{IsValidTicket, ticket_of_view};
 ghost use Rattle.krb_ccache.specs.Tickets.{StateLists, state_viewed};
 ghost use Rattle.krb_registry.specs.declared.registry.Registry.TheVariants.{EncryptionTypes};
 ghost use Rattle.krb_list.specs.Ccaches.{config_record, counts_fields, credential_record, flags_fields, key_fields, state, state_record, ticket_server, ticketed_record, tickets_fields, times_fields, who_fields};
-ghost use Rattle.krb_text.specs.Forms.{fields_text, json_string, record_line, record_text, refused_object, refused_ticket_text};
-ghost use Rattle.krb_text.specs.Values.{Absent, Named, NoTicket, Principal as IsPrincipal, RefusedTicket, Word, if_there};
+ghost use Rattle.krb_record.specs.Forms.{fields_text, json_string, record_line, record_text, refused_object, refused_ticket_text};
+ghost use Rattle.krb_record.specs.Values.{Absent, Named, NoTicket, Principal as IsPrincipal, RefusedTicket, Word, if_there};
 
 use crate::ccache::principal_of;
 use crate::config::put_value;
 use krb_ccache::{Credential, TicketStateView, ticket_view_of};
 use krb_der::{Memory, Refusal, Why, why_number, why_text};
 use krb_msg::TicketView;
-use krb_registry::Registry;
-use krb_text::{
-    Encrypted, FileTime, Form, Numbered, Plain, Principal, Shown, TextBuffer, TicketFlags,
-    ViewedStrings, put_begin, put_closing, put_field, put_opening, put_string,
+use krb_record::{
+    FileTime, Form, Numbered, Plain, Principal, Shown, TextBuffer, TicketFlags, put_begin,
+    put_closing, put_field, put_opening, put_string,
 };
+use krb_registry::Registry;
+use krb_text::{ViewedStrings, encrypted_of};
 use std::alloc::{AllocError, Global};
 
 /// Appends the fields of the client and the server.
@@ -134,7 +135,7 @@ fn put_first_fields(
     put_times(text, form, credential)
 }
 
-#[tactic(auto, unfolding(krb_text::specs::Forms::record_text, crate::specs::Ccaches::ticketed_record))]
+#[tactic(auto, unfolding(krb_record::specs::Forms::record_text, crate::specs::Ccaches::ticketed_record))]
 fn put_ticketed<T: Shown, S: Shown>(
     text: &mut TextBuffer,
     form: Form,
@@ -153,7 +154,7 @@ fn put_ticketed<T: Shown, S: Shown>(
     put_closing(text, form)
 }
 
-#[tactic(auto, unfolding(krb_text::specs::Forms::record_text, crate::specs::Ccaches::config_record))]
+#[tactic(auto, unfolding(krb_record::specs::Forms::record_text, crate::specs::Ccaches::config_record))]
 fn put_config(text: &mut TextBuffer, form: Form, credential: &Credential) -> Result<(), AllocError>
     ensures { OnOk result (text.new ≡ text.old ++ record_text form (config_record form credential.now)) }
 {
@@ -172,12 +173,12 @@ struct WithoutTicket;
 impl Shown for WithoutTicket {
     ghost shown = { λ without. NoTicket };
 
-    #[tactic(auto, unfolding(krb_text::specs::Forms::value_text))]
+    #[tactic(auto, unfolding(krb_record::specs::Forms::value_text))]
     fn put_text(&self, line: &mut TextBuffer, _names: bool) -> Result<(), AllocError> {
         line.push_str("absent")
     }
 
-    #[tactic(auto, unfolding(krb_text::specs::Forms::members, krb_text::specs::Forms::json_value, krb_text::specs::Forms::names_member))]
+    #[tactic(auto, unfolding(krb_record::specs::Forms::members, krb_record::specs::Forms::json_value, krb_record::specs::Forms::names_member))]
     fn put_members(&self, object: &mut TextBuffer, begin: &str) -> Result<(), AllocError> {
         put_begin(object, begin)?;
         object.push_str("null")
@@ -222,7 +223,7 @@ fn put_refused_object(object: &mut TextBuffer, refusal: Refusal) -> Result<(), A
 }
 
 /// Appends the name of a reason as a string.
-#[tactic(auto, using(krb_text::proofs::Reasons::reason_is_ascii))]
+#[tactic(auto, using(krb_record::proofs::Reasons::reason_is_ascii))]
 fn put_reason_name(object: &mut TextBuffer, why: Why) -> Result<(), AllocError>
     ensures { OnOk result (object.new ≡ object.old ++ json_string (reason_name why)) }
 {
@@ -237,7 +238,7 @@ struct RefusedOctets(Refusal);
 impl Shown for RefusedOctets {
     ghost shown = { λ ticket. RefusedTicket ticket.0 };
 
-    #[tactic(auto, unfolding(krb_text::specs::Forms::value_text))]
+    #[tactic(auto, unfolding(krb_record::specs::Forms::value_text))]
     fn put_text(&self, line: &mut TextBuffer, names: bool) -> Result<(), AllocError> {
         put_refused(line, self.0)?;
         if names {
@@ -248,7 +249,7 @@ impl Shown for RefusedOctets {
         }
     }
 
-    #[tactic(auto, unfolding(krb_text::specs::Forms::members, krb_text::specs::Forms::json_value, krb_text::specs::Forms::names_member))]
+    #[tactic(auto, unfolding(krb_record::specs::Forms::members, krb_record::specs::Forms::json_value, krb_record::specs::Forms::names_member))]
     fn put_members(&self, object: &mut TextBuffer, begin: &str) -> Result<(), AllocError> {
         put_begin(object, begin)?;
         put_refused_object(object, self.0)
@@ -287,7 +288,7 @@ fn put_with_state(
             put_ticketed(text, form, now, credential, &WithoutTicket, &NONE)
         }
         TicketStateView::Ticket(ticket) => {
-            let encrypted = Encrypted::of(&ticket.enc_part);
+            let encrypted = encrypted_of(&ticket.enc_part);
             put_ticketed(text, form, now, credential, &encrypted, &server_of(ticket))
         }
         TicketStateView::Refused(refusal) => {

@@ -4,17 +4,17 @@ ghost use Rattle.std.specs.Prelude.{◌≡◌, ◌++◌, [], ◌∷◌, IfOk, On
 ghost use Rattle.std.specs.List.{flat_map};
 ghost use Rattle.krb_keytab.specs.Spelling.{kvno};
 ghost use Rattle.krb_registry.specs.declared.registry.Registry.TheVariants.{EncryptionTypes, NameTypes};
-ghost use Rattle.krb_text.specs.Forms.{fields_text, record_line, record_text};
+ghost use Rattle.krb_record.specs.Forms.{fields_text, record_line, record_text};
 ghost use Rattle.krb_list.specs.Keytabs.{entry_fields, hole_fields, is_zero, keytab_end, keytab_lines, printed_record};
-ghost use Rattle.krb_text.specs.Time.{file_time};
-ghost use Rattle.krb_text.specs.Values.{Named, Number, Principal as IsPrincipal, YesNo, count, printed, the};
+ghost use Rattle.krb_record.specs.Time.{file_time};
+ghost use Rattle.krb_record.specs.Values.{Named, Number, Principal as IsPrincipal, YesNo, count, printed, the};
 
 use krb_der::Memory;
 use krb_keytab::{Entry, Hole, Keytab, Record, Stop};
-use krb_registry::Registry;
-use krb_text::{
+use krb_record::{
     FileTime, Form, Numbered, Principal, Strings, TextBuffer, put_closing, put_field, put_opening,
 };
+use krb_registry::Registry;
 use std::alloc::{AllocError, Global};
 
 /// Returns the principal of an entry.
@@ -92,7 +92,7 @@ fn put_key(text: &mut TextBuffer, form: Form, entry: &Entry) -> Result<(), Alloc
     put_field!(text, form, "rest": &rest)
 }
 
-#[tactic(auto, unfolding(krb_text::specs::Forms::record_text))]
+#[tactic(auto, unfolding(krb_record::specs::Forms::record_text))]
 fn put_entry(text: &mut TextBuffer, form: Form, entry: &Entry) -> Result<(), AllocError>
     ensures { OnOk result (text.new ≡ text.old ++ record_text form (printed (codes "entry") (entry_fields entry.now))) }
 {
@@ -103,7 +103,7 @@ fn put_entry(text: &mut TextBuffer, form: Form, entry: &Entry) -> Result<(), All
     put_closing(text, form)
 }
 
-#[tactic(auto, unfolding(krb_text::specs::Forms::record_text))]
+#[tactic(auto, unfolding(krb_record::specs::Forms::record_text))]
 fn put_hole(text: &mut TextBuffer, form: Form, hole: &Hole) -> Result<(), AllocError>
     ensures { OnOk result (text.new ≡ text.old ++ record_text form (printed (codes "hole") (hole_fields hole.now))) }
 {
@@ -153,7 +153,7 @@ fn is_zero(stop: &Stop) -> bool
 }
 
 /// Appends the line of the end of a keytab without its line feed.
-#[tactic(auto, unfolding(krb_text::specs::Forms::record_text, crate::specs::Keytabs::keytab_end))]
+#[tactic(auto, unfolding(krb_record::specs::Forms::record_text, crate::specs::Keytabs::keytab_end))]
 fn put_end_text(
     text: &mut TextBuffer,
     form: Form,

@@ -1,8 +1,8 @@
 -- Views of fields, of items and of scalars.
-use Rattle.std.proofs.Common.{◌≡◌, ℕ, get_or, ◌+◌, ◌<◌, ◌≤◌, ℤ, pos, negsuc, Bool, true, false, not, List, [], ◌∷◌, ◌++◌, length, Option, Some, None, MatchOption, IfSome, refl, sym, ap, ◌∙◌, subst, arith, eq-eqb, eqb-true}
+use Rattle.std.proofs.Common.{◌≡◌, ℕ, get_or, ◌+◌, ◌<◌, ◌≤◌, ℤ, pos, negsuc, Bool, true, false, not, List, [], ◌∷◌, ◌++◌, length, Option, Some, None, MatchOption, IfSome, refl, sym, ap, ◌∙◌, subst, arith, eq-eqb, eqb-true, w64, FitsSigned, to_z, of_z}
 use Rattle.std.specs.Prelude.{◌≤ℤ◌}
 use Rattle.std.proofs.lemmas.Bool.{not-true, true≢false}
-use Rattle.std.proofs.lemmas.Int.{ints}
+use Rattle.std.proofs.lemmas.Int.{ints, to_z-of_z}
 use Rattle.krb_der.specs.Octets.{item, number, integer_octets, integer_value, AreOctets, begins_with}
 use Rattle.krb_der.specs.inner.Items.{same_from_item}
 use Rattle.krb_der.specs.inner.Numbers.{IsShortestInteger, IsShortestInteger-integer_octets, integer_octets-integer_value, integer_value-integer_octets, length-integer_octets-le, spelled-number}
@@ -155,5 +155,9 @@ integer_form low high octets number a = same_contents 0x02 octets (integer_octet
 
 pub integer_some : (low high : ℤ) (octets : List ℕ) (number : ℤ) → IsNumberIn low high octets number → AreContents (Integer low high) octets number
 integer_some low high octets number n = record { fits = (n.low_le, n.le_high); form = ap (item 0x02) n.form }
+
+-- the same as a number of 64 bits
+pub integer_kept : (low high : ℤ) (octets : List ℕ) (number : ℤ) → FitsSigned w64 number → IsNumberIn low high octets number → AreContents (Integer low high) octets (to_z w64 (of_z w64 number))
+integer_kept low high octets number fits n = subst (AreContents (Integer low high) octets) (sym (to_z-of_z w64 number fits)) (integer_some low high octets number n)
 
 -- ---- strings

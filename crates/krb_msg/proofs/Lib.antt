@@ -23,7 +23,6 @@ pub mod KindLaws
 pub mod Judged
 pub mod FramePrefixes
 pub mod Table
-pub mod Lanes
 pub mod HighOctets
 pub mod Noted
 pub mod Strictness

@@ -341,14 +341,14 @@ impl<'a> FromView<'a> for KdcReqBody {
 
     fn from_view(alloc: Global, seen: &KdcReqBodyView<'a>) -> Result<KdcReqBody, Memory> {
         Ok(KdcReqBody {
-            kdc_options: Flags::from_view(alloc, &seen.kdc_options)?,
-            cname: copy_option(alloc, &seen.cname)?,
-            realm: KString::from_view(alloc, &seen.realm)?,
-            sname: copy_option(alloc, &seen.sname)?,
             from: copy_option(alloc, &seen.from)?,
             till: KerberosTime::from_view(alloc, &seen.till)?,
             rtime: copy_option(alloc, &seen.rtime)?,
             nonce: Wide32::from_view(alloc, &seen.nonce)?,
+            kdc_options: Flags::from_view(alloc, &seen.kdc_options)?,
+            cname: copy_option(alloc, &seen.cname)?,
+            realm: KString::from_view(alloc, &seen.realm)?,
+            sname: copy_option(alloc, &seen.sname)?,
             etype: copy_items(alloc, seen.etype)?,
             addresses: copy_item_option(alloc, seen.addresses)?,
             enc_authorization_data: copy_option(alloc, &seen.enc_authorization_data)?,

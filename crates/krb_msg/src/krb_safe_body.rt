@@ -186,10 +186,10 @@ impl<'a> FromView<'a> for KrbSafeBody {
 
     fn from_view(alloc: Global, seen: &KrbSafeBodyView<'a>) -> Result<KrbSafeBody, Memory> {
         Ok(KrbSafeBody {
-            user_data: Octets::from_view(alloc, &seen.user_data)?,
             timestamp: copy_option(alloc, &seen.timestamp)?,
             usec: copy_option(alloc, &seen.usec)?,
             seq_number: copy_option(alloc, &seen.seq_number)?,
+            user_data: Octets::from_view(alloc, &seen.user_data)?,
             s_address: HostAddress::from_view(alloc, &seen.s_address)?,
             r_address: copy_option(alloc, &seen.r_address)?,
         })

@@ -6,9 +6,8 @@ use krb_capture::Capture;
 use krb_der::Memory;
 use krb_file::FileFault;
 use krb_frame::Limit;
-use krb_list::{Form, TextBuffer};
 use krb_packet::{Packet, Packets};
-use krb_text::Extent;
+use krb_record::{Extent, Form, TextBuffer};
 use std::alloc::Global;
 use std::test::Fail;
 

@@ -2,7 +2,8 @@
 //! `docs/LISTING.md`.
 
 use krb_keytab::{Hole, Record};
-use krb_list::{Form, record_line};
+use krb_list::record_line;
+use krb_record::Form;
 use std::test::Fail;
 
 /// The three forms.

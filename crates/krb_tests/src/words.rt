@@ -1,7 +1,7 @@
 //! Command lines.
 
 use krb_der::Profile;
-use krb_text::FileName;
+use krb_record::FileName;
 use krb_words::{
     AfterRefusal, Command, CommandLine, Form, Framing, Inputs, NamedPath, Naming, Source, When,
     WordsFault, read_words,

@@ -5,9 +5,10 @@ use Rattle.std.specs.List.{flat_map}
 use Rattle.krb_msg.specs.Grammar.{int32, pa_data}
 use Rattle.krb_msg.specs.Term.{Term}
 use Rattle.krb_msg.specs.Viewed.{IsFirstItem, IsFirstType, items_of}
-use Rattle.krb_text.specs.declared.item.NumberForm.{NumberForm}
-use Rattle.krb_text.specs.inner.Items.{IsFirstNumber, item_number, number_item}
-use Rattle.krb_text.specs.Text.{joined, list_text}
+use Rattle.krb_record.specs.declared.item.NumberForm.{NumberForm}
+use Rattle.krb_record.specs.Items.{number_item}
+use Rattle.krb_text.specs.inner.Items.{IsFirstNumber, item_number}
+use Rattle.krb_record.specs.Text.{joined, list_text}
 
 others-text : {A B : Type 0} (f : A → B) (separator : List ℕ) (text : B → List ℕ) (values : List A) → flat_map (λ v. separator ++ text v) (map f values) ≡ flat_map (λ v. separator ++ text (f v)) values
 others-text f separator text [] = refl

@@ -5,12 +5,12 @@ use Rattle.std.proofs.lemmas.List.{append-nil}
 use Rattle.std.proofs.Math.Seq.{drop-append_seam, take-append_seam}
 use Rattle.std.specs.List.{flat_map}
 use Rattle.std.specs.Str.{IsUtf8}
-use Rattle.krb_text.specs.declared.form.Form.{Form}
-use Rattle.krb_text.specs.declared.form.Form.TheVariants as form
-use Rattle.krb_text.specs.Forms.{inside_text, part_text}
+use Rattle.krb_record.specs.declared.form.Form.{Form}
+use Rattle.krb_record.specs.declared.form.Form.TheVariants as form
+use Rattle.krb_record.specs.Forms.{inside_text, part_text}
 use Rattle.krb_text.specs.Inside.{one_if}
-use Rattle.krb_text.specs.Text.{joined}
-use Rattle.krb_text.specs.Values.{Part}
+use Rattle.krb_record.specs.Text.{joined}
+use Rattle.krb_record.specs.Values.{Part}
 use Rattle.krb_text.specs.inner.Parts.{Tells, counted, parts_after, separator, told_after}
 
 -- ---- one after another

@@ -14,9 +14,9 @@ use Rattle.krb_msg.specs.declared.message_view.MessageView.{MessageView}
 use Rattle.krb_msg.specs.declared.notes.Notes.{Notes}
 use Rattle.krb_msg.proofs.Judged.{lenient_whole}
 use Rattle.krb_msg.proofs.StrictViews.{strict_kept, strict_whole}
-use Rattle.krb_text.specs.declared.form.Form.{Form}
+use Rattle.krb_record.specs.declared.form.Form.{Form}
 use Rattle.krb_text.specs.declared.record.Heading.{Heading}
-use Rattle.krb_text.specs.Forms.{ending, field, fields_text, heading, record_text}
+use Rattle.krb_record.specs.Forms.{ending, field, fields_text, heading, record_text}
 use Rattle.krb_text.specs.Inside.{inside_of}
 use Rattle.krb_text.specs.Messages.{fields_of, notes}
 use Rattle.krb_text.specs.inner.Records.{heading_origin, is_kept, text_after}

@@ -1,7 +1,6 @@
--- What is printed of captures, computed: records of captures of real exchanges, and addresses.
+-- What is printed of captures, computed: records of captures of real exchanges.
 use Rattle.std.specs.Prelude.{◌≡◌, [], ◌∷◌, ◌++◌, Some, None, codes, refl, replicate}
 use Rattle.std.specs.Fmt.{digits}
-use Rattle.std.specs.Net.Text.{hex, hex_groups_text, ipv6_text}
 use Rattle.std.specs.declared.net.ip_addr.IpAddr.{IpAddr}
 use Rattle.std.specs.declared.net.ip_addr.IpAddr.TheVariants as ip
 use Rattle.krb_der.specs.Hex.{hex as of_hex}
@@ -11,14 +10,13 @@ use Rattle.krb_msg.specs.declared.message.Message.{Message}
 use Rattle.krb_msg.specs.Views.{message_of_der}
 use Rattle.krb_registry.specs.Rows.{rows, name_in, name_of}
 use Rattle.krb_text.specs.Captures.{captured_message_line, captured_refused_line, capture_end_line, capture_refused_line, joined_line, lost_line, password_line}
-use Rattle.krb_text.specs.Flows.{endpoint_text}
-use Rattle.krb_text.specs.Forms.{closing, json_value, labelled, members, names_member, opening, opening_from, record_text, value_text}
+use Rattle.krb_record.specs.Forms.{closing, json_value, labelled, members, names_member, opening, opening_from, record_text, value_text}
 use Rattle.krb_text.specs.Messages.{message_record}
-use Rattle.krb_text.specs.Time.{civil_date, date_from, date_in_year, two_digits, date_text, clock_text, instant_text}
+use Rattle.krb_record.specs.Time.{civil_date, date_from, date_in_year, two_digits, date_text, clock_text, instant_text}
 use Rattle.krb_text.specs.declared.capture.CaptureCounts.{CaptureCounts}
-use Rattle.krb_text.specs.declared.form.Form.TheVariants.{Lines, NamedLines, Json}
+use Rattle.krb_record.specs.declared.form.Form.TheVariants.{Lines, NamedLines, Json}
 use Rattle.krb_text.specs.declared.origin.Origin.{Origin}
-use Rattle.krb_text.specs.declared.origin.Transport.TheVariants as transports
+use Rattle.krb_record.specs.declared.flow.Transport.TheVariants as transports
 
 -- ---- a server's answer to a request to change a password
 abbrev local : IpAddr
@@ -91,12 +89,3 @@ capture_refused = refl
 capture_refused_object : capture_refused_line Json counts 8928 why.Truncated (Some (codes "block[45].body")) (record { at = 8920; length = None }) ≡ codes "{\"kind\":\"refused\",\"packets\":43,\"messages\":9,\"refused\":0,\"lost\":0,\"unread\":0,\"place\":8928,\"why\":3,\"why_name\":\"Truncated\",\"in\":\"block[45].body\",\"at\":8920,\"length\":null}\n"
 unfolding digits opening closing labelled record_text members json_value names_member
 capture_refused_object = refl
-
--- ---- addresses of IPv6
-loopback : endpoint_text (record { address = ip.V6 (record { segments = 0 ∷ 0 ∷ 0 ∷ 0 ∷ 0 ∷ 0 ∷ 0 ∷ 1 ∷ [] }); port = 88 }) ≡ codes "[::1]:88"
-unfolding digits ipv6_text hex_groups_text hex
-loopback = refl
-
-mapped : endpoint_text (record { address = ip.V6 (record { segments = 0 ∷ 0 ∷ 0 ∷ 0 ∷ 0 ∷ 0xFFFF ∷ 0x7F00 ∷ 1 ∷ [] }); port = 88 }) ≡ codes "[::ffff:127.0.0.1]:88"
-unfolding digits ipv6_text hex_groups_text hex
-mapped = refl

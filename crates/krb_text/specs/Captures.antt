@@ -1,24 +1,29 @@
 -- Records of captures: what is found in a flow, with the packet, its time and the flow; and the last one.
 use Rattle.std.specs.Prelude.{ℕ, pos, List, [], ◌∷◌, ◌++◌, Option, codes}
+use Rattle.std.specs.declared.net.ip_addr.IpAddr.{IpAddr}
 use Rattle.krb_der.specs.declared.verdict.Refusal.{Refusal}
 use Rattle.krb_file.specs.declared.fault.FileWhy.{FileWhy}
 use Rattle.krb_msg.specs.declared.message.Message.{Message}
+use Rattle.krb_packet.specs.declared.contents.Endpoint.{Endpoint}
 use Rattle.krb_text.specs.declared.capture.CaptureCounts.{CaptureCounts}
-use Rattle.krb_text.specs.declared.extent.Extent.{Extent}
-use Rattle.krb_text.specs.declared.form.Form.{Form}
+use Rattle.krb_record.specs.declared.extent.Extent.{Extent}
+use Rattle.krb_record.specs.declared.form.Form.{Form}
 use Rattle.krb_text.specs.declared.origin.Origin.{Origin}
-use Rattle.krb_text.specs.Forms.{record_line}
+use Rattle.krb_record.specs.Forms.{record_line}
 use Rattle.krb_text.specs.Messages.{message_record}
-use Rattle.krb_text.specs.Refusals.{extent_in, file_refused_record, path_in, refusal_record}
-use Rattle.krb_text.specs.Time.{instant_text}
-use Rattle.krb_text.specs.Values.{Flow, Number, Word, Field, Printed, the, printed, with_origin, if_there}
+use Rattle.krb_record.specs.Refusals.{extent_in, file_refused_record, path_in, refusal_record}
+use Rattle.krb_record.specs.Time.{instant_text}
+use Rattle.krb_record.specs.Values.{Flow, Number, Word, Field, Printed, the, printed, with_origin, if_there}
+
+abbrev pub endpoint : Endpoint → IpAddr × ℕ
+endpoint e = (e.address, e.port)
 
 -- the packet, its time and the flow
 abbrev pub origin_fields : Origin → List Field
 origin_fields origin =
     the (codes "packet") (Number (pos origin.packet))
-    ∷ the (codes "t") (if_there (λ time. Word (instant_text time)) origin.time)
-    ∷ the (codes "flow") (Flow origin.transport origin.source origin.target)
+    ∷ the (codes "t") (if_there (λ time. Word (instant_text time.seconds time.nanoseconds)) origin.time)
+    ∷ the (codes "flow") (Flow origin.transport (endpoint origin.source) (endpoint origin.target))
     ∷ []
 
 abbrev pub captured_line : Form → Origin → Printed → List ℕ

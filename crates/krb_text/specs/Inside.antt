@@ -26,7 +26,8 @@ use Rattle.krb_padata.specs.declared.pa_pac_options.PaPacOptions.{PaPacOptions}
 use Rattle.krb_registry.specs.declared.registry.Registry.TheVariants as registries
 use Rattle.krb_text.specs.Judged.{asks_for_preauth, judged, says_preauth_failed}
 use Rattle.krb_text.specs.MessageFields.{ap_req_fields, padata}
-use Rattle.krb_text.specs.Values.{Absent, Flags, Hex, Named, Number, Quoted, YesNo, Part, the, part, if_there, checksum, principal, encrypted}
+use Rattle.krb_text.specs.MessageValues.{checksum, principal, encrypted}
+use Rattle.krb_record.specs.Values.{Absent, Flags, Hex, Named, Number, Quoted, YesNo, Part, the, part, if_there}
 use Rattle.krb_text.specs.declared.clear_type.ClearType.{ClearType}
 use Rattle.krb_text.specs.declared.clear_type.ClearType.TheVariants as types
 

@@ -1,19 +1,14 @@
--- Laws of what is printed.
-use Rattle.std.specs.Prelude.{ℕ, pos, ◌≡◌, ◌≤◌, ◌<◌, ◌^◌, unsigned_abs, Option, Some, None, IfSome, List, ◌++◌, length, map}
-use Rattle.std.specs.List.{AllByRecursion}
+-- Laws of what is printed of messages and captures.
+use Rattle.std.specs.Prelude.{ℕ, ◌≡◌, ◌<◌, ◌^◌, Option, Some, IfSome, List, length, map}
 use Rattle.std.specs.Net.Addr.{IsIpv4Addr, IsIpv6Addr, MatchIp}
-use Rattle.jiff_core.specs.Date.{epoch_day}
-use Rattle.jiff_core.specs.declared.civil.date.Date.{Date}
 use Rattle.krb_der.specs.declared.profile.Profile.TheVariants as profiles
 use Rattle.krb_der.specs.Octets.{AreOctets}
 use Rattle.krb_file.specs.declared.fault.FileWhy.{FileWhy}
 use Rattle.krb_der.specs.declared.verdict.Refusal.{Refusal}
-use Rattle.krb_der.specs.declared.why.Why.{Why}
 use Rattle.krb_msg.specs.Stream.{End}
 use Rattle.krb_msg.specs.declared.krb_error.KrbError.{KrbError}
 use Rattle.krb_msg.specs.declared.message.Message.{Message}
 use Rattle.krb_msg.specs.declared.message.Message.TheVariants as message
-use Rattle.krb_input.specs.declared.spelling.Spelling.{Spelling}
 use Rattle.krb_msg.specs.Grammar.{method_data, ticket}
 use Rattle.krb_msg.specs.Types.{ticket_value}
 use Rattle.krb_msg.specs.declared.ticket.Ticket.{Ticket}
@@ -21,39 +16,16 @@ use Rattle.krb_msg.specs.Term.{Value, Fits, der}
 use Rattle.krb_msg.specs.Views.{IsInProfile}
 use Rattle.krb_text.specs.Captures.{capture_end_line, capture_refused_line, captured_message_line, captured_refused_line, joined_line, lost_line, password_line}
 use Rattle.krb_text.specs.declared.capture.CaptureCounts.{CaptureCounts}
-use Rattle.krb_text.specs.declared.form.Form.{Form}
-use Rattle.krb_text.specs.declared.form.Form.TheVariants.{Lines}
-use Rattle.krb_text.specs.Forms.{record_line}
+use Rattle.krb_record.specs.Laws.{IsOneLine}
+use Rattle.krb_record.specs.declared.form.Form.{Form}
 use Rattle.krb_text.specs.declared.origin.Origin.{Origin}
-use Rattle.krb_text.specs.Text.{AllAreOctets, IsPrintable, escape, line_feed, principal_text}
-use Rattle.krb_text.specs.declared.extent.Extent.{Extent}
-use Rattle.krb_text.specs.declared.input.InputFault.{InputFault}
-use Rattle.krb_text.specs.Inputs.{input_refused_line}
-use Rattle.krb_text.specs.Refusals.{file_refused_line, message_refused_line, untold_message_refused_line}
-use Rattle.krb_text.specs.Streams.{end_line, counted_end_line, untold_refused_line}
-use Rattle.krb_text.specs.Files.{file_line}
-use Rattle.krb_text.specs.Messages.{message_record, message_line, message_line_from, message_origin, ticket_line}
+use Rattle.krb_record.specs.declared.extent.Extent.{Extent}
+use Rattle.krb_text.specs.StreamEnds.{end_line}
+use Rattle.krb_record.specs.Origins.{message_origin}
+use Rattle.krb_text.specs.Messages.{message_record, message_line, message_line_from, ticket_line}
 use Rattle.krb_text.specs.Masks.{masked, masked_method, masked_ticket}
-use Rattle.krb_text.specs.Time.{civil_date, the_date}
-use Rattle.krb_text.specs.Values.{Field, Printed}
+use Rattle.krb_record.specs.Values.{Field}
 use Rattle.krb_input.specs.declared.layer.Layer.{Layer}
-
--- different components or realms have different texts
-abbrev pub PrincipalTextIsInjective : Type 0
-PrincipalTextIsInjective = (components others : List (List ℕ)) (realm other : List ℕ) → AllAreOctets components → AllAreOctets others → AreOctets realm → AreOctets other → principal_text components realm ≡ principal_text others other → (components ≡ others) × (realm ≡ other)
-
--- an escape prints only 21 to 7E
-abbrev pub EscapeIsGraphic : Type 0
-EscapeIsGraphic = (octets : List ℕ) → AreOctets octets → AllByRecursion (λ c. (33 ≤ c) × (c ≤ 126)) (escape octets)
-
--- The date that is found by counting is the one of the calendar that has this day number.
-abbrev pub DatesAreTheCalendars : Type 0
-DatesAreTheCalendars = (date : Date) (days : ℕ) → epoch_day date ≡ pos days → civil_date days ≡ the_date (unsigned_abs date.year) date.month date.day
-
--- ---- each record is one line, in each form
--- blanks and graphic characters of ASCII, and the line feed after them
-abbrev pub IsOneLine : List ℕ → Type 0
-IsOneLine line = (text : List ℕ) × IsPrintable text × (line ≡ text ++ line_feed)
 
 -- a message's
 abbrev pub MessageIsOneLine : Type 0
@@ -67,37 +39,9 @@ MessageFromIsOneLine = (form : Form) (line : Option ℕ) (layers : List Layer) (
 abbrev pub TicketIsOneLine : Type 0
 TicketIsOneLine = (form : Form) (line : Option ℕ) (layers : List Layer) (t : Ticket) → Fits ticket (ticket_value t) → IsOneLine (ticket_line form (message_origin line layers) t)
 
--- that of a refused file
-abbrev pub FileRefusalIsOneLine : Type 0
-FileRefusalIsOneLine = (form : Form) (place : ℕ) (reason : FileWhy) (path : Option (List ℕ)) (extent : Extent) → IfSome path AreOctets → IsOneLine (file_refused_line form place reason path extent)
-
--- that of octets that are no message
-abbrev pub MessageRefusalIsOneLine : Type 0
-MessageRefusalIsOneLine = (form : Form) (line : Option ℕ) (layers : List Layer) (refusal : Refusal) (path : Option (List ℕ)) (extent : Extent) (spelling : Spelling) → IfSome path AreOctets → IsOneLine (message_refused_line form (message_origin line layers) refusal path extent spelling)
-
--- the same with the path alone
-abbrev pub UntoldMessageRefusalIsOneLine : Type 0
-UntoldMessageRefusalIsOneLine = (form : Form) (refusal : Refusal) (path : Option (List ℕ)) → IfSome path AreOctets → IsOneLine (untold_message_refused_line form refusal path)
-
--- that of input that is not looked at as a message
-abbrev pub InputRefusalIsOneLine : Type 0
-InputRefusalIsOneLine = (form : Form) (line : Option ℕ) (layers : List Layer) (fault : InputFault) (place : Option ℕ) (extent : Extent) (spelling : Option Spelling) → IsOneLine (input_refused_line form (message_origin line layers) fault place extent spelling)
-
 -- the last of a stream, which may be that of its refusal
 abbrev pub StreamEndIsOneLine : Type 0
 StreamEndIsOneLine = (form : Form) (messages : ℕ) (end : End) (path : Option (List ℕ)) (extent : Extent) → IfSome path AreOctets → IsOneLine (end_line form messages end path extent)
-
--- that of a refused frame with the path alone
-abbrev pub UntoldStreamRefusalIsOneLine : Type 0
-UntoldStreamRefusalIsOneLine = (form : Form) (messages place : ℕ) (reason : Why) (path : Option (List ℕ)) → IfSome path AreOctets → IsOneLine (untold_refused_line form messages place reason path)
-
--- the last of a stream that was gone on with after refusals
-abbrev pub CountedStreamEndIsOneLine : Type 0
-CountedStreamEndIsOneLine = (form : Form) (messages refused : ℕ) → IsOneLine (counted_end_line form messages refused)
-
--- that of a file's name
-abbrev pub FileNameIsOneLine : Type 0
-FileNameIsOneLine = (form : Form) (name : List ℕ) → AreOctets name → IsOneLine (file_line form name)
 
 -- the seconds of its time and the addresses are as their types have them
 pub record OriginIsInRange (origin : Origin) : Type 0 where
@@ -132,10 +76,6 @@ CaptureEndIsOneLine = (form : Form) (counts : CaptureCounts) → IsOneLine (capt
 -- the last of a capture that is refused
 abbrev pub CaptureRefusalIsOneLine : Type 0
 CaptureRefusalIsOneLine = (form : Form) (counts : CaptureCounts) (place : ℕ) (reason : FileWhy) (path : Option (List ℕ)) (extent : Extent) → IfSome path AreOctets → IsOneLine (capture_refused_line form counts place reason path extent)
-
--- ---- a line without names has nothing of what is inside
-abbrev pub PlainLinesHaveNothingInside : Type 0
-PlainLinesHaveNothingInside = (r : Printed) → record_line Lines r ≡ record_line Lines (record r { inside = None })
 
 -- ---- no octet of what is encrypted or opaque has a part in what is printed
 -- the record of a message, of which its line in each form is made

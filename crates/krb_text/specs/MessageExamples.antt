@@ -4,14 +4,14 @@ use Rattle.std.specs.Fmt.{digits}
 use Rattle.krb_der.specs.Hex.{hex}
 use Rattle.krb_msg.specs.Views.{message_of_der}
 use Rattle.krb_registry.specs.Rows.{rows, name_in, name_of}
-use Rattle.krb_text.specs.declared.form.Form.{Form}
-use Rattle.krb_text.specs.declared.form.Form.TheVariants.{Lines, NamedLines, Json}
-use Rattle.krb_text.specs.Errors.{code_name, code_suffix, code_text}
-use Rattle.krb_text.specs.Forms.{closing, inside_text, json_value, labelled, members, named_flags_text, names_member, opening, part_text, record_text, set_names, unnamed, value_text}
+use Rattle.krb_record.specs.declared.form.Form.{Form}
+use Rattle.krb_record.specs.declared.form.Form.TheVariants.{Lines, NamedLines, Json}
+use Rattle.krb_record.specs.Errors.{code_name, code_suffix, code_text}
+use Rattle.krb_record.specs.Forms.{closing, inside_text, json_value, labelled, members, named_flags_text, names_member, opening, part_text, record_text, set_names, unnamed, value_text}
 use Rattle.krb_text.specs.Inside.{type_of_number}
 use Rattle.krb_text.specs.Judged.{judged}
 use Rattle.krb_text.specs.Messages.{message_record, message_text}
-use Rattle.krb_text.specs.Text.{principal_text}
+use Rattle.krb_record.specs.Text.{principal_text}
 
 -- what is printed of the message that octets are
 abbrev text_of : Form → List ℕ → List ℕ

@@ -17,7 +17,8 @@ use Rattle.krb_msg.specs.declared.message.Message.TheVariants as message
 use Rattle.krb_msg.specs.Types.{pa_data_of}
 use Rattle.krb_registry.specs.declared.registry.Registry.TheVariants as registries
 use Rattle.krb_text.specs.Judged.{methods_in}
-use Rattle.krb_text.specs.Values.{Value as Shown, Number, Numbers, ErrorCode, String, Quoted, Word, Flags, Field, the, if_there, count, encrypted, principal, client, address, checksum}
+use Rattle.krb_text.specs.MessageValues.{encrypted, principal, client, address, checksum}
+use Rattle.krb_record.specs.Values.{Value as Shown, Number, Numbers, ErrorCode, String, Quoted, Word, Flags, Field, the, if_there, count}
 
 -- pre-authentication data is listed by its types
 abbrev pub padata : List PaData → Shown

@@ -1,5 +1,5 @@
 -- What is printed of messages: the name of the message, its fields and its notes, and what is inside of it.
-use Rattle.std.specs.Prelude.{ℕ, ◌≡◌, ◌^◌, ◌<◌, pos, Bool, true, false, List, [], ◌∷◌, ◌++◌, length, Option, Some, None, codes}
+use Rattle.std.specs.Prelude.{ℕ, ◌≡◌, ◌^◌, ◌<◌, Bool, true, false, List, [], ◌∷◌, ◌++◌, length, codes}
 use Rattle.krb_der.specs.declared.profile.Profile.{Profile}
 use Rattle.krb_der.specs.declared.verdict.Verdict.TheVariants.{Whole}
 use Rattle.krb_msg.specs.Judgement.{judgement}
@@ -7,11 +7,11 @@ use Rattle.krb_msg.specs.Notes.{notes_of, notes_of_ticket}
 use Rattle.krb_msg.specs.declared.message.Message.{Message}
 use Rattle.krb_msg.specs.declared.ticket.Ticket.{Ticket}
 use Rattle.krb_msg.specs.Views.{kind_name, kind_of, message_of_der}
-use Rattle.krb_text.specs.declared.form.Form.{Form}
-use Rattle.krb_text.specs.Forms.{record_text, record_line}
+use Rattle.krb_record.specs.declared.form.Form.{Form}
+use Rattle.krb_record.specs.Forms.{record_text, record_line}
 use Rattle.krb_text.specs.Inside.{inside_of}
-use Rattle.krb_text.specs.Values.{Number, Layers, Field, Printed, the, printed, with_inside, with_origin, encrypted, principal}
-use Rattle.krb_input.specs.declared.layer.Layer.{Layer}
+use Rattle.krb_text.specs.MessageValues.{encrypted, principal}
+use Rattle.krb_record.specs.Values.{Field, Printed, the, printed, with_inside, with_origin}
 pub use Rattle.krb_text.specs.MessageFields.{padata, notes, methods, kdc_req_fields, kdc_rep_fields, ap_req_fields, ap_rep_fields, krb_safe_fields, krb_priv_fields, krb_cred_fields, krb_error_fields, fields_of}
 
 unfoldable pub message_record : Message → Printed
@@ -33,19 +33,6 @@ ticket_record t =
     ∷ [])
 
 -- ---- with an origin
--- the number of the line, if the input is one of several lines
-abbrev pub line_origin : Option ℕ → List Field
-line_origin None = []
-line_origin (Some line) = the (codes "line") (Number (pos line)) ∷ []
-
--- what the message lies in, if it does not lie there by itself
-abbrev pub layers_origin : List Layer → List Field
-layers_origin [] = []
-layers_origin (first ∷ others) = the (codes "via") (Layers (first ∷ others)) ∷ []
-
-abbrev pub message_origin : Option ℕ → List Layer → List Field
-message_origin line layers = line_origin line ++ layers_origin layers
-
 abbrev pub message_line_from : Form → List Field → Message → List ℕ
 message_line_from form origin m = record_line form (with_origin origin (message_record m))
 

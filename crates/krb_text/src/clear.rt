@@ -7,27 +7,24 @@ ghost use Rattle.krb_msg.specs.Types.{IsValidApReq, ap_req_of, ap_req_of_view, a
 ghost use Rattle.krb_msg.specs.Term.{IfPresent};
 ghost use Rattle.krb_padata.specs.Types.{IsValidKrbFastArmor, etype_info2_entry_of_view, etype_info_entry_of_view, krb_fast_armor_of, krb_fast_armor_view_value, krb_fast_armored_rep_of_view, krb_fast_armored_req_of_view, pa_for_user_of_view, pa_pac_options_of_view};
 ghost use Rattle.krb_registry.specs.declared.registry.Registry.TheVariants.{EncryptionTypes};
-ghost use Rattle.krb_text.specs.Forms.{field, part_text};
+ghost use Rattle.krb_record.specs.Forms.{field, part_text};
 ghost use Rattle.krb_text.specs.Inside.{ap_req_in, etype_info2_part, etype_info_part, fast_reply_part, fast_request_part, for_user_part, one_if, pac_options_part, pac_request_part, salt_part, encrypted_part, tgs_req_part, ticket_part};
 ghost use Rattle.krb_text.specs.Judged.{judged};
-ghost use Rattle.krb_text.specs.Values.{Named, Number, if_there, principal, encrypted};
+ghost use Rattle.krb_text.specs.MessageValues.{principal, encrypted};
+ghost use Rattle.krb_record.specs.Values.{Named, Number, if_there};
 ghost use Rattle.krb_text.specs.inner.Parts.{Tells, separator};
 
-use crate::field::put_closing;
-use crate::flags::FlagBits;
-use crate::form::Form;
-use crate::number::Numbered;
 use crate::part::{Clear, PartPlace, put_part_opening, view_judged};
-use crate::put_field;
 use crate::record::HasRecord;
-use crate::shown::QuotedText;
-use crate::text_buffer::TextBuffer;
-use crate::viewed::{ABSENT, optional_hex, optional_quoted, principal_of};
+use crate::viewed::{
+    bits_of, digest_of, encrypted_of, optional_hex, optional_quoted, principal_of,
+};
 use krb_msg::{ApReq, ApReqView, EncryptedData, EncryptedDataView, Ticket};
 use krb_padata::{
     EtypeInfo2Entry, EtypeInfoEntry, KrbFastArmorView, PaForUser, PaFxFastReply, PaFxFastRequest,
     PaPacOptions,
 };
+use krb_record::{ABSENT, Form, Numbered, QuotedText, TextBuffer, put_closing, put_field};
 use krb_registry::Registry;
 use std::alloc::AllocError;
 
@@ -38,7 +35,7 @@ const AP_REQUEST_ARMOR: i64 = 1;
 impl<'a> Clear<'a> for ApReq {
     ghost part = { λ seen. tgs_req_part (ap_req_of_view seen) };
 
-    #[tactic(auto, unfolding(crate::specs::Forms::part_text))]
+    #[tactic(auto, unfolding(krb_record::specs::Forms::part_text))]
     fn put_part(text: &mut TextBuffer, at: PartPlace, seen: &Self::Of) -> Result<(), AllocError> {
         put_part_opening(text, at, "PA-TGS-REQ")?;
         seen.put_fields(text, at.form)?;
@@ -50,7 +47,7 @@ impl<'a> Clear<'a> for ApReq {
 impl<'a> Clear<'a> for EtypeInfoEntry {
     ghost part = { λ seen. etype_info_part (etype_info_entry_of_view seen) };
 
-    #[tactic(auto, unfolding(crate::specs::Forms::part_text))]
+    #[tactic(auto, unfolding(krb_record::specs::Forms::part_text))]
     fn put_part(text: &mut TextBuffer, at: PartPlace, seen: &Self::Of) -> Result<(), AllocError> {
         put_part_opening(text, at, "PA-ETYPE-INFO")?;
         put_etype_field(text, at.form, &seen.etype)?;
@@ -63,7 +60,7 @@ impl<'a> Clear<'a> for EtypeInfoEntry {
 impl<'a> Clear<'a> for EtypeInfo2Entry {
     ghost part = { λ seen. etype_info2_part (etype_info2_entry_of_view seen) };
 
-    #[tactic(auto, unfolding(crate::specs::Forms::part_text))]
+    #[tactic(auto, unfolding(krb_record::specs::Forms::part_text))]
     fn put_part(text: &mut TextBuffer, at: PartPlace, seen: &Self::Of) -> Result<(), AllocError> {
         put_part_opening(text, at, "PA-ETYPE-INFO2")?;
         put_etype_field(text, at.form, &seen.etype)?;
@@ -77,11 +74,11 @@ impl<'a> Clear<'a> for EtypeInfo2Entry {
 impl<'a> Clear<'a> for PaForUser {
     ghost part = { λ seen. for_user_part (pa_for_user_of_view seen) };
 
-    #[tactic(auto, unfolding(crate::specs::Forms::part_text))]
+    #[tactic(auto, unfolding(krb_record::specs::Forms::part_text))]
     fn put_part(text: &mut TextBuffer, at: PartPlace, seen: &Self::Of) -> Result<(), AllocError> {
         put_part_opening(text, at, "PA-FOR-USER")?;
         put_field!(text, at.form, "user": &principal_of(&seen.user_name, seen.user_realm))?;
-        put_field!(text, at.form, "cksum": &seen.cksum)?;
+        put_field!(text, at.form, "cksum": &digest_of(&seen.cksum))?;
         put_field!(text, at.form, "package": &QuotedText(seen.auth_package))?;
         put_closing(text, at.form)
     }
@@ -91,11 +88,11 @@ impl<'a> Clear<'a> for PaForUser {
 impl<'a> Clear<'a> for PaFxFastRequest {
     ghost part = { λ seen. fast_request_part (krb_fast_armored_req_of_view seen) };
 
-    #[tactic(auto, unfolding(crate::specs::Forms::part_text))]
+    #[tactic(auto, unfolding(krb_record::specs::Forms::part_text))]
     fn put_part(text: &mut TextBuffer, at: PartPlace, seen: &Self::Of) -> Result<(), AllocError> {
         put_part_opening(text, at, "PA-FX-FAST")?;
         put_armor_fields(text, at.form, &seen.armor)?;
-        put_field!(text, at.form, "enc": &seen.enc_fast_req)?;
+        put_field!(text, at.form, "enc": &encrypted_of(&seen.enc_fast_req))?;
         put_closing(text, at.form)
     }
 }
@@ -104,13 +101,13 @@ impl<'a> Clear<'a> for PaFxFastRequest {
 impl<'a> Clear<'a> for PaFxFastReply {
     ghost part = { λ seen. fast_reply_part (krb_fast_armored_rep_of_view seen) };
 
-    #[tactic(auto, unfolding(crate::specs::Forms::part_text))]
+    #[tactic(auto, unfolding(krb_record::specs::Forms::part_text))]
     fn put_part(text: &mut TextBuffer, at: PartPlace, seen: &Self::Of) -> Result<(), AllocError> {
         put_part_opening(text, at, "PA-FX-FAST")?;
         put_field!(text, at.form, "armor": &ABSENT)?;
         put_field!(text, at.form, "server": &ABSENT)?;
         put_field!(text, at.form, "ticket": &ABSENT)?;
-        put_field!(text, at.form, "enc": &seen.enc_fast_rep)?;
+        put_field!(text, at.form, "enc": &encrypted_of(&seen.enc_fast_rep))?;
         put_closing(text, at.form)
     }
 }
@@ -119,10 +116,10 @@ impl<'a> Clear<'a> for PaFxFastReply {
 impl<'a> Clear<'a> for PaPacOptions {
     ghost part = { λ seen. pac_options_part (pa_pac_options_of_view seen) };
 
-    #[tactic(auto, unfolding(crate::specs::Forms::part_text))]
+    #[tactic(auto, unfolding(krb_record::specs::Forms::part_text))]
     fn put_part(text: &mut TextBuffer, at: PartPlace, seen: &Self::Of) -> Result<(), AllocError> {
         put_part_opening(text, at, "PA-PAC-OPTIONS")?;
-        put_field!(text, at.form, "options": &FlagBits(Registry::PacOptions, &seen.flags))?;
+        put_field!(text, at.form, "options": &bits_of(Registry::PacOptions, &seen.flags))?;
         put_closing(text, at.form)
     }
 }
@@ -131,11 +128,11 @@ impl<'a> Clear<'a> for PaPacOptions {
 impl<'a> Clear<'a> for Ticket {
     ghost part = { λ seen. ticket_part (ticket_of_view seen) };
 
-    #[tactic(auto, unfolding(crate::specs::Forms::part_text))]
+    #[tactic(auto, unfolding(krb_record::specs::Forms::part_text))]
     fn put_part(text: &mut TextBuffer, at: PartPlace, seen: &Self::Of) -> Result<(), AllocError> {
         put_part_opening(text, at, "Ticket")?;
         put_field!(text, at.form, "server": &principal_of(&seen.sname, seen.realm))?;
-        put_field!(text, at.form, "ticket": &seen.enc_part)?;
+        put_field!(text, at.form, "ticket": &encrypted_of(&seen.enc_part))?;
         put_closing(text, at.form)
     }
 }
@@ -197,7 +194,7 @@ fn put_ticket_fields(
         Some(req) => {
             let (server, realm) = (&req.ticket.sname, req.ticket.realm);
             put_field!(text, form, "server": &principal_of(server, realm))?;
-            put_field!(text, form, "ticket": &req.ticket.enc_part)
+            put_field!(text, form, "ticket": &encrypted_of(&req.ticket.enc_part))
         }
     }
 }
@@ -220,7 +217,7 @@ fn put_armor_fields(
 }
 
 /// Appends the part of what is encrypted.
-#[tactic(auto, unfolding(crate::specs::Forms::part_text))]
+#[tactic(auto, unfolding(krb_record::specs::Forms::part_text))]
 fn put_encrypted_part(
     text: &mut TextBuffer,
     at: PartPlace,
@@ -230,7 +227,7 @@ fn put_encrypted_part(
     ensures { OnOk result (text.new ≡ text.old ++ separator at.form (nat_lt 0 at.told) ++ part_text at.form (encrypted_part kind.now (encrypted_data_of_view seen.now))) }
 {
     put_part_opening(text, at, kind)?;
-    put_field!(text, at.form, "enc": seen)?;
+    put_field!(text, at.form, "enc": &encrypted_of(seen))?;
     put_closing(text, at.form)
 }
 
@@ -255,7 +252,7 @@ pub(crate) fn put_encrypted(
 }
 
 /// Appends the part of a salt (RFC 4120, 5.2.7.3).
-#[tactic(auto, unfolding(crate::specs::Forms::part_text))]
+#[tactic(auto, unfolding(krb_record::specs::Forms::part_text))]
 pub(crate) fn put_salt(
     text: &mut TextBuffer,
     at: PartPlace,
@@ -269,7 +266,7 @@ pub(crate) fn put_salt(
 }
 
 /// Appends the part of a PA-PAC-REQUEST (MS-KILE, 2.2.3).
-#[tactic(auto, unfolding(crate::specs::Forms::part_text))]
+#[tactic(auto, unfolding(krb_record::specs::Forms::part_text))]
 pub(crate) fn put_pac_request(
     text: &mut TextBuffer,
     at: PartPlace,

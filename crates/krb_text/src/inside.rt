@@ -6,21 +6,18 @@ ghost use Rattle.krb_msg.specs.Grammar.{pa_data, ticket};
 ghost use Rattle.krb_msg.specs.Types.{IsValidKdcRep, IsValidKdcReq, IsValidKrbCred, IsValidKrbError, kdc_rep_of_view, kdc_req_of_view, krb_cred_of_view, krb_error_of_view, pa_data_of, ticket_of};
 ghost use Rattle.krb_msg.specs.Term.{IfPresent};
 ghost use Rattle.krb_msg.specs.Viewed.{AreViewed, items_of};
-ghost use Rattle.krb_text.specs.Forms.{ending, part_text};
+ghost use Rattle.krb_record.specs.Forms.{ending, part_text};
 ghost use Rattle.krb_text.specs.Inside.{each_if, kdc_req_parts, krb_error_parts, method_data_if, methods_part, padata_parts, ticket_part, types_if};
 ghost use Rattle.krb_text.specs.Judged.{asks_for_preauth, says_preauth_failed};
-ghost use Rattle.krb_text.specs.Values.{Part};
+ghost use Rattle.krb_record.specs.Values.{Part};
 ghost use Rattle.krb_text.specs.inner.Parts.{Tells, separator};
 
 use crate::error::{PREAUTH_REQUIRED, method_data};
-use crate::field::put_closing;
-use crate::form::Form;
 use crate::list::PaDataTypes;
 use crate::padata::put_padata;
 use crate::part::{PartPlace, put_each, put_part_opening};
-use crate::put_field;
-use crate::text_buffer::TextBuffer;
 use krb_msg::{ItemsView, KdcRepView, KdcReqView, KrbCredView, KrbErrorView, Ticket};
+use krb_record::{Form, TextBuffer, put_closing, put_field};
 use std::alloc::AllocError;
 
 /// The code of an error that says that pre-authentication failed (RFC 4120, 7.5.9).
@@ -136,7 +133,7 @@ fn methods_of<'a>(error: &KrbErrorView<'a>) -> Option<ItemsView<'a>>
 }
 
 /// Appends the part of METHOD-DATA, their types.
-#[tactic(auto, unfolding(crate::specs::Forms::part_text))]
+#[tactic(auto, unfolding(krb_record::specs::Forms::part_text))]
 fn put_methods_part(
     text: &mut TextBuffer,
     form: Form,
@@ -187,7 +184,7 @@ impl<'a> HasParts for KrbErrorView<'a> {
 /// Appends what follows the fields of a message that may have parts. A line without names has
 /// nothing there.
 #[inline(always)]
-#[tactic(auto, unfolding(crate::specs::Forms::closing, crate::specs::Forms::inside_text))]
+#[tactic(auto, unfolding(krb_record::specs::Forms::closing, krb_record::specs::Forms::inside_text))]
 pub(crate) fn put_list<M: HasParts>(
     text: &mut TextBuffer,
     form: Form,

@@ -8,17 +8,16 @@ ghost use Rattle.krb_msg.specs.Shape.{is_unambiguous, has_octet_tags};
 ghost use Rattle.krb_msg.specs.Viewed.{AreViewed, items_of};
 ghost use Rattle.krb_msg.specs.Types.{pa_data_of};
 ghost use Rattle.std.specs.Fmt.{signed_decimal};
-ghost use Rattle.krb_text.specs.Forms.{members, name_string, number_text, value_text};
+ghost use Rattle.krb_record.specs.Forms.{members, name_string, number_text, value_text};
 ghost use Rattle.krb_text.specs.Messages.{padata};
-ghost use Rattle.krb_text.specs.Text.{joined, list_text};
-ghost use Rattle.krb_text.specs.Values.{Numbers};
-ghost use Rattle.krb_text.specs.inner.Items.{IsFirstNumber, item_number, number_item};
+ghost use Rattle.krb_record.specs.Text.{joined, list_text};
+ghost use Rattle.krb_record.specs.Values.{Numbers};
+ghost use Rattle.krb_record.specs.Items.{number_item};
+ghost use Rattle.krb_text.specs.inner.Items.{IsFirstNumber, item_number};
 
-use crate::item::{NumberForm, put_number_item};
-use crate::shown::{Shown, put_begin, put_names_begin};
-use crate::text_buffer::TextBuffer;
 use krb_der::Int32;
 use krb_msg::{ItemsView, PaData, View, next_item, next_type};
+use krb_record::{NumberForm, Shown, TextBuffer, put_begin, put_names_begin, put_number_item};
 use krb_registry::Registry;
 use std::alloc::AllocError;
 use std::marker::Model;
@@ -126,7 +125,7 @@ fn put_name_list<'a, T: Listed<'a>>(
 
 /// Appends what a line shows of numbers of a registry.
 #[inline(always)]
-#[tactic(auto, unfolding(crate::specs::Forms::value_text))]
+#[tactic(auto, unfolding(krb_record::specs::Forms::value_text))]
 fn put_numbers_text<'a, T: Listed<'a>>(
     line: &mut TextBuffer,
     names: bool,
@@ -145,7 +144,7 @@ fn put_numbers_text<'a, T: Listed<'a>>(
 
 /// Appends the members of numbers of a registry.
 #[inline(always)]
-#[tactic(auto, unfolding(crate::specs::Forms::members, crate::specs::Forms::json_value, crate::specs::Forms::names_member))]
+#[tactic(auto, unfolding(krb_record::specs::Forms::members, krb_record::specs::Forms::json_value, krb_record::specs::Forms::names_member))]
 fn put_numbers_members<'a, T: Listed<'a>>(
     object: &mut TextBuffer,
     begin: &str,

@@ -3,28 +3,25 @@
 ghost use Rattle.std.specs.Prelude.{◌≡◌, ◌++◌, false, map, None, OnOk, Some, codes};
 ghost use Rattle.krb_msg.specs.Types.{IsValidKdcReqBody, IsValidKdcReq, IsValidKdcRep, IsValidApReq, IsValidApRep, IsValidKrbSafe, IsValidKrbPriv, IsValidKrbCred, kdc_req_body_of_view, kdc_req_of_view, kdc_rep_of_view, ap_req_of_view, ap_rep_of_view, krb_safe_of_view, krb_priv_of_view, krb_cred_of_view};
 ghost use Rattle.krb_registry.specs.declared.registry.Registry.TheVariants as registries;
-ghost use Rattle.krb_text.specs.Forms.{field};
+ghost use Rattle.krb_record.specs.Forms.{field};
 ghost use Rattle.krb_text.specs.Inside.{kdc_req_parts, padata_parts, ticket_part};
 ghost use Rattle.krb_text.specs.MessageFields.{padata, kdc_req_fields, kdc_rep_fields, ap_req_fields, ap_rep_fields, krb_safe_fields, krb_priv_fields, krb_cred_fields};
-ghost use Rattle.krb_text.specs.Values.{Flags, Number, Numbers, String as Escaped, Word, count, if_there, principal, encrypted};
+ghost use Rattle.krb_text.specs.MessageValues.{principal, encrypted};
+ghost use Rattle.krb_record.specs.Values.{Flags, Number, Numbers, String as Escaped, Word, count, if_there};
 
-use crate::field::put_closing;
-use crate::flags::FlagBits;
-use crate::form::Form;
 use crate::inside::put_list;
 use crate::list::EncryptionTypes;
-use crate::put_field;
 use crate::record::HasRecord;
-use crate::shown::Text;
-use crate::text_buffer::TextBuffer;
 use crate::viewed::{
-    optional_address_count, optional_micros_of, optional_principal_of, optional_ticket_count,
+    address_of, bits_of, digest_of, encrypted_of, optional_address_count, optional_address_of,
+    optional_encrypted_of, optional_micros_of, optional_principal_of, optional_ticket_count,
     optional_time_of, optional_types_of, principal_of, ticket_count, time_of,
 };
 use krb_msg::{
     ApRepView, ApReqView, KdcRepView, KdcReqBodyView, KdcReqView, KrbCredView, KrbPrivView,
     KrbSafeView,
 };
+use krb_record::{Form, Text, TextBuffer, put_closing, put_field};
 use krb_registry::Registry;
 use std::alloc::AllocError;
 
@@ -47,7 +44,7 @@ fn put_kdc_req_first_fields(
     put_field!(text, form, "realm": &Text(body.realm))?;
     put_field!(text, form, "client": &optional_principal_of(&body.cname, body.realm))?;
     put_field!(text, form, "server": &optional_principal_of(&body.sname, body.realm))?;
-    put_field!(text, form, "options": &FlagBits(Registry::KdcOptions, &body.kdc_options))?;
+    put_field!(text, form, "options": &bits_of(Registry::KdcOptions, &body.kdc_options))?;
     put_field!(text, form, "from": &optional_time_of(body.from))?;
     put_field!(text, form, "till": &time_of(body.till))?;
     put_field!(text, form, "rtime": &optional_time_of(body.rtime))
@@ -73,7 +70,7 @@ fn put_kdc_req_last_fields(
     put_field!(text, form, "etypes": &EncryptionTypes::new(body.etype))?;
     put_field!(text, form, "padata": &optional_types_of(req.padata))?;
     put_field!(text, form, "addresses": &optional_address_count(body.addresses))?;
-    put_field!(text, form, "authdata": &body.enc_authorization_data)?;
+    put_field!(text, form, "authdata": &optional_encrypted_of(&body.enc_authorization_data))?;
     put_field!(text, form, "tickets": &optional_ticket_count(body.additional_tickets))
 }
 
@@ -107,8 +104,8 @@ impl<'a> HasRecord for KdcRepView<'a> {
         put_field!(text, form, "client": &principal_of(&self.cname, self.crealm))?;
         put_field!(text, form, "server": &principal_of(&ticket.sname, ticket.realm))?;
         put_field!(text, form, "padata": &optional_types_of(self.padata))?;
-        put_field!(text, form, "ticket": &ticket.enc_part)?;
-        put_field!(text, form, "enc": &self.enc_part)
+        put_field!(text, form, "ticket": &encrypted_of(&ticket.enc_part))?;
+        put_field!(text, form, "enc": &encrypted_of(&self.enc_part))
     }
 
     #[inline(always)]
@@ -127,9 +124,9 @@ impl<'a> HasRecord for ApReqView<'a> {
     fn put_fields(&self, text: &mut TextBuffer, form: Form) -> Result<(), AllocError> {
         let ticket = &self.ticket;
         put_field!(text, form, "server": &principal_of(&ticket.sname, ticket.realm))?;
-        put_field!(text, form, "options": &FlagBits(Registry::ApOptions, &self.ap_options))?;
-        put_field!(text, form, "ticket": &ticket.enc_part)?;
-        put_field!(text, form, "auth": &self.authenticator)
+        put_field!(text, form, "options": &bits_of(Registry::ApOptions, &self.ap_options))?;
+        put_field!(text, form, "ticket": &encrypted_of(&ticket.enc_part))?;
+        put_field!(text, form, "auth": &encrypted_of(&self.authenticator))
     }
 
     #[inline(always)]
@@ -146,7 +143,7 @@ impl<'a> HasRecord for ApRepView<'a> {
     ghost inside = { λ _. None };
 
     fn put_fields(&self, text: &mut TextBuffer, form: Form) -> Result<(), AllocError> {
-        put_field!(text, form, "enc": &self.enc_part)
+        put_field!(text, form, "enc": &encrypted_of(&self.enc_part))
     }
 
     #[inline(always)]
@@ -168,9 +165,9 @@ impl<'a> HasRecord for KrbSafeView<'a> {
         put_field!(text, form, "time": &optional_time_of(body.timestamp))?;
         put_field!(text, form, "usec": &optional_micros_of(body.usec))?;
         put_field!(text, form, "seq": &body.seq_number)?;
-        put_field!(text, form, "sender": &body.s_address)?;
-        put_field!(text, form, "receiver": &body.r_address)?;
-        put_field!(text, form, "cksum": &self.cksum)
+        put_field!(text, form, "sender": &address_of(&body.s_address))?;
+        put_field!(text, form, "receiver": &optional_address_of(&body.r_address))?;
+        put_field!(text, form, "cksum": &digest_of(&self.cksum))
     }
 
     #[inline(always)]
@@ -187,7 +184,7 @@ impl<'a> HasRecord for KrbPrivView<'a> {
     ghost inside = { λ _. None };
 
     fn put_fields(&self, text: &mut TextBuffer, form: Form) -> Result<(), AllocError> {
-        put_field!(text, form, "enc": &self.enc_part)
+        put_field!(text, form, "enc": &encrypted_of(&self.enc_part))
     }
 
     #[inline(always)]
@@ -205,7 +202,7 @@ impl<'a> HasRecord for KrbCredView<'a> {
 
     fn put_fields(&self, text: &mut TextBuffer, form: Form) -> Result<(), AllocError> {
         put_field!(text, form, "tickets": &ticket_count(self.tickets))?;
-        put_field!(text, form, "enc": &self.enc_part)
+        put_field!(text, form, "enc": &encrypted_of(&self.enc_part))
     }
 
     #[inline(always)]

@@ -4,13 +4,11 @@ ghost use Rattle.std.specs.Prelude.{◌≡◌, ◌++◌, ◌∷◌, [], map, pos
 ghost use Rattle.std.specs.List.{filter, list_any};
 ghost use Rattle.krb_msg.specs.Notes.{notes_have};
 ghost use Rattle.krb_text.specs.Messages.{notes};
-ghost use Rattle.krb_text.specs.Text.{joined, list_text};
-ghost use Rattle.krb_text.specs.inner.Items.{number_item};
+ghost use Rattle.krb_record.specs.Text.{joined, list_text};
+ghost use Rattle.krb_record.specs.Items.{number_item};
 
-use crate::item::{NumberForm, put_number_item};
-use crate::shown::{Shown, put_begin, put_names_begin};
-use crate::text_buffer::TextBuffer;
 use krb_msg::Notes;
+use krb_record::{NumberForm, Shown, TextBuffer, put_begin, put_names_begin, put_number_item};
 use krb_registry::Registry;
 use std::alloc::AllocError;
 
@@ -69,26 +67,30 @@ fn put_number_list(text: &mut TextBuffer, form: NumberForm, notes: &Notes) -> Re
     }
 }
 
+/// Notes as a record shows them.
+#[derive(Clone, Copy)]
+pub(crate) struct ShownNotes<'a>(pub(crate) &'a Notes);
+
 /// The numbers of the notes, in brackets, with commas between them.
-impl Shown for Notes {
-    ghost shown = { notes };
+impl<'a> Shown for ShownNotes<'a> {
+    ghost shown = { λ shown. notes shown.0.now };
 
     #[inline(always)]
-    #[tactic(auto, unfolding(crate::specs::Forms::value_text))]
+    #[tactic(auto, unfolding(krb_record::specs::Forms::value_text))]
     fn put_text(&self, line: &mut TextBuffer, names: bool) -> Result<(), AllocError> {
         if names {
-            put_number_list(line, NumberForm::Named(Registry::Notes), self)
+            put_number_list(line, NumberForm::Named(Registry::Notes), self.0)
         } else {
-            put_number_list(line, NumberForm::Line, self)
+            put_number_list(line, NumberForm::Line, self.0)
         }
     }
 
     #[inline(always)]
-    #[tactic(auto, unfolding(crate::specs::Forms::members, crate::specs::Forms::json_value, crate::specs::Forms::names_member))]
+    #[tactic(auto, unfolding(krb_record::specs::Forms::members, krb_record::specs::Forms::json_value, krb_record::specs::Forms::names_member))]
     fn put_members(&self, object: &mut TextBuffer, begin: &str) -> Result<(), AllocError> {
         put_begin(object, begin)?;
-        put_number_list(object, NumberForm::Line, self)?;
+        put_number_list(object, NumberForm::Line, self.0)?;
         put_names_begin(object, begin)?;
-        put_number_list(object, NumberForm::Name(Registry::Notes), self)
+        put_number_list(object, NumberForm::Name(Registry::Notes), self.0)
     }
 }

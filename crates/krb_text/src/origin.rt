@@ -1,41 +1,14 @@
 //! Where records of captures come from.
 
-ghost use Rattle.std.specs.Prelude.{◌≡◌, ◌++◌, OnOk, codes, decimal};
-ghost use Rattle.std.specs.Net.Text.{ip_text, ipv4_text};
-ghost use Rattle.krb_text.specs.Captures.{origin_fields};
-ghost use Rattle.krb_text.specs.Flows.{endpoint_object, endpoint_text, flow_object, flow_text, host_text, transport_name};
-ghost use Rattle.krb_text.specs.Forms.{heading, origin_text};
-ghost use Rattle.krb_text.specs.Values.{Flow as IsFlow};
+ghost use Rattle.std.specs.Prelude.{◌≡◌, ◌++◌, OnOk};
+ghost use Rattle.krb_record.specs.Forms.{heading, origin_text};
+ghost use Rattle.krb_record.specs.Time.{instant_text};
+ghost use Rattle.krb_record.specs.Values.{Flow as IsFlow, Word, if_there};
+ghost use Rattle.krb_text.specs.Captures.{endpoint, origin_fields};
 
-use crate::field::put_opening;
-use crate::form::Form;
-use crate::put_field;
-use crate::shown::{Shown, put_begin};
-use crate::text_buffer::TextBuffer;
 use krb_packet::{Endpoint, Time};
+use krb_record::{Flow, Form, Instant, TextBuffer, Transport, put_field, put_opening};
 use std::alloc::AllocError;
-use std::net::IpAddr;
-
-/// The protocol that carries messages.
-#[derive(Clone, Copy, PartialEq, Eq, Debug)]
-pub enum Transport {
-    /// UDP (RFC 768).
-    Udp,
-    /// TCP (RFC 9293).
-    Tcp,
-}
-
-impl Transport {
-    /// Returns its name in lower case.
-    fn name(self) -> &'static str
-        ensures { result.now ≡ transport_name self }
-    {
-        match self {
-            Transport::Udp => "udp",
-            Transport::Tcp => "tcp",
-        }
-    }
-}
 
 /// Where a record of a capture comes from: the packet with which it is due, and the flow.
 #[derive(Clone, Copy)]
@@ -52,111 +25,29 @@ pub struct Origin {
     pub target: Endpoint,
 }
 
-/// Appends four octets in decimal, with dots between them.
-fn put_dotted(text: &mut TextBuffer, octets: [u8; 4]) -> Result<(), AllocError>
-    ensures { OnOk result (text.new ≡ text.old ++ ipv4_text octets) }
+/// Returns the time of a packet, if it is known.
+#[inline(always)]
+fn optional_instant_of(time: Option<Time>) -> Option<Instant>
+    ensures { if_there (λ i. Word (instant_text i.seconds i.nanoseconds)) result ≡ if_there (λ t. Word (instant_text t.seconds t.nanoseconds)) time }
 {
-    let [a, b, c, d] = octets;
-    text.push_number(u64::from(a))?;
-    text.push_str(".")?;
-    text.push_number(u64::from(b))?;
-    text.push_str(".")?;
-    text.push_number(u64::from(c))?;
-    text.push_str(".")?;
-    text.push_number(u64::from(d))
-}
-
-/// Appends an address: one of IPv4 in decimal, one of IPv6 as RFC 5952 has it.
-fn put_address(text: &mut TextBuffer, address: IpAddr) -> Result<(), AllocError>
-    ensures { OnOk result (text.new ≡ text.old ++ ip_text address) }
-{
-    match address {
-        IpAddr::V4(address) => put_dotted(text, address.octets()),
-        IpAddr::V6(address) => write!(text, "{address}"),
+    match time {
+        None => None,
+        Some(time) => Some(Instant {
+            seconds: time.seconds,
+            nanoseconds: time.nanoseconds,
+        }),
     }
 }
 
-/// Appends an address, in brackets if it is one of IPv6.
-fn put_host(text: &mut TextBuffer, address: IpAddr) -> Result<(), AllocError>
-    ensures { OnOk result (text.new ≡ text.old ++ host_text address) }
+/// Returns the flow of an origin.
+#[inline(always)]
+fn flow_of(origin: &Origin) -> Flow
+    ensures { IsFlow result.transport result.source result.target ≡ IsFlow origin.now.transport (endpoint origin.now.source) (endpoint origin.now.target) }
 {
-    match address {
-        IpAddr::V4(_) => put_address(text, address),
-        IpAddr::V6(_) => {
-            text.push_str("[")?;
-            put_address(text, address)?;
-            text.push_str("]")
-        }
-    }
-}
-
-/// Appends an address, `:` and a port.
-fn put_endpoint(text: &mut TextBuffer, endpoint: &Endpoint) -> Result<(), AllocError>
-    ensures { OnOk result (text.new ≡ text.old ++ endpoint_text endpoint.now) }
-{
-    put_host(text, endpoint.address)?;
-    text.push_str(":")?;
-    text.push_number(u64::from(endpoint.port))
-}
-
-/// Appends what an object has after the text of its address: the port.
-fn put_port_end(object: &mut TextBuffer, port: u16) -> Result<(), AllocError>
-    ensures { OnOk result (object.new ≡ object.old ++ codes "\",\"port\":" ++ decimal port ++ codes "}") }
-{
-    object.push_str("\",\"port\":")?;
-    object.push_number(u64::from(port))?;
-    object.push_str("}")
-}
-
-/// Appends the object of an address and a port.
-fn put_endpoint_object(object: &mut TextBuffer, endpoint: &Endpoint) -> Result<(), AllocError>
-    ensures { OnOk result (object.new ≡ object.old ++ endpoint_object endpoint.now) }
-{
-    object.push_str("{\"address\":\"")?;
-    put_address(object, endpoint.address)?;
-    put_port_end(object, endpoint.port)
-}
-
-/// Appends the flow as a line has it.
-fn put_flow_text(line: &mut TextBuffer, origin: &Origin) -> Result<(), AllocError>
-    ensures { OnOk result (line.new ≡ line.old ++ flow_text origin.now.transport origin.now.source origin.now.target) }
-{
-    line.push_str(origin.transport.name())?;
-    line.push_str("/")?;
-    put_endpoint(line, &origin.source)?;
-    line.push_str(">")?;
-    put_endpoint(line, &origin.target)
-}
-
-/// Appends the object of the flow.
-fn put_flow_object(object: &mut TextBuffer, origin: &Origin) -> Result<(), AllocError>
-    ensures { OnOk result (object.new ≡ object.old ++ flow_object origin.now.transport origin.now.source origin.now.target) }
-{
-    object.push_str("{\"over\":\"")?;
-    object.push_str(origin.transport.name())?;
-    object.push_str("\",\"source\":")?;
-    put_endpoint_object(object, &origin.source)?;
-    object.push_str(",\"target\":")?;
-    put_endpoint_object(object, &origin.target)?;
-    object.push_str("}")
-}
-
-/// The flow of an origin.
-#[derive(Clone, Copy)]
-struct Flow<'a>(&'a Origin);
-
-impl<'a> Shown for Flow<'a> {
-    ghost shown = { λ flow. IsFlow flow.0.now.transport flow.0.now.source flow.0.now.target };
-
-    #[tactic(auto, unfolding(crate::specs::Forms::value_text))]
-    fn put_text(&self, line: &mut TextBuffer, _names: bool) -> Result<(), AllocError> {
-        put_flow_text(line, self.0)
-    }
-
-    #[tactic(auto, unfolding(crate::specs::Forms::members, crate::specs::Forms::json_value, crate::specs::Forms::names_member))]
-    fn put_members(&self, object: &mut TextBuffer, begin: &str) -> Result<(), AllocError> {
-        put_begin(object, begin)?;
-        put_flow_object(object, self.0)
+    Flow {
+        transport: origin.transport,
+        source: (origin.source.address, origin.source.port),
+        target: (origin.target.address, origin.target.port),
     }
 }
 
@@ -165,13 +56,13 @@ fn put_origin(text: &mut TextBuffer, form: Form, origin: &Origin) -> Result<(), 
     ensures { OnOk result (text.new ≡ text.old ++ origin_text form (origin_fields origin.now)) }
 {
     put_field!(text, form, first "packet": &origin.packet)?;
-    put_field!(text, form, "t": &origin.time)?;
-    put_field!(text, form, "flow": &Flow(origin))
+    put_field!(text, form, "t": &optional_instant_of(origin.time))?;
+    put_field!(text, form, "flow": &flow_of(origin))
 }
 
 /// Appends what precedes the fields of a record of a capture: in a line its origin and then its
 /// kind, in an object its kind and then its origin.
-#[tactic(auto, unfolding(crate::specs::Forms::opening_from))]
+#[tactic(auto, unfolding(krb_record::specs::Forms::opening_from))]
 pub(crate) fn put_captured_opening(
     text: &mut TextBuffer,
     form: Form,

@@ -14,14 +14,13 @@ ghost use Rattle.krb_text.specs.inner.Parts.{Tells};
 
 use crate::clear::{put_encrypted, put_pac_request, put_salt};
 use crate::clear_type::ClearType;
-use crate::form::Form;
 use crate::part::{PartPlace, put_each, put_whole, view_judged};
-use crate::text_buffer::TextBuffer;
 use krb_msg::{ApReq, EncryptedData, ItemsView, PaData, next_item};
 use krb_padata::{
     EtypeInfo, EtypeInfo2, EtypeInfo2Entry, EtypeInfoEntry, PaForUser, PaFxFastReply,
     PaFxFastRequest, PaPacOptions, view_pac_request,
 };
+use krb_record::{Form, TextBuffer};
 use std::alloc::AllocError;
 
 /// Appends the parts of a PA-ETYPE-INFO, and returns how many were told by now.

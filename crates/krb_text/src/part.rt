@@ -4,16 +4,14 @@ ghost use Rattle.std.specs.Prelude.{◌≡◌, ◌+◌, ◌++◌, ◌^◌, ◌<�
 ghost use Rattle.krb_msg.specs.Shape.{has_octet_tags, is_unambiguous};
 ghost use Rattle.krb_msg.specs.Term.{Value};
 ghost use Rattle.krb_msg.specs.Viewed.{AreViewed, items_of};
-ghost use Rattle.krb_text.specs.Forms.{opening, part_text};
+ghost use Rattle.krb_record.specs.Forms.{opening, part_text};
 ghost use Rattle.krb_text.specs.Inside.{one_if};
 ghost use Rattle.krb_text.specs.Judged.{judged};
-ghost use Rattle.krb_text.specs.Values.{Part};
+ghost use Rattle.krb_record.specs.Values.{Part};
 ghost use Rattle.krb_text.specs.inner.Parts.{Tells, separator};
 
-use crate::field::put_opening;
-use crate::form::Form;
-use crate::text_buffer::TextBuffer;
 use krb_msg::{ItemsView, View, next_item, view_whole};
+use krb_record::{Form, TextBuffer, put_opening};
 use std::alloc::AllocError;
 
 /// Where a part is appended.

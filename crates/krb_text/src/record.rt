@@ -3,24 +3,21 @@
 
 ghost use Rattle.std.specs.Prelude.{◌≡◌, ◌++◌, IfOk, List, MatchOption, OnOk, Option, string_bytes};
 ghost use Rattle.krb_msg.specs.ViewValues.{BeginAs, IsNoMessage};
-ghost use Rattle.krb_text.specs.Forms.{ending, fields_text, heading};
-ghost use Rattle.krb_text.specs.Messages.{PutsMessage, message_line, message_line_from, message_origin, message_text};
-ghost use Rattle.krb_text.specs.Values.{Field, Part};
+ghost use Rattle.krb_record.specs.Forms.{ending, fields_text, heading};
+ghost use Rattle.krb_record.specs.Origins.{message_origin};
+ghost use Rattle.krb_text.specs.Messages.{PutsMessage, message_line, message_line_from, message_text};
+ghost use Rattle.krb_record.specs.Values.{Field, Part};
 ghost use Rattle.krb_text.specs.inner.Records.{IsRecordedAs, heading_origin, is_kept, text_after};
 
-use crate::field::put_opening;
-use crate::form::Form;
-use crate::message_origin::{MessageOrigin, put_message_opening};
-use crate::notes::has_any;
+use crate::notes::{ShownNotes, has_any};
 use crate::origin::{Origin, put_captured_opening};
-use crate::put_field;
-use crate::text_buffer::TextBuffer;
 use krb_der::{Memory, Profile};
 use krb_msg::message_kinds::{
     ApRepKind, ApReqKind, AsRepKind, AsReqKind, KrbCredKind, KrbErrorKind, KrbPrivKind,
     KrbSafeKind, TgsRepKind, TgsReqKind,
 };
 use krb_msg::{Kind, Message, MessageKind, Notes, encode};
+use krb_record::{Form, MessageOrigin, TextBuffer, put_field, put_message_opening, put_opening};
 use std::alloc::{AllocError, Global};
 
 /// The most octets of a message (RFC 4120, 7.2.2).
@@ -114,7 +111,7 @@ where
     }
     put_heading(text, form, from, kind.name())?;
     view.put_fields(text, form)?;
-    put_field!(text, form, "notes": &notes)?;
+    put_field!(text, form, "notes": &ShownNotes(&notes))?;
     view.put_ending(text, form)?;
     Ok(true)
 }

@@ -2,20 +2,18 @@
 
 ghost use Rattle.std.specs.Prelude.{◌≡◌, ◌++◌, OnOk};
 ghost use Rattle.krb_msg.specs.Types.{IsValidTicket, ticket_of_view};
-ghost use Rattle.krb_text.specs.Messages.{message_origin, ticket_line};
+ghost use Rattle.krb_record.specs.Origins.{message_origin};
+ghost use Rattle.krb_text.specs.Messages.{ticket_line};
 
-use crate::field::put_end;
-use crate::form::Form;
-use crate::message_origin::{MessageOrigin, put_message_opening};
-use crate::put_field;
-use crate::text_buffer::TextBuffer;
-use crate::viewed::principal_of;
+use crate::notes::ShownNotes;
+use crate::viewed::{encrypted_of, principal_of};
 use krb_msg::{TicketView, notes_of_ticket};
+use krb_record::{Form, MessageOrigin, TextBuffer, put_end, put_field, put_message_opening};
 use std::alloc::AllocError;
 
 /// Appends a Ticket (RFC 4120, 5.3) that comes from an origin by a view of it, as a line or an
 /// object with its line feed: its server, what is encrypted in it, and its notes.
-#[tactic(auto, unfolding(crate::specs::Forms::record_text, crate::specs::Messages::ticket_record))]
+#[tactic(auto, unfolding(krb_record::specs::Forms::record_text, crate::specs::Messages::ticket_record))]
 pub fn put_ticket(
     text: &mut TextBuffer,
     form: Form,
@@ -27,7 +25,7 @@ pub fn put_ticket(
 {
     put_message_opening(text, form, origin, "Ticket")?;
     put_field!(text, form, "server": &principal_of(&ticket.sname, ticket.realm))?;
-    put_field!(text, form, "ticket": &ticket.enc_part)?;
-    put_field!(text, form, "notes": &notes_of_ticket(ticket))?;
+    put_field!(text, form, "ticket": &encrypted_of(&ticket.enc_part))?;
+    put_field!(text, form, "notes": &ShownNotes(&notes_of_ticket(ticket)))?;
     put_end(text, form)
 }

@@ -1,25 +1,68 @@
 //! What views have, as values that records show.
 
-ghost use Rattle.std.specs.Prelude.{◌≡◌, map, pos};
+ghost use Rattle.std.specs.Prelude.{◌≡◌, ◌∷◌, [], List, MatchOption, ℕ, map, pos};
 ghost use Rattle.std.specs.Option.{option_map};
 ghost use Rattle.krb_der.specs.Scalars.{IsTimeFrom};
-ghost use Rattle.krb_msg.specs.Basic.{micros_of};
-ghost use Rattle.krb_msg.specs.Grammar.{host_address, pa_data, ticket};
-ghost use Rattle.krb_msg.specs.Types.{IsValidPrincipalName, host_address_of, pa_data_of, principal_name_of, principal_name_of_view, principal_name_view_value, ticket_of};
+ghost use Rattle.krb_msg.specs.Basic.{flags_of_view, micros_of};
+ghost use Rattle.krb_msg.specs.Grammar.{host_address, kerberos_string, pa_data, ticket};
+ghost use Rattle.krb_msg.specs.Types.{IsValidPrincipalName, checksum_of_view, encrypted_data_of, encrypted_data_of_view, encrypted_data_view_value, host_address_of, host_address_of_view, host_address_view_value, pa_data_of, principal_name_of, principal_name_of_view, principal_name_view_value, ticket_of};
 ghost use Rattle.krb_msg.specs.Term.{IfPresent};
 ghost use Rattle.krb_msg.specs.Viewed.{AreViewed, items_of};
 ghost use Rattle.krb_text.specs.Messages.{padata};
-ghost use Rattle.krb_text.specs.Values.{Hex, Number, Numbers, Principal as IsPrincipal, Quoted, Word, client, count, if_there, principal};
+ghost use Rattle.krb_text.specs.MessageValues.{address, checksum, client, encrypted, principal};
+ghost use Rattle.krb_record.specs.Values.{Address as IsAddress, Digest as IsDigest, Encrypted as IsEncrypted, Flags, Hex, Number, Numbers, Principal as IsPrincipal, Quoted, Word, count, if_there};
 ghost use Rattle.krb_registry.specs.declared.registry.Registry.TheVariants.{PreAuthenticationData};
 
 use crate::list::{PaDataTypes, count_items};
-use crate::principal::{Principal, ViewedStrings};
-use crate::shown::{HexText, Plain, QuotedText};
-use krb_msg::{HostAddress, ItemsView, PrincipalNameView, Ticket};
+use krb_der::KString;
+use krb_msg::{
+    ChecksumView, EncryptedDataView, FlagsView, HostAddress, HostAddressView, ItemsView,
+    PrincipalNameView, Ticket, next_item,
+};
+use krb_record::{
+    Address, Components, Digest, Encrypted, FlagBits, HexText, Plain, Principal, QuotedText,
+};
 use krb_registry::Registry;
+use std::marker::Model;
 
-/// What is not there.
-pub(crate) const ABSENT: Option<u64> = None;
+/// Components that are viewed in octets. Contracts see the octets of each.
+#[derive(Drop)]
+pub struct ViewedStrings<'a>(ItemsView<'a>);
+
+impl<'a> Model for ViewedStrings<'a> {
+    ghost use Rattle.std.specs.Prelude.{List, ℕ};
+    ghost use Rattle.krb_msg.specs.Grammar.{kerberos_string};
+    ghost use Rattle.krb_msg.specs.Viewed.{AreViewed, items_of};
+
+    ghost Value = { List (List ℕ) };
+
+    ghost view = { λ seen. items_of kerberos_string seen.0.octets.now };
+
+    ghost invariant = { λ seen. AreViewed kerberos_string seen.0.octets.now };
+}
+
+impl<'a> ViewedStrings<'a> {
+    /// Takes the items of a list.
+    #[inline(always)]
+    pub fn new(items: ItemsView<'a>) -> ViewedStrings<'a>
+        requires { AreViewed kerberos_string items.octets.now }
+        ensures { result ≡ items_of kerberos_string items.entry.octets.now }
+    {
+        ViewedStrings(items)
+    }
+}
+
+impl<'a> Components for ViewedStrings<'a> {
+    ghost components = { λ strings. strings };
+
+    #[inline(always)]
+    fn next(&self) -> Option<(&[u8], ViewedStrings<'a>)> {
+        match next_item::<KString>(self.0) {
+            None => None,
+            Some((first, others)) => Some((first, ViewedStrings(others))),
+        }
+    }
+}
 
 /// A principal that is viewed.
 type ViewedPrincipal<'a> = Principal<'a, ViewedStrings<'a>>;
@@ -140,6 +183,74 @@ pub(crate) fn optional_size_of(octets: Option<&[u8]>) -> Option<u64>
     match octets {
         None => None,
         Some(octets) => Some(octets.len() as u64),
+    }
+}
+
+/// Returns what is shown of encrypted data.
+#[inline(always)]
+pub fn encrypted_of(seen: &EncryptedDataView<'_>) -> Encrypted
+    ensures { IsEncrypted result.etype result.kvno result.size ≡ encrypted (encrypted_data_of_view seen.now) }
+{
+    Encrypted {
+        etype: seen.etype,
+        kvno: seen.kvno,
+        size: seen.cipher.len() as u64,
+    }
+}
+
+/// Returns what is shown of encrypted data, if it is there.
+#[inline(always)]
+pub(crate) fn optional_encrypted_of(seen: &Option<EncryptedDataView<'_>>) -> Option<Encrypted>
+    ensures { if_there (λ e. IsEncrypted e.etype e.kvno e.size) result ≡ if_there encrypted (option_map encrypted_data_of (option_map encrypted_data_view_value seen.now)) }
+{
+    match seen {
+        None => None,
+        Some(seen) => Some(encrypted_of(seen)),
+    }
+}
+
+/// Returns what is shown of an address.
+#[inline(always)]
+pub(crate) fn address_of<'a>(seen: &HostAddressView<'a>) -> Address<'a>
+    ensures { IsAddress result.addr_type result.octets.now ≡ address (host_address_of_view seen.now) }
+{
+    Address {
+        addr_type: seen.addr_type,
+        octets: seen.address,
+    }
+}
+
+/// Returns what is shown of an address, if it is there.
+#[inline(always)]
+pub(crate) fn optional_address_of<'a>(seen: &Option<HostAddressView<'a>>) -> Option<Address<'a>>
+    ensures { if_there (λ a. IsAddress a.addr_type a.octets.now) result ≡ if_there address (option_map host_address_of (option_map host_address_view_value seen.now)) }
+{
+    match seen {
+        None => None,
+        Some(seen) => Some(address_of(seen)),
+    }
+}
+
+/// Returns what is shown of a checksum.
+#[inline(always)]
+pub(crate) fn digest_of(seen: &ChecksumView<'_>) -> Digest
+    ensures { IsDigest result.cksumtype result.size ≡ checksum (checksum_of_view seen.now) }
+{
+    Digest {
+        cksumtype: seen.cksumtype,
+        size: seen.checksum.len() as u64,
+    }
+}
+
+/// Returns what is shown of flags of a registry.
+#[inline(always)]
+pub(crate) fn bits_of<'a>(registry: Registry, seen: &FlagsView<'a>) -> FlagBits<'a>
+    ensures { Flags result.registry (result.unused, result.octets.now) ≡ Flags registry (flags_of_view seen.now) }
+{
+    FlagBits {
+        registry,
+        unused: seen.unused,
+        octets: seen.octets,
     }
 }
 

@@ -14,21 +14,22 @@ use Rattle.krb_registry.specs.Rows.{rows, name_of}
 use Rattle.krb_registry.specs.declared.registry.Registry.{Registry}
 use Rattle.krb_registry.specs.declared.registry.Registry.TheVariants as registries
 use Rattle.krb_registry.proofs.Names.{all_plain, each_octet, name_is_plain, plain_octet}
-use Rattle.krb_text.specs.declared.form.Form.{Form}
-use Rattle.krb_text.specs.declared.form.Form.TheVariants as form
-use Rattle.krb_text.specs.Errors.{code_name, code_suffix, code_text}
-use Rattle.krb_text.specs.FileNames.{is_plain_in_name, name_octet, name_text}
-use Rattle.krb_text.specs.Forms.{four_octets, plus_text, unnamed, unnamed_from, named_in, is_set, set_names, named_flags_text, number_text, flags_text, refused_ticket_text, value_text, json_character, json_string, shown_octet, octets_string, or_null, name_string, flags_object, encrypted_object, principal_object, address_object, digest_object, offset_object, refused_object, true_or_false, json_value, names_member, members, labelled, field, opening, closing, fields_text, origin_text, opening_from, heading, part_text, inside_text, ending, record_text}
-use Rattle.krb_text.specs.Text.{AllAreOctets, IsPrintable, principal_text, two_hex, yes_or_no}
-use Rattle.krb_text.specs.TicketFlags.{flag_name, set_flags, names_text, other_flags, eight_hex, others_text, ticket_flags_text}
-use Rattle.krb_text.specs.Values.{Value, Absent, NoTicket, Number, Named, Numbers, ErrorCode, Reason, NoReason, String, Quoted, FileName, Word, Hex, Flags, TicketFlags, Encrypted, Principal, Address, Digest, YesNo, Offset, RefusedTicket, Flow, Layers, Field, Part, Printed}
-use Rattle.krb_text.specs.inner.Flags.{names_set}
+use Rattle.krb_record.specs.declared.form.Form.{Form}
+use Rattle.krb_record.specs.declared.form.Form.TheVariants as form
+use Rattle.krb_record.specs.Errors.{code_name, code_suffix, code_text}
+use Rattle.krb_record.specs.FileNames.{is_plain_in_name, name_octet, name_text}
+use Rattle.krb_record.specs.Forms.{four_octets, plus_text, unnamed, unnamed_from, named_in, is_set, set_names, named_flags_text, number_text, flags_text, refused_ticket_text, value_text, json_character, json_string, shown_octet, octets_string, or_null, name_string, flags_object, encrypted_object, principal_object, address_object, digest_object, offset_object, refused_object, true_or_false, json_value, names_member, members, labelled, field, opening, closing, fields_text, origin_text, opening_from, heading, part_text, inside_text, ending, record_text}
+use Rattle.krb_record.specs.Text.{AllAreOctets, IsPrintable, principal_text, two_hex, yes_or_no}
+use Rattle.krb_record.specs.TicketFlags.{flag_name, set_flags, names_text, other_flags, eight_hex, others_text, ticket_flags_text}
+use Rattle.krb_record.specs.Values.{Value, Absent, NoTicket, Number, Named, Numbers, ErrorCode, Reason, NoReason, String, Quoted, FileName, Word, Hex, Flags, TicketFlags, Encrypted, Principal, Address, Digest, YesNo, Offset, RefusedTicket, Flow, Layers, Field, Part, Printed}
+use Rattle.krb_record.specs.inner.Flags.{names_set}
 use Rattle.krb_input.specs.Layers.{layer_name}
 use Rattle.krb_input.specs.declared.layer.Layer.{Layer}
 use Rattle.krb_input.specs.declared.layer.Layer.TheVariants as layers
 use Rattle.krb_text_laws.proofs.Flows as flow
-use Rattle.krb_text.proofs.Printable.{Prints, is_printable, word, join, either, flat, number, signed, escaped, in_hex, optional, always, all_joined, every, listed, list, principal}
-use Rattle.krb_text.proofs.Reasons as reasons
+use Rattle.krb_record.proofs.Printable.{Prints, is_printable, word, join}
+use Rattle.krb_text_laws.proofs.Printable.{either, flat, number, signed, escaped, in_hex, optional, always, all_joined, every, listed, list, principal}
+use Rattle.krb_record.proofs.Reasons as reasons
 
 -- ---- octets that are not escaped, or are `\x` and two digits
 octet : (plain : Bool) (o : ℕ) → o < 256 → (plain ≡ true → (32 ≤ o) × (o ≤ 126)) → Prints (if plain then o ∷ [] else codes "\\x" ++ two_hex o)

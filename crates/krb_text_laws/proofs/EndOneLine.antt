@@ -5,21 +5,21 @@ use Rattle.krb_der.specs.Octets.{AreOctets}
 use Rattle.krb_input.specs.Spellings.{spelling_name}
 use Rattle.krb_input.specs.declared.spelling.Spelling.{Spelling}
 use Rattle.krb_input.specs.declared.spelling.Spelling.TheVariants as spellings
-use Rattle.krb_text.specs.declared.extent.Extent.{Extent}
-use Rattle.krb_text.specs.declared.form.Form.{Form}
-use Rattle.krb_text.specs.declared.form.Form.TheVariants as forms
-use Rattle.krb_text.specs.declared.input.InputFault.{InputFault}
-use Rattle.krb_text.specs.declared.input.InputFault.TheVariants as faults
-use Rattle.krb_text.specs.Forms.{record_line}
-use Rattle.krb_text.specs.Inputs.{input_kind, input_refused_record, input_word}
-use Rattle.krb_text.specs.Laws.{IsOneLine}
-use Rattle.krb_text.specs.Messages.{message_origin}
-use Rattle.krb_text.specs.Refusals.{path_in, extent_in, spelling_in}
-use Rattle.krb_text.specs.Text.{line_feed}
+use Rattle.krb_record.specs.declared.extent.Extent.{Extent}
+use Rattle.krb_record.specs.declared.form.Form.{Form}
+use Rattle.krb_record.specs.declared.form.Form.TheVariants as forms
+use Rattle.krb_record.specs.declared.input.InputFault.{InputFault}
+use Rattle.krb_record.specs.declared.input.InputFault.TheVariants as faults
+use Rattle.krb_record.specs.Forms.{record_line}
+use Rattle.krb_record.specs.Inputs.{input_kind, input_refused_record, input_word}
+use Rattle.krb_record.specs.Laws.{IsOneLine}
+use Rattle.krb_record.specs.Origins.{message_origin}
+use Rattle.krb_record.specs.Refusals.{path_in, extent_in, spelling_in}
+use Rattle.krb_record.specs.Text.{line_feed}
 use Rattle.krb_msg.specs.Term.{IfPresent}
-use Rattle.krb_text.specs.Values.{Field, Number, String, Word, Printed, if_there, with_inside, with_origin}
+use Rattle.krb_record.specs.Values.{Field, Number, String, Word, Printed, if_there, with_inside, with_origin}
 use Rattle.krb_input.specs.declared.layer.Layer.{Layer}
-use Rattle.krb_text.proofs.Printable.{Prints, is_printable, word}
+use Rattle.krb_record.proofs.Printable.{Prints, is_printable, word}
 use Rattle.krb_text_laws.proofs.EachForm.{ArePlainParts, IsShown, AreShown, names_are_plain, record_prints}
 
 ended : {text : List ℕ} → Prints text → IsOneLine (text ++ line_feed)

@@ -17,9 +17,10 @@ use Rattle.krb_msg.specs.declared.krb_safe.KrbSafe.{KrbSafe}
 use Rattle.krb_msg.specs.declared.krb_error.KrbError.{KrbError}
 use Rattle.krb_text.specs.Judged.{methods_in}
 use Rattle.krb_text.specs.Messages.{padata, methods, kdc_req_fields, kdc_rep_fields, ap_req_fields, krb_safe_fields, krb_error_fields}
-use Rattle.krb_text.specs.Text.{AllAreOctets}
-use Rattle.krb_text.specs.Values.{Value, Number, Quoted, Word, if_there, count, encrypted, principal, client, address}
-use Rattle.krb_text.proofs.Printable.{time}
+use Rattle.krb_record.specs.Text.{AllAreOctets}
+use Rattle.krb_text.specs.MessageValues.{encrypted, principal, client, address}
+use Rattle.krb_record.specs.Values.{Value, Number, Quoted, Word, if_there, count}
+use Rattle.krb_text_laws.proofs.Printable.{time}
 use Rattle.krb_text_laws.proofs.EachForm.{IsShown, AreShown}
 use Rattle.krb_text_laws.proofs.Tuples.{◌&◌}
 

@@ -5,7 +5,7 @@ use Rattle.krb_der.specs.Octets.{AreOctets, when}
 use Rattle.krb_der.specs.inner.Numbers.{AreOctets-take, AreOctets-drop}
 use Rattle.krb_der.specs.declared.verdict.Refusal.{Refusal}
 use Rattle.krb_msg.specs.Grammar.{kerberos_string}
-use Rattle.krb_msg.specs.Judgement.{Head, Partial, Refused, Got, head}
+use Rattle.krb_msg.specs.Judgement.{Head, Got, head}
 use Rattle.krb_msg.specs.ValueOfDer.{split_at_head, split_item, split_items, value_of}
 use Rattle.krb_judge.specs.Parses.{ticket_refusal}
 use Rattle.krb_keytab.specs.declared.value.Record.{Record}
@@ -18,22 +18,23 @@ use Rattle.krb_ccache.specs.declared.value.Header.{Header}
 use Rattle.krb_ccache.specs.declared.ticket.TicketState.TheVariants as states
 use Rattle.krb_ccache.specs.Spelling.{offset, is_config}
 use Rattle.krb_ccache.specs.Tickets.{ticket_read, judged_state, field_state, state_of}
-use Rattle.krb_text.specs.declared.form.Form.{Form}
-use Rattle.krb_text.specs.declared.form.Form.TheVariants as forms
-use Rattle.krb_text.specs.Forms.{record_line}
-use Rattle.krb_text.specs.Laws.{IsOneLine}
+use Rattle.krb_record.specs.declared.form.Form.{Form}
+use Rattle.krb_record.specs.declared.form.Form.TheVariants as forms
+use Rattle.krb_record.specs.Forms.{record_line}
+use Rattle.krb_record.specs.Laws.{IsOneLine}
 use Rattle.krb_list.specs.Laws.{RecordIsOfOctets, PrincipalIsOfOctets, CredentialIsOfOctets}
-use Rattle.krb_text.specs.Text.{AllAreOctets}
-use Rattle.krb_text.specs.Time.{file_time, moment_text}
-use Rattle.krb_text.specs.Values.{Value, Absent, NoTicket, Quoted, Word, RefusedTicket, encrypted}
+use Rattle.krb_record.specs.Text.{AllAreOctets}
+use Rattle.krb_record.specs.Time.{file_time, moment_text}
+use Rattle.krb_text.specs.MessageValues.{encrypted}
+use Rattle.krb_record.specs.Values.{Value, Absent, NoTicket, Quoted, Word, RefusedTicket}
 use Rattle.krb_list.specs.Keytabs.{printed_record, keytab_end}
 use Rattle.krb_list.specs.Configs.{config_value, is_shown}
 use Rattle.krb_list.specs.Ccaches.{offset_value, cache_record, state, ticket_server, ticketed_record, config_record, state_record, credential_record, cache_end}
 use Rattle.krb_text_laws.proofs.EachForm.{IsShown}
 use Rattle.krb_text_laws.proofs.EndOneLine.{one_line}
 use Rattle.krb_text_laws.proofs.FieldsOneLine.{always}
-use Rattle.krb_text.proofs.Printable.{word}
-use Rattle.krb_text.proofs.Times.{moment}
+use Rattle.krb_record.proofs.Printable.{word}
+use Rattle.krb_record.proofs.Times.{moment}
 use Rattle.krb_text_laws.proofs.Tuples.{◌&◌}
 
 -- ---- times

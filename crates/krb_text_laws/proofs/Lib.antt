@@ -1,4 +1,6 @@
 pub mod Tuples
+pub mod Escapes
+pub mod Printable
 pub mod Flows
 pub mod EachForm
 pub mod EndOneLine

@@ -1,5 +1,5 @@
 -- No octet of a key has a part in what is printed of keytabs and of caches.
-use Rattle.std.proofs.Common.{◌≡◌, ℕ, Bool, true, false, Option, List, [], ◌∷◌, length, map, refl, sym, ap, ap₂, ◌∙◌}
+use Rattle.std.proofs.Common.{◌≡◌, ℕ, true, false, Option, List, [], ◌∷◌, length, map, refl, sym, ap, ap₂, ◌∙◌}
 use Rattle.std.proofs.lemmas.List.{length-map}
 use Rattle.std.specs.List.{flat_map}
 use Rattle.krb_file.proofs.Zeros.{length-zeros}
@@ -22,10 +22,11 @@ use Rattle.krb_ccache.specs.declared.ticket.TicketState.TheVariants as states
 use Rattle.krb_ccache.proofs.Tickets.{state-ticket}
 use Rattle.krb_ccache.specs.Spelling.{is_config, masked as masked_cache, masked_credential, masked3, masked_credential3, upgraded, no_header}
 use Rattle.krb_ccache.specs.Tickets.{state_of}
-use Rattle.krb_text.specs.declared.form.Form.{Form}
-use Rattle.krb_text.specs.Forms.{record_line}
+use Rattle.krb_record.specs.declared.form.Form.{Form}
+use Rattle.krb_record.specs.Forms.{record_line}
 use Rattle.krb_text.specs.Masks.{masked_ticket}
-use Rattle.krb_text.specs.Values.{Printed, Value, encrypted}
+use Rattle.krb_text.specs.MessageValues.{encrypted}
+use Rattle.krb_record.specs.Values.{Printed, Value}
 use Rattle.krb_text_laws.proofs.TextMasks.{encrypted-same}
 use Rattle.krb_list.specs.Keytabs.{printed_record, keytab_lines}
 use Rattle.krb_list.specs.Configs.{config_value, is_shown}

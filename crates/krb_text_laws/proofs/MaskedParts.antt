@@ -20,7 +20,8 @@ use Rattle.krb_padata.specs.Types.{krb_fast_armor_of, krb_fast_armored_rep_of, k
 use Rattle.krb_text.specs.Inside.{ap_req_if, ap_req_in, clear_parts, clear_type, each_if, fast_reply_part, fast_request_part, for_user_part, is_ap_req_armor, item_parts, one_if, encrypted_part, tgs_req_part}
 use Rattle.krb_text.specs.Judged.{judged}
 use Rattle.krb_text.specs.Masks.{masked_ap_req_value, masked_armor, masked_armor_if, masked_as, masked_checksum_value, masked_clear, masked_fast_reply, masked_fast_request, masked_for_user, masked_item, masked_encrypted_value, masked_ticket_value, octets_or_zeros}
-use Rattle.krb_text.specs.Values.{Number, Part, if_there, principal, encrypted}
+use Rattle.krb_text.specs.MessageValues.{principal, encrypted}
+use Rattle.krb_record.specs.Values.{Number, Part, if_there}
 use Rattle.krb_text.specs.declared.clear_type.ClearType.{ClearType}
 use Rattle.krb_text.specs.declared.clear_type.ClearType.TheVariants as types
 use Rattle.krb_text_laws.proofs.Alike.{Alike, Replace, SomeAlike, as_many, fits_as, replace_same, replace_zeros, same, some_same}

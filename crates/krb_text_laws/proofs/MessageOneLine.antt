@@ -9,8 +9,8 @@ use Rattle.krb_msg.specs.Views.{IsInProfile, kind_name, kind_of}
 use Rattle.krb_msg.specs.declared.message.Message.{Message}
 use Rattle.krb_msg.specs.declared.message.Message.TheVariants as message
 use Rattle.krb_text.specs.Messages.{notes, fields_of, message_record}
-use Rattle.krb_text.specs.Values.{Field, Printed, the}
-use Rattle.krb_text.proofs.Printable.{is_printable}
+use Rattle.krb_record.specs.Values.{Field, Printed, the}
+use Rattle.krb_record.proofs.Printable.{is_printable}
 use Rattle.krb_text_laws.proofs.EachForm.{ArePlainParts, AreShown, names_are_plain}
 use Rattle.krb_text.specs.Inside.{inside_of}
 use Rattle.krb_text_laws.proofs.FieldsOneLine.{kdc_req, kdc_rep, of_ap_req, safe, error}

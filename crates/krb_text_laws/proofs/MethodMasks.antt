@@ -12,7 +12,7 @@ use Rattle.krb_text.specs.Inside.{clear_type, item_parts, krb_error_parts, metho
 use Rattle.krb_text.specs.Judged.{asks_for_preauth, judged, says_preauth_failed}
 use Rattle.krb_text.specs.Messages.{methods, notes, krb_error_fields, message_record}
 use Rattle.krb_text.specs.Masks.{masked_method}
-use Rattle.krb_text.specs.Values.{Field, Part, the, printed, with_inside}
+use Rattle.krb_record.specs.Values.{Field, Part, the, printed, with_inside}
 use Rattle.krb_text_laws.proofs.Alike.{Alike, as_many, fits_as, same_item}
 use Rattle.krb_text.proofs.Judged.{judged_der}
 use Rattle.krb_text_laws.proofs.MaskedParts.{clear_replaced, clear_same}

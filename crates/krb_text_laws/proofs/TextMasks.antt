@@ -23,14 +23,15 @@ use Rattle.krb_msg.specs.declared.message.Message.TheVariants as message
 use Rattle.krb_msg.specs.declared.notes.Notes.{Notes}
 use Rattle.krb_msg.specs.declared.pa_data.PaData.{PaData}
 use Rattle.krb_msg.specs.declared.ticket.Ticket.{Ticket}
-use Rattle.krb_text.specs.declared.form.Form.{Form}
+use Rattle.krb_record.specs.declared.form.Form.{Form}
 use Rattle.krb_text.specs.declared.origin.Origin.{Origin}
 use Rattle.krb_text.specs.Captures.{captured_line, captured_message_line}
-use Rattle.krb_text.specs.Forms.{record_line}
+use Rattle.krb_record.specs.Forms.{record_line}
 use Rattle.krb_text.specs.Inside.{each_if, inside_of, kdc_req_parts, krb_error_parts, method_data_if, method_parts, padata_parts, ticket_part}
 use Rattle.krb_text.specs.Judged.{asks_for_preauth, says_preauth_failed}
 use Rattle.krb_text.specs.Messages.{padata, notes, methods, kdc_req_fields, kdc_rep_fields, ap_req_fields, ap_rep_fields, krb_safe_fields, krb_priv_fields, krb_cred_fields, krb_error_fields, message_record, message_line, message_line_from, ticket_line, ticket_record}
-use Rattle.krb_text.specs.Values.{Field, Part, Printed, the, printed, with_inside, with_origin, if_there, count, encrypted}
+use Rattle.krb_text.specs.MessageValues.{encrypted}
+use Rattle.krb_record.specs.Values.{Field, Part, Printed, the, printed, with_inside, with_origin, if_there, count}
 use Rattle.krb_text.specs.Masks.{masked_encrypted, masked_item, masked_ticket, masked_req_body, masked_kdc_req, masked_kdc_rep, masked_ap_req, masked_ap_rep, masked_krb_safe, masked_krb_priv, masked_krb_cred, masked_krb_error, masked, opaque_unless}
 use Rattle.krb_text_laws.proofs.MaskedParts.{items_same}
 

@@ -8,7 +8,7 @@ use Rattle.krb_file.specs.declared.field_path.FileItem.TheVariants as items
 use Rattle.krb_file.specs.declared.progress.Progress.{Progress}
 use Rattle.krb_ccache.specs.declared.reading.Start.{Start}
 use Rattle.krb_ccache.specs.Streaming.{Reads, FailsStart, credentials}
-use Rattle.krb_text.specs.declared.form.Form.{Form}
+use Rattle.krb_record.specs.declared.form.Form.{Form}
 use Rattle.krb_tool.specs.Lines.{cache_line}
 use Rattle.krb_tool.specs.declared.run.RunEnd.{RunEnd}
 use Rattle.krb_tool.specs.Files.{RecordListing, text_of, field_limit, after_line, credentials_listing, cache_listing, ccache_listing}

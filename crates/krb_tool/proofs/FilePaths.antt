@@ -3,10 +3,10 @@ use Rattle.std.proofs.Common.{◌≡◌, List, ℕ, ◌++◌, ◌∷◌, pos, Op
 use Rattle.krb_file.specs.Faults.{file_reason_number, file_reason_name}
 use Rattle.krb_file.specs.Fields.{Fault}
 use Rattle.krb_file.specs.declared.field_path.FileItem.{FileItem}
-use Rattle.krb_text.specs.declared.form.Form.{Form}
-use Rattle.krb_text.specs.Forms.{record_line}
-use Rattle.krb_text.specs.Refusals.{path_in, extent_in}
-use Rattle.krb_text.specs.Values.{Number, Reason, Field, the, printed}
+use Rattle.krb_record.specs.declared.form.Form.{Form}
+use Rattle.krb_record.specs.Forms.{record_line}
+use Rattle.krb_record.specs.Refusals.{path_in, extent_in}
+use Rattle.krb_record.specs.Values.{Number, Reason, Field, the, printed}
 use Rattle.krb_tool.specs.Extents.{extent_of, fault_line}
 use Rattle.krb_tool.specs.Paths.{file_path}
 

@@ -16,7 +16,7 @@ use Rattle.krb_frame.specs.Decoding.{finish_at, finish_of}
 use Rattle.krb_frame.specs.Decoded.{frames_size}
 use Rattle.krb_frame.specs.Deliveries.{IsMessage, contents_in}
 use Rattle.krb_frame.specs.GoingOn.{Entry, after_contents, entries, entries_size, entry_size}
-use Rattle.krb_text.specs.declared.form.Form.{Form}
+use Rattle.krb_record.specs.declared.form.Form.{Form}
 use Rattle.krb_tool.specs.GoingOn.{Listed, Whole, Faulty, entry_of, messages_in, octets_in, refused_in, lines_after, IsCountedListing, counted_run_end, EndsUnknown, ListsStream, FailsStream}
 use Rattle.krb_tool.specs.Lines.{message_line, refused_line, end_line}
 use Rattle.krb_tool.specs.Listing.{run_end, AllIsRead, IsListing, IsNotRefused, StopsInPiece}

@@ -17,12 +17,13 @@ use Rattle.krb_judge.specs.Laws.{RefusalsAreInside}
 use Rattle.krb_judge.specs.Parses.{AreOfTicket, refusal_of, ticket_refusal}
 use Rattle.krb_judge.specs.Paths.{ticket_path}
 use Rattle.krb_judge.proofs.Slices.{IsWholeSlice, whole_message, whole_not_refused}
-use Rattle.krb_text.specs.Forms.{record_line}
-use Rattle.krb_text.specs.Messages.{PutsMessage, message_line_from, message_origin, ticket_line}
-use Rattle.krb_text.specs.Refusals.{path_in, extent_in, spelling_in, refusal_record}
-use Rattle.krb_text.specs.Values.{Field, with_origin}
-use Rattle.krb_text.specs.declared.form.Form.{Form}
-use Rattle.krb_text.specs.declared.input.InputFault.TheVariants as faults
+use Rattle.krb_record.specs.Forms.{record_line}
+use Rattle.krb_record.specs.Origins.{message_origin}
+use Rattle.krb_text.specs.Messages.{PutsMessage, message_line_from, ticket_line}
+use Rattle.krb_record.specs.Refusals.{path_in, extent_in, spelling_in, refusal_record}
+use Rattle.krb_record.specs.Values.{Field, with_origin}
+use Rattle.krb_record.specs.declared.form.Form.{Form}
+use Rattle.krb_record.specs.declared.input.InputFault.TheVariants as faults
 use Rattle.krb_input.specs.declared.spelling.Spelling.{Spelling}
 use Rattle.krb_input.specs.declared.layer.Layer.{Layer}
 use Rattle.krb_token.specs.Seen.{found_of, opened_of}

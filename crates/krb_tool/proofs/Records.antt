@@ -9,7 +9,7 @@ use Rattle.krb_file.specs.Items.{Items, IsItem, EndsBy, FailsAfter}
 use Rattle.krb_file.specs.declared.fault.FileFault.{FileFault}
 use Rattle.krb_file.specs.declared.fault.FileFault.TheVariants as faults
 use Rattle.krb_file.specs.declared.field_path.FileItem.{FileItem}
-use Rattle.krb_text.specs.declared.form.Form.{Form}
+use Rattle.krb_record.specs.declared.form.Form.{Form}
 use Rattle.krb_tool.specs.Extents.{fault_line}
 use Rattle.krb_tool.specs.Paths.{file_path}
 use Rattle.krb_tool.specs.declared.run.RunEnd.{RunEnd}

@@ -9,9 +9,9 @@ use Rattle.krb_der.specs.declared.profile.Profile.{Profile}
 use Rattle.krb_der.specs.declared.verdict.Refusal.{Refusal}
 use Rattle.krb_der.specs.declared.why.Why.TheVariants.{TooLong}
 use Rattle.krb_judge.specs.Parses.{refusal_of}
-use Rattle.krb_text.specs.Refusals.{path_in}
-use Rattle.krb_text.specs.Values.{Value, Absent, String, Field, if_there}
-use Rattle.krb_text.specs.declared.form.Form.TheVariants as forms
+use Rattle.krb_record.specs.Refusals.{path_in}
+use Rattle.krb_record.specs.Values.{Value, Absent, String, Field, if_there}
+use Rattle.krb_record.specs.declared.form.Form.TheVariants as forms
 use Rattle.krb_tool.specs.Listing.{StopsInPiece}
 use Rattle.krb_tool.specs.Decoding.{Refusing, message_decoded, decoded_whole, DecodesWhole, FailsToDecodeWhole}
 use Rattle.krb_tool.specs.Files.{AppendsPrefix, ReadsSome}

@@ -2,8 +2,8 @@
 use Rattle.std.specs.Prelude.{ℕ, List, Option}
 use Rattle.krb_file.specs.Fields.{Fault}
 use Rattle.krb_file.specs.Faults.{file_reason_length}
-use Rattle.krb_text.specs.declared.extent.Extent.{Extent}
-use Rattle.krb_text.specs.declared.form.Form.{Form}
+use Rattle.krb_record.specs.declared.extent.Extent.{Extent}
+use Rattle.krb_record.specs.declared.form.Form.{Form}
 use Rattle.krb_tool.specs.Lines.{file_refused_line}
 
 -- of a file: where the part begins that the field at fault is in, and the length that was read, if that is wrong

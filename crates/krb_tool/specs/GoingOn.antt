@@ -8,7 +8,7 @@ use Rattle.krb_msg.specs.declared.message.Message.{Message}
 use Rattle.krb_msg.specs.Grammar.{messages}
 use Rattle.krb_msg.specs.Views.{message_der}
 use Rattle.krb_frame.specs.GoingOn.{Entry, Contents, Fault, entries, entry_size}
-use Rattle.krb_text.specs.declared.form.Form.{Form}
+use Rattle.krb_record.specs.declared.form.Form.{Form}
 use Rattle.krb_tool.specs.Lines.{message_line}
 use Rattle.krb_tool.specs.Paths.{frame_extent, frame_path}
 use Rattle.krb_tool.specs.Lines.{refused_line, counted_end_line}

@@ -5,14 +5,15 @@ use Rattle.krb_ccache.specs.declared.value.FilePrincipal.{FilePrincipal}
 use Rattle.krb_ccache.specs.declared.value.Header.{Header}
 use Rattle.krb_keytab.specs.declared.value.Record.{Record}
 use Rattle.krb_keytab.specs.declared.value.Stop.{Stop}
-use Rattle.krb_text.specs.declared.form.Form.{Form}
+use Rattle.krb_record.specs.declared.form.Form.{Form}
 use Rattle.krb_list.specs.Ccaches.{cache_end, cache_record, credential_record}
-use Rattle.krb_text.specs.Forms.{record_line as line_of}
+use Rattle.krb_record.specs.Forms.{record_line as line_of}
 use Rattle.krb_list.specs.Keytabs.{keytab_end, printed_record}
-pub use Rattle.krb_text.specs.Files.{file_line}
+pub use Rattle.krb_record.specs.Files.{file_line}
 pub use Rattle.krb_text.specs.Messages.{message_line}
-pub use Rattle.krb_text.specs.Refusals.{file_refused_line}
-pub use Rattle.krb_text.specs.Streams.{refused_line, end_line, counted_end_line}
+pub use Rattle.krb_record.specs.Refusals.{file_refused_line}
+pub use Rattle.krb_text.specs.StreamEnds.{end_line}
+pub use Rattle.krb_record.specs.Streams.{refused_line, counted_end_line}
 
 abbrev pub record_line : Form → Record → List ℕ
 record_line form r = line_of form (printed_record r)

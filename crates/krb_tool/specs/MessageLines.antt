@@ -2,7 +2,7 @@
 use Rattle.std.specs.Prelude.{ℕ, ◌+◌, ◌==◌, ◌&&◌, nat_lt, not, Bool, List, [], ◌∷◌, length, Option, Some, if◌then◌else◌}
 use Rattle.krb_der.specs.Octets.{when}
 use Rattle.krb_der.specs.declared.profile.Profile.{Profile}
-use Rattle.krb_text.specs.declared.form.Form.{Form}
+use Rattle.krb_record.specs.declared.form.Form.{Form}
 use Rattle.krb_tool.specs.Conversions.{Converted, after_text, Converts, ConvertsInPart}
 use Rattle.krb_tool.specs.Encoding.{is_blank_line, lines_of}
 use Rattle.krb_tool.specs.Lines.{counted_end_line}

@@ -12,13 +12,14 @@ use Rattle.krb_msg.specs.ValueOfDer.{value_of_der}
 use Rattle.krb_msg.specs.Views.{message_of_der}
 use Rattle.krb_msg.specs.declared.ticket.Ticket.{Ticket}
 use Rattle.krb_judge.specs.Parses.{refusal_of, ticket_refusal}
-use Rattle.krb_text.specs.Messages.{message_origin, message_line_from, ticket_line}
-use Rattle.krb_text.specs.Refusals.{message_refused_line}
-use Rattle.krb_text.specs.Inputs.{input_refused_line}
-use Rattle.krb_text.specs.declared.extent.Extent.{Extent}
-use Rattle.krb_text.specs.declared.form.Form.{Form}
-use Rattle.krb_text.specs.declared.input.InputFault.{InputFault}
-use Rattle.krb_text.specs.declared.input.InputFault.TheVariants as faults
+use Rattle.krb_record.specs.Origins.{message_origin}
+use Rattle.krb_text.specs.Messages.{message_line_from, ticket_line}
+use Rattle.krb_record.specs.Refusals.{message_refused_line}
+use Rattle.krb_record.specs.Inputs.{input_refused_line}
+use Rattle.krb_record.specs.declared.extent.Extent.{Extent}
+use Rattle.krb_record.specs.declared.form.Form.{Form}
+use Rattle.krb_record.specs.declared.input.InputFault.{InputFault}
+use Rattle.krb_record.specs.declared.input.InputFault.TheVariants as faults
 use Rattle.krb_token.specs.Opened.{Found, Message, Ticket as IsTicket, Ntlm, Refused, Opened}
 use Rattle.krb_token.specs.Tokens.{opened}
 use Rattle.krb_input.specs.declared.layer.Layer.{Layer}

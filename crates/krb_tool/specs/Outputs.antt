@@ -4,10 +4,10 @@ use Rattle.memchr.specs.Find.{IsFirstByte, is_byte}
 use Rattle.std.specs.Prelude.{◌≤◌, ◌⊎◌, nat_le, nat_lt, slice_index, Result, Ok, Err, ℕ, zero, suc, ◌≡◌, ◌+◌, ◌-◌, ◌==◌, ◌&&◌, ◌||◌, nat_eq, codes, Bool, true, false, List, [], ◌∷◌, ◌++◌, length, take, drop, Option, Some, None, if◌then◌else◌}
 use Rattle.std.specs.List.{starts_with}
 use Rattle.std.specs.Str.{bytes_eq}
-use Rattle.krb_text.specs.declared.form.Form.{Form}
-use Rattle.krb_text.specs.declared.form.Form.TheVariants as forms
-use Rattle.krb_text.specs.Forms.{labelled as labelled_field}
-use Rattle.krb_text.specs.Values.{FileName}
+use Rattle.krb_record.specs.declared.form.Form.{Form}
+use Rattle.krb_record.specs.declared.form.Form.TheVariants as forms
+use Rattle.krb_record.specs.Forms.{labelled as labelled_field}
+use Rattle.krb_record.specs.Values.{FileName}
 use Rattle.krb_tool.specs.declared.output.Output.{Output}
 use Rattle.krb_tool.specs.declared.output.Place.{Place}
 use Rattle.krb_tool.specs.declared.output.Place.TheVariants.{Nowhere, Before, Member}

@@ -14,7 +14,7 @@ use Rattle.krb_judge.specs.Paths.{message_path, ticket_path}
 use Rattle.krb_frame.specs.Decoded.{frames_size}
 use Rattle.krb_frame.specs.Decoding.{announced}
 use Rattle.krb_frame.specs.GoingOn.{after_contents}
-use Rattle.krb_text.specs.declared.extent.Extent.{Extent}
+use Rattle.krb_record.specs.declared.extent.Extent.{Extent}
 
 -- The path in a frame, by its octets up to the refused one, or those that are there of one that is cut. There is none in its length.
 unfoldable pub frame_path : Profile → List ℕ → Option (List ℕ)

@@ -1,8 +1,8 @@
 -- What a run over several sources does to its writer, and the status that it returns.
 use Rattle.std.specs.Prelude.{ℕ, ◌≡◌, ◌⊎◌, ◌&&◌, max, nat_lt, Bool, true, false, List, [], ◌∷◌, Option, IsSome, Result, Ok, Err, IfErr, IsErrAnd}
 use Rattle.std.specs.Io.KnownBytes.{Appends}
-use Rattle.krb_text.specs.declared.form.Form.{Form}
-use Rattle.krb_text.specs.declared.form.Form.TheVariants as forms
+use Rattle.krb_record.specs.declared.form.Form.{Form}
+use Rattle.krb_record.specs.declared.form.Form.TheVariants as forms
 use Rattle.krb_tool.specs.Faults.{IsWrite}
 use Rattle.krb_tool.specs.Lines.{file_line}
 use Rattle.krb_tool.specs.Outputs.{label_place, label_text, labelled}

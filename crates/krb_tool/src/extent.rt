@@ -4,7 +4,7 @@ ghost use Rattle.std.specs.Prelude.{◌≡◌};
 ghost use Rattle.krb_tool.specs.Extents.{extent_of};
 
 use krb_file::{FileRefusal, file_why_length};
-use krb_text::Extent;
+use krb_record::Extent;
 
 /// Returns where the part of a file begins that a refusal is in, and the length that was read, if
 /// that is wrong.

@@ -3,14 +3,14 @@
 ghost use Rattle.std.specs.Prelude.{◌≡◌, ◌<◌, ◌≤◌, ◌^◌, length, IfErr, IfOk, string_bytes};
 ghost use Rattle.std.specs.Option.{option_map};
 ghost use Rattle.krb_judge.specs.Paths.{message_path};
-ghost use Rattle.krb_text.specs.Refusals.{path_in};
+ghost use Rattle.krb_record.specs.Refusals.{path_in};
 ghost use Rattle.krb_tool.specs.Paths.{frame_extent, frame_path, refused_path};
 
 use crate::run::RunFault;
 use krb_der::{Memory, Profile, Refusal};
 use krb_frame::Decoder;
 use krb_judge::path;
-use krb_text::{Extent, Form};
+use krb_record::{Extent, Form};
 use std::alloc::Global;
 
 /// The greatest number of octets of a message.

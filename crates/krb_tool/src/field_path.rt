@@ -2,12 +2,12 @@
 
 ghost use Rattle.std.specs.Prelude.{◌≡◌, IfErr, IfOk, string_bytes};
 ghost use Rattle.std.specs.Option.{option_map};
-ghost use Rattle.krb_text.specs.Refusals.{path_in};
+ghost use Rattle.krb_record.specs.Refusals.{path_in};
 ghost use Rattle.krb_tool.specs.Paths.{file_path};
 
 use crate::run::RunFault;
 use krb_file::{FieldPath, FileField, FileItem};
-use krb_text::Form;
+use krb_record::Form;
 use std::alloc::Global;
 
 /// Returns the path of a field of a file, if records of the form show it.

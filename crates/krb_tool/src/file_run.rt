@@ -7,7 +7,7 @@ ghost use Rattle.krb_tool.specs.inner.FileRuns.{ReadsPrefix, IsOfReading, IsDeci
 
 use crate::run::{PIECE_OCTETS, RunEnd, RunFault};
 use crate::transfer::{CountedReader, write_all};
-use krb_text::TextBuffer;
+use krb_record::TextBuffer;
 use std::alloc::Global;
 use std::io::{Read, Write};
 

@@ -21,7 +21,7 @@ use krb_der::{Memory, Profile, Refusal};
 use krb_frame::{Decoder, Delivered, Limit, Receiver, SkippingDecoder};
 use krb_json::{put_text, unencrypted_path};
 use krb_msg::view_message_in;
-use krb_text::Form;
+use krb_record::Form;
 use std::alloc::Global;
 use std::mem;
 

@@ -54,7 +54,7 @@ pub use field_path::file_path;
 pub use file_run::FileText;
 pub use krb_der::Profile;
 pub use krb_frame::Limit;
-pub use krb_text::Form;
+pub use krb_record::Form;
 pub use lines_run::run_lines_in;
 pub use message_run::{list_octets, run_message, run_message_in};
 pub use naming::Naming;

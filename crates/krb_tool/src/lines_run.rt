@@ -13,7 +13,7 @@ use crate::run::{RunEnd, RunFault};
 use crate::stream_run::{ListStream, list_all};
 use crate::transfer::CountedReader;
 use krb_der::Profile;
-use krb_text::{Form, TextBuffer, put_counted_stream_end};
+use krb_record::{Form, TextBuffer, put_counted_stream_end};
 use std::alloc::Global;
 use std::io::{Read, Write};
 

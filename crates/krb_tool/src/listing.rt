@@ -12,9 +12,8 @@ use crate::run::{RunEnd, RunFault};
 use crate::stream_run::{ListStream, Request};
 use krb_der::{Memory, Profile, Refusal};
 use krb_frame::{Decoder, Delivered, Limit, Receiver, SkippingDecoder};
-use krb_text::{
-    TextBuffer, put_counted_stream_end, put_message_in, put_stream_end, put_stream_refusal,
-};
+use krb_record::{TextBuffer, put_counted_stream_end, put_stream_end, put_stream_refusal};
+use krb_text::put_message_in;
 use std::alloc::Global;
 
 /// The number of octets of a frame's length.

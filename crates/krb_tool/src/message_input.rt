@@ -4,11 +4,11 @@ ghost use Rattle.std.specs.Prelude.{◌≡◌, ◌+◌, ◌<◌, ◌≤◌, ◌^
 ghost use Rattle.std.specs.Option.{option_map};
 ghost use Rattle.krb_input.specs.Inputs.{IsFaultOf};
 ghost use Rattle.krb_judge.specs.Parses.{refusal_of, ticket_refusal};
-ghost use Rattle.krb_text.specs.Refusals.{path_in};
+ghost use Rattle.krb_record.specs.Refusals.{path_in};
 ghost use Rattle.krb_token.specs.Seen.{path_text};
 ghost use Rattle.krb_tool.specs.Messages.{Puts, extent_of, input_listing, input_octets_listing, judged_listing, layered_of, ntlm_listing, refused_listing, spelled_in, ticket_listing, too_long_listing, unread_listing, whole_input};
 ghost use Rattle.krb_tool.specs.Paths.{ticket_refused_path};
-ghost use Rattle.krb_text.specs.declared.input.InputFault.TheVariants.{Misspelled};
+ghost use Rattle.krb_record.specs.declared.input.InputFault.TheVariants.{Misspelled};
 
 use crate::fault_path::refused_path;
 use crate::run::{RunEnd, RunFault};
@@ -16,10 +16,10 @@ use krb_der::{Profile, Refusal, Why};
 use krb_input::{InputFault as Unspelled, Misspelling, Spelled, Spelling, read_input, read_line};
 use krb_judge::law::refusals_are_inside;
 use krb_judge::{read_message_in, read_ticket_in, ticket_path};
-use krb_text::{
-    Extent, Form, InputFault, MessageOrigin, TextBuffer, put_input_refusal, put_message_from,
-    put_message_refusal, put_ticket,
+use krb_record::{
+    Extent, Form, InputFault, MessageOrigin, TextBuffer, put_input_refusal, put_message_refusal,
 };
+use krb_text::{put_message_from, put_ticket};
 use krb_token::{Found, Layer, TokenPath, open};
 use std::alloc::Global;
 

@@ -10,7 +10,7 @@ use crate::run::{RunEnd, RunFault};
 use crate::transfer::CountedReader;
 use krb_der::Profile;
 use krb_input::Spelling;
-use krb_text::{Form, TextBuffer};
+use krb_record::{Form, TextBuffer};
 use std::alloc::Global;
 use std::io::{Read, Write};
 

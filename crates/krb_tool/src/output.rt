@@ -6,7 +6,7 @@ ghost use Rattle.krb_tool.specs.Outputs.{output_contents, mark_of, label_place, 
 
 use crate::head::Head;
 use crate::lines::line_length;
-use krb_text::{FileName, Form, TextBuffer, put_field};
+use krb_record::{FileName, Form, TextBuffer, put_field};
 use std::alloc::{AllocError, Global};
 use std::io;
 use std::io::{ErrorKind, Write};

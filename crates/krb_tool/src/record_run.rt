@@ -18,7 +18,7 @@ use krb_ccache::Credentials;
 use krb_file::{FileFault, FileItem, FileRefusal, Limit};
 use krb_keytab::{Next, Records};
 use krb_list::{put_cache, put_cache_end, put_credential, put_keytab_end, put_record};
-use krb_text::{Form, TextBuffer, put_file_refusal};
+use krb_record::{Form, TextBuffer, put_file_refusal};
 use std::alloc::Global;
 use std::cell::Cell;
 use std::io;

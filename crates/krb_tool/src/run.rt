@@ -10,7 +10,7 @@ use crate::stream_run::{Request, list_all};
 use crate::transfer::CountedReader;
 use krb_der::{Memory, Profile};
 use krb_frame::Limit;
-use krb_text::Form;
+use krb_record::Form;
 use std::alloc::{AllocError, AllocFailed, Global};
 use std::io;
 use std::io::{Read, Write};

@@ -10,7 +10,7 @@ use crate::naming::Naming;
 use crate::output::{Label, Output};
 use crate::run::{RunEnd, RunFault, status};
 use crate::transfer::write_all;
-use krb_text::{Form, TextBuffer, put_file};
+use krb_record::{Form, TextBuffer, put_file};
 use std::alloc::{AllocError, Global};
 use std::io::Write;
 

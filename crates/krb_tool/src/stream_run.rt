@@ -8,7 +8,7 @@ use crate::run::{PIECE_OCTETS, RunFault};
 use crate::transfer::{CountedReader, write_all};
 use krb_der::Profile;
 use krb_frame::Limit;
-use krb_text::Form;
+use krb_record::Form;
 use std::alloc::Global;
 use std::io::{Read, Write};
 

@@ -18,7 +18,7 @@ use crate::transfer::{CountedReader, write_all};
 use krb_der::{Profile, Refusal, Why};
 use krb_frame::Limit;
 use krb_judge::read_message_in;
-use krb_text::Form;
+use krb_record::Form;
 use std::alloc::Global;
 use std::io::{Read, Write};
 

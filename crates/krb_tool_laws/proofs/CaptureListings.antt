@@ -3,7 +3,7 @@ use Rattle.std.proofs.Common.{◌≡◌, ℕ, List, [], ◌∷◌, ◌++◌, Opt
 use Rattle.krb_file.specs.Fields.{Fault}
 use Rattle.krb_packet.specs.Captures.{packets}
 use Rattle.krb_packet.specs.declared.packet.Packet.{Packet}
-use Rattle.krb_text.specs.declared.form.Form.{Form}
+use Rattle.krb_record.specs.declared.form.Form.{Form}
 use Rattle.krb_capture.specs.Captures.{Finding, Progress, Settings, at_first, end_taken, end_text, lines_of, packet_taken, refusal_text}
 use Rattle.krb_capture.specs.Found.{found_line}
 use Rattle.krb_capture.specs.WholeCaptures.{found_after}

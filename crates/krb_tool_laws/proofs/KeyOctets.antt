@@ -12,8 +12,8 @@ use Rattle.krb_ccache.specs.Reading.{CacheItems}
 use Rattle.krb_ccache.specs.Spelling.{masked_credential}
 use Rattle.krb_ccache.specs.Streaming.{file_start, credentials}
 use Rattle.krb_ccache.specs.Laws.{IsUpToKey as IsUpToSessionKey, masked_items, start_alone, SessionKeysChangeNothingElse}
-use Rattle.krb_text.specs.declared.form.Form.{Form}
-use Rattle.krb_text.specs.Forms.{record_line as line_of}
+use Rattle.krb_record.specs.declared.form.Form.{Form}
+use Rattle.krb_record.specs.Forms.{record_line as line_of}
 use Rattle.krb_list.specs.Laws.{RecordKeyIsNotShown, CredentialKeyIsNotShown}
 use Rattle.krb_tool.specs.Lines.{record_line, cache_line, credential_line}
 use Rattle.krb_tool.specs.Files.{RecordListing, after_line, refused_listing, field_limit, keytab_last, records_listing, keytab_listing, ccache_last, credentials_listing, cache_listing, ccache_listing, end_of}

@@ -12,7 +12,7 @@ use Rattle.krb_ccache.specs.Laws.{UpgradeHoldsTheSame}
 use Rattle.krb_ccache.specs.Reading.{CacheItems}
 use Rattle.krb_ccache.specs.Spelling.{ccache, CcacheSpells, Spells3, upgraded}
 use Rattle.krb_ccache.specs.Streaming.{file_start, credentials, Holds}
-use Rattle.krb_text.specs.declared.form.Form.{Form}
+use Rattle.krb_record.specs.declared.form.Form.{Form}
 use Rattle.krb_tool.specs.Lines.{cache_line}
 use Rattle.krb_tool.specs.declared.run.RunEnd.TheVariants as run
 use Rattle.krb_tool.specs.Files.{RecordListing, field_limit, after_line, end_of, cache_listing, credentials_listing, ccache_listing}

@@ -5,8 +5,8 @@ use Rattle.std.proofs.lemmas.Bool.Decides.{nat_tests}
 use Rattle.std.proofs.Math.Seq.{take-length}
 use Rattle.std.specs.Fmt.{digit_glyph}
 use Rattle.krb_der.specs.Octets.{AreOctets, when}
-use Rattle.krb_text.specs.FileNames.{is_plain_in_name, name_octet, name_text}
-use Rattle.krb_text.specs.Text.{two_hex}
+use Rattle.krb_record.specs.FileNames.{is_plain_in_name, name_octet, name_text}
+use Rattle.krb_record.specs.Text.{two_hex}
 use Rattle.krb_words.specs.Names.{digit_value, named, named_after_backslash}
 
 -- ---- the escape, undone

@@ -10,8 +10,8 @@ use Rattle.clap.specs.declared.error.kind.ErrorKind.{ErrorKind}
 use Rattle.clap.specs.declared.error.kind.ErrorKind.TheVariants.{DisplayHelp, DisplayVersion}
 use Rattle.krb_der.specs.declared.profile.Profile.{Profile}
 use Rattle.krb_der.specs.declared.profile.Profile.TheVariants as profile
-use Rattle.krb_text.specs.declared.form.Form.{Form}
-use Rattle.krb_text.specs.declared.form.Form.TheVariants as form
+use Rattle.krb_record.specs.declared.form.Form.{Form}
+use Rattle.krb_record.specs.declared.form.Form.TheVariants as form
 use Rattle.krb_words.specs.declared.words.AfterRefusal.{AfterRefusal}
 use Rattle.krb_words.specs.declared.words.AfterRefusal.TheVariants as after
 use Rattle.krb_words.specs.declared.words.Inputs.{Inputs}
@@ -25,7 +25,7 @@ use Rattle.krb_words.specs.declared.words.Command.TheVariants as commands
 use Rattle.krb_words.specs.declared.words.CommandLine.{CommandLine}
 use Rattle.krb_words.specs.declared.words.WordsFault.{WordsFault}
 use Rattle.krb_words.specs.declared.words.WordsFault.TheVariants as fault
-use Rattle.krb_text.specs.FileNames.{name_text}
+use Rattle.krb_record.specs.FileNames.{name_text}
 use Rattle.krb_words.specs.Names.{as_command}
 use Rattle.krb_words.specs.Sources.{place_of, sources_of}
 use Rattle.krb_words.specs.Times.{Spells, IsNoWhen, IsWhenIf}

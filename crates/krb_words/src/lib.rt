@@ -23,7 +23,7 @@ mod words;
 
 pub use commands::VERSION;
 pub use krb_der::{Limit, Profile};
-pub use krb_text::Form;
+pub use krb_record::Form;
 pub use sources::{NamedPath, Source};
 pub use when::When;
 pub use words::{

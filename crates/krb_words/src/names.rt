@@ -2,11 +2,11 @@
 
 ghost use Rattle.std.specs.Prelude.{◌≡◌, ◌∷◌, ◌++◌, ◌≤◌, length, map, codes, string_bytes, IfOk, OnOk, IfSome, []};
 ghost use Rattle.std.specs.Str.{bytes_eq};
-ghost use Rattle.krb_text.specs.FileNames.{name_text};
+ghost use Rattle.krb_record.specs.FileNames.{name_text};
 ghost use Rattle.krb_words.specs.Names.{as_command, digit_value, is_name, named, stands_alone};
 ghost use Rattle.krb_words.specs.inner.Names.{IsFirstNamed};
 
-use krb_text::FileName;
+use krb_record::FileName;
 use std::alloc::{AllocError, Global};
 
 /// Returns whether a word is a text.

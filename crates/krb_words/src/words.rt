@@ -15,7 +15,7 @@ use crate::when::{When, read_when};
 use clap::error::ErrorKind;
 use clap::{ArgMatches, Error};
 use krb_der::{Limit, Profile};
-use krb_text::Form;
+use krb_record::Form;
 use std::alloc::{AllocError, Global};
 
 /// What becomes of a stream after a frame that is refused.

@@ -8,7 +8,7 @@ use Rattle.krb_input.specs.Sources.{command_for}
 use Rattle.krb_input.specs.declared.hint.Hint.{Hint}
 use Rattle.krb_input.specs.declared.source_kind.SourceKind.{SourceKind}
 use Rattle.krb_input.specs.declared.source_kind.SourceKind.TheVariants as kind
-use Rattle.krb_text.specs.declared.form.Form.{Form}
+use Rattle.krb_record.specs.declared.form.Form.{Form}
 use Rattle.krb_capture_run.specs.Captures.{capture_listing}
 use Rattle.krb_tool.specs.Decoding.{Decodes, DecodesWhole, FailsToDecode, FailsToDecodeWhole}
 use Rattle.krb_tool.specs.Encoding.{Encodes, FailsToEncode}

@@ -2,9 +2,9 @@
 use Rattle.std.specs.Prelude.{ℕ, List, [], ◌++◌, codes, decimal, string_bytes}
 use Rattle.std.specs.Option.{option_map}
 use Rattle.krb_json.specs.Reading.{read_fault_text}
-use Rattle.krb_text.specs.Refusals.{untold_message_refused_line}
-use Rattle.krb_text.specs.Streams.{untold_refused_line}
-use Rattle.krb_text.specs.declared.form.Form.TheVariants.{NamedLines}
+use Rattle.krb_record.specs.Refusals.{untold_message_refused_line}
+use Rattle.krb_record.specs.Streams.{untold_refused_line}
+use Rattle.krb_record.specs.declared.form.Form.TheVariants.{NamedLines}
 use Rattle.krb_tool.specs.declared.decode_run.DecodeEnd.{DecodeEnd}
 use Rattle.krb_tool.specs.declared.decode_run.DecodeEnd.TheVariants as decoded
 use Rattle.krb_tool.specs.declared.encode_run.EncodeEnd.{EncodeEnd}

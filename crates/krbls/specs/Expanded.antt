@@ -2,7 +2,7 @@
 use Rattle.std.specs.Prelude.{ℕ, ◌≡◌, ◌⊎◌, max, List, [], ◌∷◌, ◌++◌, codes, map}
 use Rattle.krb_tool.specs.Faults.{IsRead}
 use Rattle.krb_tool.specs.declared.run.RunFault.{RunFault}
-use Rattle.krb_words.specs.Sources.{Place, File, Directory, place_of}
+use Rattle.krb_words.specs.Sources.{Place, File, place_of}
 use Rattle.krb_words.specs.declared.sources.Source.{Source}
 use Rattle.krb_words.specs.declared.sources.Source.TheVariants as source
 use Rattle.krbls.specs.Around.{Around}

@@ -5,8 +5,8 @@ use Rattle.std.specs.List.{list_any}
 use Rattle.krb_input.specs.Hints.{hint_text}
 use Rattle.krb_input.specs.declared.hint.Hint.{Hint}
 use Rattle.krb_input.specs.declared.source_kind.SourceKind.{SourceKind}
-use Rattle.krb_text.specs.FileNames.{name_text}
-use Rattle.krb_text.specs.declared.form.Form.{Form}
+use Rattle.krb_record.specs.FileNames.{name_text}
+use Rattle.krb_record.specs.declared.form.Form.{Form}
 use Rattle.krb_tool.specs.Faults.{IsRead, IsWrite}
 use Rattle.krb_tool.specs.Outputs.{head_of, is_refusal, mark_of}
 use Rattle.krb_tool.specs.Sources.{ListsEach, ListsOne, Named, Outcome, Reports, Run, RunOver, names_of, unnamed}

@@ -3,7 +3,7 @@
 ghost use Rattle.std.specs.Prelude.{◌≡◌, ◌++◌, OnOk};
 ghost use Rattle.krbls.specs.Ends.{decode_end_line, encode_end_line};
 
-use krb_text::{Form, TextBuffer, put_untold_message_refusal, put_untold_stream_refusal};
+use krb_record::{Form, TextBuffer, put_untold_message_refusal, put_untold_stream_refusal};
 use krb_tool::{DecodeEnd, EncodeEnd};
 use krb_words::Framing;
 use std::alloc::AllocError;

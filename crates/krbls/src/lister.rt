@@ -1,7 +1,7 @@
 //! The runs over sources.
 
 ghost use Rattle.std.specs.Prelude.{◌≡◌, IfOk, OnErr, OnOk, string_bytes};
-ghost use Rattle.krb_text.specs.FileNames.{name_text};
+ghost use Rattle.krb_record.specs.FileNames.{name_text};
 ghost use Rattle.krb_tool.specs.Begun.{begun_remaining, first_of};
 ghost use Rattle.krb_tool.specs.Encoding.{FailsToEncode};
 ghost use Rattle.krb_tool.specs.Outputs.{output_contents};
@@ -13,7 +13,7 @@ use crate::ends::{put_decode_end, put_encode_end};
 use crate::host::Host;
 use krb_capture_run::run_capture;
 use krb_input::{Hint, SourceKind, hint_of, kind_of};
-use krb_text::{FileName, TextBuffer};
+use krb_record::{FileName, TextBuffer};
 use krb_tool::{
     Begun, DecodeEnd, EncodeEnd, Form, Limit, ListSource, Output, Profile, RunEnd, RunFault,
     run_ccache_in, run_decode, run_decode_unframed, run_encode, run_encode_unframed, run_keytab_in,

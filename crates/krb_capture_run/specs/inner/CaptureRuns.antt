@@ -5,7 +5,7 @@ use Rattle.krb_file.specs.declared.fault.FileFault.{FileFault}
 use Rattle.krb_file.specs.declared.fault.FileFault.TheVariants as faults
 use Rattle.krb_packet.specs.Captures.{packets}
 use Rattle.krb_packet.specs.Streaming.{PacketsModel, Reads}
-use Rattle.krb_text.specs.declared.form.Form.{Form}
+use Rattle.krb_record.specs.declared.form.Form.{Form}
 use Rattle.krb_capture.specs.Captures.{Finding, HasFollowed, Progress, Settings, end_text, lines_of, refusal_text}
 use Rattle.krb_capture.specs.Rests.{HasFollowedBut}
 use Rattle.krb_capture.specs.declared.capture.Capture.{Capture}

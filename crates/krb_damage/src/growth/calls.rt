@@ -15,11 +15,13 @@ use krb_input::{Hint, InputFault, SourceKind, read_input};
 use krb_judge::{ParseFault, parse, parse_method_data, parse_ticket};
 use krb_keytab::{Keytab, KeytabFault, Record, Stop};
 use krb_list::{
-    Form, cache_end_line, cache_line, ccache_lines, credential_line, keytab_end_line, keytab_lines,
-    message_line, principal_text, record_line, time_text,
+    cache_end_line, cache_line, ccache_lines, credential_line, keytab_end_line, keytab_lines,
+    record_line,
 };
 use krb_msg::{EncodeFault, Message, encode};
+use krb_record::{Form, principal_text, time_text};
 use krb_scan::Scanner;
+use krb_text::message_line;
 use std::alloc::Global;
 
 /// The arguments of the calls.

@@ -7,9 +7,8 @@ use krb_capture::Capture;
 use krb_file::{FileFault, FileRefusal};
 use krb_flow::Direction;
 use krb_frame::Limit;
-use krb_list::{Form, TextBuffer};
 use krb_packet::{Endpoint, Fragment, Fragments, Original, Packets, Payload, Reassembled, Segment};
-use krb_text::Extent;
+use krb_record::{Extent, Form, TextBuffer};
 use std::alloc::Global;
 use std::net::{IpAddr, Ipv4Addr};
 

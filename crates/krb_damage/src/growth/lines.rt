@@ -2,7 +2,7 @@
 
 use super::conversions::{Known, is_written};
 use krb_der::{Memory, Profile};
-use krb_list::Form;
+use krb_record::Form;
 use krb_tool::{RunEnd, run_lines_in};
 use std::alloc::Global;
 

@@ -1,16 +1,7 @@
 -- The numbers of lists as records show them.
-use Rattle.std.specs.Prelude.{ℕ, ℤ, ◌≡◌, pos, true, List}
-use Rattle.std.specs.Fmt.{signed_decimal}
+use Rattle.std.specs.Prelude.{ℕ, ℤ, ◌≡◌, pos, List}
 use Rattle.krb_msg.specs.Term.{Term, Integer, Sequence, Tagged, Required, Value}
 use Rattle.krb_msg.specs.Viewed.{IsFirstItem}
-use Rattle.krb_text.specs.declared.item.NumberForm.{NumberForm}
-use Rattle.krb_text.specs.declared.item.NumberForm.TheVariants as form
-use Rattle.krb_text.specs.Forms.{name_string, number_text}
-
-abbrev pub number_item : NumberForm → ℤ → List ℕ
-number_item form.Line number = signed_decimal number
-number_item (form.Named registry) number = number_text true registry number
-number_item (form.Name registry) number = name_string registry number
 
 -- the number that an item is, or that a SEQUENCE begins with
 abbrev pub item_number : (term : Term) → Value term → ℤ

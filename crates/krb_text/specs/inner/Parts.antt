@@ -1,9 +1,9 @@
 -- Parts one after another, as they are appended and counted.
 use Rattle.std.specs.Prelude.{ℕ, ◌≡◌, ◌+◌, ◌-◌, ◌^◌, Bool, true, false, List, [], ◌∷◌, ◌++◌, codes, min, nat_lt}
-use Rattle.krb_text.specs.declared.form.Form.{Form}
-use Rattle.krb_text.specs.declared.form.Form.TheVariants as form
-use Rattle.krb_text.specs.Forms.{part_text}
-use Rattle.krb_text.specs.Values.{Part}
+use Rattle.krb_record.specs.declared.form.Form.{Form}
+use Rattle.krb_record.specs.declared.form.Form.TheVariants as form
+use Rattle.krb_record.specs.Forms.{part_text}
+use Rattle.krb_record.specs.Values.{Part}
 
 -- what precedes a part, if others were told before it or none was
 unfoldable pub separator : Form → Bool → List ℕ

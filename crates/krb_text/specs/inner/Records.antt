@@ -9,14 +9,15 @@ use Rattle.krb_msg.specs.declared.message.Kind.{Kind}
 use Rattle.krb_msg.specs.declared.message.Message.{Message}
 use Rattle.krb_msg.specs.declared.message_view.MessageView.{MessageView}
 use Rattle.krb_msg.specs.declared.notes.Notes.{Notes}
-use Rattle.krb_text.specs.declared.form.Form.{Form}
+use Rattle.krb_record.specs.declared.form.Form.{Form}
 use Rattle.krb_text.specs.declared.record.Heading.{Heading}
 use Rattle.krb_text.specs.declared.record.Heading.TheVariants as headings
 use Rattle.krb_text.specs.Captures.{origin_fields}
-use Rattle.krb_text.specs.Forms.{record_text}
+use Rattle.krb_record.specs.Forms.{record_text}
 use Rattle.krb_text.specs.Inside.{inside_of}
-use Rattle.krb_text.specs.Messages.{fields_of, message_origin, message_record}
-use Rattle.krb_text.specs.Values.{Field, Part, with_origin}
+use Rattle.krb_record.specs.Origins.{message_origin}
+use Rattle.krb_text.specs.Messages.{fields_of, message_record}
+use Rattle.krb_record.specs.Values.{Field, Part, with_origin}
 
 -- what is recorded of a view of a kind is what is recorded of its message
 pub record IsRecordedAs (kind : Kind) (IsValid : Type 0) (fields : List Field) (inside : Option (List Part)) (view : MessageView) : Type 0 where

@@ -1,5 +1,5 @@
 -- What the parts of a run on the records of a file promise each other.
-use Rattle.std.specs.Prelude.{ℕ, Bool, ◌≡◌, List, [], ◌++◌, length, drop, Option, Some, None, Result, Ok, Err}
+use Rattle.std.specs.Prelude.{ℕ, Bool, ◌≡◌, List, [], ◌++◌, length, drop, Option, Result, Ok, Err}
 use Rattle.std.specs.List.{flat_map}
 use Rattle.std.specs.Io.KnownBytes.{Appends}
 use Rattle.krb_file.specs.FieldReaders.{Cursor}
@@ -14,7 +14,7 @@ use Rattle.krb_keytab.specs.Streaming.{Reads as ReadsRecords}
 use Rattle.krb_keytab.specs.declared.value.Stop.{Stop}
 use Rattle.krb_ccache.specs.declared.reading.Start.{Start}
 use Rattle.krb_ccache.specs.Streaming.{Reads as ReadsCredentials, credentials}
-use Rattle.krb_text.specs.declared.form.Form.{Form}
+use Rattle.krb_record.specs.declared.form.Form.{Form}
 use Rattle.krb_tool.specs.Lines.{record_line, credential_line}
 use Rattle.krb_tool.specs.Extents.{fault_line}
 use Rattle.krb_tool.specs.Paths.{file_path}
@@ -22,7 +22,7 @@ use Rattle.krb_tool.specs.declared.run.RunEnd.{RunEnd}
 use Rattle.krb_tool.specs.declared.run.RunEnd.TheVariants as run
 use Rattle.krb_tool.specs.declared.run.RunFault.{RunFault}
 use Rattle.krb_tool.specs.declared.run.RunFault.TheVariants as faulty
-use Rattle.krb_tool.specs.Files.{AppendsPrefix, RecordListing, after_line, end_of, field_limit, keytab_last, ccache_last, refused_listing}
+use Rattle.krb_tool.specs.Files.{AppendsPrefix, RecordListing, end_of, field_limit, keytab_last, ccache_last, refused_listing}
 
 -- The line of a refusal in this item was added, which ends the run.
 abbrev pub AddsRefusal : FileItem → Form → FileFault → List ℕ → List ℕ → RunEnd → Type 0

@@ -6,8 +6,8 @@ use Rattle.krb_der.specs.declared.verdict.Refusal.{Refusal}
 use Rattle.krb_msg.specs.Grammar.{messages as grammar}
 use Rattle.krb_frame.specs.Decoding.{finish_of}
 use Rattle.krb_frame.specs.GoingOn.{Entry, entries, entry_size}
-use Rattle.krb_text.specs.Streams.{stream_end_line}
-use Rattle.krb_text.specs.declared.form.Form.{Form}
+use Rattle.krb_record.specs.Streams.{stream_end_line}
+use Rattle.krb_record.specs.declared.form.Form.{Form}
 use Rattle.krb_tool.specs.Lines.{refused_line, counted_end_line}
 use Rattle.krb_tool.specs.Paths.{frame_extent, frame_path}
 use Rattle.krb_tool.specs.Listing.{end_of, run_end, IsListing, AllIsRead, AreLines, IsNotRefused, StopsInPiece}

@@ -1,5 +1,5 @@
 use Rattle.std.proofs.Common.{sym, ap}
-use Rattle.krb_text.specs.Refusals.{path_in}
+use Rattle.krb_record.specs.Refusals.{path_in}
 use Rattle.krb_capture.proofs.Found.{no_path}
 use Rattle.krb_capture.proofs.message_frames.path_in_frame.Goals as goal
 

@@ -1,9 +1,13 @@
-use Rattle.std.proofs.Common.{◌++◌, Some, None, option_map, sym, ap, subst, ◌∙◌, arith}
+use Rattle.std.proofs.Common.{◌≡◌, true, ◌++◌, Some, None, option_map, sym, ap, subst, ◌∙◌, arith}
 use Rattle.std.specs.Prelude.{string_bytes}
 use Rattle.krb_der.specs.Octets.{item}
 use Rattle.krb_msg.specs.Nodes.{term_at}
+use Rattle.krb_msg.specs.Shape.{is_unambiguous}
 use Rattle.krb_msg.specs.Viewed.{HasNoItem}
 use Rattle.krb_json.specs.inner.Searching.{Finds}
+use Rattle.krb_json.specs.inner.Sizes.{size}
+use Rattle.krb_json.proofs.Measures.{inner-node, inner-size, inner-unambiguous, items-node, items-size, items-unambiguous, both-unambiguous, own-shorter}
+use Rattle.krb_json.proofs.ReadLemmas.{size-slots, length-slots, slots-known}
 use Rattle.krb_json.proofs.Searches.{if-ok, finds-here, finds-inside, finds-list, finds-tagged, finds-no_item, no-first, found-first, none-first, one-searched, one-found, none-left}
 use Rattle.krb_msg.proofs.ItemViews.{passed_smaller}
 use Rattle.krb_json.proofs.encryption.+find.Goals as goal
@@ -68,3 +72,39 @@ find_in_items-loop-contents-preserved t c = (
 
 pub find_in_items-returns : goal.find_in_items-returns
 find_in_items-returns t c = none-left (term_at c.args.node) c.args.names c.args.octets.now c.loop-contents.rest.now c.loop-contents.index (subst (λ tag. HasNoItem tag c.loop-contents.rest.now) c.tag_of.ensures c.in_default.ensures) c.loop-contents.invariant.1
+
+pub find-find-requires : goal.find-find-requires
+find-find-requires t c = (
+  omega (arith, c.decreases, inner-size c.in-Item.node (term_at c.args.node) c.in-Item.ensures),
+  (inner-node c.in-Item.node (term_at c.args.node) c.in-Item.ensures, (inner-unambiguous c.in-Item.node (term_at c.args.node) c.in-Item.ensures c.requires.unambiguous, omega (arith, c.requires.short, own-shorter c.tag_of.result c.args.contents.now c.in-Some.inner.now c.in-Some._rest.now c.in-Some.ensures))),
+)
+
+pub find-find_in_items-requires : goal.find-find_in_items-requires
+find-find_in_items-requires t c = (
+  omega (arith, c.decreases, items-size c.in-Items.node c.in-Items.empty (term_at c.args.node) c.in-Items.ensures),
+  (items-node c.in-Items.node c.in-Items.empty (term_at c.args.node) c.in-Items.ensures, (items-unambiguous c.in-Items.node c.in-Items.empty (term_at c.args.node) c.in-Items.ensures c.requires.unambiguous, c.requires.short)),
+)
+
+pub find_in_fields-find-requires : goal.find_in_fields-find-requires
+find_in_fields-find-requires t c = (
+  omega (arith, c.decreases, size-slots c.args.slots.now c.in-len1-up.len_at_least, ap (λ n. size (term_at n)) c.node_of-node.ensures.node),
+  (c.node_of-node.ensures.known, (subst (λ n. is_unambiguous (term_at n) ≡ true) (sym c.node_of-node.ensures.node) (both-unambiguous c.args.slots.now c.in-len1-up.len_at_least c.requires.unambiguous).0, omega (arith, c.requires.short, own-shorter c.tag_of.result c.args.octets.now c.in-Some.contents.now c.in-Some.rest.now c.in-Some.ensures))),
+)
+
+pub find_in_fields-find_in_fields-requires : goal.find_in_fields-find_in_fields-requires
+find_in_fields-find_in_fields-requires t c = (
+  omega (arith, c.decreases, size-slots c.args.slots.now c.in-len1-up.len_at_least),
+  (slots-known c.args.slots.now c.in-len1-up.len_at_least c.requires.known, ((both-unambiguous c.args.slots.now c.in-len1-up.len_at_least c.requires.unambiguous).1, (omega (arith, c.requires.few, length-slots c.args.slots.now c.in-len1-up.len_at_least), c.requires.short))),
+)
+
+pub find_in_fields-find_in_fields-requires-in-None : goal.find_in_fields-find_in_fields-requires-in-None
+find_in_fields-find_in_fields-requires-in-None t c = (
+  omega (arith, c.decreases, size-slots c.args.slots.now c.in-len1-up.len_at_least),
+  (slots-known c.args.slots.now c.in-len1-up.len_at_least c.requires.known, ((both-unambiguous c.args.slots.now c.in-len1-up.len_at_least c.requires.unambiguous).1, (omega (arith, c.requires.few, length-slots c.args.slots.now c.in-len1-up.len_at_least), omega (arith, c.requires.short, passed_smaller c.tag_of.result c.args.octets.now c.in-Some.contents.now c.in-Some.rest.now c.in-Some.ensures)))),
+)
+
+pub find_in_items-find-requires : goal.find_in_items-find-requires
+find_in_items-find-requires t c = (
+  omega (arith, c.decreases),
+  (c.requires.known, (c.requires.unambiguous, omega (arith, c.requires.short, c.loop-contents.invariant.0, own-shorter c.tag_of.result c.loop-contents.rest.now c.in-Some.contents.now c.in-Some.others.now c.in-Some.ensures))),
+)

@@ -15,6 +15,7 @@ use Rattle.krb_judge.specs.Paths.{field_path, element_path}
 use Rattle.krb_json.specs.Spelled.{fields_spelled, is_field, members_spelled, spelled}
 use Rattle.krb_json.specs.inner.Reading.{Reads}
 use Rattle.krb_json.specs.inner.Sizes.{size}
+use Rattle.krb_json.proofs.Measures.{inner-node, inner-size, items-node, items-size, fields-known, fields-size, first-known}
 use Rattle.krb_json.proofs.ReadLemmas.{has-head, integer-read-as, text-read, octets-read, time-read, bits-read, inner-read, list-read, sequence-read, headed, there-read, field-read, element-read, no-fields, more-fields, stopped-fields, size-slots, length-slots, slots-known, after-step}
 use Rattle.krb_json.proofs.ReadLists.{array-read, empty-view, members-of, get-member, item-read, item-fault, item-numbers-at}
 use Rattle.krb_json.proofs.reading.+read.Goals as goal
@@ -126,3 +127,27 @@ read_sequence-returns t c =
     let r = c.in_ok-check_members.ensures in
     after-step (λ path. members_spelled (is_field c.args.names) path (value_view c.args.value.now)) (λ path. fields_spelled (fields_from nodes c.args.slots.now) c.args.names path 0) (der_of_fields (fields_from nodes c.args.slots.now)) c.args.out.now.items c.read_fields.new.out.items c.read_fields.result r.value r.spelled
     (c.read_fields.ensures r.value (members-of (is_field c.args.names) [] (value_view c.args.value.now) r.value (r.spelled [])))
+
+pub read_contents-read_item-requires : goal.read_contents-read_item-requires
+read_contents-read_item-requires t c = (
+  omega (arith, c.decreases, inner-size c.in-Item.node (term_at c.args.node) c.in-Item.ensures),
+  (inner-node c.in-Item.node (term_at c.args.node) c.in-Item.ensures, c.requires.numbers),
+)
+
+pub read_contents-read_list-requires : goal.read_contents-read_list-requires
+read_contents-read_list-requires t c = (
+  omega (arith, c.decreases, items-size c.in-Items.node c.in-Items.empty (term_at c.args.node) c.in-Items.ensures),
+  (items-node c.in-Items.node c.in-Items.empty (term_at c.args.node) c.in-Items.ensures, c.requires.numbers),
+)
+
+pub read_contents-read_sequence-requires : goal.read_contents-read_sequence-requires
+read_contents-read_sequence-requires t c = (
+  omega (arith, c.decreases, fields-size c.in-Fields.fields (term_at c.args.node) c.in-Fields.ensures),
+  (fields-known c.in-Fields.fields (term_at c.args.node) c.in-Fields.ensures, c.requires.numbers),
+)
+
+pub read_fields-read_field-requires : goal.read_fields-read_field-requires
+read_fields-read_field-requires t c = (
+  omega (arith, c.decreases, size-slots c.args.slots.now c.in-len1-up.len_at_least),
+  (first-known c.args.slots.now c.in-len1-up.len_at_least c.requires.known, c.requires.numbers),
+)

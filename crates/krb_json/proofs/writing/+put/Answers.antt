@@ -1,9 +1,13 @@
-use Rattle.std.proofs.Common.{◌++◌, ap, subst, ◌∙◌, arith}
+use Rattle.std.proofs.Common.{◌≡◌, true, ◌++◌, ap, sym, subst, ◌∙◌, arith}
 use Rattle.krb_der.specs.Octets.{item}
 use Rattle.krb_msg.specs.Nodes.{nodes, term_at}
+use Rattle.krb_msg.specs.Shape.{is_unambiguous}
 use Rattle.krb_msg.specs.Table.{IsFormOf}
 use Rattle.krb_msg.specs.Viewed.{HasNoItem}
 use Rattle.krb_msg.proofs.ItemViews.{passed_smaller}
+use Rattle.krb_json.specs.inner.Sizes.{size}
+use Rattle.krb_json.proofs.Measures.{inner-node, inner-size, inner-unambiguous, items-node, items-size, items-unambiguous, both-unambiguous, own-shorter}
+use Rattle.krb_json.proofs.ReadLemmas.{size-slots, length-slots, slots-known}
 use Rattle.krb_json.proofs.Walks.{on-ok, on-ok-if, puts-integer, puts-text, puts-octets, puts-time, puts-bits, puts-list, puts-sequence, puts-tagged, puts-no_item, some-member, none-member, one-passed, all-passed}
 use Rattle.krb_json.proofs.writing.+put.Goals as goal
 
@@ -77,3 +81,33 @@ put_items-returns-clause-written t c =
     on-ok c.end_array.result
     (all-passed (term_at c.args.node) c.args.names c.args.octets.now c.loop-contents.rest.now c.args.out.now.tokens c.loop-contents.out.tokens c.end_array.new.self.tokens (subst (λ tag. HasNoItem tag c.loop-contents.rest.now) c.tag_of.ensures c.in_default.ensures) c.loop-contents.invariant.2)
     c.end_array.ensures.ok
+
+pub put_contents-put_contents-requires : goal.put_contents-put_contents-requires
+put_contents-put_contents-requires t c = (
+  omega (arith, c.decreases, inner-size c.in-Item.node (term_at c.args.node) c.in-Item.ensures),
+  (inner-node c.in-Item.node (term_at c.args.node) c.in-Item.ensures, (inner-unambiguous c.in-Item.node (term_at c.args.node) c.in-Item.ensures c.requires.unambiguous, omega (arith, c.requires.short, own-shorter c.tag_of.result c.args.contents.now c.in-Some.inner.now c.in-Some._rest.now c.in-Some.ensures))),
+)
+
+pub put_contents-put_items-requires : goal.put_contents-put_items-requires
+put_contents-put_items-requires t c = (
+  omega (arith, c.decreases, items-size c.in-Items.node c.in-Items.empty (term_at c.args.node) c.in-Items.ensures),
+  (items-node c.in-Items.node c.in-Items.empty (term_at c.args.node) c.in-Items.ensures, (items-unambiguous c.in-Items.node c.in-Items.empty (term_at c.args.node) c.in-Items.ensures c.requires.unambiguous, c.requires.short)),
+)
+
+pub put_fields-put_contents-requires : goal.put_fields-put_contents-requires
+put_fields-put_contents-requires t c = (
+  omega (arith, c.decreases, size-slots c.args.slots.now c.in-len1-up.len_at_least, ap (λ n. size (term_at n)) c.node_of-node.ensures.node),
+  (c.node_of-node.ensures.known, (subst (λ n. is_unambiguous (term_at n) ≡ true) (sym c.node_of-node.ensures.node) (both-unambiguous c.args.slots.now c.in-len1-up.len_at_least c.requires.unambiguous).0, omega (arith, c.requires.short, own-shorter c.tag_of.result c.args.octets.now c.in-Some.contents.now c.in-Some.rest.now c.in-Some.ensures))),
+)
+
+pub put_fields-put_fields-requires : goal.put_fields-put_fields-requires
+put_fields-put_fields-requires t c = (
+  omega (arith, c.decreases, size-slots c.args.slots.now c.in-len1-up.len_at_least),
+  (slots-known c.args.slots.now c.in-len1-up.len_at_least c.requires.known, ((both-unambiguous c.args.slots.now c.in-len1-up.len_at_least c.requires.unambiguous).1, (omega (arith, c.requires.few, length-slots c.args.slots.now c.in-len1-up.len_at_least), omega (arith, c.requires.short, passed_smaller c.tag_of.result c.args.octets.now c.in-Some.contents.now c.in-Some.rest.now c.in-Some.ensures)))),
+)
+
+pub put_fields-put_fields-requires-in-None : goal.put_fields-put_fields-requires-in-None
+put_fields-put_fields-requires-in-None t c = (
+  omega (arith, c.decreases, size-slots c.args.slots.now c.in-len1-up.len_at_least),
+  (slots-known c.args.slots.now c.in-len1-up.len_at_least c.requires.known, ((both-unambiguous c.args.slots.now c.in-len1-up.len_at_least c.requires.unambiguous).1, (omega (arith, c.requires.few, length-slots c.args.slots.now c.in-len1-up.len_at_least), c.requires.short))),
+)

@@ -1,7 +1,7 @@
 use Rattle.std.proofs.lemmas.Result.{on_ok_weaker}
 use Rattle.krb_list.specs.Ccaches.{cache_end}
-use Rattle.krb_text.specs.Forms.{record_text}
-use Rattle.krb_text.proofs.Appended.{one_field}
+use Rattle.krb_record.specs.Forms.{record_text}
+use Rattle.krb_record.proofs.Appended.{one_field}
 use Rattle.krb_list.proofs.ccache.put_end_text.Goals as goal
 
 pub returns : goal.returns

@@ -1,8 +1,8 @@
 use Rattle.std.proofs.Common.{◌++◌}
 use Rattle.std.proofs.lemmas.Result.{on_ok_weaker}
 use Rattle.krb_list.specs.Ccaches.{counts_fields, flags_fields, key_fields, ticketed_record, tickets_fields, times_fields, who_fields}
-use Rattle.krb_text.specs.Forms.{record_text}
-use Rattle.krb_text.proofs.Appended.{four_lists}
+use Rattle.krb_record.specs.Forms.{record_text}
+use Rattle.krb_record.proofs.Appended.{four_lists}
 use Rattle.krb_list.proofs.credential.put_ticketed.Goals as goal
 
 pub returns : goal.returns

@@ -1,6 +1,6 @@
 use Rattle.std.proofs.Common.{◌≡◌, ◌++◌, take}
 use Rattle.std.specs.List.{flat_map}
-use Rattle.krb_text.specs.Forms.{record_line}
+use Rattle.krb_record.specs.Forms.{record_line}
 use Rattle.krb_list.specs.Keytabs.{printed_record}
 use Rattle.krb_list.proofs.keytab.put_records.Given as goal
 

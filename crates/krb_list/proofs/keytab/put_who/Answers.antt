@@ -1,5 +1,5 @@
 use Rattle.std.proofs.lemmas.Result.{on_ok_weaker}
-use Rattle.krb_text.proofs.Appended.{two_fields}
+use Rattle.krb_record.proofs.Appended.{two_fields}
 use Rattle.krb_list.proofs.keytab.put_who.Goals as goal
 
 pub returns : goal.returns

@@ -1,5 +1,5 @@
 use Rattle.std.proofs.lemmas.Result.{on_ok_weaker}
-use Rattle.krb_text.specs.Forms.{closing}
+use Rattle.krb_record.specs.Forms.{closing}
 use Rattle.krb_text.proofs.Parts.{before_parts, named_inside, object_inside}
 use Rattle.krb_text.proofs.inside.put_list.Goals as goal
 

@@ -1,7 +1,8 @@
 use Rattle.std.proofs.Common.{◌≡◌, ◌++◌, ◌∙◌, [], List, ℕ, OnOk, ap, append_assoc, codes, subst, sym}
 use Rattle.krb_msg.specs.Viewed.{items_of}
-use Rattle.krb_text.specs.Text.{joined}
-use Rattle.krb_text.specs.inner.Items.{item_number, number_item}
+use Rattle.krb_record.specs.Text.{joined}
+use Rattle.krb_record.specs.Items.{number_item}
+use Rattle.krb_text.specs.inner.Items.{item_number}
 use Rattle.krb_text.proofs.Items.{list_text_map}
 use Rattle.krb_text.proofs.list.put_list.Goals as goal
 

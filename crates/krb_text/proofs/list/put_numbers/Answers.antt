@@ -1,6 +1,6 @@
 use Rattle.std.proofs.Common.{◌≡◌, ◌++◌, ◌∙◌, OnOk, ap, subst, w64, FitsSigned, rules}
 use Rattle.std.proofs.lemmas.Int.{to_z-of_z}
-use Rattle.krb_text.specs.inner.Items.{number_item}
+use Rattle.krb_record.specs.Items.{number_item}
 use Rattle.krb_text.proofs.Items.{numbers_put}
 use Rattle.krb_text.proofs.list.put_numbers.Goals as goal
 

@@ -1,7 +1,7 @@
 use Rattle.std.proofs.Common.{◌≡◌, ◌++◌, map, OnOk, subst, sym}
 use Rattle.krb_msg.specs.Viewed.{items_of}
-use Rattle.krb_text.specs.Forms.{value_text}
-use Rattle.krb_text.specs.Values.{Numbers}
+use Rattle.krb_record.specs.Forms.{value_text}
+use Rattle.krb_record.specs.Values.{Numbers}
 use Rattle.krb_text.specs.inner.Items.{item_number}
 use Rattle.krb_text.proofs.list.put_numbers_text.Goals as goal
 

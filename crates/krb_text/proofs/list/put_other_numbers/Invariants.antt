@@ -1,7 +1,8 @@
 use Rattle.std.proofs.Common.{◌≡◌, ◌++◌, codes, length}
 use Rattle.std.specs.List.{flat_map}
 use Rattle.krb_msg.specs.Viewed.{AreViewed, items_of}
-use Rattle.krb_text.specs.inner.Items.{item_number, number_item}
+use Rattle.krb_record.specs.Items.{number_item}
+use Rattle.krb_text.specs.inner.Items.{item_number}
 use Rattle.krb_text.proofs.list.put_other_numbers.Given as goal
 
 -- the text so far, and that of the items that are left

@@ -1,7 +1,7 @@
 use Rattle.std.proofs.Common.{ℕ, pos, [], ◌∷◌, refl, sym, ◌∙◌, append_assoc}
 use Rattle.krb_msg.specs.Notes.{notes_have}
-use Rattle.krb_text.specs.inner.Items.{number_item}
-use Rattle.krb_text.proofs.Listed.{listed_one, listed_none}
+use Rattle.krb_record.specs.Items.{number_item}
+use Rattle.krb_record.proofs.Listed.{listed_one, listed_none}
 use Rattle.krb_text.proofs.notes.put_numbers.Goals.{then-has+in_ok-push_str+in_ok-put_note, else-has}
 use Rattle.krb_text.proofs.notes.put_numbers.Goals as goal
 

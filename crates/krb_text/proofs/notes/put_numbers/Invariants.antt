@@ -1,8 +1,8 @@
 use Rattle.std.proofs.Common.{◌≡◌, ◌++◌, pos, take}
 use Rattle.std.specs.List.{filter}
 use Rattle.krb_msg.specs.Notes.{notes_have}
-use Rattle.krb_text.specs.inner.Items.{number_item}
-use Rattle.krb_text.proofs.Listed.{listed, separator_after}
+use Rattle.krb_record.specs.Items.{number_item}
+use Rattle.krb_record.proofs.Listed.{listed, separator_after}
 use Rattle.krb_text.proofs.notes.put_numbers.Given as goal
 
 -- the numbers so far of notes that hold, and what precedes the next

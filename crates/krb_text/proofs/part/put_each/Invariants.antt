@@ -1,7 +1,7 @@
 use Rattle.std.proofs.Common.{◌≡◌, length, map}
 use Rattle.krb_msg.specs.Term.{Value}
 use Rattle.krb_msg.specs.Viewed.{AreViewed, items_of}
-use Rattle.krb_text.specs.Values.{Part}
+use Rattle.krb_record.specs.Values.{Part}
 use Rattle.krb_text.proofs.Parts.{Leaves}
 use Rattle.krb_text.proofs.part.put_each.Given as goal
 

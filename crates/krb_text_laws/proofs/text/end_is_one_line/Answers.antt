@@ -3,15 +3,16 @@ use Rattle.krb_der.specs.Octets.{AreOctets}
 use Rattle.krb_der.specs.declared.why.Why.{Why}
 use Rattle.krb_der.specs.declared.why.Why.TheVariants as whys
 use Rattle.krb_msg.specs.Stream.{End, Boundary, Within, Refused}
-use Rattle.krb_text.specs.Files.{file_record}
-use Rattle.krb_text.specs.Inputs.{input_refused_record}
-use Rattle.krb_text.specs.Laws.{IsOneLine}
-use Rattle.krb_text.specs.Refusals.{file_refused_record, message_refused_record, path_in, refusal_record}
-use Rattle.krb_text.specs.Streams.{counted_end_record, end_line, end_record, refused_frame, refused_line, refused_record}
-use Rattle.krb_text.specs.declared.extent.Extent.{Extent}
-use Rattle.krb_text.specs.declared.form.Form.{Form}
+use Rattle.krb_record.specs.Files.{file_record}
+use Rattle.krb_record.specs.Inputs.{input_refused_record}
+use Rattle.krb_record.specs.Laws.{IsOneLine}
+use Rattle.krb_record.specs.Refusals.{file_refused_record, message_refused_record, path_in, refusal_record}
+use Rattle.krb_text.specs.StreamEnds.{end_line, end_record}
+use Rattle.krb_record.specs.Streams.{counted_end_record, refused_frame, refused_line, refused_record}
+use Rattle.krb_record.specs.declared.extent.Extent.{Extent}
+use Rattle.krb_record.specs.declared.form.Form.{Form}
 use Rattle.krb_text_laws.proofs.EndOneLine.{input_is_plain, input_shown, kind_is_plain, located_is_plain, located_shown, message_line_from, one_line, path_is_plain, path_shown, spelled_is_plain, spelled_shown}
-use Rattle.krb_text.proofs.Reasons as reasons
+use Rattle.krb_record.proofs.Reasons as reasons
 use Rattle.krb_text_laws.proofs.Tuples.{◌&◌}
 use Rattle.krb_text_laws.proofs.text.end_is_one_line.Goals as goal
 

@@ -2,7 +2,7 @@ use Rattle.std.proofs.Common.{sym, ◌∙◌, ap, ap₂, take}
 use Rattle.std.proofs.lemmas.Result.{IfOk-weaker}
 use Rattle.krb_der.specs.Octets.{number}
 use Rattle.krb_judge.specs.Paths.{message_path}
-use Rattle.krb_text.specs.Refusals.{path_in}
+use Rattle.krb_record.specs.Refusals.{path_in}
 use Rattle.krb_tool.specs.Paths.{frame_path}
 use Rattle.krb_tool.proofs.fault_path.frame_path.Goals as goal
 

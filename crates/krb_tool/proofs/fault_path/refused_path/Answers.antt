@@ -1,6 +1,6 @@
 use Rattle.std.proofs.Common.{◌≡◌, None, length, refl, arith, ap, ◌∙◌}
 use Rattle.std.proofs.lemmas.Bool.{lt-ltb}
-use Rattle.krb_text.specs.Refusals.{path_in}
+use Rattle.krb_record.specs.Refusals.{path_in}
 use Rattle.krb_tool.specs.Paths.{refused_path}
 use Rattle.krb_tool.proofs.FaultPaths.{short_path}
 use Rattle.krb_tool.proofs.fault_path.refused_path.Goals as goal

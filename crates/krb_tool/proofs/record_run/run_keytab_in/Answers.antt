@@ -4,7 +4,7 @@ use Rattle.krb_file.specs.FieldReaders.{Cursor}
 use Rattle.krb_file.specs.declared.progress.Progress.{Progress}
 use Rattle.krb_keytab.specs.declared.value.Stop.{Stop}
 use Rattle.krb_keytab.specs.Streaming.{Reads}
-use Rattle.krb_text.specs.declared.form.Form.{Form}
+use Rattle.krb_record.specs.declared.form.Form.{Form}
 use Rattle.krb_tool.specs.inner.RecordRuns.{AreRecordsLeft}
 use Rattle.krb_tool.proofs.record_run.run_keytab_in.Goals as goal
 

@@ -1,6 +1,6 @@
 use Rattle.std.proofs.Common.{◌∷◌, [], ◌++◌, ◌∙◌, Global, Vec, ℕ, ap, codes, map, sym}
 use Rattle.std.proofs.lemmas.List.{map-append}
-use Rattle.krb_text.specs.FileNames.{name_text}
+use Rattle.krb_record.specs.FileNames.{name_text}
 use Rattle.krb_words.proofs.names.help_words.Goals as goal
 
 pub returns : goal.returns

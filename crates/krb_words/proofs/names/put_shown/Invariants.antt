@@ -1,5 +1,5 @@
 use Rattle.std.proofs.Common.{◌≡◌, ◌++◌, map, string_bytes, take}
-use Rattle.krb_text.specs.FileNames.{name_text}
+use Rattle.krb_record.specs.FileNames.{name_text}
 use Rattle.krb_words.proofs.names.put_shown.Given as goal
 
 -- the texts of the words so far are there

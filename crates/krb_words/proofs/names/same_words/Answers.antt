@@ -1,6 +1,6 @@
 use Rattle.std.proofs.Common.{◌++◌, ◌∙◌, Global, Vec, ℕ, ap, map, string_bytes, sym}
 use Rattle.std.proofs.lemmas.Simd.{map-map}
-use Rattle.krb_text.specs.FileNames.{name_text}
+use Rattle.krb_record.specs.FileNames.{name_text}
 use Rattle.krb_words.proofs.names.same_words.Goals as goal
 
 pub returns : goal.returns

@@ -1,5 +1,5 @@
 use Rattle.std.proofs.Common.{◌≡◌, ℕ, subst}
-use Rattle.krb_text.specs.declared.origin.Transport.TheVariants as transports
+use Rattle.krb_record.specs.declared.flow.Transport.TheVariants as transports
 use Rattle.krb_capture.specs.Flows.{origin_of}
 use Rattle.krb_capture.specs.Found.{with_all}
 use Rattle.krb_capture.specs.Sending.{Sent, Represents, last_found}

@@ -1,7 +1,7 @@
 use Rattle.std.proofs.Common.{ℕ, ◌∙◌, ap}
 use Rattle.std.specs.Prelude.{Option}
 use Rattle.std.proofs.lemmas.Result.{on_ok_weaker}
-use Rattle.krb_text.specs.declared.extent.Extent.{Extent}
+use Rattle.krb_record.specs.declared.extent.Extent.{Extent}
 use Rattle.krb_capture.proofs.Found.{refused_listed}
 use Rattle.krb_capture.proofs.message_frames.FrameLister.put_refusal.Goals as goal
 

@@ -3,7 +3,7 @@ use Rattle.std.proofs.lemmas.Result.{on_ok_weaker}
 use Rattle.krb_der.specs.declared.why.Why.{Why}
 use Rattle.krb_frame.specs.Frame.{length_fault}
 use Rattle.krb_frame.proofs.Lengths.{no_fault}
-use Rattle.krb_text.specs.declared.extent.Extent.{Extent}
+use Rattle.krb_record.specs.declared.extent.Extent.{Extent}
 use Rattle.krb_capture.specs.Found.{with_found}
 use Rattle.krb_capture.specs.Passed.{PassesOver, frame_length}
 use Rattle.krb_capture.specs.Streams.{extent_at, length_found}

@@ -1,6 +1,6 @@
 use Rattle.std.proofs.Common.{List, ℕ, ◌++◌, sym, ◌∙◌, ap, subst}
 use Rattle.krb_flow.specs.Directions.{Outcome, outcome_of, step}
-use Rattle.krb_text.specs.declared.origin.Transport.TheVariants as transports
+use Rattle.krb_record.specs.declared.flow.Transport.TheVariants as transports
 use Rattle.krb_capture.specs.Flows.{origin_of}
 use Rattle.krb_capture.specs.Rests.{RepresentsBut, Sends, Takes, TookSome}
 use Rattle.krb_capture.specs.Sending.{after_segment, outcome_found, segment_found, stream_at}

@@ -1,6 +1,6 @@
 use Rattle.std.proofs.lemmas.Result.{on_ok_weaker}
-use Rattle.krb_text.specs.Forms.{json_value, members, names_member}
-use Rattle.krb_text.proofs.Appended.{member_alone}
+use Rattle.krb_record.specs.Forms.{json_value, members, names_member}
+use Rattle.krb_record.proofs.Appended.{member_alone}
 use Rattle.krb_list.proofs.credential.RefusedOctetsShown.put_members.Goals as goal
 
 pub returns : goal.returns

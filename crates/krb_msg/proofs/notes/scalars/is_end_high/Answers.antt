@@ -1,5 +1,5 @@
 use Rattle.std.proofs.Common.{nat_lt, length, ◌-◌, arith}
-use Rattle.krb_msg.proofs.Lanes.{ends_any, last_of}
+use Rattle.krb_der.proofs.Lanes.{ends_any, last_of}
 use Rattle.krb_msg.proofs.notes.scalars.is_end_high.Goals as goal
 
 pub returns : goal.returns

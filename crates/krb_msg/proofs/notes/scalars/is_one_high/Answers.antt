@@ -1,5 +1,5 @@
 use Rattle.std.proofs.Common.{nat_lt}
-use Rattle.krb_msg.proofs.Lanes.{any_lane_right}
+use Rattle.krb_der.proofs.Lanes.{any_lane_right}
 use Rattle.krb_msg.proofs.notes.scalars.is_one_high.Goals as goal
 
 pub returns : goal.returns

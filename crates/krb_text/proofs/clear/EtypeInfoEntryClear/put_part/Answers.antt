@@ -1,8 +1,8 @@
 use Rattle.std.proofs.Common.{codes, nat_lt}
 use Rattle.std.proofs.lemmas.Result.{on_ok_weaker}
-use Rattle.krb_text.specs.Forms.{closing, opening, part_text}
+use Rattle.krb_record.specs.Forms.{closing, opening, part_text}
 use Rattle.krb_text.specs.inner.Parts.{separator}
-use Rattle.krb_text.proofs.Appended.{part_of_two}
+use Rattle.krb_record.proofs.Appended.{part_of_two}
 use Rattle.krb_text.proofs.clear.EtypeInfoEntryClear.put_part.Goals as goal
 
 pub returns : goal.returns

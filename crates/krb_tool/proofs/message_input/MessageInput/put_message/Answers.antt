@@ -2,7 +2,8 @@ use Rattle.std.proofs.Common.{rules, ◌≤◌, length, refl, subst, arith}
 use Rattle.std.specs.Prelude.{IfOk, string_bytes}
 use Rattle.std.specs.Option.{option_map}
 use Rattle.krb_judge.specs.Parses.{refusal_of}
-use Rattle.krb_text.specs.Messages.{PutsMessage, message_line_from, message_origin}
+use Rattle.krb_record.specs.Origins.{message_origin}
+use Rattle.krb_text.specs.Messages.{PutsMessage, message_line_from}
 use Rattle.krb_tool.specs.Files.{FileListing}
 use Rattle.krb_tool.specs.Messages.{Puts, judged_listing, layered_of}
 use Rattle.krb_tool.proofs.Messages.{puts-message, read_never, refused-message, refusal-within}

@@ -1,5 +1,5 @@
 use Rattle.std.proofs.Common.{length, Some, refl, arith, ap, ◌∙◌}
-use Rattle.krb_text.specs.Refusals.{path_in}
+use Rattle.krb_record.specs.Refusals.{path_in}
 use Rattle.krb_tool.proofs.Messages.{short-ticket-path}
 use Rattle.krb_tool.proofs.message_input.MessageInput.ticket_path.Goals as goal
 

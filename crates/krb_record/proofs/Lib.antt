@@ -1,0 +1,16 @@
+pub mod Ascii
+pub mod Copies
+pub mod Escapes
+pub mod Lanes
+pub mod Hexadecimal
+pub mod JsonStrings
+pub mod Names
+pub mod Bits
+pub mod Listed
+pub mod Printable
+pub mod Dates
+pub mod Times
+pub mod Moments
+pub mod Reasons
+pub mod Records
+pub mod Appended

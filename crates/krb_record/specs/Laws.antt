@@ -1,0 +1,73 @@
+-- Laws of records.
+use Rattle.std.specs.Prelude.{ℕ, pos, ◌≡◌, ◌≤◌, unsigned_abs, Option, None, IfSome, List, ◌++◌}
+use Rattle.std.specs.List.{AllByRecursion}
+use Rattle.jiff_core.specs.Date.{epoch_day}
+use Rattle.jiff_core.specs.declared.civil.date.Date.{Date}
+use Rattle.krb_der.specs.Octets.{AreOctets}
+use Rattle.krb_file.specs.declared.fault.FileWhy.{FileWhy}
+use Rattle.krb_der.specs.declared.verdict.Refusal.{Refusal}
+use Rattle.krb_der.specs.declared.why.Why.{Why}
+use Rattle.krb_input.specs.declared.spelling.Spelling.{Spelling}
+use Rattle.krb_record.specs.declared.form.Form.{Form}
+use Rattle.krb_record.specs.declared.form.Form.TheVariants.{Lines}
+use Rattle.krb_record.specs.Forms.{record_line}
+use Rattle.krb_record.specs.Text.{AllAreOctets, IsPrintable, escape, line_feed, principal_text}
+use Rattle.krb_record.specs.declared.extent.Extent.{Extent}
+use Rattle.krb_record.specs.declared.input.InputFault.{InputFault}
+use Rattle.krb_record.specs.Inputs.{input_refused_line}
+use Rattle.krb_record.specs.Refusals.{file_refused_line, message_refused_line, untold_message_refused_line}
+use Rattle.krb_record.specs.Streams.{counted_end_line, untold_refused_line}
+use Rattle.krb_record.specs.Files.{file_line}
+use Rattle.krb_record.specs.Origins.{message_origin}
+use Rattle.krb_record.specs.Time.{civil_date, the_date}
+use Rattle.krb_record.specs.Values.{Printed}
+use Rattle.krb_input.specs.declared.layer.Layer.{Layer}
+
+-- different components or realms have different texts
+abbrev pub PrincipalTextIsInjective : Type 0
+PrincipalTextIsInjective = (components others : List (List ℕ)) (realm other : List ℕ) → AllAreOctets components → AllAreOctets others → AreOctets realm → AreOctets other → principal_text components realm ≡ principal_text others other → (components ≡ others) × (realm ≡ other)
+
+-- an escape prints only 21 to 7E
+abbrev pub EscapeIsGraphic : Type 0
+EscapeIsGraphic = (octets : List ℕ) → AreOctets octets → AllByRecursion (λ c. (33 ≤ c) × (c ≤ 126)) (escape octets)
+
+-- The date that is found by counting is the one of the calendar that has this day number.
+abbrev pub DatesAreTheCalendars : Type 0
+DatesAreTheCalendars = (date : Date) (days : ℕ) → epoch_day date ≡ pos days → civil_date days ≡ the_date (unsigned_abs date.year) date.month date.day
+
+-- ---- each record is one line, in each form
+-- blanks and graphic characters of ASCII, and the line feed after them
+abbrev pub IsOneLine : List ℕ → Type 0
+IsOneLine line = (text : List ℕ) × IsPrintable text × (line ≡ text ++ line_feed)
+
+-- that of a refused file
+abbrev pub FileRefusalIsOneLine : Type 0
+FileRefusalIsOneLine = (form : Form) (place : ℕ) (reason : FileWhy) (path : Option (List ℕ)) (extent : Extent) → IfSome path AreOctets → IsOneLine (file_refused_line form place reason path extent)
+
+-- that of octets that are no message
+abbrev pub MessageRefusalIsOneLine : Type 0
+MessageRefusalIsOneLine = (form : Form) (line : Option ℕ) (layers : List Layer) (refusal : Refusal) (path : Option (List ℕ)) (extent : Extent) (spelling : Spelling) → IfSome path AreOctets → IsOneLine (message_refused_line form (message_origin line layers) refusal path extent spelling)
+
+-- the same with the path alone
+abbrev pub UntoldMessageRefusalIsOneLine : Type 0
+UntoldMessageRefusalIsOneLine = (form : Form) (refusal : Refusal) (path : Option (List ℕ)) → IfSome path AreOctets → IsOneLine (untold_message_refused_line form refusal path)
+
+-- that of input that is not looked at as a message
+abbrev pub InputRefusalIsOneLine : Type 0
+InputRefusalIsOneLine = (form : Form) (line : Option ℕ) (layers : List Layer) (fault : InputFault) (place : Option ℕ) (extent : Extent) (spelling : Option Spelling) → IsOneLine (input_refused_line form (message_origin line layers) fault place extent spelling)
+
+-- that of a refused frame with the path alone
+abbrev pub UntoldStreamRefusalIsOneLine : Type 0
+UntoldStreamRefusalIsOneLine = (form : Form) (messages place : ℕ) (reason : Why) (path : Option (List ℕ)) → IfSome path AreOctets → IsOneLine (untold_refused_line form messages place reason path)
+
+-- the last of a stream that was gone on with after refusals
+abbrev pub CountedStreamEndIsOneLine : Type 0
+CountedStreamEndIsOneLine = (form : Form) (messages refused : ℕ) → IsOneLine (counted_end_line form messages refused)
+
+-- that of a file's name
+abbrev pub FileNameIsOneLine : Type 0
+FileNameIsOneLine = (form : Form) (name : List ℕ) → AreOctets name → IsOneLine (file_line form name)
+
+-- ---- a line without names has nothing of what is inside
+abbrev pub PlainLinesHaveNothingInside : Type 0
+PlainLinesHaveNothingInside = (r : Printed) → record_line Lines r ≡ record_line Lines (record r { inside = None })

@@ -1,0 +1,17 @@
+pub mod Text
+pub mod FileNames
+pub mod Flows
+pub mod Values
+pub mod Time
+pub mod Errors
+pub mod TicketFlags
+pub mod Forms
+pub mod Items
+pub mod Origins
+pub mod Refusals
+pub mod Inputs
+pub mod Files
+pub mod Streams
+pub mod Laws
+pub mod Examples
+pub mod inner

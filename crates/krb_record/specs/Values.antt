@@ -1,0 +1,76 @@
+-- What is printed, before it is text: records. A record is a kind and fields, and maybe an origin, which is fields, too; a field is a name and a value. The record of a message may have parts, which are records inside of it.
+use Rattle.std.specs.Prelude.{ℕ, ℤ, pos, Bool, List, [], Option, Some, None, length}
+use Rattle.std.specs.declared.net.ip_addr.IpAddr.{IpAddr}
+use Rattle.krb_der.specs.declared.verdict.Refusal.{Refusal}
+use Rattle.krb_registry.specs.declared.registry.Registry.{Registry}
+use Rattle.krb_record.specs.declared.flow.Transport.{Transport}
+use Rattle.krb_input.specs.declared.layer.Layer.{Layer}
+
+-- A number has a name if its registry has one. Of what is encrypted, of a checksum and of a key, there is the number of octets and none of these. A flow comes from an address and a port, and goes to others.
+pub data Value : Type 0 where
+  Absent : Value
+  NoTicket : Value
+  Number : (number : ℤ) → Value
+  Named : (registry : Registry) → (number : ℤ) → Value
+  Numbers : (registry : Registry) → (numbers : List ℤ) → Value
+  ErrorCode : (code : ℤ) → Value
+  Reason : (number : ℕ) → (name : List ℕ) → Value
+  NoReason : Value
+  String : (octets : List ℕ) → Value
+  Quoted : (octets : List ℕ) → Value
+  FileName : (octets : List ℕ) → Value
+  Word : (text : List ℕ) → Value
+  Hex : (octets : List ℕ) → Value
+  Flags : (registry : Registry) → (bits : ℕ × List ℕ) → Value
+  TicketFlags : (flags : ℕ) → Value
+  Encrypted : (etype : ℤ) → (kvno : Option ℤ) → (size : ℕ) → Value
+  Principal : (name_type : ℤ) → (components : List (List ℕ)) → (realm : List ℕ) → Value
+  Address : (addr_type : ℤ) → (octets : List ℕ) → Value
+  Digest : (cksumtype : ℤ) → (size : ℕ) → Value
+  YesNo : (holds : Bool) → Value
+  Offset : (seconds : ℤ) → (microseconds : ℤ) → Value
+  RefusedTicket : (refusal : Refusal) → Value
+  Flow : (transport : Transport) → (source : IpAddr × ℕ) → (target : IpAddr × ℕ) → Value
+  Layers : (layers : List Layer) → Value
+
+pub record Field : Type 0 where
+  pub name : List ℕ
+  pub value : Value
+
+-- a record inside of another
+pub record Part : Type 0 where
+  pub kind : List ℕ
+  pub fields : List Field
+
+-- `inside` is told, so lines without names have nothing of it; it is None of what has no parts, of which no form has anything
+pub record Printed : Type 0 where
+  pub origin : List Field
+  pub kind : List ℕ
+  pub fields : List Field
+  pub inside : Option (List Part)
+
+abbrev pub the : List ℕ → Value → Field
+the name value = record { name = name; value = value }
+
+abbrev pub printed : List ℕ → List Field → Printed
+printed kind fields = record { origin = []; kind = kind; fields = fields; inside = None }
+
+abbrev pub part : List ℕ → List Field → Part
+part kind fields = record { kind = kind; fields = fields }
+
+-- the same with what is inside
+abbrev pub with_inside : Option (List Part) → Printed → Printed
+with_inside inside r = record r { inside = inside }
+
+-- the same with an origin
+abbrev pub with_origin : List Field → Printed → Printed
+with_origin origin r = record r { origin = origin }
+
+-- that of what is optional
+abbrev pub if_there : {A : Type 0} → (A → Value) → Option A → Value
+if_there value None = Absent
+if_there value (Some a) = value a
+
+-- how many there are
+abbrev pub count : {A : Type 0} → List A → Value
+count values = Number (pos (length values))

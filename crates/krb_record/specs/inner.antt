@@ -1,0 +1,3 @@
+-- What the parts of a record promise each other.
+pub mod Strings
+pub mod Flags

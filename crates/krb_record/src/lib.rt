@@ -1,0 +1,61 @@
+//! Records in one of three forms, and the values that they show.
+//!
+//! A record is a kind and fields, and a field is a name and a value. [`Form::Lines`] makes a line
+//! of it, [`Form::NamedLines`] a line in which the numbers of registries have their names, and
+//! [`Form::Json`] an object of JSON. What a record has is said once, whatever the form; each
+//! function appends to one text ([`TextBuffer`]), and its contract says what was appended. A record
+//! may have an origin, which is fields, too: a line has it before the kind, an object after it.
+//!
+//! Records are made of [`put_opening`], [`put_field`] of what is [`Shown`], and [`put_end`]; values
+//! are numbers of registries ([`Numbered`]), names of principals ([`Principal`]), flags
+//! ([`FlagBits`]), times ([`Instant`]) and others. What is refused has a call for each source,
+//! [`put_message_refusal`] among them, which takes an [`Extent`]: where the octets lie that are
+//! refused. Nothing here knows messages, and nothing reads or writes a file.
+#![tactic(auto)]
+
+mod error_code;
+mod escape;
+mod extent;
+mod field;
+mod file_name;
+mod flags;
+mod flow;
+mod form;
+mod input;
+mod item;
+mod json;
+mod message_origin;
+mod number;
+mod principal;
+mod refusal;
+mod shown;
+mod stream;
+mod text_buffer;
+mod ticket_flags;
+mod time;
+
+pub use error_code::ErrorCode;
+pub use escape::put_escaped;
+pub use extent::Extent;
+pub use field::{put_closing, put_end, put_field, put_opening};
+pub use file_name::{FileName, put_file};
+pub use flags::FlagBits;
+pub use flow::{Endpoint, Flow, Transport};
+pub use form::Form;
+pub use input::{InputFault, put_input_refusal};
+pub use item::{NumberForm, put_number_item};
+pub use json::put_string;
+pub use message_origin::{MessageOrigin, put_message_opening};
+pub use number::{Address, Digest, Encrypted, Numbered};
+pub use principal::{Components, Principal, Strings, principal_text, put_principal};
+pub use refusal::{
+    Reason, put_fault_fields, put_file_refusal, put_message_refusal, put_path,
+    put_untold_message_refusal,
+};
+pub use shown::{ABSENT, HexText, Plain, QuotedText, Shown, Text, put_begin, put_names_begin};
+pub use stream::{
+    put_counted_stream_end, put_stream_end, put_stream_refusal, put_untold_stream_refusal,
+};
+pub use text_buffer::TextBuffer;
+pub use ticket_flags::TicketFlags;
+pub use time::{FileTime, Instant, put_time, time_text};

@@ -1,6 +1,0 @@
-use Rattle.std.proofs.Common.{nat_lt}
-use Rattle.krb_msg.proofs.Lanes.{any_lane}
-use Rattle.krb_text.proofs.escape.any_is_less.Goals as goal
-
-pub returns : goal.returns
-returns g c = any_lane nat_lt g.row.N c.args.octets c.args.octet c.requires.count c.requires.few

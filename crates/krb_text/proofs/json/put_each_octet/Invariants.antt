@@ -1,7 +1,0 @@
-use Rattle.std.proofs.Common.{◌≡◌, ◌++◌, take}
-use Rattle.krb_text.specs.inner.Strings.{quoted}
-use Rattle.krb_text.proofs.json.put_each_octet.Given as goal
-
--- the octets so far
-abbrev pub invariant-loop-octet : goal.invariant-loop-octet
-invariant-loop-octet l = l.object ≡ l.initial.object ++ quoted l.escape (take l.octet-index l.octets)

@@ -1,5 +1,0 @@
-use Rattle.krb_text.proofs.JsonStrings.{quoted_object}
-use Rattle.krb_text.proofs.json.put_shown.Goals as goal
-
-pub returns : goal.returns
-returns c = rw (quoted_object c.args.octets.now) c.put_each_octet.ensures

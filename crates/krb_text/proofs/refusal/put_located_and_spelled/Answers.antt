@@ -1,6 +1,0 @@
-use Rattle.std.proofs.lemmas.Result.{on_ok_weaker}
-use Rattle.krb_text.proofs.Appended.{two_lists}
-use Rattle.krb_text.proofs.refusal.put_located_and_spelled.Goals as goal
-
-pub returns : goal.returns
-returns c = on_ok_weaker c.put_spelling.result (two_lists _ _ _ _ c.in_ok-put_located.ensures) c.put_spelling.ensures
