@@ -3,10 +3,11 @@ use Rattle.std.specs.Prelude.{ℕ, ◌≡◌, Bool, List, [], Option, Some}
 use Rattle.krb_der.specs.declared.profile.Profile.{Profile}
 use Rattle.krb_record.specs.declared.form.Form.{Form}
 use Rattle.krb_capture_run.specs.Captures.{capture_listing}
-use Rattle.krb_tool.specs.Files.{FileListing, RecordListing, ccache_listing, keytab_listing, text_of}
+use Rattle.krb_run.specs.Records.{RecordListing, text_of}
+use Rattle.krb_tool.specs.Files.{FileListing, ccache_listing, keytab_listing}
 use Rattle.krb_tool.specs.GoingOn.{ListsStream}
 use Rattle.krb_tool.specs.Messages.{octets_listing}
-use Rattle.krb_tool.specs.declared.run.RunEnd.{RunEnd}
+use Rattle.krb_run.specs.declared.run.RunEnd.{RunEnd}
 
 -- the line of a message, or of its refusal
 abbrev pub IsOf : FileListing → List ℕ → RunEnd → Type 0

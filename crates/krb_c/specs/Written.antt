@@ -1,7 +1,7 @@
 -- What C is given of a text.
 use Rattle.std.specs.Prelude.{ℕ, ◌≡◌, ◌⊎◌, List, [], ◌++◌, length, take, drop, Option, Some, None}
-use Rattle.krb_tool.specs.declared.run.RunEnd.{RunEnd}
-use Rattle.krb_tool.specs.declared.run.RunEnd.TheVariants as run
+use Rattle.krb_run.specs.declared.run.RunEnd.{RunEnd}
+use Rattle.krb_run.specs.declared.run.RunEnd.TheVariants as run
 
 -- The memory of the caller has as much of the text as there is room for, and the size is that of all of it.
 pub record IsCopied (text before after : List ℕ) (size : ℕ) : Type 0 where

@@ -3,7 +3,7 @@
 ghost use Rattle.std.specs.Prelude.{◌≡◌, MatchResult};
 ghost use Rattle.krb_c.specs.Written.{IsCopied, WroteNothing, answer_of};
 
-use krb_tool::{RunEnd, RunFault};
+use krb_run::{RunEnd, RunFault};
 
 /// What C is told if memory ran out.
 pub(crate) const MEMORY: u32 = 3;

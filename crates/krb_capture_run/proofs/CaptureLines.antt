@@ -14,12 +14,12 @@ use Rattle.krb_capture.specs.Rests.{HasFollowedBut, Lists}
 use Rattle.krb_capture.specs.declared.capture.Capture.{Capture}
 use Rattle.krb_capture.specs.declared.directions.Rest.{Rest}
 use Rattle.krb_capture_run.specs.Captures.{capture_listing, listing_from}
-use Rattle.krb_tool.specs.Files.{RecordListing, after_line}
-use Rattle.krb_tool.specs.declared.run.RunEnd.{RunEnd}
-use Rattle.krb_tool.specs.declared.run.RunEnd.TheVariants as run
-use Rattle.krb_tool.specs.declared.run.RunFault.{RunFault}
+use Rattle.krb_run.specs.Records.{RecordListing, after_line}
+use Rattle.krb_run.specs.declared.run.RunEnd.{RunEnd}
+use Rattle.krb_run.specs.declared.run.RunEnd.TheVariants as run
+use Rattle.krb_run.specs.declared.run.RunFault.{RunFault}
 use Rattle.krb_capture_run.specs.inner.CaptureRuns.{AddsCaptureEnd, AddsFileRefusal, IsCaptureLeft}
-use Rattle.krb_tool.specs.Files.{AddsLine}
+use Rattle.krb_run.specs.Records.{AddsLine}
 
 -- what a call of the reader promises
 abbrev pub Promises : PacketsModel → Result (Option Packet) FileFault → PacketsModel → Type 0

@@ -4,11 +4,11 @@ use Rattle.krb_file.specs.Fields.{Fault}
 use Rattle.krb_packet.specs.Captures.{packets}
 use Rattle.krb_packet.specs.declared.packet.Packet.{Packet}
 use Rattle.krb_capture.specs.Captures.{Progress, Settings, all_counts, at_first, end_taken, end_text, is_clean, lines_of, packet_taken, refusal_text}
-use Rattle.krb_tool.specs.Extents.{extent_of}
-use Rattle.krb_tool.specs.Files.{RecordListing}
-use Rattle.krb_tool.specs.Paths.{field_path}
-use Rattle.krb_tool.specs.declared.run.RunEnd.{RunEnd}
-use Rattle.krb_tool.specs.declared.run.RunEnd.TheVariants as run
+use Rattle.krb_run.specs.Extents.{extent_of}
+use Rattle.krb_run.specs.Records.{RecordListing}
+use Rattle.krb_run.specs.Paths.{field_path}
+use Rattle.krb_run.specs.declared.run.RunEnd.{RunEnd}
+use Rattle.krb_run.specs.declared.run.RunEnd.TheVariants as run
 
 -- the records of packets, from the progress that earlier ones left
 abbrev pub lines_from : Settings → List Packet → Progress → List ℕ

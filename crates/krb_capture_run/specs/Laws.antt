@@ -5,9 +5,9 @@ use Rattle.krb_packet.specs.Captures.{packets}
 use Rattle.krb_text.specs.Captures.{capture_end_line, capture_refused_line}
 use Rattle.krb_capture.specs.Captures.{Progress, Settings, all_counts, at_first, end_taken, lines_of}
 use Rattle.krb_capture.specs.WholeCaptures.{capture_found}
-use Rattle.krb_tool.specs.Extents.{extent_of}
-use Rattle.krb_tool.specs.Files.{text_of}
-use Rattle.krb_tool.specs.Paths.{field_path}
+use Rattle.krb_run.specs.Extents.{extent_of}
+use Rattle.krb_run.specs.Records.{text_of}
+use Rattle.krb_run.specs.Paths.{field_path}
 use Rattle.krb_capture_run.specs.Captures.{after_packets, capture_listing}
 
 -- the totals, or the refusal of the file with them

@@ -2,8 +2,8 @@
 
 ghost use Rattle.std.specs.Prelude.{◌≡◌, ℕ, List, Some, IfErr, IfOk};
 ghost use Rattle.krb_capture_run.specs.Captures.{capture_listing};
-ghost use Rattle.krb_tool.specs.Faults.{IsRead, IsWrite};
-ghost use Rattle.krb_tool.specs.Files.{ListsRecords};
+ghost use Rattle.krb_run.specs.Faults.{IsRead, IsWrite};
+ghost use Rattle.krb_run.specs.Records.{ListsRecords};
 ghost use Rattle.krb_capture_run.specs.inner.CaptureRuns.{AddsCaptureEnd, AddsFileRefusal, IsCaptureLeft};
 
 use krb_capture::{Capture, Rest};
@@ -11,7 +11,7 @@ use krb_file::{FileFault, FileItem};
 use krb_frame::Limit;
 use krb_packet::Packets;
 use krb_record::{Form, TextBuffer};
-use krb_tool::{
+use krb_run::{
     RecordLines, RunEnd, RunFault, Watch, Watched, extent_of, file_path, in_pieces, list_records,
 };
 use std::alloc::Global;
@@ -100,7 +100,7 @@ impl<R: Read> RecordLines for CaptureLines<'_, R> {
 /// Lists the Kerberos messages of a capture, a pcap or a pcapng, in a form: writes the records of
 /// each packet, and at the end those of the end and the totals, or the refusal of the file. Frames
 /// of more than `limit` octets are refused, and `port` is the one of KDCs. Reads and writes as
-/// [`run_keytab_in`](krb_tool::run_keytab_in) does.
+/// [`list_records`] does.
 pub fn run_capture<R: Read, W: Write>(
     alloc: Global,
     form: Form,

@@ -1,6 +1,6 @@
 //! What `krbls` does with a capture, over any reader and writer: [`run_capture`] lists what is found
 //! in its packets, a record for each message, and then the record of the end. It is a run of
-//! `krb_tool` as that over a keytab is, and a crate of its own so that `krb_tool` and `krb_capture`
+//! `krb_run` as that over a keytab is, and a crate of its own so that `krb_tool` and `krb_capture`
 //! need not wait for each other.
 #![tactic(auto)]
 

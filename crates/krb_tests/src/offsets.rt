@@ -3,7 +3,8 @@
 
 use crate::examples::octets_of;
 use krb_capture_run::run_capture;
-use krb_tool::{Form, Limit, Profile, RunEnd, RunFault, run_stream_in};
+use krb_run::{RunEnd, RunFault};
+use krb_tool::{Form, Limit, Profile, run_stream_in};
 use std::alloc::Global;
 use std::test::Fail;
 

@@ -1,7 +1,8 @@
 //! Labels of lines, over writers that take few octets or fail, and readers that were begun.
 
 use crate::fakes::{Asked, Full, Watched};
-use krb_tool::{Begun, Form, Label, Output};
+use krb_run::{Begun, Label, Output};
+use krb_tool::Form;
 use std::io::{ErrorKind, Read, Write};
 use std::test::Fail;
 

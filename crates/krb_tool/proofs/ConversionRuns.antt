@@ -7,8 +7,8 @@ use Rattle.krb_tool.specs.Conversions.{Converted, after_text, Converts, Converts
 use Rattle.krb_tool.specs.Listing.{WritesPrefix}
 use Rattle.krb_tool.specs.inner.Conversions.{IsBeginning, conversion_rules}
 use Rattle.krb_tool.specs.inner.Streams.{FailsBy, ListsBy}
-use Rattle.krb_tool.specs.declared.run.RunFault.{RunFault}
-use Rattle.krb_tool.specs.declared.run.RunFault.TheVariants as fault
+use Rattle.krb_run.specs.declared.run.RunFault.{RunFault}
+use Rattle.krb_run.specs.declared.run.RunFault.TheVariants as fault
 
 -- a text before one before others
 pub after_text-both : {E : Type 0} (first second : List ℕ) (others : Converted E) → after_text first (after_text second others) ≡ after_text (first ++ second) others

@@ -15,7 +15,7 @@ use Rattle.krb_tool.specs.declared.json_reader.EncodeRequest.{EncodeRequest}
 use Rattle.krb_tool.specs.declared.json_reader.JsonReader.{JsonReader}
 use Rattle.krb_tool.specs.inner.EncodedLines.{KeepsFault, TakesLine, encoded_from, json_reading, read_and, rest_by, rest_of}
 use Rattle.krb_tool.specs.inner.LineReaders.{EndsLine, Follows, GoesOn, HasLine}
-use Rattle.krb_tool.proofs.SourceLineParts.{is_nothing, is_something}
+use Rattle.krb_run.proofs.SourceLineParts.{is_nothing, is_something}
 
 -- ---- a line
 abbrev second : ℕ → Converted Ending

@@ -4,12 +4,12 @@ use Rattle.std.specs.Io.KnownBytes.{Consumes}
 use Rattle.std.proofs.KnownBytes.{Consumes-nil, Consumes-trans}
 use Rattle.krb_tool.specs.Files.{FileListing, ReadsAll, ReadsSome, ListsPrefix, FailsFile}
 use Rattle.krb_tool.specs.inner.FileRuns.{IsAllOrFull, IsDecidedByPrefix, ReadsPrefix, MatchesReader}
-use Rattle.krb_tool.specs.declared.run.RunFault.{RunFault}
-use Rattle.krb_tool.specs.declared.run.RunFault.TheVariants as fault
-use Rattle.krb_tool.specs.Faults.{IsRead, IsWrite}
-use Rattle.krb_tool.specs.declared.transfer.ReaderState.{ReaderState}
-use Rattle.krb_tool.specs.declared.transfer.ReaderState.TheVariants as reader
-use Rattle.krb_tool.specs.inner.Transfers.{ReturnsOctets}
+use Rattle.krb_run.specs.declared.run.RunFault.{RunFault}
+use Rattle.krb_run.specs.declared.run.RunFault.TheVariants as fault
+use Rattle.krb_run.specs.Faults.{IsRead, IsWrite}
+use Rattle.krb_run.specs.declared.transfer.ReaderState.{ReaderState}
+use Rattle.krb_run.specs.declared.transfer.ReaderState.TheVariants as reader
+use Rattle.krb_run.specs.Transfers.{ReturnsOctets}
 
 -- a reader that returns nothing is at its end
 pub ReadsAll-made : (had left after : Option (List ℕ)) (file piece : List ℕ) (room : ℕ) → Consumes had left file → ReturnsOctets left after piece room → piece ≡ [] → 0 < room → ReadsAll had after file

@@ -2,7 +2,7 @@
 use Rattle.std.proofs.Common.{◌≡◌, ℕ, ◌+◌, ◌^◌, ◌<◌, ◌≤◌, inl, inr, Bool, true, false, List, [], ◌∷◌, ◌++◌, length, take, drop, Option, refl, sym, ◌∙◌, ap, subst, arith, append-nil, append_assoc, length-take, take-append-drop, take_all}
 use Rattle.std.specs.Io.KnownBytes.{IsAtEnd}
 use Rattle.krb_tool.specs.Conversions.{Converted, after_text}
-use Rattle.krb_tool.specs.Encoding.{parts, without_empty_last, ended_of, lines_of}
+use Rattle.krb_run.specs.TextLines.{parts, without_empty_last, ended_of, lines_of}
 use Rattle.krb_tool.specs.Listing.{StopsInPiece}
 use Rattle.krb_tool.specs.inner.Conversions.{IsBeginning}
 use Rattle.krb_tool.specs.inner.LineReaders.{Adds, EndsLine, EndsText, GoesOn, HasLine, HasRead, IsRight, IsStoppedAfter, LineKind, line_rules, reader_kind}
@@ -10,7 +10,7 @@ use Rattle.krb_tool.specs.inner.Pieces.{IsFed, IsLastOf, TakesPiece, WaitsAfter,
 use Rattle.krb_tool.specs.inner.Streams.{Begins, Feeds, Finishes, IsLast, IsNew, MayFinish, Taken, with_piece}
 use Rattle.krb_tool.proofs.ConversionRuns.{after_text-both}
 use Rattle.krb_tool.proofs.Pieces.{Feeds-made, Finishes-made, IsFed-used, IsNew-made}
-use Rattle.krb_tool.proofs.SourceLineParts.{HasFirst, ended_of-last, ended_of-more, lines-empty, lines-from, lines-last, lines-more, parts_end, parts_grow}
+use Rattle.krb_run.proofs.SourceLineParts.{HasFirst, ended_of-last, ended_of-more, lines-empty, lines-from, lines-last, lines-more, parts_end, parts_grow}
 
 module _ {L : Type 0} (kind : LineKind L) where
   -- ---- octets of a line came

@@ -22,9 +22,9 @@ use Rattle.krb_tool.specs.Lines.{message_line, refused_line, end_line}
 use Rattle.krb_tool.specs.Listing.{run_end, AllIsRead, IsListing, IsNotRefused, StopsInPiece}
 use Rattle.krb_tool.specs.Paths.{frame_extent, frame_path, last_octets}
 use Rattle.krb_tool.specs.declared.listing.StreamLines.{StreamLines}
-use Rattle.krb_tool.specs.declared.run.RunEnd.{RunEnd}
-use Rattle.krb_tool.specs.declared.run.RunFault.{RunFault}
-use Rattle.krb_tool.specs.declared.run.RunFault.TheVariants as fault
+use Rattle.krb_run.specs.declared.run.RunEnd.{RunEnd}
+use Rattle.krb_run.specs.declared.run.RunFault.{RunFault}
+use Rattle.krb_run.specs.declared.run.RunFault.TheVariants as fault
 use Rattle.krb_tool.specs.inner.Listers.{Adds, AreListed, FrameLister, HasListed, IsDone, current_end, last_frames, last_of, lister_kind}
 use Rattle.krb_tool.specs.inner.StreamLines.{AddsEnd, AddsRefused, AsksAfter, HasLines, ListsEntry, PutsClosing, closing, last_listed, listed_last, rules_of, stream_lines}
 use Rattle.krb_tool.specs.inner.Streams.{EndsListing, FailsBy, ListsBy, Taken}

@@ -12,13 +12,13 @@ use Rattle.krb_tool.specs.declared.lines_run.LineLister.{LineLister}
 use Rattle.krb_tool.specs.declared.lines_run.LinesRequest.{LinesRequest}
 use Rattle.krb_tool.specs.declared.lines_run.Seen.{Seen}
 use Rattle.krb_tool.specs.declared.message_input.MessageInput.{MessageInput}
-use Rattle.krb_tool.specs.declared.run.RunEnd.{RunEnd}
-use Rattle.krb_tool.specs.declared.run.RunEnd.TheVariants as run
+use Rattle.krb_run.specs.declared.run.RunEnd.{RunEnd}
+use Rattle.krb_run.specs.declared.run.RunEnd.TheVariants as run
 use Rattle.krb_tool.specs.inner.LineReaders.{Adds, EndsLine, HasLine, IsStopped}
 use Rattle.krb_tool.specs.inner.MessageLines.{IsCounted, PutsLine, kept_octets, message_lines, records_from}
-use Rattle.krb_tool.proofs.FirstOctets.{first-both, first-kept}
+use Rattle.krb_run.proofs.FirstOctets.{first-both, first-kept}
 use Rattle.krb_tool.proofs.Messages.{too-long}
-use Rattle.krb_tool.proofs.SourceLineParts.{is_nothing, is_something}
+use Rattle.krb_run.proofs.SourceLineParts.{is_nothing, is_something}
 
 -- ---- the octets that are kept of a line
 -- they decide whether it is too long

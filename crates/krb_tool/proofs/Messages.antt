@@ -33,9 +33,9 @@ use Rattle.krb_token.specs.declared.opening.Opened.{Opened as OpenedOfCode}
 use Rattle.krb_tool.specs.Files.{FileListing}
 use Rattle.krb_tool.specs.Messages.{IsMessageListing, Layered, Puts, extent_of, found_listing, input_limit, input_listing, input_octets_listing, judged_listing, message_listing, opened_listing, refused_listing, refused_with, spelled_in, spelled_listing, ticket_listing, ticket_of_der, unread_listing, whole_input}
 use Rattle.krb_tool.specs.Paths.{refused_path, ticket_refused_path}
-use Rattle.krb_tool.proofs.FaultPaths.{take-few}
+use Rattle.krb_run.proofs.FirstOctets.{take-few}
 use Rattle.krb_tool.specs.declared.message_input.MessageInput.{MessageInput}
-use Rattle.krb_tool.specs.declared.run.RunEnd.TheVariants as run
+use Rattle.krb_run.specs.declared.run.RunEnd.TheVariants as run
 
 -- nothing is refused
 pub not_refused : (found : Option Refusal) → ((r : Refusal) → found ≡ Some r → ⊥) → found ≡ None

@@ -3,13 +3,13 @@ use Rattle.std.proofs.Common.{◌≡◌, ℕ, ◌+◌, ◌^◌, ◌<◌, ◌≤�
 use Rattle.std.proofs.lemmas.List.{take_at}
 use Rattle.std.specs.Io.KnownBytes.{Consumes, Appends, Keeps}
 use Rattle.std.proofs.KnownBytes.{Consumes-nil, Consumes-trans, Consumes-kept, Appends-nil, Appends-trans}
-use Rattle.krb_tool.specs.Faults.{IsRead, IsWrite}
-use Rattle.krb_tool.specs.Files.{AppendsPrefix}
+use Rattle.krb_run.specs.Faults.{IsRead, IsWrite}
+use Rattle.krb_run.specs.Records.{AppendsPrefix}
 use Rattle.krb_tool.specs.Listing.{WritesPrefix}
 use Rattle.krb_tool.specs.inner.Streams.{Rules, with_piece, with_lines, Listing, IsNew, AcceptsPiece, Feeds, Clears, MayFinish, Finishes, FailsBy, Runs, IsOver, RunsOn, Reads, FailsToRead, ListsBy}
-use Rattle.krb_tool.specs.inner.Transfers.{ReturnsOctets}
-use Rattle.krb_tool.specs.declared.run.RunFault.{RunFault}
-use Rattle.krb_tool.specs.declared.run.RunFault.TheVariants as fault
+use Rattle.krb_run.specs.Transfers.{ReturnsOctets}
+use Rattle.krb_run.specs.declared.run.RunFault.{RunFault}
+use Rattle.krb_run.specs.declared.run.RunFault.TheVariants as fault
 
 -- a vector whose slice was written holds what the slice holds
 pub written-slice : (n : ℕ) (slice rest now : List ℕ) → now ≡ take n (slice ++ rest) → length slice ≡ n → slice ≡ now

@@ -14,9 +14,10 @@ use Rattle.krb_record.specs.Values.{Value, Absent, String, Field, if_there}
 use Rattle.krb_record.specs.declared.form.Form.TheVariants as forms
 use Rattle.krb_tool.specs.Listing.{StopsInPiece}
 use Rattle.krb_tool.specs.Decoding.{Refusing, message_decoded, decoded_whole, DecodesWhole, FailsToDecodeWhole}
-use Rattle.krb_tool.specs.Files.{AppendsPrefix, ReadsSome}
+use Rattle.krb_run.specs.Records.{AppendsPrefix}
+use Rattle.krb_tool.specs.Files.{ReadsSome}
 use Rattle.krb_tool.specs.declared.whole_run.MessageLine.{MessageLine}
-use Rattle.krb_tool.specs.inner.Transfers.{ReturnsOctets}
+use Rattle.krb_run.specs.Transfers.{ReturnsOctets}
 use Rattle.krb_tool.specs.inner.WholeRuns.{ReadsMost, converted_of}
 
 -- ---- a message

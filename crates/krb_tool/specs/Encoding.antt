@@ -1,6 +1,6 @@
 -- The messages that lines spell, up to the end or to the first fault.
 use Rattle.std.specs.Prelude.{ℕ, ◌+◌, ◌==◌, ◌&&◌, ◌||◌, not, Bool, true, false, List, [], ◌∷◌, Option, Some, Result, Ok, Err}
-use Rattle.std.specs.List.{list_all, slice_split}
+use Rattle.std.specs.List.{list_all}
 use Rattle.krb_der.specs.Octets.{when}
 use Rattle.krb_der.specs.declared.profile.Profile.{Profile}
 use Rattle.krb_frame.specs.Frame.{framed}
@@ -8,6 +8,7 @@ use Rattle.krb_msg.specs.Views.{message_der}
 use Rattle.krb_msg.specs.declared.message.Message.{Message}
 use Rattle.krb_json.specs.Lines.{LineFault, line_spells}
 use Rattle.krb_json.specs.Reading.{line_fault_of}
+use Rattle.krb_run.specs.TextLines.{parts, lines_of, ended_of}
 use Rattle.krb_tool.specs.Conversions.{Converted, after_text, Converts, ConvertsInPart}
 use Rattle.krb_tool.specs.declared.encode_run.EncodeEnd.{EncodeEnd}
 use Rattle.krb_tool.specs.declared.encode_run.EncodeEnd.TheVariants as ends
@@ -26,25 +27,6 @@ ending_of (ends.SecondMessage line) = SecondMessage line
 ending_of ends.NoMessage = NoMessage
 
 -- ---- lines
--- what is before, between and after the line feeds
-abbrev pub parts : List ℕ → List (List ℕ)
-parts text = slice_split (λ octet. octet == 10) text
-
-abbrev pub without_empty_last : List (List ℕ) → List (List ℕ)
-without_empty_last [] = []
-without_empty_last ([] ∷ []) = []
-without_empty_last (line ∷ lines) = line ∷ without_empty_last lines
-
--- the lines of a text: what comes before each line feed, and the rest if it is not empty
-abbrev pub lines_of : List ℕ → List (List ℕ)
-lines_of text = without_empty_last (parts text)
-
--- those that end in it
-abbrev pub ended_of : List (List ℕ) → List (List ℕ)
-ended_of [] = []
-ended_of (last ∷ []) = []
-ended_of (line ∷ next ∷ lines) = line ∷ ended_of (next ∷ lines)
-
 -- a space, a tab and CR
 abbrev pub is_blank : ℕ → Bool
 is_blank octet = octet == 32 || octet == 9 || octet == 13

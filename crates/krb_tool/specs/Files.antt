@@ -1,5 +1,5 @@
 -- The listings of files, and what a run on one does to its reader and its writer.
-use Rattle.std.specs.Prelude.{ℕ, ◌≡◌, List, [], ◌++◌, length, Option, Some, None, Result, Ok, Err}
+use Rattle.std.specs.Prelude.{ℕ, ◌≡◌, List, length, Option, Some, Result, Ok, Err}
 use Rattle.std.specs.List.{flat_map}
 use Rattle.std.specs.Io.KnownBytes.{Consumes, Appends, Keeps, IsAtEnd}
 use Rattle.krb_file.specs.Fields.{Source, Fault}
@@ -15,13 +15,13 @@ use Rattle.krb_ccache.specs.Streaming.{file_start, credentials}
 use Rattle.krb_record.specs.declared.form.Form.{Form}
 use Rattle.krb_tool.specs.Lines.{record_line, keytab_end_line}
 use Rattle.krb_tool.specs.Lines.{cache_line, credential_line, cache_end_line}
-use Rattle.krb_tool.specs.Extents.{fault_line}
-use Rattle.krb_tool.specs.Paths.{file_path, field_path}
+use Rattle.krb_run.specs.Extents.{fault_line}
+use Rattle.krb_run.specs.Paths.{file_path}
+use Rattle.krb_run.specs.Records.{RecordListing, AppendsPrefix, after_line, end_of, refused_listing}
 use Rattle.krb_tool.specs.declared.file_run.FileText.{FileText}
-use Rattle.krb_tool.specs.declared.run.RunEnd.{RunEnd}
-use Rattle.krb_tool.specs.declared.run.RunEnd.TheVariants as run
-use Rattle.krb_tool.specs.declared.run.RunFault.{RunFault}
-use Rattle.krb_tool.specs.declared.run.RunFault.TheVariants as fault
+use Rattle.krb_run.specs.declared.run.RunEnd.{RunEnd}
+use Rattle.krb_run.specs.declared.run.RunFault.{RunFault}
+use Rattle.krb_run.specs.declared.run.RunFault.TheVariants as fault
 
 -- all octets that a reader had were read
 pub record ReadsAll (had left : Option (List ℕ)) (file : List ℕ) : Type 0 where
@@ -38,26 +38,6 @@ abbrev pub shown : FileText → FileListing
 shown made = record { text = made.text; end = made.end }
 
 -- ---- the listings of keytabs and of caches
-
--- The listing of a file that is read one record at a time: a line for each record before the end or the first fault, and the last line; and how its run ends.
-pub record RecordListing : Type 0 where
-  pub lines : List ℕ
-  pub last : List ℕ
-  pub end : RunEnd
-
-abbrev pub text_of : RecordListing → List ℕ
-text_of listing = listing.lines ++ listing.last
-
-abbrev pub after_line : List ℕ → RecordListing → RecordListing
-after_line line listing = record { lines = line ++ listing.lines; last = listing.last; end = listing.end }
-
-abbrev pub end_of : {A : Type 0} → Result A Fault → RunEnd
-end_of (Ok end) = run.Clean
-end_of (Err fault) = run.Refused
-
--- the one line of what is refused before any record
-abbrev pub refused_listing : Form → Fault → RecordListing
-refused_listing form refusal = record { lines = []; last = fault_line form refusal (field_path refusal.field); end = run.Refused }
 
 -- how many octets a field of a file may have
 abbrev pub field_limit : Option ℕ
@@ -106,13 +86,6 @@ pub record ListsFile (Lists : List ℕ → FileListing → Type 0) (had left wri
   pub added : Appends written_before written_after listing.text
   pub ended_so : ended ≡ listing.end
 
--- A prefix of a text was appended to what is written. It may be all of the text, or none.
-pub record AppendsPrefix (written_before written_after : Option (List ℕ)) (text : List ℕ) : Type 0 where
-  pub prefix : List ℕ
-  pub rest : List ℕ
-  pub added : Appends written_before written_after prefix
-  pub whole : text ≡ prefix ++ rest
-
 -- A run read all octets that its reader had, and appended a prefix of their listing to what is written.
 pub record ListsPrefix (Lists : List ℕ → FileListing → Type 0) (had left written_before written_after : Option (List ℕ)) : Type 0 where
   pub file : List ℕ
@@ -135,16 +108,3 @@ abbrev pub FailsFile : (List ℕ → FileListing → Type 0) → Option (List �
 FailsFile Lists had left written_before written_after (fault.Read error) = WritesNothing had left written_before written_after
 FailsFile Lists had left written_before written_after (fault.Write error) = ListsPrefix Lists had left written_before written_after
 FailsFile Lists had left written_before written_after fault.Memory = WritesNothing had left written_before written_after
-
--- What a run on records appends to what is written: the listing; a prefix of it if a write fails; and a prefix of the lines of records if a read fails or memory runs out.
-abbrev pub ListsRecords : RecordListing → Option (List ℕ) → Option (List ℕ) → Result RunEnd RunFault → Type 0
-ListsRecords listing written_before written_after (Ok ended) = Appends written_before written_after (text_of listing) × (ended ≡ listing.end)
-ListsRecords listing written_before written_after (Err (fault.Write error)) = AppendsPrefix written_before written_after (text_of listing)
-ListsRecords listing written_before written_after (Err (fault.Read error)) = AppendsPrefix written_before written_after listing.lines
-ListsRecords listing written_before written_after (Err fault.Memory) = AppendsPrefix written_before written_after listing.lines
-
--- What is added to a text if this is left to be listed: a line, after which others are left, or the last line, if it alone is left.
-abbrev pub AddsLine : (RecordListing → Type 0) → RecordListing → List ℕ → List ℕ → Result (Option RunEnd) RunFault → Type 0
-AddsLine IsLeft left old new (Ok None) = (line : List ℕ) × (others : RecordListing) × (new ≡ old ++ line) × (left ≡ after_line line others) × IsLeft others
-AddsLine IsLeft left old new (Ok (Some ended)) = (new ≡ old ++ left.last) × (left.lines ≡ []) × (ended ≡ left.end)
-AddsLine IsLeft left old new (Err failed) = Unit {0}

@@ -19,7 +19,7 @@ use Rattle.krb_ccache.specs.Spelling.{CcacheSpells, Spells3, upgraded}
 use Rattle.krb_frame.specs.Frame.{framed}
 use Rattle.krb_frame.specs.Laws.{IsRefusedWith}
 use Rattle.krb_record.specs.declared.form.Form.{Form}
-use Rattle.krb_tool.specs.declared.run.RunEnd.TheVariants as run
+use Rattle.krb_run.specs.declared.run.RunEnd.TheVariants as run
 use Rattle.krb_tool.specs.Files.{keytab_listing, ccache_listing}
 use Rattle.krb_tool.specs.Listing.{end_of}
 use Rattle.krb_tool.specs.Paths.{end_extent}

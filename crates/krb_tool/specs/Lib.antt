@@ -1,17 +1,12 @@
 pub mod Lines
 pub mod Paths
-pub mod Faults
 pub mod Listing
 pub mod GoingOn
-pub mod Extents
 pub mod Files
 pub mod Messages
-pub mod Sources
 pub mod inner
 pub mod Conversions
 pub mod Decoding
 pub mod Encoding
 pub mod Laws
 pub mod MessageLines
-pub mod Outputs
-pub mod Begun

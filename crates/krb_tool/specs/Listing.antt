@@ -1,5 +1,5 @@
 -- The listing of a stream, and what a run does to its reader and its writer.
-use Rattle.std.specs.Prelude.{ℕ, ◌≡◌, ◌≤◌, List, ◌++◌, length, map, Option, Result, Ok, Err}
+use Rattle.std.specs.Prelude.{ℕ, ◌≡◌, ◌≤◌, List, ◌++◌, length, map, Option}
 use Rattle.std.specs.List.{flat_map}
 use Rattle.std.specs.Io.KnownBytes.{Consumes, Appends, IsAtEnd}
 use Rattle.krb_der.specs.declared.profile.Profile.{Profile}
@@ -11,11 +11,11 @@ use Rattle.krb_record.specs.declared.form.Form.{Form}
 use Rattle.krb_tool.specs.Lines.{message_line}
 use Rattle.krb_tool.specs.Lines.{end_line}
 use Rattle.krb_tool.specs.Paths.{end_extent, end_path}
-use Rattle.krb_tool.specs.declared.run.RunEnd.{RunEnd}
-use Rattle.krb_tool.specs.declared.run.RunEnd.TheVariants as run
-use Rattle.krb_tool.specs.declared.run.RunFault.{RunFault}
-use Rattle.krb_tool.specs.declared.run.RunFault.TheVariants as fault
-use Rattle.krb_tool.specs.Files.{AppendsPrefix}
+use Rattle.krb_run.specs.declared.run.RunEnd.{RunEnd}
+use Rattle.krb_run.specs.declared.run.RunEnd.TheVariants as run
+use Rattle.krb_run.specs.declared.run.RunFault.{RunFault}
+use Rattle.krb_run.specs.declared.run.RunFault.TheVariants as fault
+use Rattle.krb_run.specs.Records.{AppendsPrefix}
 
 -- the end of a stream by a profile, with frames of at most n octets
 abbrev pub end_of : Profile → ℕ → List ℕ → End
@@ -84,9 +84,3 @@ abbrev pub Fails : Form → Profile → ℕ → Option (List ℕ) → Option (Li
 Fails form profile limit had left written_before written_after (fault.Write error) = WritesPrefix (IsListing form profile limit) had left written_before written_after
 Fails form profile limit had left written_before written_after (fault.Read error) = WritesPrefix (AreLines form profile limit) had left written_before written_after
 Fails form profile limit had left written_before written_after fault.Memory = WritesPrefix (AreLines form profile limit) had left written_before written_after
-
--- the status of a process whose run returned this
-abbrev pub status_of : Result RunEnd RunFault → ℕ
-status_of (Ok run.Clean) = 0
-status_of (Ok run.Refused) = 1
-status_of (Err fault) = 3

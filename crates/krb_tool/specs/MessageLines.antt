@@ -4,13 +4,14 @@ use Rattle.krb_der.specs.Octets.{when}
 use Rattle.krb_der.specs.declared.profile.Profile.{Profile}
 use Rattle.krb_record.specs.declared.form.Form.{Form}
 use Rattle.krb_tool.specs.Conversions.{Converted, after_text, Converts, ConvertsInPart}
-use Rattle.krb_tool.specs.Encoding.{is_blank_line, lines_of}
+use Rattle.krb_run.specs.TextLines.{lines_of}
+use Rattle.krb_tool.specs.Encoding.{is_blank_line}
 use Rattle.krb_tool.specs.Lines.{counted_end_line}
 use Rattle.krb_tool.specs.Messages.{input_limit, input_listing}
 use Rattle.krb_tool.specs.declared.lines_run.Seen.{Seen}
 use Rattle.krb_tool.specs.declared.message_input.MessageInput.{MessageInput}
-use Rattle.krb_tool.specs.declared.run.RunEnd.{RunEnd}
-use Rattle.krb_tool.specs.declared.run.RunEnd.TheVariants as run
+use Rattle.krb_run.specs.declared.run.RunEnd.{RunEnd}
+use Rattle.krb_run.specs.declared.run.RunEnd.TheVariants as run
 
 -- the line after those that were seen
 abbrev pub next_line : Form → Profile → Seen → MessageInput

@@ -27,8 +27,8 @@ use Rattle.krb_tool.specs.Files.{FileListing}
 use Rattle.krb_tool.specs.Paths.{refused_path, ticket_refused_path}
 use Rattle.krb_tool.specs.declared.message_input.Layered.{Layered as LayeredOctets}
 use Rattle.krb_tool.specs.declared.message_input.MessageInput.{MessageInput}
-use Rattle.krb_tool.specs.declared.run.RunEnd.{RunEnd}
-use Rattle.krb_tool.specs.declared.run.RunEnd.TheVariants as run
+use Rattle.krb_run.specs.declared.run.RunEnd.{RunEnd}
+use Rattle.krb_run.specs.declared.run.RunEnd.TheVariants as run
 
 abbrev pub clean_with : List ℕ → FileListing
 clean_with line = record { text = line; end = run.Clean }

@@ -1,10 +1,5 @@
--- The field at fault of the frame with which a stream ends, and where that frame is; the field at fault of a message, and of a file.
+-- The field at fault of the frame with which a stream ends, and where that frame is; and the field at fault of a message.
 use Rattle.std.specs.Prelude.{ℕ, ◌+◌, List, [], length, take, drop, nat_lt, if◌then◌else◌, Option, Some, None}
-use Rattle.std.specs.Option.{option_map}
-use Rattle.krb_file.specs.Names.{path_text}
-use Rattle.krb_file.specs.declared.field_name.FileField.{FileField}
-use Rattle.krb_file.specs.declared.field_path.FileItem.{FileItem}
-use Rattle.krb_file.specs.declared.field_path.FileItem.TheVariants as items
 use Rattle.krb_der.specs.Octets.{number}
 use Rattle.krb_der.specs.declared.profile.Profile.{Profile}
 use Rattle.krb_der.specs.declared.verdict.Refusal.{Refusal}
@@ -53,11 +48,3 @@ refused_path profile octets refusal =
 unfoldable pub ticket_refused_path : Profile → List ℕ → Refusal → Option (List ℕ)
 ticket_refused_path profile octets refusal =
     if nat_lt 2147483647 (length octets) then None else Some (ticket_path profile (length octets) (take (refusal.place + 1) octets))
-
--- ---- The field at fault of a file, if there is one, by the item that it is in; before the items and in a capture it is in none.
-
-unfoldable pub file_path : FileItem → Option FileField → Option (List ℕ)
-file_path item field = option_map (λ found. path_text (record { item = item; field = found })) field
-
-abbrev pub field_path : Option FileField → Option (List ℕ)
-field_path field = file_path items.File field

@@ -3,7 +3,6 @@ pub mod Pieces
 pub mod LineReaders
 pub mod Listers
 pub mod StreamLines
-pub mod Transfers
 pub mod FileRuns
 pub mod RecordRuns
 pub mod Conversions

@@ -4,11 +4,10 @@ ghost use Rattle.std.specs.Prelude.{IfOk, OnErr};
 ghost use Rattle.krb_tool.specs.Decoding.{Decodes, FailsToDecode};
 
 use crate::json_lines::{DecodeRequest, JsonLister};
-use crate::run::RunFault;
 use crate::stream_run::list_all;
-use crate::transfer::CountedReader;
 use krb_der::{Profile, Refusal};
 use krb_frame::Limit;
+use krb_run::{CountedReader, RunFault};
 use std::alloc::Global;
 use std::io::{Read, Write};
 

@@ -4,12 +4,11 @@ ghost use Rattle.std.specs.Prelude.{IfOk, OnErr, true, false};
 ghost use Rattle.krb_tool.specs.Encoding.{Encodes, FailsToEncode};
 
 use crate::json_reader::{EncodeRequest, JsonReader};
-use crate::run::RunFault;
 use crate::stream_run::list_all;
-use crate::transfer::CountedReader;
 use krb_der::Profile;
 use krb_frame::Limit;
 use krb_json::LineFault;
+use krb_run::{CountedReader, RunFault};
 use std::alloc::Global;
 use std::io::{Read, Write};
 

@@ -6,11 +6,11 @@ ghost use Rattle.krb_judge.specs.Paths.{message_path};
 ghost use Rattle.krb_record.specs.Refusals.{path_in};
 ghost use Rattle.krb_tool.specs.Paths.{frame_extent, frame_path, refused_path};
 
-use crate::run::RunFault;
 use krb_der::{Memory, Profile, Refusal};
 use krb_frame::Decoder;
 use krb_judge::path;
 use krb_record::{Extent, Form};
+use krb_run::RunFault;
 use std::alloc::Global;
 
 /// The greatest number of octets of a message.

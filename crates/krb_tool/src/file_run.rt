@@ -1,13 +1,12 @@
 //! Runs over files, which are read whole before anything is written.
 
 ghost use Rattle.std.specs.Prelude.{◌≡◌, ◌+◌, ◌^◌, ◌≤◌, ◌⊎◌, List, ℕ, Some, IfSome, IfErr, IfOk, OnErr, OnOk};
-ghost use Rattle.krb_tool.specs.declared.transfer.ReaderState.TheVariants as reader;
+ghost use Rattle.krb_run.specs.declared.transfer.ReaderState.TheVariants as reader;
 ghost use Rattle.krb_tool.specs.Files.{ReadsSome, FileListing, ListsFile, FailsFile, shown};
 ghost use Rattle.krb_tool.specs.inner.FileRuns.{ReadsPrefix, IsOfReading, IsDecidedByPrefix, MatchesReader};
 
-use crate::run::{PIECE_OCTETS, RunEnd, RunFault};
-use crate::transfer::{CountedReader, write_all};
 use krb_record::TextBuffer;
+use krb_run::{CountedReader, PIECE_OCTETS, RunEnd, RunFault, write_all};
 use std::alloc::Global;
 use std::io::{Read, Write};
 

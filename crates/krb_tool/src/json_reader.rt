@@ -2,19 +2,19 @@
 
 ghost use Rattle.std.specs.Prelude.{◌≡◌, ◌+◌, ◌++◌, ◌<◌, ◌^◌, ◌&&◌, not, false, [], length, IfErr, IfOk, OnOk, None};
 ghost use Rattle.krb_tool.specs.Encoding.{is_blank_line, written_as, ending_of};
-ghost use Rattle.krb_tool.specs.declared.run.RunFault.TheVariants as fault;
+ghost use Rattle.krb_run.specs.declared.run.RunFault.TheVariants as fault;
 ghost use Rattle.krb_tool.specs.inner.EncodedLines.{IsFound, TakesLine, json_reading, rest_of};
 ghost use Rattle.krb_tool.specs.inner.LineReaders.{line_rules, reader_kind};
 ghost use Rattle.krb_tool.specs.inner.Pieces.{listing_of};
 
 use crate::encode_run::EncodeEnd;
 use crate::lines::{ReadLines, end_lines, feed_lines, is_blank_line};
-use crate::run::RunFault;
 use crate::stream_run::ListStream;
 use krb_der::Profile;
 use krb_frame::Limit;
 use krb_json::law::lines_spell_messages;
 use krb_json::{LineFault, Scratch, read_line};
+use krb_run::RunFault;
 use std::alloc::{AllocError, Global};
 
 /// What an encoding is asked for: the profile of the messages, the greatest length of one, and

@@ -12,24 +12,17 @@
 //!   such lines spell as frames; [`run_decode_unframed`] and [`run_encode_unframed`] do so for one
 //!   message without its length.
 //! - [`list_octets`] returns the line of a message that is in memory.
-//! - [`run_sources`] lists several sources one after another, each by what a [`ListSource`] does;
-//!   [`run_sources_unnamed`] does so without their names.
-//! - [`list_records`] lists a file record by record, by what its [`RecordLines`] puts of each;
-//!   `krb_capture_run` lists captures so.
-//! - [`status`] returns the exit status for what a run returned.
+//!
+//! `krb_run` has how runs end, and what lists several sources.
 //!
 //! Nothing here opens a file or reads a command line: `krbls` and `krb_words` do. `krb_text` and
 //! `krb_list` say what is in a record.
 #![tactic(auto)]
 
-mod begun;
 mod decode_run;
 mod encode_run;
-mod extent;
 mod fault_path;
-mod field_path;
 mod file_run;
-mod head;
 mod json_lines;
 mod json_reader;
 mod lines;
@@ -37,32 +30,19 @@ mod lines_run;
 mod listing;
 mod message_input;
 mod message_run;
-mod naming;
-mod output;
 mod record_run;
 mod run;
-mod sources;
 mod stream_run;
-mod transfer;
 mod whole_run;
 
-pub use begun::Begun;
 pub use decode_run::{DecodeEnd, run_decode};
 pub use encode_run::{EncodeEnd, run_encode, run_encode_unframed};
-pub use extent::extent_of;
-pub use field_path::file_path;
 pub use file_run::FileText;
 pub use krb_der::Profile;
 pub use krb_frame::Limit;
 pub use krb_record::Form;
 pub use lines_run::run_lines_in;
 pub use message_run::{list_octets, run_message, run_message_in};
-pub use naming::Naming;
-pub use output::{Label, Output, Place};
-pub use record_run::{
-    RecordLines, Watch, Watched, in_pieces, list_records, run_ccache, run_ccache_in, run_keytab,
-    run_keytab_in,
-};
-pub use run::{RunEnd, RunFault, run_stream, run_stream_in, status};
-pub use sources::{ListSource, run_sources, run_sources_unnamed};
+pub use record_run::{run_ccache, run_ccache_in, run_keytab, run_keytab_in};
+pub use run::{run_stream, run_stream_in};
 pub use whole_run::run_decode_unframed;

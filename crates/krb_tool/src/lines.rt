@@ -1,15 +1,13 @@
 //! Lines of a text.
 
 ghost use Rattle.std.specs.Prelude.{◌≡◌, ◌+◌, ◌<◌, ◌≤◌, ◌^◌, length, IfErr, IfOk, OnOk};
-ghost use Rattle.memchr.specs.Find.{IsFirstByte, is_byte};
 ghost use Rattle.krb_tool.specs.Encoding.{is_blank, is_blank_line};
-ghost use Rattle.krb_tool.specs.declared.run.RunFault.TheVariants as fault;
+ghost use Rattle.krb_run.specs.declared.run.RunFault.TheVariants as fault;
 ghost use Rattle.krb_tool.specs.inner.LineReaders.{Adds, EndsLine, EndsText, HasLine, LineKind, reader_kind};
 ghost use Rattle.krb_tool.specs.inner.Pieces.{TakesPiece, listing_of};
 ghost use Rattle.krb_tool.specs.inner.Streams.{AcceptsPiece, MayFinish};
 
-use crate::run::RunFault;
-use memchr::memchr;
+use krb_run::{RunFault, line_length};
 
 /// What reads the lines of a text, each as its octets come.
 pub(crate) trait ReadLines {
@@ -65,13 +63,6 @@ pub(crate) fn end_lines<L: ReadLines>(lines: &mut L) -> Result<(), RunFault>
     }
     lines.end_line()?;
     Ok(())
-}
-
-/// Returns how many octets come before the first line feed, if there is one.
-pub(crate) fn line_length(octets: &[u8]) -> Option<usize>
-    ensures { IsFirstByte (is_byte 10) octets.now result }
-{
-    memchr(b'\n', octets)
 }
 
 /// Returns whether an octet is a blank of a line: a space, a tab or CR.

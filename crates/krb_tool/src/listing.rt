@@ -2,17 +2,17 @@
 
 ghost use Rattle.std.specs.Prelude.{◌≡◌, IfErr, IfOk, OnOk};
 ghost use Rattle.krb_tool.specs.GoingOn.{counted_run_end};
-ghost use Rattle.krb_tool.specs.declared.run.RunFault.TheVariants as fault;
+ghost use Rattle.krb_run.specs.declared.run.RunFault.TheVariants as fault;
 ghost use Rattle.krb_tool.specs.inner.Listers.{IsStart, lister_kind};
 ghost use Rattle.krb_tool.specs.inner.Pieces.{listing_of};
 ghost use Rattle.krb_tool.specs.inner.StreamLines.{AddsRefused, ListsEntry, PutsClosing, stream_lines};
 
 use crate::fault_path::{frame_extent, frame_path};
-use crate::run::{RunEnd, RunFault};
 use crate::stream_run::{ListStream, Request};
 use krb_der::{Memory, Profile, Refusal};
 use krb_frame::{Decoder, Delivered, Limit, Receiver, SkippingDecoder};
 use krb_record::{TextBuffer, put_counted_stream_end, put_stream_end, put_stream_refusal};
+use krb_run::{RunEnd, RunFault};
 use krb_text::put_message_in;
 use std::alloc::Global;
 

@@ -11,7 +11,6 @@ ghost use Rattle.krb_tool.specs.Paths.{ticket_refused_path};
 ghost use Rattle.krb_record.specs.declared.input.InputFault.TheVariants.{Misspelled};
 
 use crate::fault_path::refused_path;
-use crate::run::{RunEnd, RunFault};
 use krb_der::{Profile, Refusal, Why};
 use krb_input::{InputFault as Unspelled, Misspelling, Spelled, Spelling, read_input, read_line};
 use krb_judge::law::refusals_are_inside;
@@ -19,6 +18,7 @@ use krb_judge::{read_message_in, read_ticket_in, ticket_path};
 use krb_record::{
     Extent, Form, InputFault, MessageOrigin, TextBuffer, put_input_refusal, put_message_refusal,
 };
+use krb_run::{RunEnd, RunFault};
 use krb_text::{put_message_from, put_ticket};
 use krb_token::{Found, Layer, TokenPath, open};
 use std::alloc::Global;

@@ -6,11 +6,10 @@ ghost use Rattle.krb_tool.specs.Messages.{IsMessageListing, octets_listing};
 
 use crate::file_run::{FileFormat, FileText, run_file};
 use crate::message_input::{MOST_INPUT, MessageInput};
-use crate::run::{RunEnd, RunFault};
-use crate::transfer::CountedReader;
 use krb_der::Profile;
 use krb_input::Spelling;
 use krb_record::{Form, TextBuffer};
+use krb_run::{CountedReader, RunEnd, RunFault};
 use std::alloc::Global;
 use std::io::{Read, Write};
 

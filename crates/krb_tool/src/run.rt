@@ -1,82 +1,17 @@
 //! Runs over a reader and a writer.
 
-ghost use Rattle.std.specs.Prelude.{◌≡◌, IfErr, IfOk};
+ghost use Rattle.std.specs.Prelude.{IfErr, IfOk};
 ghost use Rattle.krb_tool.specs.GoingOn.{ListsStream, FailsStream};
-ghost use Rattle.krb_tool.specs.Listing.{Lists, Fails, status_of};
-ghost use Rattle.krb_tool.specs.declared.run.RunFault.TheVariants as fault;
+ghost use Rattle.krb_tool.specs.Listing.{Lists, Fails};
 
 use crate::listing::Lister;
 use crate::stream_run::{Request, list_all};
-use crate::transfer::CountedReader;
-use krb_der::{Memory, Profile};
+use krb_der::Profile;
 use krb_frame::Limit;
 use krb_record::Form;
-use std::alloc::{AllocError, AllocFailed, Global};
-use std::io;
+use krb_run::{CountedReader, RunEnd, RunFault};
+use std::alloc::Global;
 use std::io::{Read, Write};
-use thiserror::Error;
-
-/// The number of octets that a run asks its reader for at once: 64 KiB.
-pub(crate) const PIECE_OCTETS: usize = 1 << 16;
-
-/// How a run without faults ended.
-#[derive(Clone, Copy, PartialEq, Eq, Debug)]
-pub enum RunEnd {
-    /// All was read, and nothing was refused.
-    Clean,
-    /// Something was refused, and a line says what.
-    Refused,
-}
-
-/// Why a run could not go on.
-#[derive(Clone, Copy, Debug, Error)]
-pub enum RunFault {
-    /// A read failed with this error. The error is `too many reads` if the reader was asked 2^40
-    /// times and has not ended.
-    #[error("{0}")]
-    Read(io::Error),
-    /// A write failed with this error. The error is `write zero` if the write took nothing.
-    #[error("{0}")]
-    Write(io::Error),
-    /// Out of memory.
-    #[error("out of memory")]
-    Memory,
-}
-
-/// Returns the exit status of a run: 0 if it was clean, 1 if something was refused, 3 if it failed.
-pub fn status(outcome: &Result<RunEnd, RunFault>) -> u8
-    ensures { result ≡ status_of outcome.now }
-{
-    match outcome {
-        Ok(RunEnd::Clean) => 0,
-        Ok(RunEnd::Refused) => 1,
-        Err(_) => 3,
-    }
-}
-
-impl From<Memory> for RunFault {
-    ghost from_gives = { λ _ e. e ≡ fault.Memory };
-
-    fn from(_memory: Memory) -> RunFault {
-        RunFault::Memory
-    }
-}
-
-impl From<AllocError> for RunFault {
-    ghost from_gives = { λ _ e. e ≡ fault.Memory };
-
-    fn from(_error: AllocError) -> RunFault {
-        RunFault::Memory
-    }
-}
-
-impl<T: Drop> From<AllocFailed<T>> for RunFault {
-    ghost from_gives = { λ _ e. e ≡ fault.Memory };
-
-    fn from(_error: AllocFailed<T>) -> RunFault {
-        RunFault::Memory
-    }
-}
 
 /// Lists a stream of framed messages (RFC 4120, 7.2.2) by the lenient profile and in lines, as
 /// [`run_stream_in`] does.

@@ -1,14 +1,13 @@
 //! Runs over streams, which are listed as their octets come.
 
 ghost use Rattle.std.specs.Prelude.{◌≡◌, ◌+◌, ◌^◌, ◌≤◌, length, IsTrue, IfErr, IfOk, OnOk};
-ghost use Rattle.krb_tool.specs.declared.transfer.ReaderState.TheVariants as reader;
+ghost use Rattle.krb_run.specs.declared.transfer.ReaderState.TheVariants as reader;
 ghost use Rattle.krb_tool.specs.inner.Streams.{Rules, Listing, IsNew, AcceptsPiece, Feeds, Clears, MayFinish, Finishes, ListsBy, FailsBy, Reads, FailsToRead};
 
-use crate::run::{PIECE_OCTETS, RunFault};
-use crate::transfer::{CountedReader, write_all};
 use krb_der::Profile;
 use krb_frame::Limit;
 use krb_record::Form;
+use krb_run::{CountedReader, PIECE_OCTETS, RunFault, write_all};
 use std::alloc::Global;
 use std::io::{Read, Write};
 

@@ -6,19 +6,18 @@ ghost use Rattle.krb_json.specs.Unencrypted.{unencrypted_in};
 ghost use Rattle.krb_msg.specs.Views.{message_of_der};
 ghost use Rattle.krb_tool.specs.Decoding.{All, line_and, decoded_whole, DecodesWhole, FailsToDecodeWhole};
 ghost use Rattle.krb_tool.specs.Files.{ReadsSome};
-ghost use Rattle.krb_tool.specs.declared.transfer.ReaderState.TheVariants as reader;
+ghost use Rattle.krb_run.specs.declared.transfer.ReaderState.TheVariants as reader;
 ghost use Rattle.krb_tool.specs.inner.JsonLines.{IsOfMessage};
 ghost use Rattle.krb_tool.specs.inner.WholeRuns.{ReadsMost, converted_of};
 
 use crate::decode_run::DecodeEnd;
 use crate::fault_path::refused_path;
 use crate::json_lines::JsonLines;
-use crate::run::{PIECE_OCTETS, RunFault};
-use crate::transfer::{CountedReader, write_all};
 use krb_der::{Profile, Refusal, Why};
 use krb_frame::Limit;
 use krb_judge::read_message_in;
 use krb_record::Form;
+use krb_run::{CountedReader, PIECE_OCTETS, RunFault, write_all};
 use std::alloc::Global;
 use std::io::{Read, Write};
 

@@ -22,7 +22,8 @@ use Rattle.krb_json.specs.Unencrypted.{unencrypted_in}
 use Rattle.krb_tool.specs.Conversions.{Converted}
 use Rattle.krb_tool.specs.Decoding as decoding
 use Rattle.krb_tool.specs.Decoding.{AllAreEncrypted, decoded, ending_at}
-use Rattle.krb_tool.specs.Encoding.{Ending, All, SecondMessage, is_blank_line, lines_of, message_and, encoded_lines, encoded}
+use Rattle.krb_run.specs.TextLines.{lines_of}
+use Rattle.krb_tool.specs.Encoding.{Ending, All, SecondMessage, is_blank_line, message_and, encoded_lines, encoded}
 use Rattle.krb_tool.specs.Laws.{AreFrames, EncodedIsMessages, IsOneMessage}
 use Rattle.krb_tool.specs.Paths.{found_path}
 use Rattle.krb_tool.specs.inner.JsonLines.{octets_line}

@@ -32,13 +32,14 @@ use Rattle.krb_tool.specs.Conversions.{after_text}
 use Rattle.krb_tool.specs.Decoding as decoding
 use Rattle.krb_tool.specs.Decoding.{ending_at, line_and, decoded, message_decoded, decoded_whole, AllAreEncrypted}
 use Rattle.krb_tool.specs.Encoding as encoding
-use Rattle.krb_tool.specs.Encoding.{parts, without_empty_last, lines_of, is_blank_line, written_as, encoded_lines, encoded}
+use Rattle.krb_run.specs.TextLines.{parts, without_empty_last, lines_of}
+use Rattle.krb_tool.specs.Encoding.{is_blank_line, written_as, encoded_lines, encoded}
 use Rattle.krb_tool.specs.Laws.{StreamsComeBack, MessageComesBack, DecodedComesBack}
 use Rattle.krb_tool.specs.Paths.{found_path, refused_path}
 use Rattle.krb_tool.specs.inner.JsonLines.{IsOfMessage, octets_line}
 use Rattle.krb_tool.proofs.DecodedFrames.{decoded-all, encrypted_all, of_message}
 use Rattle.krb_tool.proofs.EncodedLines.{read-step, message-step}
-use Rattle.krb_tool.proofs.SourceLineParts.{lines-empty}
+use Rattle.krb_run.proofs.SourceLineParts.{lines-empty}
 use Rattle.krb_tool.proofs.WholeRuns.{whole-long, whole-short}
 
 -- ---- all of a stream is decoded

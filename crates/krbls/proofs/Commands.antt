@@ -1,7 +1,7 @@
 -- What a command does, of a command that is known.
 use Rattle.std.proofs.Common.{◌≡◌, ℕ, List, Option, sym, subst}
 use Rattle.krb_record.specs.declared.form.Form.{Form}
-use Rattle.krb_tool.specs.Sources.{Outcome}
+use Rattle.krb_run.specs.Sources.{Outcome}
 use Rattle.krb_words.specs.declared.words.Command.{Command}
 use Rattle.krbls.specs.Commands.{Does}
 

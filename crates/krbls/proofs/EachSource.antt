@@ -1,8 +1,8 @@
 -- Sources that are listed one after another, with their names or without.
 use Rattle.std.proofs.Common.{◌≡◌, ℕ, Bool, true, false, cond, List, length, Option, sym, subst}
 use Rattle.krb_record.specs.declared.form.Form.TheVariants as form
-use Rattle.krb_tool.specs.Sources.{ListsEach, ListsOne, Named, Reports, Run, names_of, unnamed}
-use Rattle.krb_tool.specs.declared.naming.Naming.{Naming as Labels}
+use Rattle.krb_run.specs.Sources.{ListsEach, ListsOne, Named, Reports, Run, names_of, unnamed}
+use Rattle.krb_run.specs.declared.naming.Naming.{Naming as Labels}
 use Rattle.krb_words.specs.declared.sources.Source.{Source}
 use Rattle.krb_words.specs.declared.words.CommandLine.{CommandLine}
 use Rattle.krbls.specs.Around.{Around}

@@ -3,8 +3,8 @@ use Rattle.std.proofs.Common.{◌≡◌, ℕ, max, List, [], ◌∷◌, ◌++◌
 use Rattle.std.specs.Ordering.{ord_max, nat_cmp}
 use Rattle.std.proofs.lemmas.List.{append-nil, append_assoc, map-append}
 use Rattle.std.proofs.lemmas.Simd.{map-map}
-use Rattle.krb_tool.specs.Faults.{IsRead}
-use Rattle.krb_tool.specs.declared.run.RunFault.{RunFault}
+use Rattle.krb_run.specs.Faults.{IsRead}
+use Rattle.krb_run.specs.declared.run.RunFault.{RunFault}
 use Rattle.krb_words.specs.Sources.{Place, File, place_of}
 use Rattle.krb_words.specs.declared.sources.NamedPath.{NamedPath}
 use Rattle.krb_words.specs.declared.sources.Source.{Source}

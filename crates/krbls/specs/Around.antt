@@ -1,6 +1,6 @@
 -- What is around the program.
 use Rattle.std.specs.Prelude.{ℕ, List, Option}
-use Rattle.krb_tool.specs.declared.run.RunFault.{RunFault}
+use Rattle.krb_run.specs.declared.run.RunFault.{RunFault}
 use Rattle.krb_words.specs.declared.sources.NamedPath.{NamedPath}
 use Rattle.krb_words.specs.declared.sources.Source.{Source}
 

@@ -12,16 +12,17 @@ use Rattle.krb_record.specs.declared.form.Form.{Form}
 use Rattle.krb_capture_run.specs.Captures.{capture_listing}
 use Rattle.krb_tool.specs.Decoding.{Decodes, DecodesWhole, FailsToDecode, FailsToDecodeWhole}
 use Rattle.krb_tool.specs.Encoding.{Encodes, FailsToEncode}
-use Rattle.krb_tool.specs.Files.{FailsFile, ListsFile, ListsRecords, ccache_listing, keytab_listing}
+use Rattle.krb_run.specs.Records.{ListsRecords}
+use Rattle.krb_tool.specs.Files.{FailsFile, ListsFile, ccache_listing, keytab_listing}
 use Rattle.krb_tool.specs.GoingOn.{FailsAll, ListsAll}
 use Rattle.krb_tool.specs.Listing.{Fails, Lists}
 use Rattle.krb_tool.specs.MessageLines.{FailsLines, ListsLines}
 use Rattle.krb_tool.specs.Messages.{IsMessageListing}
-use Rattle.krb_tool.specs.Sources.{Run}
+use Rattle.krb_run.specs.Sources.{Run}
 use Rattle.krb_tool.specs.declared.decode_run.DecodeEnd.{DecodeEnd}
 use Rattle.krb_tool.specs.declared.encode_run.EncodeEnd.{EncodeEnd}
-use Rattle.krb_tool.specs.declared.run.RunEnd.{RunEnd}
-use Rattle.krb_tool.specs.declared.run.RunEnd.TheVariants as run
+use Rattle.krb_run.specs.declared.run.RunEnd.{RunEnd}
+use Rattle.krb_run.specs.declared.run.RunEnd.TheVariants as run
 use Rattle.krb_words.specs.declared.words.AfterRefusal.TheVariants as after
 use Rattle.krb_words.specs.declared.words.Framing.{Framing}
 use Rattle.krb_words.specs.declared.words.Framing.TheVariants as framing

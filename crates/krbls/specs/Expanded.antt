@@ -1,7 +1,7 @@
 -- What stands for the sources of a command line: each cache of a directory is a source of its own.
 use Rattle.std.specs.Prelude.{ℕ, ◌≡◌, ◌⊎◌, max, List, [], ◌∷◌, ◌++◌, codes, map}
-use Rattle.krb_tool.specs.Faults.{IsRead}
-use Rattle.krb_tool.specs.declared.run.RunFault.{RunFault}
+use Rattle.krb_run.specs.Faults.{IsRead}
+use Rattle.krb_run.specs.declared.run.RunFault.{RunFault}
 use Rattle.krb_words.specs.Sources.{Place, File, place_of}
 use Rattle.krb_words.specs.declared.sources.Source.{Source}
 use Rattle.krb_words.specs.declared.sources.Source.TheVariants as source

@@ -7,14 +7,14 @@ use Rattle.krb_input.specs.declared.hint.Hint.{Hint}
 use Rattle.krb_input.specs.declared.source_kind.SourceKind.{SourceKind}
 use Rattle.krb_record.specs.FileNames.{name_text}
 use Rattle.krb_record.specs.declared.form.Form.{Form}
-use Rattle.krb_tool.specs.Faults.{IsRead, IsWrite}
-use Rattle.krb_tool.specs.Outputs.{head_of, is_refusal, mark_of}
-use Rattle.krb_tool.specs.Sources.{ListsEach, ListsOne, Named, Outcome, Reports, Run, RunOver, names_of, unnamed}
-use Rattle.krb_tool.specs.declared.naming.Naming.{Naming as Labels}
-use Rattle.krb_tool.specs.declared.naming.Naming.TheVariants as labels
-use Rattle.krb_tool.specs.declared.output.Place.{Place}
-use Rattle.krb_tool.specs.declared.run.RunFault.{RunFault}
-use Rattle.krb_tool.specs.declared.run.RunFault.TheVariants as fault
+use Rattle.krb_run.specs.Faults.{IsRead, IsWrite}
+use Rattle.krb_run.specs.Outputs.{head_of, is_refusal, mark_of}
+use Rattle.krb_run.specs.Sources.{ListsEach, ListsOne, Named, Outcome, Reports, Run, RunOver, names_of, unnamed}
+use Rattle.krb_run.specs.declared.naming.Naming.{Naming as Labels}
+use Rattle.krb_run.specs.declared.naming.Naming.TheVariants as labels
+use Rattle.krb_run.specs.declared.output.Place.{Place}
+use Rattle.krb_run.specs.declared.run.RunFault.{RunFault}
+use Rattle.krb_run.specs.declared.run.RunFault.TheVariants as fault
 use Rattle.krb_words.specs.Sources.{place_of}
 use Rattle.krb_words.specs.Words.{IsFaultIn, IsCommandLineIn}
 use Rattle.krb_words.specs.declared.sources.Source.{Source}

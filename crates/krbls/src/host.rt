@@ -3,7 +3,7 @@
 ghost use Rattle.std.specs.Prelude.{◌≡◌, map, IfOk};
 ghost use Rattle.krbls.specs.Around.{Around};
 
-use krb_tool::RunFault;
+use krb_run::RunFault;
 use krb_words::{NamedPath, Source};
 use std::io;
 use std::io::Read;

@@ -2,9 +2,9 @@
 
 ghost use Rattle.std.specs.Prelude.{◌≡◌, IfOk, OnErr, OnOk, string_bytes};
 ghost use Rattle.krb_record.specs.FileNames.{name_text};
-ghost use Rattle.krb_tool.specs.Begun.{begun_remaining, first_of};
+ghost use Rattle.krb_run.specs.Begun.{begun_remaining, first_of};
 ghost use Rattle.krb_tool.specs.Encoding.{FailsToEncode};
-ghost use Rattle.krb_tool.specs.Outputs.{output_contents};
+ghost use Rattle.krb_run.specs.Outputs.{output_contents};
 ghost use Rattle.krbls.specs.Ends.{decode_end_line, encode_end_line};
 ghost use Rattle.krbls.specs.Commands.{DecodesBy, Does, EncodesBy, FailsToDecodeBy, TellsEnd, Turns, chosen, hint_by, is_framed, listing_for, kind_used, octets_awaited};
 ghost use Rattle.krbls.specs.Program.{DoesFrom, IsHinted, ListsBy, name_of};
@@ -14,10 +14,10 @@ use crate::host::Host;
 use krb_capture_run::run_capture;
 use krb_input::{Hint, SourceKind, hint_of, kind_of};
 use krb_record::{FileName, TextBuffer};
+use krb_run::{Begun, ListSource, Output, RunEnd, RunFault};
 use krb_tool::{
-    Begun, DecodeEnd, EncodeEnd, Form, Limit, ListSource, Output, Profile, RunEnd, RunFault,
-    run_ccache_in, run_decode, run_decode_unframed, run_encode, run_encode_unframed, run_keytab_in,
-    run_lines_in, run_message_in, run_stream_in,
+    DecodeEnd, EncodeEnd, Form, Limit, Profile, run_ccache_in, run_decode, run_decode_unframed,
+    run_encode, run_encode_unframed, run_keytab_in, run_lines_in, run_message_in, run_stream_in,
 };
 use krb_words::{AfterRefusal, Command, Framing, Inputs, Source, USUAL_PORT, When};
 use std::alloc::{AllocError, Global};

@@ -8,7 +8,7 @@ ghost use Rattle.krbls.specs.Program.{RunsCommand, DoesAny, IsTime, ListsSources
 use crate::host::Host;
 use crate::lister::Lister;
 use crate::sources::expand;
-use krb_tool::{Naming as Labels, RunFault, run_sources, run_sources_unnamed};
+use krb_run::{Naming as Labels, RunFault, run_sources, run_sources_unnamed};
 use krb_words::{Command, CommandLine, Naming, Source, When, WordsFault, read_words};
 use std::alloc::Global;
 use std::io::Write;

@@ -5,7 +5,7 @@ ghost use Rattle.krb_words.specs.Sources.{place_of};
 ghost use Rattle.krbls.specs.Expanded.{Expands, Puts, cache_in};
 
 use crate::host::Host;
-use krb_tool::RunFault;
+use krb_run::RunFault;
 use krb_words::{NamedPath, Source};
 use std::alloc::{AllocError, Global};
 

@@ -5,7 +5,7 @@ ghost use Rattle.std.specs.Prelude.{None};
 use crate::files;
 use crate::host::Host;
 use krb_record::FileName;
-use krb_tool::RunFault;
+use krb_run::RunFault;
 use krb_words::{NamedPath, Source};
 use std::fmt::Display;
 use std::fs::File;

@@ -11,11 +11,11 @@ use Rattle.krb_capture.specs.Rests.{HasFollowedBut}
 use Rattle.krb_capture.specs.declared.capture.Capture.{Capture}
 use Rattle.krb_capture.specs.declared.directions.Rest.{Rest}
 use Rattle.krb_capture_run.specs.Captures.{capture_run_end, listing_from}
-use Rattle.krb_tool.specs.Extents.{extent_of}
-use Rattle.krb_tool.specs.Files.{RecordListing, after_line}
-use Rattle.krb_tool.specs.Paths.{field_path}
-use Rattle.krb_tool.specs.declared.run.RunEnd.{RunEnd}
-use Rattle.krb_tool.specs.declared.run.RunEnd.TheVariants as run
+use Rattle.krb_run.specs.Extents.{extent_of}
+use Rattle.krb_run.specs.Records.{RecordListing, after_line}
+use Rattle.krb_run.specs.Paths.{field_path}
+use Rattle.krb_run.specs.declared.run.RunEnd.{RunEnd}
+use Rattle.krb_run.specs.declared.run.RunEnd.TheVariants as run
 
 -- A reader returned the first packets of a file, they were followed, but for findings of the last one, and this is left of its listing.
 pub record IsCaptureLeft (model : PacketsModel) (capture : Capture) (rest : Option (Box Rest Global)) (form : Form) (left : RecordListing) : Type 0 where

@@ -4,9 +4,9 @@ use super::octets::{KRB_ERROR, message_of};
 use krb_der::{Memory, Profile};
 use krb_frame::Limit;
 use krb_json::{LineFault, Scratch, put_text, read_line, unencrypted_path};
+use krb_run::RunFault;
 use krb_tool::{
-    DecodeEnd, EncodeEnd, RunFault, run_decode, run_decode_unframed, run_encode,
-    run_encode_unframed,
+    DecodeEnd, EncodeEnd, run_decode, run_decode_unframed, run_encode, run_encode_unframed,
 };
 use std::alloc::Global;
 use std::io;

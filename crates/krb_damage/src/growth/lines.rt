@@ -3,7 +3,8 @@
 use super::conversions::{Known, is_written};
 use krb_der::{Memory, Profile};
 use krb_record::Form;
-use krb_tool::{RunEnd, run_lines_in};
+use krb_run::RunEnd;
+use krb_tool::run_lines_in;
 use std::alloc::Global;
 
 /// An AP-REP in hexadecimal, an empty line, and a token and a message that are cut, in base64 and

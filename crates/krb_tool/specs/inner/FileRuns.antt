@@ -1,10 +1,10 @@
 -- What the parts of a run on a file promise each other.
 use Rattle.std.specs.Prelude.{ℕ, ◌≡◌, ◌≤◌, ◌⊎◌, List, [], ◌++◌, length, Option, Some, IfSome}
-use Rattle.krb_tool.specs.declared.run.RunFault.{RunFault}
-use Rattle.krb_tool.specs.declared.run.RunFault.TheVariants as fault
-use Rattle.krb_tool.specs.declared.transfer.ReaderState.{ReaderState}
-use Rattle.krb_tool.specs.declared.transfer.ReaderState.TheVariants as reader
-use Rattle.krb_tool.specs.Faults.{IsRead}
+use Rattle.krb_run.specs.declared.run.RunFault.{RunFault}
+use Rattle.krb_run.specs.declared.run.RunFault.TheVariants as fault
+use Rattle.krb_run.specs.declared.transfer.ReaderState.{ReaderState}
+use Rattle.krb_run.specs.declared.transfer.ReaderState.TheVariants as reader
+use Rattle.krb_run.specs.Faults.{IsRead}
 use Rattle.krb_tool.specs.Files.{FileListing, ReadsAll}
 
 -- what is kept is all, or the greatest number of octets that are kept

@@ -1,7 +1,7 @@
 -- What a reader of lines does with a text, whatever becomes of them.
 use Rattle.std.specs.Prelude.{ℕ, ◌≡◌, ◌+◌, ◌≤◌, Bool, true, false, List, [], ◌∷◌, ◌++◌, length, Option}
 use Rattle.krb_tool.specs.Conversions.{Converted, after_text}
-use Rattle.krb_tool.specs.Encoding.{parts, ended_of, lines_of}
+use Rattle.krb_run.specs.TextLines.{parts, ended_of, lines_of}
 use Rattle.krb_tool.specs.Listing.{StopsInPiece}
 use Rattle.krb_tool.specs.inner.Conversions.{conversion_rules}
 use Rattle.krb_tool.specs.inner.Pieces.{IsLastOf, Kind}

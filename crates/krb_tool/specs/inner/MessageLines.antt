@@ -5,7 +5,7 @@ use Rattle.krb_tool.specs.MessageLines.{none_seen, records_of, with_line}
 use Rattle.krb_tool.specs.declared.lines_run.LineLister.{LineLister}
 use Rattle.krb_tool.specs.declared.lines_run.LinesRequest.{LinesRequest}
 use Rattle.krb_tool.specs.declared.lines_run.Seen.{Seen}
-use Rattle.krb_tool.specs.declared.run.RunEnd.{RunEnd}
+use Rattle.krb_run.specs.declared.run.RunEnd.{RunEnd}
 use Rattle.krb_tool.specs.inner.LineReaders.{LineKind}
 
 -- so many octets of a line decide its record

@@ -15,7 +15,7 @@ use Rattle.krb_tool.specs.GoingOn.{Listed, Faulty, entry_of, messages_in, refuse
 use Rattle.krb_tool.specs.inner.Listers.{FrameLister, IsDecoded, LinesKind}
 use Rattle.krb_tool.specs.inner.Streams.{Rules}
 use Rattle.krb_tool.specs.declared.listing.StreamLines.{StreamLines}
-use Rattle.krb_tool.specs.declared.run.RunEnd.{RunEnd}
+use Rattle.krb_run.specs.declared.run.RunEnd.{RunEnd}
 use Rattle.krb_tool.specs.declared.stream_run.Request.{Request}
 
 -- The line of a frame was added. The frame is counted, with its octets, unless there are too many.

@@ -1,8 +1,8 @@
 -- What a run over a stream and its lister promise each other.
 use Rattle.std.specs.Prelude.{ℕ, ◌+◌, ◌^◌, ◌≡◌, ◌≤◌, ◌⊎◌, Bool, true, false, List, [], ◌++◌, Option}
 use Rattle.std.specs.Io.KnownBytes.{Consumes, Appends, IsAtEnd}
-use Rattle.krb_tool.specs.declared.run.RunFault.{RunFault}
-use Rattle.krb_tool.specs.declared.run.RunFault.TheVariants as fault
+use Rattle.krb_run.specs.declared.run.RunFault.{RunFault}
+use Rattle.krb_run.specs.declared.run.RunFault.TheVariants as fault
 use Rattle.krb_tool.specs.Listing.{WritesPrefix}
 
 -- What is written of octets: their listing, or the lines of their first frames. And how a run ends that wrote the listing, with what its reader has left.

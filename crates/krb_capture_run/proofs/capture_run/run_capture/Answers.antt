@@ -1,7 +1,7 @@
 use Rattle.std.proofs.Common.{ℕ, List, subst}
 use Rattle.krb_capture.specs.Captures.{Settings}
 use Rattle.krb_capture_run.specs.Captures.{capture_listing}
-use Rattle.krb_tool.specs.Files.{after_line, ListsRecords}
+use Rattle.krb_run.specs.Records.{after_line, ListsRecords}
 use Rattle.krb_capture_run.proofs.CaptureLines.{all_left}
 use Rattle.krb_capture_run.proofs.capture_run.run_capture.Goals as goal
 

@@ -1,5 +1,5 @@
 use Rattle.std.proofs.Common.{◌≡◌, ◌-◌, ◌^◌, vec_len}
-use Rattle.krb_tool.specs.declared.transfer.ReaderState.TheVariants as reader
+use Rattle.krb_run.specs.declared.transfer.ReaderState.TheVariants as reader
 use Rattle.krb_tool.proofs.Files.{KeepsPrefix}
 use Rattle.krb_tool.proofs.file_run.read_all.Given as goal
 

@@ -1,6 +1,7 @@
 use Rattle.std.proofs.Common.{◌++◌, refl, subst, rules}
 use Rattle.std.specs.Io.KnownBytes.{Appends}
-use Rattle.krb_tool.specs.Files.{AppendsPrefix, shown}
+use Rattle.krb_run.specs.Records.{AppendsPrefix}
+use Rattle.krb_tool.specs.Files.{shown}
 use Rattle.krb_tool.proofs.Files.{decided-ended, decided-whole, failed-write, memory-unread, write-unread}
 use Rattle.krb_tool.proofs.file_run.run_file.Goals as goal
 

@@ -4,7 +4,7 @@ use Rattle.memchr.specs.Find.{IsFirstByte, is_byte}
 use Rattle.krb_tool.specs.inner.LineReaders.{EndsLine, reader_kind}
 use Rattle.krb_tool.proofs.LineReaders.{fed-line, line_few, takes-fault, takes-rest}
 use Rattle.krb_tool.proofs.Pieces.{IsFed-both, IsFed-start, TakesPiece-both, few_left, may_wait}
-use Rattle.krb_tool.proofs.SourceLineParts.{first_line, no_line}
+use Rattle.krb_run.proofs.SourceLineParts.{first_line, no_line}
 use Rattle.krb_tool.proofs.lines.feed_lines.Goals as goal
 
 pub lines-init : goal.lines-init

@@ -2,8 +2,9 @@ use Rattle.std.proofs.Common.{◌≡◌, ◌++◌, ℕ, List, ◌∙◌, refl, a
 use Rattle.std.proofs.lemmas.Result.{err_from_is_err_and}
 use Rattle.krb_ccache.specs.Streaming.{credentials}
 use Rattle.krb_tool.specs.Lines.{cache_line}
-use Rattle.krb_tool.specs.Files.{RecordListing, after_line, field_limit, credentials_listing, ccache_listing, ListsRecords}
-use Rattle.krb_tool.proofs.Records.{none_written}
+use Rattle.krb_run.specs.Records.{RecordListing, after_line, ListsRecords}
+use Rattle.krb_tool.specs.Files.{field_limit, credentials_listing, ccache_listing}
+use Rattle.krb_run.proofs.Records.{none_written}
 use Rattle.krb_tool.proofs.CredentialLines.{first_line}
 use Rattle.krb_tool.proofs.record_run.list_credentials.Goals as goal
 

@@ -1,5 +1,6 @@
 use Rattle.std.proofs.Common.{ℕ, Bool, List, refl, subst}
-use Rattle.krb_tool.specs.Files.{after_line, field_limit, keytab_listing, ListsRecords}
+use Rattle.krb_run.specs.Records.{after_line, ListsRecords}
+use Rattle.krb_tool.specs.Files.{field_limit, keytab_listing}
 use Rattle.krb_file.specs.FieldReaders.{Cursor}
 use Rattle.krb_file.specs.declared.progress.Progress.{Progress}
 use Rattle.krb_keytab.specs.declared.value.Stop.{Stop}

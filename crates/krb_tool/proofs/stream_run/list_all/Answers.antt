@@ -1,7 +1,7 @@
 use Rattle.std.proofs.Common.{◌∙◌, ◌^◌, ◌≤◌, refl, subst, arith, rules}
 use Rattle.std.specs.Io.KnownBytes.{Appends}
 use Rattle.std.proofs.lemmas.Result.{err_from_is_err_and}
-use Rattle.krb_tool.specs.Files.{AppendsPrefix}
+use Rattle.krb_run.specs.Records.{AppendsPrefix}
 use Rattle.krb_tool.proofs.StreamRuns.{runs_on, is_over, AcceptsPiece-runs, Runs-written, Fails-written, MayFinish-over, Fails-ended, Lists-made, Fails-last, Runs-start, Fails-start}
 use Rattle.krb_tool.proofs.stream_run.list_all.Goals as goal
 

@@ -1,7 +1,7 @@
 use Rattle.std.proofs.Common.{◌≡◌, ◌+◌, subst}
 use Rattle.std.specs.Io.KnownBytes.{Appends}
 use Rattle.krb_tool.specs.Decoding.{decoded_whole}
-use Rattle.krb_tool.specs.Files.{AppendsPrefix}
+use Rattle.krb_run.specs.Records.{AppendsPrefix}
 use Rattle.krb_tool.specs.inner.WholeRuns.{ReadsMost, converted_of}
 use Rattle.krb_tool.proofs.WholeRuns.{DecodesWhole-made, whole-unwritten, whole-written}
 use Rattle.krb_tool.proofs.whole_run.decode_source.Goals as goal

@@ -1,6 +1,6 @@
 use Rattle.std.proofs.Common.{◌≡◌, ◌-◌, ◌<◌, ◌≤◌, length, vec_len}
 use Rattle.std.specs.Io.KnownBytes.{Consumes}
-use Rattle.krb_tool.specs.declared.transfer.ReaderState.TheVariants as reader
+use Rattle.krb_run.specs.declared.transfer.ReaderState.TheVariants as reader
 use Rattle.krb_tool.proofs.whole_run.read_most.Given as goal
 
 -- what came so far is in the vector

@@ -1,0 +1,12 @@
+pub mod Transfers
+pub mod FirstOctets
+pub mod FilePaths
+pub mod Records
+pub mod BegunReaders
+pub mod SourceLineParts
+pub mod OutputWords
+pub mod OutputLabels
+pub mod OutputLines
+pub mod OutputTexts
+pub mod OutputSteps
+pub mod SourceRuns

@@ -1,0 +1,137 @@
+-- A run on records, one line after another.
+use Rattle.std.proofs.Common.{◌≡◌, ℕ, List, [], ◌++◌, Option, Some, None, Result, Ok, Err, refl, sym, ◌∙◌, ap, subst, append_assoc}
+use Rattle.std.proofs.lemmas.List.{append-nil}
+use Rattle.std.specs.Io.KnownBytes.{Appends}
+use Rattle.std.proofs.KnownBytes.{Appends-nil, Appends-trans}
+use Rattle.krb_file.specs.declared.fault.FileFault.{FileFault}
+use Rattle.krb_file.specs.declared.fault.FileFault.TheVariants as faults
+use Rattle.krb_file.specs.declared.field_path.FileItem.TheVariants as items
+use Rattle.krb_record.specs.declared.form.Form.{Form}
+use Rattle.krb_run.specs.declared.run.RunEnd.{RunEnd}
+use Rattle.krb_run.specs.declared.run.RunFault.{RunFault}
+use Rattle.krb_run.specs.declared.run.RunFault.TheVariants as fault
+use Rattle.krb_run.specs.Faults.{IsRead, IsWrite}
+use Rattle.krb_run.specs.Records.{AddsLine, AddsRefusal, IsRefusal, RecordListing, text_of, after_line, AppendsPrefix, ListsRecords}
+use Rattle.krb_run.specs.inner.RecordRuns.{Moves, WritesBefore}
+
+-- ---- what a run has written
+-- What was written, then the text that is not written yet, and then what is left, are the listing.
+pub record Listed (IsLeft : RecordListing → Type 0) (all : RecordListing) (written_before written_after : Option (List ℕ)) (text : List ℕ) : Type 0 where
+  pub written : List ℕ
+  pub left : RecordListing
+  pub added : Appends written_before written_after written
+  pub is_left : IsLeft left
+  pub parts : all ≡ after_line (written ++ text) left
+
+pub Listed-start : (IsLeft : RecordListing → Type 0) (left : RecordListing) (written_before : Option (List ℕ)) (text : List ℕ) → IsLeft left → Listed IsLeft (after_line text left) written_before written_before text
+Listed-start IsLeft left written_before text is_left = record { written = []; left = left; added = Appends-nil written_before; is_left = is_left; parts = refl }
+
+module _ (IsLeft : RecordListing → Type 0) (all : RecordListing) (written_before written_after : Option (List ℕ)) (text : List ℕ) (listed : Listed IsLeft all written_before written_after text) where
+  -- the beginning of the text was written
+  pub Listed-moved : (after : Option (List ℕ)) (new : List ℕ) → Moves written_after after text new → Listed IsLeft all written_before after new
+  Listed-moved after new moves = record {
+    written = listed.written ++ moves.0;
+    left = listed.left;
+    added = Appends-trans written_before written_after after listed.written moves.0 listed.added moves.1;
+    is_left = listed.is_left;
+    parts = listed.parts ∙ ap (λ (ls : List ℕ). after_line ls listed.left) (ap (λ (t : List ℕ). listed.written ++ t) moves.2 ∙ sym (append_assoc listed.written moves.0 new));
+  }
+
+  -- a line was added
+  pub Listed-more : (IsLeftAfter : RecordListing → Type 0) (new : List ℕ) → AddsLine IsLeftAfter listed.left text new (Ok None) → Listed IsLeftAfter all written_before written_after new
+  Listed-more IsLeftAfter new adds = record {
+    written = listed.written;
+    left = adds.1;
+    added = listed.added;
+    is_left = adds.4;
+    parts =
+        listed.parts
+        ∙ ap (after_line (listed.written ++ text)) adds.3
+        ∙ ap (λ (ls : List ℕ). let it : RecordListing = record { lines = ls; last = (adds.1).last; end = (adds.1).end } in it) (together (adds.1).lines)
+        ∙ ap (λ (t : List ℕ). after_line (listed.written ++ t) adds.1) (sym adds.2);
+  }
+    where
+      together : (ls : List ℕ) → (listed.written ++ text) ++ (adds.0 ++ ls) ≡ (listed.written ++ (text ++ adds.0)) ++ ls
+      together ls = sym (append_assoc (listed.written ++ text) adds.0 ls) ∙ ap (λ (l : List ℕ). l ++ ls) (append_assoc listed.written text adds.0)
+
+  -- the last line was added
+  whole : (IsLeftAfter : RecordListing → Type 0) (new : List ℕ) (ended : RunEnd) → AddsLine IsLeftAfter listed.left text new (Ok (Some ended)) → text_of all ≡ listed.written ++ new
+  whole IsLeftAfter new ended adds =
+      ap text_of listed.parts
+      ∙ ap (λ (ls : List ℕ). ((listed.written ++ text) ++ ls) ++ (listed.left).last) adds.1
+      ∙ ap (λ (ls : List ℕ). ls ++ (listed.left).last) (append-nil (listed.written ++ text))
+      ∙ append_assoc listed.written text (listed.left).last
+      ∙ ap (λ (t : List ℕ). listed.written ++ t) (sym adds.0)
+
+  pub Listed-ended : (IsLeftAfter : RecordListing → Type 0) (new : List ℕ) (ended : RunEnd) (after : Option (List ℕ)) → AddsLine IsLeftAfter listed.left text new (Ok (Some ended)) → Appends written_after after new → ListsRecords all written_before after (Ok ended)
+  Listed-ended IsLeftAfter new ended after adds added = (
+    subst (Appends written_before after) (sym (whole IsLeftAfter new ended adds)) (Appends-trans written_before written_after after listed.written new listed.added added),
+    adds.2 ∙ ap (λ (l : RecordListing). l.end) (sym listed.parts),
+  )
+
+  pub last-fails : (IsLeftAfter : RecordListing → Type 0) (new : List ℕ) (ended : RunEnd) (after : Option (List ℕ)) → AddsLine IsLeftAfter listed.left text new (Ok (Some ended)) → AppendsPrefix written_after after new → AppendsPrefix written_before after (text_of all)
+  last-fails IsLeftAfter new ended after adds prefix = record {
+    prefix = listed.written ++ prefix.prefix;
+    rest = prefix.rest;
+    added = Appends-trans written_before written_after after listed.written prefix.prefix listed.added prefix.added;
+    whole = whole IsLeftAfter new ended adds ∙ ap (λ (t : List ℕ). listed.written ++ t) prefix.whole ∙ sym (append_assoc listed.written prefix.prefix prefix.rest);
+  }
+
+  -- a write of the text failed
+  pub write-fails : (after : Option (List ℕ)) → AppendsPrefix written_after after text → AppendsPrefix written_before after (text_of all)
+  write-fails after prefix = record {
+    prefix = listed.written ++ prefix.prefix;
+    rest = prefix.rest ++ ((listed.left).lines ++ (listed.left).last);
+    added = Appends-trans written_before written_after after listed.written prefix.prefix listed.added prefix.added;
+    whole =
+        ap text_of listed.parts
+        ∙ append_assoc (listed.written ++ text) (listed.left).lines (listed.left).last
+        ∙ ap (λ (t : List ℕ). (listed.written ++ t) ++ ((listed.left).lines ++ (listed.left).last)) prefix.whole
+        ∙ ap (λ (t : List ℕ). t ++ ((listed.left).lines ++ (listed.left).last)) (sym (append_assoc listed.written prefix.prefix prefix.rest))
+        ∙ append_assoc (listed.written ++ prefix.prefix) prefix.rest ((listed.left).lines ++ (listed.left).last);
+  }
+
+  -- the text was not written
+  Listed-stops : AppendsPrefix written_before written_after all.lines
+  Listed-stops = record {
+    prefix = listed.written;
+    rest = text ++ (listed.left).lines;
+    added = listed.added;
+    whole = ap (λ (l : RecordListing). l.lines) listed.parts ∙ append_assoc listed.written text (listed.left).lines;
+  }
+
+  -- a fault, and if it is of a read the text was written before it
+  Listed-written : (after : Option (List ℕ)) → Appends written_after after text → AppendsPrefix written_before after all.lines
+  Listed-written after added = record {
+    prefix = listed.written ++ text;
+    rest = (listed.left).lines;
+    added = Appends-trans written_before written_after after listed.written text listed.added added;
+    whole = ap (λ (l : RecordListing). l.lines) listed.parts;
+  }
+
+  pub Listed-before : (e : RunFault) (after : Option (List ℕ)) (kept new : List ℕ) (result : Result RunEnd RunFault) → (IsRead e → kept ≡ text) → WritesBefore e written_after after kept new result → ListsRecords all written_before after result
+  Listed-before (fault.Read e) after kept new (Ok ended) same w = absurd w
+  Listed-before (fault.Read e) after kept new (Err (fault.Read last)) same w = Listed-written after (subst (Appends written_after after) (same tt) w.0)
+  Listed-before (fault.Read e) after kept new (Err (fault.Write last)) same w = write-fails after (subst (AppendsPrefix written_after after) (same tt) w)
+  Listed-before (fault.Read e) after kept new (Err fault.Memory) same w = absurd w
+  Listed-before (fault.Write e) after kept new (Ok ended) same w = absurd w
+  Listed-before (fault.Write e) after kept new (Err last) same w = absurd w
+  Listed-before fault.Memory after kept new (Ok ended) same w = absurd w
+  Listed-before fault.Memory after kept new (Err last) same w =
+      subst (λ (f : RunFault). ListsRecords all written_before after (Err f)) (sym w.0) (subst (λ (a : Option (List ℕ)). AppendsPrefix written_before a all.lines) (sym w.1) Listed-stops)
+
+-- a write failed
+pub write-fault : (all : RecordListing) (written_before after : Option (List ℕ)) (e : RunFault) → IsWrite e → AppendsPrefix written_before after (text_of all) → ListsRecords all written_before after (Err e)
+write-fault all written_before after (fault.Write e) is prefix = prefix
+write-fault all written_before after (fault.Read e) is prefix = absurd is
+write-fault all written_before after fault.Memory is prefix = absurd is
+
+-- memory ran out before anything was written
+pub none_written : (all : RecordListing) (written_before : Option (List ℕ)) (e : RunFault) → e ≡ fault.Memory → ListsRecords all written_before written_before (Err e)
+none_written all written_before e is = subst (λ (f : RunFault). ListsRecords all written_before written_before (Err f)) (sym is) (record { prefix = []; rest = all.lines; added = Appends-nil written_before; whole = refl })
+
+-- a file of which nothing but its refusal is listed
+pub refusal_is : (form : Form) (fault : FileFault) (listing : RecordListing) (text : List ℕ) (ended : RunEnd) → IsRefusal form fault listing → AddsRefusal items.File form fault [] text ended → (text ≡ text_of listing) × (ended ≡ listing.end)
+refusal_is form faults.Read listing text ended is adds = absurd adds
+refusal_is form faults.Memory listing text ended is adds = absurd adds
+refusal_is form (faults.Refused fault) listing text ended is adds = (adds.1 ∙ ap text_of (sym is), adds.0 ∙ ap (λ (l : RecordListing). l.end) (sym is))

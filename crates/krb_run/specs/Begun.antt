@@ -1,0 +1,32 @@
+-- What is left of a reader whose first octets were read.
+use Rattle.std.specs.Prelude.{ℕ, ◌≡◌, ◌<◌, List, [], length, take, drop, Option, Some, ◌++◌, None}
+use Rattle.std.specs.Io.KnownBytes.{Consumes, IsAtEnd, prepend_known}
+use Rattle.krb_run.specs.declared.begun.Begun.{Begun}
+use Rattle.krb_run.specs.declared.begun.Then.{Then}
+use Rattle.krb_run.specs.declared.begun.Then.TheVariants.{Others, End, Fault}
+
+-- the octets that were read first
+abbrev pub first_of : {R : Type 0} → Begun R → List ℕ
+first_of begun = take begun.count begun.octets
+
+-- those of them that are still to be read again
+abbrev pub left_of : {R : Type 0} → Begun R → List ℕ
+left_of begun = drop begun.given (first_of begun)
+
+-- what follows them
+abbrev pub others_of : Then → Option (List ℕ) → Option (List ℕ)
+others_of Others others = others
+others_of End others = Some []
+others_of (Fault error) others = others
+
+abbrev pub begun_remaining : {R : Type 0} → (R → Option (List ℕ)) → Begun R → Option (List ℕ)
+begun_remaining remaining begun = prepend_known (left_of begun) (others_of begun.then (remaining begun.reader))
+
+-- octets were given of those that were read first
+abbrev pub Gives : (had left : Option (List ℕ)) → (count : ℕ) → (buffer : List ℕ) → Type 0
+Gives had left count buffer = Consumes had left (take count buffer) × (count ≡ 0 → 0 < length buffer → IsAtEnd left)
+
+-- what a reader has begins with octets, as far as it is known
+abbrev pub BeginsWith : (first : List ℕ) → Option (List ℕ) → Type 0
+BeginsWith first None = Unit {0}
+BeginsWith first (Some octets) = (rest : List ℕ) × (octets ≡ first ++ rest)

@@ -1,0 +1,11 @@
+pub mod Faults
+pub mod Statuses
+pub mod Extents
+pub mod Paths
+pub mod Records
+pub mod Transfers
+pub mod TextLines
+pub mod Outputs
+pub mod Sources
+pub mod Begun
+pub mod inner

@@ -1,0 +1,70 @@
+-- The listing of a file record by record, and what a run on it does to its writer.
+use Rattle.std.specs.Prelude.{ℕ, ◌≡◌, List, [], ◌++◌, Option, Some, None, Result, Ok, Err}
+use Rattle.std.specs.Io.KnownBytes.{Appends}
+use Rattle.krb_file.specs.Fields.{Fault}
+use Rattle.krb_file.specs.declared.fault.FileFault.{FileFault}
+use Rattle.krb_file.specs.declared.fault.FileFault.TheVariants as faults
+use Rattle.krb_file.specs.declared.field_path.FileItem.{FileItem}
+use Rattle.krb_record.specs.declared.form.Form.{Form}
+use Rattle.krb_run.specs.Extents.{fault_line}
+use Rattle.krb_run.specs.Paths.{file_path, field_path}
+use Rattle.krb_run.specs.declared.run.RunEnd.{RunEnd}
+use Rattle.krb_run.specs.declared.run.RunEnd.TheVariants as run
+use Rattle.krb_run.specs.declared.run.RunFault.{RunFault}
+use Rattle.krb_run.specs.declared.run.RunFault.TheVariants as fault
+
+-- The listing of a file that is read one record at a time: a line for each record before the end or the first fault, and the last line; and how its run ends.
+pub record RecordListing : Type 0 where
+  pub lines : List ℕ
+  pub last : List ℕ
+  pub end : RunEnd
+
+abbrev pub text_of : RecordListing → List ℕ
+text_of listing = listing.lines ++ listing.last
+
+abbrev pub after_line : List ℕ → RecordListing → RecordListing
+after_line line listing = record { lines = line ++ listing.lines; last = listing.last; end = listing.end }
+
+abbrev pub end_of : {A : Type 0} → Result A Fault → RunEnd
+end_of (Ok end) = run.Clean
+end_of (Err fault) = run.Refused
+
+-- the one line of what is refused before any record
+abbrev pub refused_listing : Form → Fault → RecordListing
+refused_listing form refusal = record { lines = []; last = fault_line form refusal (field_path refusal.field); end = run.Refused }
+
+-- ---- what a run does
+
+-- A prefix of a text was appended to what is written. It may be all of the text, or none.
+pub record AppendsPrefix (written_before written_after : Option (List ℕ)) (text : List ℕ) : Type 0 where
+  pub prefix : List ℕ
+  pub rest : List ℕ
+  pub added : Appends written_before written_after prefix
+  pub whole : text ≡ prefix ++ rest
+
+-- What a run on records appends to what is written: the listing; a prefix of it if a write fails; and a prefix of the lines of records if a read fails or memory runs out.
+abbrev pub ListsRecords : RecordListing → Option (List ℕ) → Option (List ℕ) → Result RunEnd RunFault → Type 0
+ListsRecords listing written_before written_after (Ok ended) = Appends written_before written_after (text_of listing) × (ended ≡ listing.end)
+ListsRecords listing written_before written_after (Err (fault.Write error)) = AppendsPrefix written_before written_after (text_of listing)
+ListsRecords listing written_before written_after (Err (fault.Read error)) = AppendsPrefix written_before written_after listing.lines
+ListsRecords listing written_before written_after (Err fault.Memory) = AppendsPrefix written_before written_after listing.lines
+
+-- What is added to a text if this is left to be listed: a line, after which others are left, or the last line, if it alone is left.
+abbrev pub AddsLine : (RecordListing → Type 0) → RecordListing → List ℕ → List ℕ → Result (Option RunEnd) RunFault → Type 0
+AddsLine IsLeft left old new (Ok None) = (line : List ℕ) × (others : RecordListing) × (new ≡ old ++ line) × (left ≡ after_line line others) × IsLeft others
+AddsLine IsLeft left old new (Ok (Some ended)) = (new ≡ old ++ left.last) × (left.lines ≡ []) × (ended ≡ left.end)
+AddsLine IsLeft left old new (Err failed) = Unit {0}
+
+-- ---- a refusal
+
+-- The line of a refusal in this item was added, which ends the run.
+abbrev pub AddsRefusal : FileItem → Form → FileFault → List ℕ → List ℕ → RunEnd → Type 0
+AddsRefusal item form (faults.Refused fault) old new ended = (ended ≡ run.Refused) × (new ≡ old ++ fault_line form fault (file_path item fault.field))
+AddsRefusal item form faults.Read old new ended = ⊥
+AddsRefusal item form faults.Memory old new ended = ⊥
+
+-- if a file is refused, the line of the refusal is what is left
+abbrev pub IsRefusal : Form → FileFault → RecordListing → Type 0
+IsRefusal form (faults.Refused fault) left = left ≡ refused_listing form fault
+IsRefusal form faults.Read left = Unit {0}
+IsRefusal form faults.Memory left = Unit {0}

@@ -1,0 +1,142 @@
+-- What a run over several sources does to its writer, and the status that it returns.
+use Rattle.std.specs.Prelude.{ℕ, ◌≡◌, ◌⊎◌, ◌&&◌, max, nat_lt, Bool, true, false, List, [], ◌∷◌, Option, IsSome, Result, Ok, Err, IfErr, IsErrAnd}
+use Rattle.std.specs.Io.KnownBytes.{Appends}
+use Rattle.krb_record.specs.declared.form.Form.{Form}
+use Rattle.krb_record.specs.declared.form.Form.TheVariants as forms
+use Rattle.krb_run.specs.Faults.{IsWrite}
+use Rattle.krb_record.specs.Files.{file_line}
+use Rattle.krb_run.specs.Outputs.{label_place, label_text, labelled}
+use Rattle.krb_run.specs.declared.output.Place.{Place}
+use Rattle.krb_run.specs.declared.output.Place.TheVariants.{Nowhere}
+use Rattle.krb_run.specs.declared.naming.Naming.{Naming}
+use Rattle.krb_run.specs.declared.naming.Naming.TheVariants as namings
+use Rattle.krb_run.specs.declared.run.RunEnd.{RunEnd}
+use Rattle.krb_run.specs.declared.run.RunFault.{RunFault}
+use Rattle.krb_run.specs.declared.run.RunFault.TheVariants as fault
+use Rattle.krb_run.specs.declared.sources.Named.{Named as NamedByCode}
+use Rattle.krb_run.specs.Records.{AppendsPrefix}
+use Rattle.krb_run.specs.Statuses.{status_of}
+
+-- the result of the run over one source
+abbrev pub Outcome : Type 0
+Outcome = Result RunEnd RunFault
+
+-- What a run may do: what is written before it and after it, and its result.
+abbrev pub Run : Type 1
+Run = Option (List ℕ) → Option (List ℕ) → Outcome → Type 0
+
+-- ---- one source among several
+
+-- The line of a name was not written whole, since a write failed or memory ran out.
+abbrev pub FailsName : Form → List ℕ → Option (List ℕ) → Option (List ℕ) → RunFault → Type 0
+FailsName form name written_before written_after (fault.Read error) = ⊥
+FailsName form name written_before written_after (fault.Write error) = AppendsPrefix written_before written_after (file_line form name)
+FailsName form name written_before written_after fault.Memory = written_after ≡ written_before
+
+-- The line of the name was written, and then the source was listed.
+pub record ListsNamed (form : Form) (Lists : Run) (name : List ℕ) (written_before written_after : Option (List ℕ)) (outcome : Outcome) : Type 0 where
+  pub between : Option (List ℕ)
+  pub named : Appends written_before between (file_line form name)
+  pub listed : Lists between written_after outcome
+
+abbrev pub FailsFirst : Form → List ℕ → Run
+FailsFirst form name written_before written_after (Ok ended) = ⊥
+FailsFirst form name written_before written_after (Err fault) = FailsName form name written_before written_after fault
+
+-- ---- with a label in each of its lines
+
+-- A text was written with its labels, unless a write failed: then the first of it was, and that is how the run ends.
+abbrev pub IsWritten : (text : List ℕ) → (written_before written_after : Option (List ℕ)) → (result outcome : Outcome) → Type 0
+IsWritten text written_before written_after result outcome =
+    ((outcome ≡ result) × Appends written_before written_after text) ⊎ (IsErrAnd outcome IsWrite × AppendsPrefix written_before written_after text)
+
+-- A source was listed to an output: what is written of the text that this took is that text with labels.
+pub record ListsThrough (place : Place) (label : List ℕ) (Lists : Run) (written_before written_after : Option (List ℕ)) (outcome : Outcome) : Type 0 where
+  pub before : Option (List ℕ)
+  pub after : Option (List ℕ)
+  pub result : Outcome
+  pub listed : Lists before after result
+  pub known : IsSome written_before → IsSome before
+  pub written : (text : List ℕ) → Appends before after text → IsWritten (labelled place label text) written_before written_after result outcome
+
+-- the label of a source, if its lines have one
+abbrev pub place_of : Form → (has_label : Bool) → Place
+place_of form false = Nowhere
+place_of form true = label_place form
+
+abbrev pub label_of : Form → (has_label : Bool) → (name : List ℕ) → List ℕ
+label_of form false name = []
+label_of form true name = label_text form name
+
+-- or memory ran out for the label
+abbrev pub ListsLabelled : Form → (has_label : Bool) → (name : List ℕ) → Run → Run
+ListsLabelled form has_label name Lists written_before written_after outcome =
+    ListsThrough (place_of form has_label) (label_of form has_label name) Lists written_before written_after outcome ⊎ ((outcome ≡ Err fault.Memory) × (written_after ≡ written_before))
+
+-- ---- how sources are told apart
+
+-- there is a record of the name before a source, and its lines have a label
+pub record Named : Type 0 where
+  pub has_record : Bool
+  pub has_label : Bool
+
+abbrev pub named_of : NamedByCode → Named
+named_of how = record { has_record = how.has_record; has_label = how.has_label }
+
+abbrev pub is_json : Form → Bool
+is_json forms.Lines = false
+is_json forms.NamedLines = false
+is_json forms.Json = true
+
+-- of so many sources
+abbrev pub names_of : Naming → Form → (sources : ℕ) → Named
+names_of namings.Several form sources = record { has_record = nat_lt 1 sources; has_label = is_json form && nat_lt 1 sources }
+names_of namings.Each form sources = record { has_record = true; has_label = is_json form && nat_lt 1 sources }
+names_of namings.Labels form sources = record { has_record = false; has_label = true }
+
+abbrev pub unnamed : Named
+unnamed = record { has_record = false; has_label = false }
+
+abbrev pub ListsAfter : Form → (has_record : Bool) → (name : List ℕ) → Run → Run
+ListsAfter form false name Lists written_before written_after outcome = Lists written_before written_after outcome
+ListsAfter form true name Lists written_before written_after outcome = ListsNamed form Lists name written_before written_after outcome ⊎ FailsFirst form name written_before written_after outcome
+
+-- a source is listed after the line of its name, if it has one, with labels, if its lines have these
+abbrev pub ListsOne : Form → Named → (name : List ℕ) → Run → Run
+ListsOne form how name Lists = ListsAfter form how.has_record name (ListsLabelled form how.has_label name Lists)
+
+-- a source is listed, and a fault by which its listing ends is reported
+abbrev pub Reports : (RunFault → Type 0) → Run → Run
+Reports IsReported Lists written_before written_after outcome = Lists written_before written_after outcome × IfErr outcome IsReported
+
+-- ---- all sources
+
+-- a write that failed and running out of memory end the run; a refusal and a read that failed do not
+abbrev pub ends_run : Outcome → Bool
+ends_run (Ok ended) = false
+ends_run (Err (fault.Read error)) = false
+ends_run (Err (fault.Write error)) = true
+ends_run (Err fault.Memory) = true
+
+-- What a run over sources may do: what is written before it and after it, and the status.
+abbrev pub RunOver : Type 1
+RunOver = Option (List ℕ) → Option (List ℕ) → ℕ → Type 0
+
+-- the other sources follow, unless the run has ended
+abbrev pub Follow : Bool → RunOver → RunOver
+Follow true Others written_before written_after status = (written_after ≡ written_before) × (status ≡ 0)
+Follow false Others written_before written_after status = Others written_before written_after status
+
+-- The first source is listed and then the others, and the status is the greater of theirs.
+pub record ListsFirst (First : Run) (Others : RunOver) (written_before written_after : Option (List ℕ)) (status : ℕ) : Type 0 where
+  pub between : Option (List ℕ)
+  pub outcome : Outcome
+  pub others : ℕ
+  pub first : First written_before between outcome
+  pub follow : Follow (ends_run outcome) Others between written_after others
+  pub greater : status ≡ max (status_of outcome) others
+
+-- Each source is listed, one after another, and the status is the greatest of theirs.
+abbrev pub ListsEach : {S : Type 0} → (S → Run) → List S → RunOver
+ListsEach Lists [] written_before written_after status = (written_after ≡ written_before) × (status ≡ 0)
+ListsEach Lists (first ∷ others) written_before written_after status = ListsFirst (Lists first) (ListsEach Lists others) written_before written_after status

@@ -1,0 +1,2 @@
+-- What the parts of a run promise each other.
+pub mod RecordRuns

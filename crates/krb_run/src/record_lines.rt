@@ -1,0 +1,236 @@
+//! Runs over files whose lines are written as their records end.
+
+ghost use Rattle.std.specs.Prelude.{◌≡◌, ◌++◌, ℕ, suc, List, [], Some, IfErr, IfOk, OnErr, OnOk, string_bytes};
+ghost use Rattle.std.specs.Io.Buffered.{reader_remaining};
+ghost use Rattle.std.specs.Io.KnownBytes.{Appends};
+ghost use Rattle.std.specs.Option.{option_map};
+ghost use Rattle.krb_run.specs.Extents.{fault_line};
+ghost use Rattle.krb_run.specs.Faults.{IsRead, IsWrite};
+ghost use Rattle.krb_run.specs.Records.{AddsLine, AddsRefusal, AppendsPrefix, IsRefusal, ListsRecords, RecordListing, after_line};
+ghost use Rattle.krb_run.specs.inner.RecordRuns.{Moves, WritesBefore};
+
+use crate::extent::extent_of;
+use crate::field_path::file_path;
+use crate::run::{PIECE_OCTETS, RunEnd, RunFault};
+use crate::transfer::{MOST_ASKS, too_many_reads, write_all};
+use krb_file::{FileFault, FileItem, FileRefusal};
+use krb_record::{Form, TextBuffer, put_file_refusal};
+use std::alloc::Global;
+use std::cell::Cell;
+use std::io;
+use std::io::{BufReader, Read, Write};
+
+/// What is known of a reader.
+#[derive(Drop)]
+pub struct Watch {
+    /// Whether its last read returned all the octets that it was asked for, as that of a fast file
+    /// does.
+    is_fast: Cell<bool>,
+    /// The error of a read that failed.
+    error: Cell<Option<io::Error>>,
+}
+
+impl Watch {
+    /// Returns what is known of a reader that was not asked yet.
+    pub fn new() -> Watch {
+        Watch {
+            is_fast: Cell::new(true),
+            error: Cell::new(None),
+        }
+    }
+
+    /// Returns why the reader can be read no further.
+    pub fn error(&self) -> io::Error {
+        match self.error.get() {
+            Some(error) => error,
+            None => too_many_reads(),
+        }
+    }
+}
+
+/// A reader that is watched.
+#[derive(Drop)]
+pub struct Watched<'a, R> {
+    pub reader: &'a mut R,
+    pub watch: &'a Watch,
+}
+
+impl<R: Read> Read for Watched<'_, R> {
+    ghost remaining = { λ watched. R.remaining watched.reader.now };
+
+    fn read(&mut self, octets: &mut [u8]) -> io::Result<usize> {
+        match self.reader.read(octets) {
+            Ok(count) => {
+                self.watch.is_fast.set(count == octets.len());
+                Ok(count)
+            }
+            Err(error) => {
+                self.watch.error.set(Some(error));
+                Err(error)
+            }
+        }
+    }
+}
+
+/// Returns a reader that asks this one for large pieces.
+pub fn in_pieces<R: Read + Drop>(alloc: Global, reader: R) -> Result<BufReader<R>, RunFault>
+    ensures same { IfOk result (λ made. (file : List ℕ) → R.remaining reader ≡ Some file → reader_remaining R.remaining made ≡ Some file) }
+    ensures fault { IfErr result (λ e. e ≡ RunFault.Memory) }
+{
+    match BufReader::with_capacity(alloc, PIECE_OCTETS, reader) {
+        Ok(reader) => Ok(reader),
+        Err(_) => Err(RunFault::Memory),
+    }
+}
+
+/// A file that is listed a line for each record.
+pub trait RecordLines {
+    /// What is left to be listed after a number of records.
+    ghost IsLeft: { Self → ℕ → RecordListing → Type 0 };
+
+    /// Appends the line of the record after the first `count`, and returns none. If there is no
+    /// record it appends the last line, and returns how the run ends.
+    fn put_next(
+        &mut self,
+        alloc: Global,
+        count: u64,
+        text: &mut TextBuffer,
+    ) -> Result<Option<RunEnd>, RunFault>
+        ensures line { (left : RecordListing) → IsLeft self.old count left → AddsLine (IsLeft self.new (suc count)) left text.old text.new result }
+        ensures fault { IfErr result (λ e. IsWrite e → ⊥) }
+        ensures kept { IfErr result (λ e. IsRead e → text.new ≡ text.old) };
+}
+
+/// Appends the line of a refused file, with the path of the field at fault.
+fn put_refusal(
+    text: &mut TextBuffer,
+    form: Form,
+    refusal: FileRefusal,
+    path: &Option<String>,
+) -> Result<(), RunFault>
+    ensures line { OnOk result (text.new ≡ text.old ++ fault_line form refusal (option_map string_bytes path.now)) }
+    ensures fault { IfErr result (λ e. e ≡ RunFault.Memory) }
+{
+    let FileRefusal { place, why, .. } = refusal;
+    let extent = extent_of(refusal);
+    match path {
+        None => put_file_refusal(text, form, place, why, None, extent)?,
+        Some(path) => put_file_refusal(text, form, place, why, Some(path.as_str()), extent)?,
+    }
+    Ok(())
+}
+
+/// Appends the line of a refusal in this item, which ends the run. Other faults have no line.
+pub fn put_fault(
+    alloc: Global,
+    text: &mut TextBuffer,
+    form: Form,
+    item: FileItem,
+    fault: FileFault,
+    watch: &Watch,
+) -> Result<RunEnd, RunFault>
+    ensures refused { IfOk result (AddsRefusal item form fault text.old text.new) }
+    ensures fault { IfErr result (λ e. IsWrite e → ⊥) }
+    ensures kept { IfErr result (λ e. IsRead e → text.new ≡ text.old) }
+{
+    match fault {
+        FileFault::Refused(refusal) => {
+            let path = file_path(alloc, form, item, refusal.field)?;
+            put_refusal(text, form, refusal, &path)?;
+            Ok(RunEnd::Refused)
+        }
+        FileFault::Read => Err(RunFault::Read(watch.error())),
+        FileFault::Memory => Err(RunFault::Memory),
+    }
+}
+
+/// Writes a text and clears it.
+fn write_text<W: Write>(writer: &mut W, text: &mut TextBuffer) -> Result<(), RunFault>
+    ensures all { OnOk result (Appends (W.contents writer.old) (W.contents writer.new) text.old) }
+    ensures none_kept { OnOk result (text.new ≡ []) }
+    ensures prefix { OnErr result (AppendsPrefix (W.contents writer.old) (W.contents writer.new) text.old) }
+    ensures fault { IfErr result IsWrite }
+{
+    write_all(writer, text.octets())?;
+    text.clear();
+    Ok(())
+}
+
+/// Writes a text and clears it if it has to be written now.
+fn write_early<W: Write>(
+    writer: &mut W,
+    text: &mut TextBuffer,
+    is_due: bool,
+) -> Result<(), RunFault>
+    ensures moved { OnOk result (Moves (W.contents writer.old) (W.contents writer.new) text.old text.new) }
+    ensures prefix { OnErr result (AppendsPrefix (W.contents writer.old) (W.contents writer.new) text.old) }
+    ensures fault { IfErr result IsWrite }
+{
+    if is_due {
+        write_text(writer, text)?;
+    }
+    Ok(())
+}
+
+/// Writes the lines of the records before a read that failed, and returns that fault. At other
+/// faults the last line may not be whole, and nothing is written.
+fn write_before<W: Write>(
+    writer: &mut W,
+    text: &mut TextBuffer,
+    fault: RunFault,
+) -> Result<RunEnd, RunFault>
+    requires { IsWrite fault → ⊥ }
+    ensures { WritesBefore fault (W.contents writer.old) (W.contents writer.new) text.old text.new result }
+{
+    if let RunFault::Read(_) = fault {
+        write_text(writer, text)?;
+    }
+    Err(fault)
+}
+
+/// Lists a file after a text that is not written yet. Lines are written before the next record is
+/// read, but those of a fast file are kept until they have 64 KiB, or a read fails.
+pub fn list_records<L: RecordLines, W: Write>(
+    alloc: Global,
+    lines: &mut L,
+    text: &mut TextBuffer,
+    watch: &Watch,
+    writer: &mut W,
+) -> Result<RunEnd, RunFault>
+    ensures listed { (left : RecordListing) → L.IsLeft lines.old 0 left → ListsRecords (after_line text.old left) (W.contents writer.old) (W.contents writer.new) result }
+    ensures none_kept { IfErr result (λ e. IsRead e → text.new ≡ []) }
+{
+    'records: for count in 0..MOST_ASKS {
+        let is_due = text.octets().len() >= PIECE_OCTETS || !watch.is_fast.get();
+        write_early(writer, text, is_due)?;
+        match lines.put_next(alloc, count, text) {
+            Ok(None) => {}
+            Ok(Some(ended)) => {
+                write_all(writer, text.octets())?;
+                return Ok(ended);
+            }
+            Err(fault) => return write_before(writer, text, fault),
+        }
+    }
+    write_before(writer, text, RunFault::Read(too_many_reads()))
+}
+
+/// Lists a file of which nothing but its refusal is listed, if this fault is one.
+pub fn list_refusal<W: Write>(
+    alloc: Global,
+    form: Form,
+    fault: FileFault,
+    watch: &Watch,
+    writer: &mut W,
+) -> Result<RunEnd, RunFault>
+    ensures listed { (listing : RecordListing) → IsRefusal form fault listing → ListsRecords listing (W.contents writer.old) (W.contents writer.new) result }
+{
+    let mut text = TextBuffer::new(alloc);
+    match put_fault(alloc, &mut text, form, FileItem::File, fault, watch) {
+        Ok(ended) => {
+            write_all(writer, text.octets())?;
+            Ok(ended)
+        }
+        Err(fault) => write_before(writer, &mut text, fault),
+    }
+}
