@@ -10,7 +10,7 @@
 //!   its source.
 //! - A [`Begun`] reader has the first octets of another, which say what file it is.
 //!
-//! Nothing here knows messages or files, and nothing opens a file.
+//! Nothing here knows messages or formats of files, and nothing opens a file.
 #![tactic(auto)]
 
 mod begun;
