@@ -4,7 +4,7 @@ use Rattle.std.specs.Prelude.{Option, if◌then◌else◌}
 use Rattle.krb_der.specs.declared.verdict.Refusal.{Refusal}
 use Rattle.krb_flow.specs.declared.stream.End.{End}
 use Rattle.krb_record.specs.declared.extent.Extent.{Extent}
-use Rattle.krb_text.specs.declared.origin.Origin.{Origin}
+use Rattle.krb_record.specs.declared.capture_origin.CaptureOrigin.{CaptureOrigin}
 use Rattle.krb_capture.specs.Found.{Faulty, Found, Written, with_all, with_found}
 use Rattle.krb_capture.specs.Streams.{Framed, before_frames, cut_refusal, end_found, entries_found, extent_at, framed, known_end, no_frames, open_path, refusal_found}
 use Rattle.krb_capture.specs.Taken.{IsOver, Keeps, KeepsUnless, Took, TookPasswords, WaitsUnless, WaitsWith, kept_in, offset_in, over_in, passwords, service_of}
@@ -47,7 +47,7 @@ over-is taker limit stream t = by (over_in taker) refl
     by false e = e ∙ ap (λ (f : Framed). f.over) (sym (took-framed taker limit stream t e).1)
 
 -- a frame that no other follows
-pub end-over : (taker : Frames) (origin : Origin) (end : End) (w : Written) → over_in taker ≡ true → (limit : ℕ) (stream : List ℕ) → Took taker limit stream → w ≡ with_all origin (end_found (service_of taker) limit stream end) w
+pub end-over : (taker : Frames) (origin : CaptureOrigin) (end : End) (w : Written) → over_in taker ≡ true → (limit : ℕ) (stream : List ℕ) → Took taker limit stream → w ≡ with_all origin (end_found (service_of taker) limit stream end) w
 unfolding end_found
 end-over taker origin end w e limit stream t =
     ap (λ b. with_all origin (if b then [] else known_end (service_of taker) end (framed (service_of taker) limit stream).offset (framed (service_of taker) limit stream).partial) w) (sym e ∙ over-is taker limit stream t)
@@ -59,18 +59,18 @@ known-found taker end e limit stream t =
     ap₂ (known_end (service_of taker) end) (offset-in-is taker limit stream t e) (kept-is taker limit stream t e)
     ∙ ap (λ b. if b then [] else known_end (service_of taker) end (framed (service_of taker) limit stream).offset (framed (service_of taker) limit stream).partial) (sym e ∙ over-is taker limit stream t)
 
-pub end-known : (taker : Frames) (origin : Origin) (end : End) (before after : Written) → over_in taker ≡ false → ((limit : ℕ) (stream : List ℕ) → Took taker limit stream → after ≡ with_all origin (known_end (service_of taker) end (offset_in taker) (kept_in taker)) before) → (limit : ℕ) (stream : List ℕ) → Took taker limit stream → after ≡ with_all origin (end_found (service_of taker) limit stream end) before
+pub end-known : (taker : Frames) (origin : CaptureOrigin) (end : End) (before after : Written) → over_in taker ≡ false → ((limit : ℕ) (stream : List ℕ) → Took taker limit stream → after ≡ with_all origin (known_end (service_of taker) end (offset_in taker) (kept_in taker)) before) → (limit : ℕ) (stream : List ℕ) → Took taker limit stream → after ≡ with_all origin (end_found (service_of taker) limit stream end) before
 end-known taker origin end before after e l limit stream t = l limit stream t ∙ ap (λ x. with_all origin x before) (known-found taker end e limit stream t)
 
 -- ---- the frame of a message that changes a password, which is not whole
-abbrev pub ListsCut : Frames → Origin → Written → Written → Type 0
+abbrev pub ListsCut : Frames → CaptureOrigin → Written → Written → Type 0
 ListsCut taker origin before after = (limit : ℕ) (stream : List ℕ) → Took taker limit stream → over_in taker ≡ false → after ≡ with_all origin (refusal_found (service_of taker) (offset_in taker) (kept_in taker) (cut_refusal (kept_in taker))) before
 
 -- why it is refused, if it is
 abbrev pub IsCut : PasswordFrames → Option Refusal → Type 0
 IsCut inner found = (limit : ℕ) (stream : List ℕ) → TookPasswords inner limit stream → inner.is_over ≡ false → found ≡ cut_refusal inner.octets.items
 
-pub no_cut-listed : (taker : Frames) (inner : PasswordFrames) (found : Option Refusal) (origin : Origin) (w : Written) → taker ≡ frames.Passwords inner → ((refusal : Refusal) → found ≡ Some refusal → ⊥) → IsCut inner found → ListsCut taker origin w w
+pub no_cut-listed : (taker : Frames) (inner : PasswordFrames) (found : Option Refusal) (origin : CaptureOrigin) (w : Written) → taker ≡ frames.Passwords inner → ((refusal : Refusal) → found ≡ Some refusal → ⊥) → IsCut inner found → ListsCut taker origin w w
 no_cut-listed taker inner found origin w e never f =
     subst (λ t. ListsCut t origin w w) (sym e)
     (λ limit stream t o. ap (λ x. with_all origin (refusal_found services.Passwords inner.offset inner.octets.items x) w) (sym (none found never) ∙ f limit stream t o))
@@ -79,7 +79,7 @@ no_cut-listed taker inner found origin w e never f =
     none None never = refl
     none (Some refusal) never = absurd (never refusal refl)
 
-pub cut-listed : (taker : Frames) (inner : PasswordFrames) (found : Option Refusal) (refusal : Refusal) (path : Option (List ℕ)) (extent : Extent) (origin : Origin) (before after : Written) → taker ≡ frames.Passwords inner → found ≡ Some refusal → path ≡ open_path services.Passwords inner.octets.items → extent ≡ extent_at inner.offset inner.octets.items → IsCut inner found → after ≡ with_found origin (Faulty refusal path extent) before → ListsCut taker origin before after
+pub cut-listed : (taker : Frames) (inner : PasswordFrames) (found : Option Refusal) (refusal : Refusal) (path : Option (List ℕ)) (extent : Extent) (origin : CaptureOrigin) (before after : Written) → taker ≡ frames.Passwords inner → found ≡ Some refusal → path ≡ open_path services.Passwords inner.octets.items → extent ≡ extent_at inner.offset inner.octets.items → IsCut inner found → after ≡ with_found origin (Faulty refusal path extent) before → ListsCut taker origin before after
 cut-listed taker inner found refusal path extent origin before after e n p x f l =
     subst (λ t. ListsCut t origin before after) (sym e)
     (λ limit stream t o.

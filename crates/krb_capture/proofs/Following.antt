@@ -7,9 +7,9 @@ use Rattle.krb_packet.specs.declared.contents.Contents.TheVariants as kinds
 use Rattle.krb_packet.specs.declared.contents.Datagram.{Datagram}
 use Rattle.krb_packet.specs.declared.contents.Fragment.{Fragment}
 use Rattle.krb_packet.specs.declared.contents.Segment.{Segment}
-use Rattle.krb_text.specs.declared.capture.CaptureCounts.{CaptureCounts}
+use Rattle.krb_record.specs.declared.capture.CaptureCounts.{CaptureCounts}
 use Rattle.krb_record.specs.declared.form.Form.{Form}
-use Rattle.krb_text.specs.declared.origin.Origin.{Origin}
+use Rattle.krb_record.specs.declared.capture_origin.CaptureOrigin.{CaptureOrigin}
 use Rattle.krb_record.specs.declared.flow.Transport.TheVariants as transports
 use Rattle.krb_capture.specs.Captures.{Finding, HasEnded, HasFollowed, Progress, Settings, Taken, all_counts, and_counted, contents_taken, nothing_in, whole_taken, counted_each, datagram_taken, end_taken, lines_of, over_tcp, over_udp, segment_taken, unread_taken, with_each}
 use Rattle.krb_capture.specs.Datagrams.{datagram_found}
@@ -89,7 +89,7 @@ lists-found old new settings progress rest found before after name written f b o
     }
 
 -- with a datagram
-pub datagram-lists : (old new : Capture) (settings : Settings) (progress : Progress) (service : Service) (datagram : Datagram) (origin : Origin) (before after : List ℕ) (name : ℕ) (written : Written) → HasFollowed old settings progress → service_of old.port datagram.source datagram.target ≡ Some service → origin ≡ origin_of old.last transports.Udp datagram.source datagram.target → written ≡ with_all origin (datagram_found service datagram.payload) (lent old before name) → IsBack new written after → new.port ≡ old.port → new.fragments ≡ old.fragments → new.directions ≡ old.directions → new.last ≡ old.last → Lists new settings (and_counted (datagram_taken (service_of settings.port datagram.source datagram.target) datagram progress)) None before after
+pub datagram-lists : (old new : Capture) (settings : Settings) (progress : Progress) (service : Service) (datagram : Datagram) (origin : CaptureOrigin) (before after : List ℕ) (name : ℕ) (written : Written) → HasFollowed old settings progress → service_of old.port datagram.source datagram.target ≡ Some service → origin ≡ origin_of old.last transports.Udp datagram.source datagram.target → written ≡ with_all origin (datagram_found service datagram.payload) (lent old before name) → IsBack new written after → new.port ≡ old.port → new.fragments ≡ old.fragments → new.directions ≡ old.directions → new.last ≡ old.last → Lists new settings (and_counted (datagram_taken (service_of settings.port datagram.source datagram.target) datagram progress)) None before after
 datagram-lists old new settings progress service datagram origin before after name written h s o e b p g d l =
     let found = over_udp progress.last datagram (datagram_found service datagram.payload) in
     let follows : Follows new.directions settings.limit progress.table progress.last None found (lent old before name) written = record {

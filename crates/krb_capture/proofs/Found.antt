@@ -9,12 +9,12 @@ use Rattle.krb_der.specs.declared.verdict.Refusal.{Refusal}
 use Rattle.krb_der.specs.declared.verdict.Verdict.{Verdict}
 use Rattle.krb_der.specs.declared.verdict.Verdict.TheVariants as verdict
 use Rattle.krb_der.specs.declared.why.Why.TheVariants as why
-use Rattle.krb_text.specs.Captures.{captured_line}
+use Rattle.krb_record.specs.Captures.{captured_line}
 use Rattle.krb_record.specs.Refusals.{extent_in, path_in}
 use Rattle.krb_record.specs.Values.{Field, Number, Reason, printed, the}
 use Rattle.krb_record.specs.declared.extent.Extent.{Extent}
 use Rattle.krb_record.specs.declared.form.Form.{Form}
-use Rattle.krb_text.specs.declared.origin.Origin.{Origin}
+use Rattle.krb_record.specs.declared.capture_origin.CaptureOrigin.{CaptureOrigin}
 use Rattle.krb_msg.specs.Grammar.{messages}
 use Rattle.krb_msg.specs.Judgement.{judgement}
 use Rattle.krb_msg.proofs.Grammars.{refusal_is_final}
@@ -25,7 +25,7 @@ use Rattle.krb_capture.specs.Found.{Found, Faulty, Written, counted, with_all, w
 use Rattle.krb_capture.specs.Messages.{most_octets, path_of}
 use Rattle.krb_capture.specs.Streams.{entry_found, extent_at, frame_path}
 
-pub with_all-append : (origin : Origin) (xs ys : List Found) (w : Written) → with_all origin (xs ++ ys) w ≡ with_all origin ys (with_all origin xs w)
+pub with_all-append : (origin : CaptureOrigin) (xs ys : List Found) (w : Written) → with_all origin (xs ++ ys) w ≡ with_all origin ys (with_all origin xs w)
 with_all-append origin [] ys w = refl
 with_all-append origin (x ∷ xs) ys w = with_all-append origin xs ys (with_found origin x w)
 
@@ -67,12 +67,12 @@ unfolding path_of
 no_path octets e = ap (λ l. if nat_lt most_octets (number (take 4 octets)) then None else message_path Lenient (number (take 4 octets)) l) e ∙ none_either (nat_lt most_octets (number (take 4 octets)))
 
 -- paths that a form shows as the same
-pub same_path : (origin : Origin) (refusal : Refusal) (p q : Option (List ℕ)) (extent : Extent) (w : Written) → path_in w.form p ≡ path_in w.form q → with_found origin (Faulty refusal p extent) w ≡ with_found origin (Faulty refusal q extent) w
+pub same_path : (origin : CaptureOrigin) (refusal : Refusal) (p q : Option (List ℕ)) (extent : Extent) (w : Written) → path_in w.form p ≡ path_in w.form q → with_found origin (Faulty refusal p extent) w ≡ with_found origin (Faulty refusal q extent) w
 same_path origin refusal p q extent w e =
     ap
     (λ (fields : List Field). record w { text = w.text ++ captured_line w.form origin (printed (codes "refused") (the (codes "place") (Number (pos refusal.place)) ∷ the (codes "why") (Reason (reason_number refusal.why) (reason_name refusal.why)) ∷ (fields ++ extent_in w.form extent))); counts = counted (Faulty refusal p extent) w.counts }) e
 
-pub refused_listed : (origin : Origin) (refusal : Refusal) (offset : ℕ) (octets : List ℕ) (form : Form) (shown path : Option (List ℕ)) (extent : Extent) (before after : Written) → form ≡ before.form → path_in form shown ≡ path_in form (frame_path octets) → path ≡ shown → extent ≡ extent_at offset octets → after ≡ with_found origin (Faulty refusal path extent) before → after ≡ with_found origin (entry_found offset (Fault refusal.place refusal.why octets)) before
+pub refused_listed : (origin : CaptureOrigin) (refusal : Refusal) (offset : ℕ) (octets : List ℕ) (form : Form) (shown path : Option (List ℕ)) (extent : Extent) (before after : Written) → form ≡ before.form → path_in form shown ≡ path_in form (frame_path octets) → path ≡ shown → extent ≡ extent_at offset octets → after ≡ with_found origin (Faulty refusal path extent) before → after ≡ with_found origin (entry_found offset (Fault refusal.place refusal.why octets)) before
 refused_listed origin refusal offset octets form shown path extent before after f e p x l =
     l
     ∙ ap₂ (λ q k. with_found origin (Faulty refusal q k) before) p x

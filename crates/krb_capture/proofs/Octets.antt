@@ -7,7 +7,7 @@ use Rattle.krb_der.specs.Octets.{number}
 use Rattle.krb_frame.specs.Frame.{framed}
 use Rattle.krb_frame.specs.Wholes.{BeginWith}
 use Rattle.krb_frame.proofs.Lengths.{no_fault}
-use Rattle.krb_text.specs.declared.origin.Origin.{Origin}
+use Rattle.krb_record.specs.declared.capture_origin.CaptureOrigin.{CaptureOrigin}
 use Rattle.krb_capture.specs.Found.{Written, with_all}
 use Rattle.krb_capture.specs.Passed.{AreOfOne, Holds, ListsContentsOf, ListsNext, ListsWhole, TakesPasswords, frame_end}
 use Rattle.krb_capture.specs.Passwords.{password_found}
@@ -21,13 +21,13 @@ use Rattle.krb_capture.proofs.Passed.{keeps-found, next-passed, next-whole}
 use Rattle.krb_capture.proofs.Prefixes.{found_with-both, found_with-none}
 
 -- ---- none, and some and then others
-pub takes-nothing : (old : PasswordFrames) (origin : Origin) (w : Written) → TakesPasswords old old [] origin w w
+pub takes-nothing : (old : PasswordFrames) (origin : CaptureOrigin) (w : Written) → TakesPasswords old old [] origin w w
 takes-nothing old origin w = record {
   took = λ limit stream t. subst (TookPasswords old limit) (sym (append-nil stream)) t;
   listed = λ limit stream t. ap (λ l. with_all origin l w) (sym (found_with-none services.Passwords limit stream));
 }
 
-pub takes-both : (a b c : PasswordFrames) (xs ys : List ℕ) (origin : Origin) (u v w : Written) → TakesPasswords a b xs origin u v → TakesPasswords b c ys origin v w → TakesPasswords a c (xs ++ ys) origin u w
+pub takes-both : (a b c : PasswordFrames) (xs ys : List ℕ) (origin : CaptureOrigin) (u v w : Written) → TakesPasswords a b xs origin u v → TakesPasswords b c ys origin v w → TakesPasswords a c (xs ++ ys) origin u w
 takes-both a b c xs ys origin u v w l m = record {
   took = λ limit stream t. subst (TookPasswords c limit) (append_assoc stream xs ys) (m.took limit (stream ++ xs) (l.took limit stream t));
   listed = λ limit stream t.
@@ -39,7 +39,7 @@ takes-both a b c xs ys origin u v w l m = record {
 
 -- ---- some octets
 -- all that follows is passed over
-pub takes-over : (old : PasswordFrames) (octets : List ℕ) (origin : Origin) (w : Written) → old.is_over ≡ true → TakesPasswords old old octets origin w w
+pub takes-over : (old : PasswordFrames) (octets : List ℕ) (origin : CaptureOrigin) (w : Written) → old.is_over ≡ true → TakesPasswords old old octets origin w w
 takes-over old octets origin w e = record {
   took = λ limit stream t. record {
     limit_is = t.limit_is;
@@ -59,7 +59,7 @@ none_kept n octets h (inr e) = e
 drop_past : (n : ℕ) (octets more : List ℕ) → length octets ≤ n → drop n (octets ++ more) ≡ drop (n - length octets) more
 drop_past n octets more h = let e : n ≡ length octets + (n - length octets) = omega arith in ap (λ k. drop k (octets ++ more)) e ∙ drop-append-add octets more (n - length octets)
 
-pub takes-skipped : (old : PasswordFrames) (octets : List ℕ) (origin : Origin) (w : Written) → old.is_over ≡ false → 0 < old.skipped → length octets ≤ old.skipped → TakesPasswords old (record old { skipped = old.skipped - length octets }) octets origin w w
+pub takes-skipped : (old : PasswordFrames) (octets : List ℕ) (origin : CaptureOrigin) (w : Written) → old.is_over ≡ false → 0 < old.skipped → length octets ≤ old.skipped → TakesPasswords old (record old { skipped = old.skipped - length octets }) octets origin w w
 takes-skipped old octets origin w o some few = record {
   took = λ limit stream t. record { limit_is = t.limit_is; state = subst (λ b. KeepsUnless b new (stream ++ octets)) (sym o) (after stream (keeps stream t.state)) };
   listed = λ limit stream t.
@@ -104,7 +104,7 @@ holds-more old between octets s o z l same k i at one stream h = record {
   one = subst (AreOfOne between.limit) (sym i) (subst (λ n. AreOfOne n (old.octets.items ++ octets)) (sym l) one);
 }
 
-takes-listed : (old between new : PasswordFrames) (octets s : List ℕ) (origin : Origin) (before after : Written) → old.is_over ≡ false → old.skipped ≡ 0 → between.limit ≡ old.limit → between.is_over ≡ old.is_over → between.skipped ≡ old.skipped → s ≡ old.octets.items ++ octets → between.offset ≡ old.offset
+takes-listed : (old between new : PasswordFrames) (octets s : List ℕ) (origin : CaptureOrigin) (before after : Written) → old.is_over ≡ false → old.skipped ≡ 0 → between.limit ≡ old.limit → between.is_over ≡ old.is_over → between.skipped ≡ old.skipped → s ≡ old.octets.items ++ octets → between.offset ≡ old.offset
     → (IsPart old.limit old.octets.items → AreOfOne old.limit (old.octets.items ++ octets)) → ((stream : List ℕ) (h : Holds between s stream) → ListsNext between new s stream h origin before after) → TakesPasswords old new octets origin before after
 unfolding found_with holds-more
 takes-listed old between new octets s origin before after o z l same k i at one lists = record {
@@ -135,12 +135,12 @@ one_after limit kept octets few (inr p) =
     let size : length (kept ++ octets) ≤ 4 + number (take 4 kept) = omega (arith, few, p.2, end, length-append kept octets) in
     inr (subst (λ l. IsAllowed limit (number l) × (length (kept ++ octets) ≤ 4 + number l)) same (p.0, size))
 
-pub takes-kept : (old between new : PasswordFrames) (octets : List ℕ) (origin : Origin) (before after : Written) → old.is_over ≡ false → old.skipped ≡ 0 → between.limit ≡ old.limit → between.is_over ≡ old.is_over → between.skipped ≡ old.skipped → between.octets.items ≡ old.octets.items ++ octets → between.offset ≡ old.offset
+pub takes-kept : (old between new : PasswordFrames) (octets : List ℕ) (origin : CaptureOrigin) (before after : Written) → old.is_over ≡ false → old.skipped ≡ 0 → between.limit ≡ old.limit → between.is_over ≡ old.is_over → between.skipped ≡ old.skipped → between.octets.items ≡ old.octets.items ++ octets → between.offset ≡ old.offset
     → length octets ≤ 1 + (frame_end old.octets.items - length old.octets.items - 1) → ListsWhole between new origin before after → TakesPasswords old new octets origin before after
 takes-kept old between new octets origin before after o z l same k i at few lists = takes-listed old between new octets between.octets.items origin before after o z l same k i at (one_after old.limit old.octets.items octets few) lists
 
 -- the frame lies there whole
-pub takes-lent : (old new : PasswordFrames) (octets contents rest : List ℕ) (origin : Origin) (before after : Written) → old.is_over ≡ false → old.skipped ≡ 0 → old.octets.items ≡ [] → BeginWith old.limit octets contents rest → ListsContentsOf old (length contents) contents new origin before after → TakesPasswords old new (take (4 + length contents) octets) origin before after
+pub takes-lent : (old new : PasswordFrames) (octets contents rest : List ℕ) (origin : CaptureOrigin) (before after : Written) → old.is_over ≡ false → old.skipped ≡ 0 → old.octets.items ≡ [] → BeginWith old.limit octets contents rest → ListsContentsOf old (length contents) contents new origin before after → TakesPasswords old new (take (4 + length contents) octets) origin before after
 takes-lent old new octets contents rest origin before after o z none b lists =
     subst (λ l. TakesPasswords old new l origin before after) (sym (ap (take (4 + n)) b.parts ∙ take_at frame rest (4 + n) long))
     (takes-listed old old new frame frame origin before after o z refl refl refl (ap (λ l. l ++ frame) (sym none)) refl (λ p. subst (λ l. AreOfOne old.limit (l ++ frame)) (sym none) (inr (allowed, most)))
@@ -179,7 +179,7 @@ takes-lent old new octets contents rest origin before after o z none b lists =
     allowed = subst (IsAllowed old.limit) (sym spelled) (record { some = fine.0; within = fine.1.1; short = fine.1.0 })
 
 -- ---- all octets of a piece
-pub takes-next : (a b c : PasswordFrames) (octets : List ℕ) (i count : ℕ) (origin : Origin) (u v w : Written) → TakesPasswords a b (take i octets) origin u v → TakesPasswords b c (take count (take (length octets - i) (drop i octets))) origin v w → TakesPasswords a c (take (i + count) octets) origin u w
+pub takes-next : (a b c : PasswordFrames) (octets : List ℕ) (i count : ℕ) (origin : CaptureOrigin) (u v w : Written) → TakesPasswords a b (take i octets) origin u v → TakesPasswords b c (take count (take (length octets - i) (drop i octets))) origin v w → TakesPasswords a c (take (i + count) octets) origin u w
 takes-next a b c octets i count origin u v w l m =
     subst (λ x. TakesPasswords a c x origin u w) (ap (λ x. take i octets ++ take count x) (take_rest octets i) ∙ sym (take-add i count octets))
     (takes-both a b c (take i octets) (take count (take (length octets - i) (drop i octets))) origin u v w l m)

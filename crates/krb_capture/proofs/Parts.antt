@@ -4,7 +4,7 @@ use Rattle.std.specs.Prelude.{nat_lt, if◌then◌else◌}
 use Rattle.std.proofs.lemmas.Bool.{cases_lt, lt-ltb}
 use Rattle.std.proofs.lemmas.List.{drop-drop}
 use Rattle.krb_record.specs.declared.extent.Extent.{Extent}
-use Rattle.krb_text.specs.declared.origin.Origin.{Origin}
+use Rattle.krb_record.specs.declared.capture_origin.CaptureOrigin.{CaptureOrigin}
 use Rattle.krb_capture.specs.Found.{Password, Written, with_all, with_found}
 use Rattle.krb_capture.specs.Passwords.{and_then, checked, header, number, part_found, parts_found}
 use Rattle.krb_capture.specs.declared.password.Fault.{Fault}
@@ -47,7 +47,7 @@ header_parts octets found e =
     (λ announced e. checked_parts (length octets) all version announced found e) e) e) e
 
 -- the parts listed one after another
-pub parts_listed : (extent : Extent) (origin : Origin) (before : ℕ) (octets parts first second : List ℕ) (header : Header) (n m : ℕ) (w0 w1 w2 w3 : Written) → n ≡ header.ap → m ≡ header.ap → parts ≡ drop 6 octets → first ≡ take n parts → second ≡ drop n parts → w1 ≡ with_found origin (Password header.version header.ap (length second)) w0 → w2 ≡ with_all origin (part_found extent (before + 6) first) w1 → w3 ≡ with_all origin (part_found extent (before + (6 + m)) second) w2 → w3 ≡ with_all origin (parts_found extent before octets (Ok header)) w0
+pub parts_listed : (extent : Extent) (origin : CaptureOrigin) (before : ℕ) (octets parts first second : List ℕ) (header : Header) (n m : ℕ) (w0 w1 w2 w3 : Written) → n ≡ header.ap → m ≡ header.ap → parts ≡ drop 6 octets → first ≡ take n parts → second ≡ drop n parts → w1 ≡ with_found origin (Password header.version header.ap (length second)) w0 → w2 ≡ with_all origin (part_found extent (before + 6) first) w1 → w3 ≡ with_all origin (part_found extent (before + (6 + m)) second) w2 → w3 ≡ with_all origin (parts_found extent before octets (Ok header)) w0
 parts_listed extent origin before octets parts first second header n m w0 w1 w2 w3 en em p f s a b c =
     let rest : second ≡ drop (6 + header.ap) octets = s ∙ ap₂ drop en p ∙ drop-drop header.ap 6 octets in
     let prefix : first ≡ take header.ap (drop 6 octets) = f ∙ ap₂ take en p in

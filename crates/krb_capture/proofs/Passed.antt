@@ -9,7 +9,7 @@ use Rattle.krb_der.specs.declared.why.Why.{Why}
 use Rattle.krb_der.specs.declared.why.Why.TheVariants as why
 use Rattle.krb_frame.specs.Frame.{length_fault}
 use Rattle.krb_record.specs.declared.extent.Extent.{Extent}
-use Rattle.krb_text.specs.declared.origin.Origin.{Origin}
+use Rattle.krb_record.specs.declared.capture_origin.CaptureOrigin.{CaptureOrigin}
 use Rattle.krb_capture.specs.Found.{Found, Written, with_all}
 use Rattle.krb_capture.specs.Passed.{Holds, ListsNext}
 use Rattle.krb_capture.specs.Passwords.{password_found}
@@ -122,7 +122,7 @@ keeps-found taker stream k = ap (λ (f : Framed). f.found) (keeps-framed taker s
 
 -- ---- the next frame is listed if it is whole or refused
 -- it is neither
-pub next-kept : (old : PasswordFrames) (stream : List ℕ) (h : Holds old old.octets.items stream) (origin : Origin) (before : Written) → IsPart old.limit old.octets.items → ListsNext old old old.octets.items stream h origin before before
+pub next-kept : (old : PasswordFrames) (stream : List ℕ) (h : Holds old old.octets.items stream) (origin : CaptureOrigin) (before : Written) → IsPart old.limit old.octets.items → ListsNext old old old.octets.items stream h origin before before
 next-kept old stream h origin before p = record {
   limit = refl;
   state = subst (λ b. KeepsUnless b old stream) (sym h.goes) keeps;
@@ -137,7 +137,7 @@ next-kept old stream h origin before p = record {
       alone = inl h.none_skipped;
     }
 
-module _ (old : PasswordFrames) (s stream : List ℕ) (h : Holds old s stream) (origin : Origin) (before : Written) where
+module _ (old : PasswordFrames) (s stream : List ℕ) (h : Holds old s stream) (origin : CaptureOrigin) (before : Written) where
   -- these are found, and then octets are skipped
   pub next-passed : (new : PasswordFrames) (xs : List Found) (count : ℕ) (after : Written) → new.limit ≡ old.limit → new.is_over ≡ false → new.skipped ≡ count → new.octets.items ≡ [] → ((more : List ℕ) → passwords_framed old.limit old.offset (s ++ more) ≡ before_frames xs (passwords_framed old.limit new.offset (drop count more))) → after ≡ with_all origin xs before → ListsNext old new s stream h origin before after
   next-passed new xs count after l o k i each w = record {

@@ -1,7 +1,7 @@
 -- What is left of octets, of a segment and of a packet.
 use Rattle.std.proofs.Common.{◌≡◌, ℕ, List, [], ◌++◌, Option, Some, None, refl, sym, ◌∙◌, ap, subst, append_assoc, append-nil}
 use Rattle.krb_flow.specs.declared.stream.End.{End}
-use Rattle.krb_text.specs.declared.origin.Origin.{Origin}
+use Rattle.krb_record.specs.declared.capture_origin.CaptureOrigin.{CaptureOrigin}
 use Rattle.krb_capture.specs.Found.{Found, IsFull, Written, with_all}
 use Rattle.krb_capture.specs.Rests.{Takes, TookSome, unlisted_found}
 use Rattle.krb_capture.specs.Sending.{end_if}
@@ -16,7 +16,7 @@ abbrev pub unlisted : Option End → List ℕ → Unlisted
 unlisted end octets = record { octets = octets; end = end }
 
 -- ---- the first octets were taken
-module _ (origin : Origin) (old mid : Frames) (limit : ℕ) (stream xs ys : List ℕ) (end : Option End) (l0 l1 : Written) (t : Took old limit stream) (u : Took mid limit (stream ++ xs)) (s : service_of mid ≡ service_of old) (h : l1 ≡ with_all origin (found_with (service_of old) limit stream xs) l0) where
+module _ (origin : CaptureOrigin) (old mid : Frames) (limit : ℕ) (stream xs ys : List ℕ) (end : Option End) (l0 l1 : Written) (t : Took old limit stream) (u : Took mid limit (stream ++ xs)) (s : service_of mid ≡ service_of old) (h : l1 ≡ with_all origin (found_with (service_of old) limit stream xs) l0) where
   abbrev pub all : Unlisted
   all = record { octets = xs ++ ys; end = end }
 

@@ -1,7 +1,7 @@
 -- What is listed with a segment of a direction.
 use Rattle.std.proofs.Common.{◌≡◌, ℕ, List, ◌++◌, Option, sym, ◌∙◌, ap, append_assoc}
 use Rattle.krb_flow.specs.Directions.{Outcome}
-use Rattle.krb_text.specs.declared.origin.Origin.{Origin}
+use Rattle.krb_record.specs.declared.capture_origin.CaptureOrigin.{CaptureOrigin}
 use Rattle.krb_capture.specs.Found.{Found, Written, with_all}
 use Rattle.krb_capture.specs.Rests.{Takes, TookSome, unlisted_found}
 use Rattle.krb_capture.specs.Sending.{beginning_found, end_if, outcome_found, stream_at}
@@ -16,14 +16,14 @@ abbrev pub octets_of : Outcome → Unlisted
 octets_of outcome = record { octets = outcome.octets; end = outcome.end }
 
 -- of what is found with a segment, the first findings were listed
-pub record ListsOutcome (new : Frames) (service : Service) (limit : ℕ) (stream : List ℕ) (outcome : Outcome) (rest : Option Unlisted) (origin : Origin) (before after : Written) : Type 0 where
+pub record ListsOutcome (new : Frames) (service : Service) (limit : ℕ) (stream : List ℕ) (outcome : Outcome) (rest : Option Unlisted) (origin : CaptureOrigin) (before after : Written) : Type 0 where
   pub listed : List Found
   pub left : List Found
   pub parts : outcome_found service limit stream outcome ≡ listed ++ left
   pub written : after ≡ with_all origin listed before
   pub took : TookSome new limit (stream_at outcome.begins stream ++ outcome.octets) rest left
 
-pub outcome-listed : (origin : Origin) (service : Service) (limit : ℕ) (stream : List ℕ) (outcome : Outcome) (rest : Option Unlisted) (f0 f1 f2 : Frames) (l0 l1 l2 l3 : Written)
+pub outcome-listed : (origin : CaptureOrigin) (service : Service) (limit : ℕ) (stream : List ℕ) (outcome : Outcome) (rest : Option Unlisted) (f0 f1 f2 : Frames) (l0 l1 l2 l3 : Written)
     → service_of f0 ≡ service → service_of f1 ≡ service
     → l1 ≡ with_all origin (end_if (service_of f0) limit stream outcome.before) l0
     → l2 ≡ with_all origin (beginning_found outcome.begins) l1

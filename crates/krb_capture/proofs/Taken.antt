@@ -9,7 +9,7 @@ use Rattle.krb_frame.specs.Decoding.{status_of}
 use Rattle.krb_frame.specs.Deliveries.{Delivers, DeliversBefore, DeliversUpTo, status_in}
 use Rattle.krb_frame.specs.GoingOn.{Entry, Fault, GoesOn, Skipping, rest_to_come}
 use Rattle.krb_frame.specs.declared.decoder.Status.TheVariants as status
-use Rattle.krb_text.specs.declared.origin.Origin.{Origin}
+use Rattle.krb_record.specs.declared.capture_origin.CaptureOrigin.{CaptureOrigin}
 use Rattle.krb_capture.specs.Found.{Found, Written, with_all, with_found}
 use Rattle.krb_capture.specs.Listed.{ListsEntry}
 use Rattle.krb_capture.specs.Streams.{Framed, after_entries, entries_found, entry_found, found_with, framed}
@@ -22,12 +22,12 @@ use Rattle.krb_capture.proofs.Framed.{after_entries-append, all_done, entries_fo
 use Rattle.krb_capture.proofs.Listed.{ListsEntries, all_followed, lists-entries}
 
 -- ---- a piece was taken
-pub record TakesMessages (old new : MessageFrames) (piece : List ℕ) (origin : Origin) (before after : Written) : Type 0 where
+pub record TakesMessages (old new : MessageFrames) (piece : List ℕ) (origin : CaptureOrigin) (before after : Written) : Type 0 where
   pub took : (limit : ℕ) (stream : List ℕ) → TookMessages old limit stream → TookMessages new limit (stream ++ piece)
   pub listed : (limit : ℕ) (stream : List ℕ) → TookMessages old limit stream → after ≡ with_all origin (found_with services.Kerberos limit stream piece) before
 
 -- all that follows is passed over
-pub takes-none : (old : MessageFrames) (piece : List ℕ) (origin : Origin) (w : Written) → old.is_over ≡ true → TakesMessages old old piece origin w w
+pub takes-none : (old : MessageFrames) (piece : List ℕ) (origin : CaptureOrigin) (w : Written) → old.is_over ≡ true → TakesMessages old old piece origin w w
 takes-none old piece origin w e = record {
   took = λ limit stream t. record {
     profile = t.profile;

@@ -6,7 +6,7 @@ use Rattle.krb_der.specs.Octets.{number}
 use Rattle.krb_der.specs.declared.why.Why.{Why}
 use Rattle.krb_der.specs.declared.why.Why.TheVariants as why
 use Rattle.krb_frame.specs.Frame.{length_fault}
-use Rattle.krb_text.specs.declared.origin.Origin.{Origin}
+use Rattle.krb_record.specs.declared.capture_origin.CaptureOrigin.{CaptureOrigin}
 use Rattle.krb_capture.specs.Found.{Written, with_all, with_found}
 use Rattle.krb_capture.specs.Passed.{AreOfOne, Holds, ListsContents, ListsContentsIf, ListsNext, PassesOver, frame_length}
 use Rattle.krb_capture.specs.Passwords.{password_found}
@@ -33,7 +33,7 @@ none_by false size e = absurd cc
 pub length_none : (octets : List ℕ) → frame_length octets ≡ None → length octets < 4
 length_none octets e = ltb-true (length octets) 4 (none_by (nat_lt (length octets) 4) (number (take 4 octets)) e)
 
-module _ (old new : PasswordFrames) (n : ℕ) (origin : Origin) (before after : Written) (e : frame_length old.octets.items ≡ Some n) (stream : List ℕ) (h : Holds old old.octets.items stream) where
+module _ (old new : PasswordFrames) (n : ℕ) (origin : CaptureOrigin) (before after : Written) (e : frame_length old.octets.items ≡ Some n) (stream : List ℕ) (h : Holds old old.octets.items stream) where
   abbrev pub octets : List ℕ
   octets = old.octets.items
 
@@ -97,7 +97,7 @@ module _ (old new : PasswordFrames) (n : ℕ) (origin : Origin) (before after : 
           (l.listed ∙ ap (λ k. with_all origin (password_found (frame_of old.offset k) 4 (drop 4 octets)) before) (sym size))
 
 -- none of it came
-pub whole-none : (old : PasswordFrames) (origin : Origin) (w : Written) → frame_length old.octets.items ≡ None → (stream : List ℕ) (h : Holds old old.octets.items stream) → ListsNext old old old.octets.items stream h origin w w
+pub whole-none : (old : PasswordFrames) (origin : CaptureOrigin) (w : Written) → frame_length old.octets.items ≡ None → (stream : List ℕ) (h : Holds old old.octets.items stream) → ListsNext old old old.octets.items stream h origin w w
 whole-none old origin w e stream h = next-kept old stream h origin w (inl (length_none old.octets.items e))
 
 pub is_none : (o : Option ℕ) → ((n : ℕ) → o ≡ Some n → ⊥) → o ≡ None

@@ -1,6 +1,6 @@
 -- What is written of several findings.
 use Rattle.std.proofs.Common.{◌≡◌, Result, Ok, Err, OnOk, List, [], ◌∷◌, ◌++◌, refl, sym, ◌∙◌, ap, append-nil, append_assoc}
-use Rattle.krb_text.specs.declared.origin.Origin.{Origin}
+use Rattle.krb_record.specs.declared.capture_origin.CaptureOrigin.{CaptureOrigin}
 use Rattle.krb_record.specs.declared.flow.Transport.TheVariants as transports
 use Rattle.krb_capture.specs.Captures.{Finding, counted_each, lines_of, over_tcp, over_udp, with_each}
 use Rattle.krb_capture.specs.Directions.{in_flow}
@@ -44,7 +44,7 @@ pub name-each : (xs : List Finding) (w : Written) → (with_each xs w).text_name
 name-each [] w = refl
 name-each (x ∷ xs) w = name-each xs (with_found x.0 x.1 w)
 
-pub name-all : (origin : Origin) (xs : List Found) (w : Written) → (with_all origin xs w).text_name ≡ w.text_name
+pub name-all : (origin : CaptureOrigin) (xs : List Found) (w : Written) → (with_all origin xs w).text_name ≡ w.text_name
 name-all origin [] w = refl
 name-all origin (x ∷ xs) w = name-all origin xs (with_found origin x w)
 

@@ -11,11 +11,11 @@ use Rattle.krb_packet.specs.Table.{Table as Fragments}
 use Rattle.krb_packet.specs.declared.contents.Segment.{Segment}
 use Rattle.krb_packet.specs.declared.packet.Packet.{Packet}
 use Rattle.krb_file.specs.declared.fault.FileWhy.{FileWhy}
-use Rattle.krb_text.specs.Captures.{capture_end_line, capture_refused_line}
-use Rattle.krb_text.specs.declared.capture.CaptureCounts.{CaptureCounts}
+use Rattle.krb_record.specs.Captures.{capture_end_line, capture_refused_line}
+use Rattle.krb_record.specs.declared.capture.CaptureCounts.{CaptureCounts}
 use Rattle.krb_record.specs.declared.extent.Extent.{Extent}
 use Rattle.krb_record.specs.declared.form.Form.{Form}
-use Rattle.krb_text.specs.declared.origin.Origin.{Origin}
+use Rattle.krb_record.specs.declared.capture_origin.CaptureOrigin.{CaptureOrigin}
 use Rattle.krb_record.specs.declared.flow.Transport.TheVariants as transports
 use Rattle.krb_capture.specs.Datagrams.{datagram_found}
 use Rattle.krb_capture.specs.Directions.{Followed, HoldsTable, Table, followed, last_of, no_directions}
@@ -47,7 +47,7 @@ at_first = record { fragments = no_fragments; table = no_directions; last = reco
 
 -- ---- what is found, each with its origin
 abbrev pub Finding : Type 0
-Finding = Origin × Found
+Finding = CaptureOrigin × Found
 
 abbrev pub lines_of : Form → List Finding → List ℕ
 lines_of form [] = []

@@ -1,8 +1,8 @@
 -- Flows, what they carry, and the packets with which records are due.
 use Rattle.std.specs.Prelude.{ℕ, ◌||◌, ◌==◌, if◌then◌else◌, Option, Some, None}
-use Rattle.krb_packet.specs.declared.contents.Endpoint.{Endpoint}
+use Rattle.krb_net.specs.declared.endpoint.Endpoint.{Endpoint}
 use Rattle.krb_packet.specs.declared.packet.Packet.{Packet}
-use Rattle.krb_text.specs.declared.origin.Origin.{Origin}
+use Rattle.krb_record.specs.declared.capture_origin.CaptureOrigin.{CaptureOrigin}
 use Rattle.krb_record.specs.declared.flow.Transport.{Transport}
 use Rattle.krb_capture.specs.declared.flow.Due.{Due}
 use Rattle.krb_capture.specs.declared.flow.Flow.{Flow}
@@ -23,5 +23,5 @@ flow_between source target = record { source_port = source.port; target_port = t
 abbrev pub due_with : Packet → Due
 due_with packet = record { packet = packet.number; time = packet.time }
 
-abbrev pub origin_of : Due → Transport → Endpoint → Endpoint → Origin
-origin_of due transport from to = record { packet = due.packet; time = due.time; transport = transport; source = from; target = to }
+abbrev pub origin_of : Due → Transport → Endpoint → Endpoint → CaptureOrigin
+origin_of due transport from to = record { packet = due.packet; time = due.time; flow = record { transport = transport; source = from; target = to } }

@@ -2,11 +2,12 @@
 use Rattle.std.specs.Prelude.{ℕ, ◌+◌, ◌-◌, ◌^◌, ◌≤◌, min, List, [], ◌∷◌, ◌++◌, length, Option, None, Some}
 use Rattle.krb_der.specs.declared.verdict.Refusal.{Refusal}
 use Rattle.krb_msg.specs.declared.message.Message.{Message}
-use Rattle.krb_text.specs.Captures.{captured_message_line, captured_refused_line, joined_line, lost_line, password_line}
-use Rattle.krb_text.specs.declared.capture.CaptureCounts.{CaptureCounts}
+use Rattle.krb_record.specs.Captures.{captured_refused_line, joined_line, lost_line, password_line}
+use Rattle.krb_text.specs.Messages.{captured_message_line}
+use Rattle.krb_record.specs.declared.capture.CaptureCounts.{CaptureCounts}
 use Rattle.krb_record.specs.declared.extent.Extent.{Extent}
 use Rattle.krb_record.specs.declared.form.Form.{Form}
-use Rattle.krb_text.specs.declared.origin.Origin.{Origin}
+use Rattle.krb_record.specs.declared.capture_origin.CaptureOrigin.{CaptureOrigin}
 
 -- A message; a message or a frame that is refused, the path of the field at fault, and where the frame is and its length; that a direction begins without its SYN; octets that are not in the capture, and the path of the field that has the first of them; a message that changes a password, with the lengths of its parts.
 pub data Found : Type 0 where
@@ -16,7 +17,7 @@ pub data Found : Type 0 where
   Missing : (place : ℕ) → (octets : ℕ) → (path : Option (List ℕ)) → Found
   Password : (version : ℕ) → (ap : ℕ) → (rest : ℕ) → Found
 
-abbrev pub found_line : Form → Origin → Found → List ℕ
+abbrev pub found_line : Form → CaptureOrigin → Found → List ℕ
 found_line form origin (Whole message) = captured_message_line form origin message
 found_line form origin (Faulty refusal path extent) = captured_refused_line form origin refusal path extent
 found_line form origin Joined = joined_line form origin
@@ -50,10 +51,10 @@ abbrev pub IsFullIf : {X : Type 0} → Option X → List ℕ → Type 0
 IsFullIf None text = Unit {0}
 IsFullIf (Some left) text = IsFull text
 
-abbrev pub with_found : Origin → Found → Written → Written
+abbrev pub with_found : CaptureOrigin → Found → Written → Written
 with_found origin found written = record written { text = written.text ++ found_line written.form origin found; counts = counted found written.counts }
 
-abbrev pub with_all : Origin → List Found → Written → Written
+abbrev pub with_all : CaptureOrigin → List Found → Written → Written
 with_all origin [] written = written
 with_all origin (first ∷ others) written = with_all origin others (with_found origin first written)
 

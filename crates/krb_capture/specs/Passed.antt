@@ -1,7 +1,7 @@
 -- What is listed of the frames of messages that change passwords, as their octets come.
 use Rattle.std.specs.Prelude.{ℕ, ◌≡◌, ◌⊎◌, ◌+◌, ◌≤◌, nat_lt, if◌then◌else◌, Bool, true, false, List, [], ◌++◌, length, take, drop, Option, Some, None}
 use Rattle.krb_der.specs.Octets.{number}
-use Rattle.krb_text.specs.declared.origin.Origin.{Origin}
+use Rattle.krb_record.specs.declared.capture_origin.CaptureOrigin.{CaptureOrigin}
 use Rattle.krb_capture.specs.Found.{Found, Written, with_all}
 use Rattle.krb_capture.specs.Passwords.{password_found}
 use Rattle.krb_capture.specs.Streams.{after_frame, before_frames, found_with, frame_of, passwords_framed}
@@ -10,7 +10,7 @@ use Rattle.krb_capture.specs.declared.flow.Service.TheVariants as services
 use Rattle.krb_capture.specs.declared.password_frames.PasswordFrames.{PasswordFrames}
 
 -- octets were taken, and the frames that are whole with them or refused were listed
-pub record TakesPasswords (old new : PasswordFrames) (octets : List ℕ) (origin : Origin) (before after : Written) : Type 0 where
+pub record TakesPasswords (old new : PasswordFrames) (octets : List ℕ) (origin : CaptureOrigin) (before after : Written) : Type 0 where
   pub took : (limit : ℕ) (stream : List ℕ) → TookPasswords old limit stream → TookPasswords new limit (stream ++ octets)
   pub listed : (limit : ℕ) (stream : List ℕ) → TookPasswords old limit stream → after ≡ with_all origin (found_with services.Passwords limit stream octets) before
 
@@ -27,12 +27,12 @@ pub record Holds (taker : PasswordFrames) (octets stream : List ℕ) : Type 0 wh
   pub one : AreOfOne taker.limit octets
 
 -- that frame was listed if it is whole or refused
-pub record ListsNext (old new : PasswordFrames) (octets stream : List ℕ) (h : Holds old octets stream) (origin : Origin) (before after : Written) : Type 0 where
+pub record ListsNext (old new : PasswordFrames) (octets stream : List ℕ) (h : Holds old octets stream) (origin : CaptureOrigin) (before after : Written) : Type 0 where
   pub limit : new.limit ≡ old.limit
   pub state : KeepsUnless new.is_over new stream
   pub listed : after ≡ with_all origin (drop (length h.before) (passwords old.limit stream).found) before
 
-abbrev pub ListsWhole : PasswordFrames → PasswordFrames → Origin → Written → Written → Type 0
+abbrev pub ListsWhole : PasswordFrames → PasswordFrames → CaptureOrigin → Written → Written → Type 0
 ListsWhole old new origin before after = (stream : List ℕ) (h : Holds old old.octets.items stream) → ListsNext old new old.octets.items stream h origin before after
 
 -- the length of a frame, if its octets are there
@@ -52,14 +52,14 @@ pub record PassesOver (old : PasswordFrames) (n count : ℕ) (new : PasswordFram
   pub offset : new.offset ≡ after_frame old.offset n
 
 -- the contents of a frame that is whole were listed
-pub record ListsContentsOf (old : PasswordFrames) (n : ℕ) (contents : List ℕ) (new : PasswordFrames) (origin : Origin) (before after : Written) : Type 0 where
+pub record ListsContentsOf (old : PasswordFrames) (n : ℕ) (contents : List ℕ) (new : PasswordFrames) (origin : CaptureOrigin) (before after : Written) : Type 0 where
   pub passes : PassesOver old n 0 new
   pub listed : after ≡ with_all origin (password_found (frame_of old.offset n) 4 contents) before
 
 -- if it is not whole nothing changes
-abbrev pub ListsContentsIf : Bool → PasswordFrames → ℕ → PasswordFrames → Origin → Written → Written → Type 0
+abbrev pub ListsContentsIf : Bool → PasswordFrames → ℕ → PasswordFrames → CaptureOrigin → Written → Written → Type 0
 ListsContentsIf true old n new origin before after = (new ≡ old) × (after ≡ before)
 ListsContentsIf false old n new origin before after = ListsContentsOf old n (drop 4 old.octets.items) new origin before after
 
-abbrev pub ListsContents : PasswordFrames → ℕ → PasswordFrames → Origin → Written → Written → Type 0
+abbrev pub ListsContents : PasswordFrames → ℕ → PasswordFrames → CaptureOrigin → Written → Written → Type 0
 ListsContents old n new origin before after = ListsContentsIf (nat_lt (length old.octets.items) (4 + n)) old n new origin before after

@@ -1,7 +1,7 @@
 -- What is left of a packet whose records are not all listed.
 use Rattle.std.specs.Prelude.{ℕ, ◌≡◌, List, [], ◌++◌, Option, Some, None, Box}
 use Rattle.std.specs.declared.alloc.Global.{Global}
-use Rattle.krb_text.specs.declared.origin.Origin.{Origin}
+use Rattle.krb_record.specs.declared.capture_origin.CaptureOrigin.{CaptureOrigin}
 use Rattle.krb_capture.specs.Captures.{Finding, Progress, Settings, Taken, counted_each, lines_of, over_tcp, with_each}
 use Rattle.krb_capture.specs.Directions.{HoldsMaps, HoldsTable, IsKnown, Table, in_flow, kept}
 use Rattle.krb_capture.specs.Found.{Found, IsFullIf, Written, with_all}
@@ -34,7 +34,7 @@ TookSome taker limit whole None left = Took taker limit whole × (left ≡ [])
 TookSome taker limit whole (Some octets) left = TookBut taker limit whole octets left
 
 -- octets after a stream were taken, but for some that are left
-pub record Takes (old new : Frames) (limit : ℕ) (stream : List ℕ) (octets : Unlisted) (rest : Option Unlisted) (origin : Origin) (before after : Written) : Type 0 where
+pub record Takes (old new : Frames) (limit : ℕ) (stream : List ℕ) (octets : Unlisted) (rest : Option Unlisted) (origin : CaptureOrigin) (before after : Written) : Type 0 where
   pub listed : List Found
   pub left : List Found
   pub parts : unlisted_found (service_of old) limit stream octets ≡ listed ++ left
@@ -53,7 +53,7 @@ pub record RepresentsBut (kept : Sending) (limit : ℕ) (sent : Sent) (octets : 
   pub state : kept.direction.state ≡ sent.state
   pub took : TookSome kept.frames limit sent.stream octets left
 
-pub record Sends (kept : Sending) (limit : ℕ) (sent : Sent) (octets : Option Unlisted) (origin : Origin) (found : List Found) (before after : Written) : Type 0 where
+pub record Sends (kept : Sending) (limit : ℕ) (sent : Sent) (octets : Option Unlisted) (origin : CaptureOrigin) (found : List Found) (before after : Written) : Type 0 where
   pub listed : List Found
   pub left : List Found
   pub parts : found ≡ listed ++ left

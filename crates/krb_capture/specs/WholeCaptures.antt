@@ -7,14 +7,14 @@ use Rattle.krb_packet.specs.Table.{Table as Fragments}
 use Rattle.krb_packet.specs.declared.contents.Contents.{Contents}
 use Rattle.krb_packet.specs.declared.contents.Contents.TheVariants as contents
 use Rattle.krb_packet.specs.declared.contents.Datagram.{Datagram}
-use Rattle.krb_packet.specs.declared.contents.Endpoint.{Endpoint}
+use Rattle.krb_net.specs.declared.endpoint.Endpoint.{Endpoint}
 use Rattle.krb_packet.specs.declared.contents.Segment.{Segment}
 use Rattle.krb_packet.specs.declared.fragments.Reassembled.{Reassembled}
 use Rattle.krb_packet.specs.declared.packet.Packet.{Packet}
 use Rattle.krb_flow.specs.Arrivals.{AreAllOf}
 use Rattle.krb_flow.specs.Laws.{Piece, segments_of}
 use Rattle.krb_flow.specs.declared.direction.Beginning.{Beginning}
-use Rattle.krb_text.specs.declared.origin.Origin.{Origin}
+use Rattle.krb_record.specs.declared.capture_origin.CaptureOrigin.{CaptureOrigin}
 use Rattle.krb_record.specs.declared.flow.Transport.{Transport}
 use Rattle.krb_record.specs.declared.flow.Transport.TheVariants as transports
 use Rattle.krb_capture.specs.Captures.{Finding, Progress, Settings, at_first, contents_in, end_taken, packet_taken}
@@ -86,8 +86,8 @@ same_transport transports.Udp transports.Udp = true
 same_transport transports.Tcp transports.Udp = false
 same_transport transports.Udp transports.Tcp = false
 
-abbrev pub is_from : Transport → Endpoint → Endpoint → Origin → Bool
-is_from transport source target origin = same_transport transport origin.transport && are_ends source target origin.source origin.target
+abbrev pub is_from : Transport → Endpoint → Endpoint → CaptureOrigin → Bool
+is_from transport source target origin = same_transport transport origin.flow.transport && are_ends source target origin.flow.source origin.flow.target
 
 -- what is found from a source to a target, in order
 abbrev pub found_between : Transport → Endpoint → Endpoint → List Finding → List Found

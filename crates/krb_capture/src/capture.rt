@@ -1,6 +1,6 @@
 //! A capture, followed packet by packet.
 
-ghost use Rattle.std.specs.Prelude.{◌≡◌, ℕ, ◌++◌, true, List, None, Some, IfOk, IsErr, OnErr, OnOk};
+ghost use Rattle.std.specs.Prelude.{◌≡◌, ◌++◌, true, List, None, Some, IfOk, IsErr, OnErr, OnOk};
 ghost use Rattle.std.specs.Option.{option_copied};
 ghost use Rattle.krb_packet.specs.Fragments.{unread};
 ghost use Rattle.krb_capture.specs.Captures.{Finding, HasEnded, HasFollowed, Progress, Settings, all_counts, and_counted, at_first, contents_taken, datagram_taken, end_taken, end_text, fragment_taken, is_clean, packet_taken, refusal_text, segment_taken, unread_taken, whole_taken};
@@ -16,8 +16,9 @@ use krb_der::Memory;
 use krb_file::FileWhy;
 use krb_frame::Limit;
 use krb_packet::{Contents, Datagram, Ends, Fragment, Fragments, Packet, Segment, contents_of};
-use krb_record::{Extent, Form, TextBuffer, Transport};
-use krb_text::{CaptureCounts, put_capture_end, put_capture_refusal};
+use krb_record::{
+    CaptureCounts, Extent, Form, TextBuffer, Transport, put_capture_end, put_capture_refusal,
+};
 use std::alloc::Global;
 
 /// What was found in the packets of a capture so far. It allocates for the fragments of datagrams

@@ -11,15 +11,14 @@ use crate::password::list_password;
 use krb_der::{Memory, Refusal, Why};
 use krb_flow::Lost;
 use krb_packet::Payload;
-use krb_record::Extent;
-use krb_text::Origin;
+use krb_record::{CaptureOrigin, Extent};
 
 /// Lists the message of a datagram.
 #[tactic(auto, unfolding(crate::specs::Datagrams::datagram_found))]
 pub(crate) fn list_datagram(
     service: Service,
     payload: &Payload<'_>,
-    origin: &Origin,
+    origin: &CaptureOrigin,
     listing: &mut Listing<'_>,
 ) -> Result<(), Memory>
     ensures { OnOk result (listing.new ≡ with_all origin.now (datagram_found service payload.now) listing.old) }

@@ -3,9 +3,9 @@
 ghost use Rattle.std.specs.Prelude.{◌≡◌};
 ghost use Rattle.krb_capture.specs.Flows.{due_with, flow_between, origin_of, service_of};
 
-use krb_packet::{Endpoint, Packet};
-use krb_record::Transport;
-use krb_text::Origin;
+use krb_net::{Endpoint, Timestamp};
+use krb_packet::Packet;
+use krb_record::{CaptureOrigin, Transport};
 
 /// The port of changes of passwords (RFC 3244, 2).
 const PASSWORD_PORT: u16 = 464;
@@ -65,7 +65,7 @@ impl Service {
 #[derive(Clone, Copy)]
 pub(crate) struct Due {
     pub(crate) packet: u64,
-    pub(crate) time: Option<krb_packet::Time>,
+    pub(crate) time: Option<Timestamp>,
 }
 
 impl Due {
@@ -80,15 +80,22 @@ impl Due {
     }
 
     /// Returns the origin of records of a flow over a transport.
-    pub(crate) fn over(self, transport: Transport, source: Endpoint, target: Endpoint) -> Origin
+    pub(crate) fn over(
+        self,
+        transport: Transport,
+        source: Endpoint,
+        target: Endpoint,
+    ) -> CaptureOrigin
         ensures { result ≡ origin_of self transport source target }
     {
-        Origin {
+        CaptureOrigin {
             packet: self.packet,
             time: self.time,
-            transport,
-            source,
-            target,
+            flow: krb_record::Flow {
+                transport,
+                source,
+                target,
+            },
         }
     }
 }

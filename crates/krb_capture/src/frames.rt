@@ -12,7 +12,7 @@ use crate::password_frames::PasswordFrames;
 use krb_der::Memory;
 use krb_flow::{End, Lost};
 use krb_frame::Limit;
-use krb_text::Origin;
+use krb_record::CaptureOrigin;
 use std::alloc::Global;
 
 /// The frames that one end of a connection sends.
@@ -43,7 +43,7 @@ impl Frames {
     pub(crate) fn take(
         &mut self,
         octets: &[u8],
-        origin: &Origin,
+        origin: &CaptureOrigin,
         listing: &mut Listing<'_>,
     ) -> Result<usize, Memory>
         ensures service { OnOk result (service_of self.new ≡ service_of self.old) }
@@ -66,7 +66,7 @@ impl Frames {
     pub(crate) fn end(
         &self,
         end: End,
-        origin: &Origin,
+        origin: &CaptureOrigin,
         listing: &mut Listing<'_>,
     ) -> Result<(), Memory>
         ensures { OnOk result ((limit : ℕ) (stream : List ℕ) → Took self.now limit stream → listing.new ≡ with_all origin.now (end_found (service_of self.now) limit stream end) listing.old) }
@@ -94,7 +94,7 @@ impl Frames {
     fn list_lost(
         &self,
         lost: Lost,
-        origin: &Origin,
+        origin: &CaptureOrigin,
         listing: &mut Listing<'_>,
     ) -> Result<(), Memory>
         ensures { OnOk result (listing.new ≡ with_found origin.now (Missing lost.place lost.octets (open_path (service_of self.now) (kept_in self.now))) listing.old) }
@@ -109,7 +109,7 @@ impl Frames {
     }
 
     /// Lists the refusal of the frame that is not whole, if there is one.
-    fn list_cut(&self, origin: &Origin, listing: &mut Listing<'_>) -> Result<(), Memory>
+    fn list_cut(&self, origin: &CaptureOrigin, listing: &mut Listing<'_>) -> Result<(), Memory>
         ensures { OnOk result ((limit : ℕ) (stream : List ℕ) → Took self.now limit stream → over_in self.now ≡ false → listing.new ≡ with_all origin.now (refusal_found (service_of self.now) (offset_in self.now) (kept_in self.now) (cut_refusal (kept_in self.now))) listing.old) }
     {
         match self {

@@ -1,17 +1,17 @@
 //! What is listed of a capture.
 
-ghost use Rattle.std.specs.Prelude.{◌≡◌, ◌↔◌, ◌<◌, ◌^◌, IfOk, IsTrue, OnOk, length, string_bytes};
+ghost use Rattle.std.specs.Prelude.{◌≡◌, ◌↔◌, ◌<◌, ◌^◌, IfOk, IsTrue, OnOk, length};
 ghost use Rattle.std.specs.Option.{option_copied};
 ghost use Rattle.krb_capture.specs.Found.{IsFull, Faulty, Joined, Missing, Password, and_more, totals, with_found};
 ghost use Rattle.krb_capture.specs.Listed.{IsListed};
 
 use krb_der::{Memory, Profile, Refusal};
 use krb_flow::Lost;
-use krb_record::{Extent, Form, TextBuffer};
-use krb_text::{
-    CaptureCounts, Origin, put_captured_message, put_captured_refusal, put_joined, put_lost,
-    put_password,
+use krb_record::{
+    CaptureCounts, CaptureOrigin, Extent, Form, TextBuffer, put_captured_refusal, put_joined,
+    put_lost, put_password,
 };
+use krb_text::put_captured_message;
 use std::alloc::Global;
 use std::marker::Model;
 
@@ -106,7 +106,7 @@ impl<'text> Listing<'text> {
     /// Adds a message, if octets are one of a profile, and returns whether they are.
     pub(crate) fn put_message(
         &mut self,
-        origin: &Origin,
+        origin: &CaptureOrigin,
         profile: Profile,
         octets: &[u8],
     ) -> Result<bool, Memory>
@@ -124,7 +124,7 @@ impl<'text> Listing<'text> {
     /// length.
     pub(crate) fn put_refusal(
         &mut self,
-        origin: &Origin,
+        origin: &CaptureOrigin,
         refusal: Refusal,
         path: Option<&str>,
         extent: Extent,
@@ -137,7 +137,7 @@ impl<'text> Listing<'text> {
     }
 
     /// Adds that a direction began without its SYN.
-    pub(crate) fn put_joined(&mut self, origin: &Origin) -> Result<(), Memory>
+    pub(crate) fn put_joined(&mut self, origin: &CaptureOrigin) -> Result<(), Memory>
         ensures { OnOk result (self.new ≡ with_found origin.now Joined self.old) }
     {
         put_joined(self.text, self.tally.form, origin)?;
@@ -147,7 +147,7 @@ impl<'text> Listing<'text> {
     /// Adds octets that are missing, and the path of the field that has the first of them.
     pub(crate) fn put_lost(
         &mut self,
-        origin: &Origin,
+        origin: &CaptureOrigin,
         lost: Lost,
         path: Option<&str>,
     ) -> Result<(), Memory>
@@ -169,7 +169,7 @@ impl<'text> Listing<'text> {
     /// AP-REP has, and what follows that.
     pub(crate) fn put_password(
         &mut self,
-        origin: &Origin,
+        origin: &CaptureOrigin,
         version: u16,
         ap: u16,
         rest: u64,

@@ -10,8 +10,7 @@ use crate::listing::Listing;
 use krb_der::{Memory, Profile, Refusal, Verdict, Why};
 use krb_flow::Lost;
 use krb_judge::{judge, path, read_message};
-use krb_record::{Extent, Form};
-use krb_text::Origin;
+use krb_record::{CaptureOrigin, Extent, Form};
 use std::alloc::Global;
 
 /// The greatest number of octets of a message.
@@ -43,7 +42,7 @@ pub(crate) fn list_refused(
     before: u32,
     extent: Extent,
     refusal: Refusal,
-    origin: &Origin,
+    origin: &CaptureOrigin,
     listing: &mut Listing<'_>,
 ) -> Result<(), Memory>
     requires present { length octets.now ≤ size }
@@ -64,7 +63,7 @@ pub(crate) fn list_message(
     octets: &[u8],
     before: u32,
     extent: Extent,
-    origin: &Origin,
+    origin: &CaptureOrigin,
     listing: &mut Listing<'_>,
 ) -> Result<(), Memory>
     requires { before < 2 ^ 31 }
@@ -105,7 +104,7 @@ pub(crate) fn list_cut_message(
     octets: &[u8],
     size: u64,
     extent: Extent,
-    origin: &Origin,
+    origin: &CaptureOrigin,
     listing: &mut Listing<'_>,
 ) -> Result<(), Memory>
     requires some { 0 < size }
@@ -122,7 +121,7 @@ pub(crate) fn list_cut_message(
 fn list_missing(
     octets: &[u8],
     size: u64,
-    origin: &Origin,
+    origin: &CaptureOrigin,
     listing: &mut Listing<'_>,
 ) -> Result<(), Memory>
     requires present { length octets.now ≤ size }

@@ -14,8 +14,7 @@ use crate::listing::{Listing, and_more};
 use crate::message::path_of;
 use krb_der::{Memory, Profile, Refusal};
 use krb_frame::{Decoder, Delivered, Limit, Receiver, SkippingDecoder};
-use krb_record::{Extent, Form};
-use krb_text::Origin;
+use krb_record::{CaptureOrigin, Extent, Form};
 use std::alloc::Global;
 
 /// The frames of messages that one end sends. It keeps the octets of the frame that is not whole
@@ -47,7 +46,7 @@ impl MessageFrames {
     pub(crate) fn take(
         &mut self,
         octets: &[u8],
-        origin: &Origin,
+        origin: &CaptureOrigin,
         listing: &mut Listing<'_>,
     ) -> Result<usize, Memory>
         ensures few { IfOk result (λ count. count ≤ length octets.now) }
@@ -103,7 +102,7 @@ impl MessageFrames {
 struct FrameLister<'a, 'text> {
     /// Where in the direction the next frame begins.
     offset: u64,
-    origin: &'a Origin,
+    origin: &'a CaptureOrigin,
     listing: &'a mut Listing<'text>,
 }
 

@@ -7,8 +7,7 @@ ghost use Rattle.krb_capture.specs.Passwords.{checked, header, number, part_foun
 use crate::listing::Listing;
 use crate::message::list_message;
 use krb_der::{Memory, Refusal, Why};
-use krb_record::Extent;
-use krb_text::Origin;
+use krb_record::{CaptureOrigin, Extent};
 
 /// How many octets precede the AP-REQ or AP-REP: the length, the version, and the length of that.
 const HEADER: usize = 6;
@@ -110,7 +109,7 @@ fn list_part(
     octets: &[u8],
     before: u32,
     extent: Extent,
-    origin: &Origin,
+    origin: &CaptureOrigin,
     listing: &mut Listing<'_>,
 ) -> Result<(), Memory>
     requires { before < 2 ^ 31 }
@@ -127,7 +126,7 @@ fn list_fault(
     before: u32,
     extent: Extent,
     fault: Fault,
-    origin: &Origin,
+    origin: &CaptureOrigin,
     listing: &mut Listing<'_>,
 ) -> Result<(), Memory>
     requires { before < 2 ^ 30 }
@@ -147,7 +146,7 @@ pub(crate) fn list_password(
     octets: &[u8],
     before: u32,
     extent: Extent,
-    origin: &Origin,
+    origin: &CaptureOrigin,
     listing: &mut Listing<'_>,
 ) -> Result<(), Memory>
     requires { before < 2 ^ 30 }
@@ -166,7 +165,7 @@ fn list_parts(
     before: u32,
     extent: Extent,
     header: Header,
-    origin: &Origin,
+    origin: &CaptureOrigin,
     listing: &mut Listing<'_>,
 ) -> Result<(), Memory>
     requires few { before < 2 ^ 30 }

@@ -13,8 +13,7 @@ use crate::message_frames::extent_of;
 use crate::password::list_password;
 use krb_der::{Memory, Refusal, Why};
 use krb_frame::{Limit, first_frame, length_fault};
-use krb_record::Extent;
-use krb_text::Origin;
+use krb_record::{CaptureOrigin, Extent};
 use std::alloc::Global;
 
 /// How many octets a frame's length has.
@@ -54,7 +53,7 @@ impl PasswordFrames {
     pub(crate) fn take(
         &mut self,
         octets: &[u8],
-        origin: &Origin,
+        origin: &CaptureOrigin,
         listing: &mut Listing<'_>,
     ) -> Result<usize, Memory>
         ensures few { IfOk result (λ count. count ≤ length octets.now) }
@@ -74,7 +73,7 @@ impl PasswordFrames {
     fn take_some(
         &mut self,
         octets: &[u8],
-        origin: &Origin,
+        origin: &CaptureOrigin,
         listing: &mut Listing<'_>,
     ) -> Result<usize, Memory>
         requires { 0 < length octets.now }
@@ -102,7 +101,7 @@ impl PasswordFrames {
     fn list_lent(
         &mut self,
         contents: &[u8],
-        origin: &Origin,
+        origin: &CaptureOrigin,
         listing: &mut Listing<'_>,
     ) -> Result<usize, Memory>
         requires { length contents.now < 2 ^ 31 }
@@ -120,7 +119,7 @@ impl PasswordFrames {
     fn keep_some(
         &mut self,
         octets: &[u8],
-        origin: &Origin,
+        origin: &CaptureOrigin,
         listing: &mut Listing<'_>,
     ) -> Result<usize, Memory>
         requires some { 0 < length octets.now }
@@ -147,7 +146,11 @@ impl PasswordFrames {
     }
 
     /// Lists the frame if it is whole or refused, and begins the next one.
-    fn list_whole(&mut self, origin: &Origin, listing: &mut Listing<'_>) -> Result<(), Memory>
+    fn list_whole(
+        &mut self,
+        origin: &CaptureOrigin,
+        listing: &mut Listing<'_>,
+    ) -> Result<(), Memory>
         ensures { OnOk result (ListsWhole self.old self.new origin.now listing.old listing.new) }
     {
         let Some(size) = self.length() else {
@@ -169,7 +172,7 @@ impl PasswordFrames {
     fn list_contents(
         &mut self,
         size: u32,
-        origin: &Origin,
+        origin: &CaptureOrigin,
         listing: &mut Listing<'_>,
     ) -> Result<(), Memory>
         requires { 4 ≤ length self.old.octets.items }
@@ -243,7 +246,7 @@ impl PasswordFrames {
 fn list_refused(
     why: Why,
     extent: Extent,
-    origin: &Origin,
+    origin: &CaptureOrigin,
     listing: &mut Listing<'_>,
 ) -> Result<(), Memory>
     ensures { OnOk result (listing.new ≡ with_found origin.now (length_found extent why) listing.old) }

@@ -15,8 +15,7 @@ use krb_der::Memory;
 use krb_flow::{Beginning, Direction, End, Had};
 use krb_frame::Limit;
 use krb_packet::Segment;
-use krb_record::Transport;
-use krb_text::Origin;
+use krb_record::{CaptureOrigin, Transport};
 use std::alloc::Global;
 use std::marker::Model;
 
@@ -200,7 +199,7 @@ impl Sending {
         octets: &[u8],
         others: &[u8],
         end: Option<End>,
-        origin: &Origin,
+        origin: &CaptureOrigin,
         listing: &mut Listing<'_>,
     ) -> Result<Option<Unlisted>, Memory>
         ensures same { self.new ≡ record self.old { frames = self.new.frames } }
@@ -219,7 +218,7 @@ impl Sending {
     fn list_left(
         &mut self,
         mut left: Unlisted,
-        origin: &Origin,
+        origin: &CaptureOrigin,
         listing: &mut Listing<'_>,
     ) -> Result<Option<Unlisted>, Memory>
         ensures same { self.new ≡ record self.old { frames = self.new.frames } }
@@ -238,7 +237,7 @@ impl Sending {
     fn list_end(
         &self,
         end: Option<End>,
-        origin: &Origin,
+        origin: &CaptureOrigin,
         listing: &mut Listing<'_>,
     ) -> Result<(), Memory>
         ensures { OnOk result ((limit : ℕ) (stream : List ℕ) → Took self.now.frames limit stream → listing.new ≡ with_all origin.now (end_if (service_of self.now.frames) limit stream end) listing.old) }
@@ -254,7 +253,7 @@ impl Sending {
     fn begin(
         &mut self,
         begins: Option<Beginning>,
-        origin: &Origin,
+        origin: &CaptureOrigin,
         listing: &mut Listing<'_>,
     ) -> Result<(), Memory>
         ensures same { self.new ≡ record self.old { frames = self.new.frames } }

@@ -2,7 +2,7 @@
 use Rattle.std.specs.Prelude.{ℕ, ◌≡◌, List, ◌++◌, Option, Some, None}
 use Rattle.krb_file.specs.Fields.{Fault}
 use Rattle.krb_packet.specs.Captures.{packets}
-use Rattle.krb_text.specs.Captures.{capture_end_line, capture_refused_line}
+use Rattle.krb_record.specs.Captures.{capture_end_line, capture_refused_line}
 use Rattle.krb_capture.specs.Captures.{Progress, Settings, all_counts, at_first, end_taken, lines_of}
 use Rattle.krb_capture.specs.WholeCaptures.{capture_found}
 use Rattle.krb_run.specs.Extents.{extent_of}

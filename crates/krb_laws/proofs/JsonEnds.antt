@@ -11,8 +11,8 @@ use Rattle.krb_input.specs.Spellings.{spelling_name}
 use Rattle.krb_input.specs.declared.spelling.Spelling.{Spelling}
 use Rattle.krb_input.specs.declared.spelling.Spelling.TheVariants as spellings
 use Rattle.krb_msg.specs.Stream.{End, Boundary, Within, Refused}
-use Rattle.krb_packet.specs.declared.packet.Time.{Time}
-use Rattle.krb_text.specs.Captures.{capture_refused_record, count_fields, lost_record, origin_fields, password_record}
+use Rattle.krb_net.specs.declared.timestamp.Timestamp.{Timestamp}
+use Rattle.krb_record.specs.Captures.{capture_refused_record, count_fields, lost_record, origin_fields, password_record}
 use Rattle.krb_record.specs.Files.{file_record}
 use Rattle.krb_record.specs.Inputs.{input_refused_record, input_word}
 use Rattle.krb_record.specs.Origins.{message_origin}
@@ -20,16 +20,16 @@ use Rattle.krb_record.specs.Refusals.{extent_in, file_refused_record, message_re
 use Rattle.krb_text.specs.StreamEnds.{end_record}
 use Rattle.krb_record.specs.Streams.{counted_end_record, refused_frame, refused_record}
 use Rattle.krb_record.specs.Text.{IsPrintable}
-use Rattle.krb_record.specs.Time.{instant_text}
+use Rattle.krb_record.specs.Time.{timestamp_text}
 use Rattle.krb_record.specs.Values.{Field, Number, String, Word, if_there, printed, with_origin}
 use Rattle.krb_record.specs.declared.extent.Extent.{Extent}
 use Rattle.krb_record.specs.declared.form.Form.TheVariants as forms
 use Rattle.krb_record.specs.declared.input.InputFault.{InputFault}
 use Rattle.krb_record.specs.declared.input.InputFault.TheVariants as faults
-use Rattle.krb_text.specs.declared.origin.Origin.{Origin}
+use Rattle.krb_record.specs.declared.capture_origin.CaptureOrigin.{CaptureOrigin}
 use Rattle.krb_record.proofs.Printable.{Prints, word}
 use Rattle.krb_record.proofs.Reasons as reasons
-use Rattle.krb_record.proofs.Times.{instant}
+use Rattle.krb_record.proofs.Times.{timestamp}
 use Rattle.krb_text_laws.proofs.Tuples.{◌&◌}
 use Rattle.krb_laws.specs.JsonLaws.{CapturesAreJson, EndsAreJson, IsEnd, IsExtent, IsFlowOrigin, PrintsJson, ValueFits, are_different, is_plain}
 use Rattle.krb_laws.proofs.JsonMessages.{its_origin, message_from}
@@ -106,11 +106,11 @@ ends_are_json = record {
 }
 
 -- ---- captures
-its_time : (time : Option Time) → IfSome time (λ time. time.seconds < 2 ^ 32) → ValueFits (if_there (λ time. Word (instant_text time.seconds time.nanoseconds)) time)
+its_time : (time : Option Timestamp) → IfSome time (λ time. time.seconds < 2 ^ 32) → ValueFits (if_there (λ time. Word (timestamp_text time.seconds time.nanoseconds)) time)
 its_time None h = tt
-its_time (Some time) h = (instant time.seconds time.nanoseconds h).all
+its_time (Some time) h = (timestamp time.seconds time.nanoseconds h).all
 
-flow_origin : (origin : Origin) → IsFlowOrigin origin → IsOrigin (origin_fields origin)
+flow_origin : (origin : CaptureOrigin) → IsFlowOrigin origin → IsOrigin (origin_fields origin)
 flow_origin origin h = record {
   plain = refl;
   keeps = false ∷ false ∷ [];
@@ -118,7 +118,7 @@ flow_origin origin h = record {
   values = h.packet & its_time origin.time h.in_range.time & ((h.in_range.source, omega (arith, h.source)), (h.in_range.target, omega (arith, h.target))) & tt;
 }
 
-captured : (origin : Origin) (kind : List ℕ) (fields : List Field) → IsFlowOrigin origin → is_plain kind ≡ true → names_are_plain fields ≡ true → are_different (codes "kind" ∷ (origin_names ++ (names_of fields ++ []))) ≡ true → ValuesFit fields → PrintsJson (with_origin (origin_fields origin) (printed kind fields))
+captured : (origin : CaptureOrigin) (kind : List ℕ) (fields : List Field) → IsFlowOrigin origin → is_plain kind ≡ true → names_are_plain fields ≡ true → are_different (codes "kind" ∷ (origin_names ++ (names_of fields ++ []))) ≡ true → ValuesFit fields → PrintsJson (with_origin (origin_fields origin) (printed kind fields))
 captured origin kind fields o k n a v = from (origin_fields origin) kind fields (flow_origin origin o) k n a v
 
 pub captures_are_json : CapturesAreJson

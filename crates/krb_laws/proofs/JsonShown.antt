@@ -24,7 +24,7 @@ IsCounted (Address addr_type octets) = IsSmall addr_type
 IsCounted (Digest cksumtype size) = IsSmall cksumtype × (size < 2 ^ 64)
 IsCounted (Offset seconds microseconds) = IsSmall seconds × IsSmall microseconds
 IsCounted (RefusedTicket refusal) = refusal.place < 2 ^ 64
-IsCounted (Flow transport source target) = (source.1 < 2 ^ 64) × (target.1 < 2 ^ 64)
+IsCounted (Flow transport source target) = (source.port < 2 ^ 64) × (target.port < 2 ^ 64)
 IsCounted value = Unit {0}
 
 fits : (value : Value) → IsShown value → IsCounted value → ValueFits value

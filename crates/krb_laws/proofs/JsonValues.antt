@@ -6,12 +6,12 @@ use Rattle.std.specs.List.{AllByRecursion, flat_map}
 use Rattle.std.specs.Net.Text.{ip_text}
 use Rattle.json.specs.Json.{Json, Members, member, object, string}
 use Rattle.json.specs.Strict.{keys}
+use Rattle.krb_net.specs.declared.endpoint.Endpoint.{Endpoint}
 use Rattle.krb_der.specs.Reasons.{reason_number, reason_name}
 use Rattle.krb_der.specs.declared.verdict.Refusal.{Refusal}
 use Rattle.krb_der.specs.declared.why.Why.{Why}
 use Rattle.krb_der.specs.declared.why.Why.TheVariants as whys
 use Rattle.krb_msg.specs.Term.{IfPresent}
-use Rattle.std.specs.declared.net.ip_addr.IpAddr.{IpAddr}
 use Rattle.krb_registry.specs.Rows.{name_of}
 use Rattle.krb_registry.specs.declared.registry.Registry.{Registry}
 use Rattle.krb_registry.specs.declared.registry.Registry.TheVariants as registries
@@ -155,18 +155,18 @@ some_refused r h =
         go b c d e = simp append_assoc refl
 
 -- ---- flows
-some_endpoint : (e : IpAddr × ℕ) → IsEndpoint e → IsText (endpoint_object e) (endpoint_json e) 1
+some_endpoint : (e : Endpoint) → IsEndpoint e → IsText (endpoint_object e) (endpoint_json e) 1
 some_endpoint e h =
     as_text
-    (first_plain {levels = 0} (codes "address") (ip_text e.0) refl (plain_address e.0 h.0)
-    (next (codes "port") refl (a_number e.1 h.1) no_more_members) refl)
-    (five (codes "{\"address\":\"") (ip_text e.0) (codes "\",\"port\":") (decimal e.1) (codes "}"))
+    (first_plain {levels = 0} (codes "address") (ip_text e.address) refl (plain_address e.address h.0)
+    (next (codes "port") refl (a_number e.port h.1) no_more_members) refl)
+    (five (codes "{\"address\":\"") (ip_text e.address) (codes "\",\"port\":") (decimal e.port) (codes "}"))
 
 plain_transport : (t : Transport) → IsPlain (transport_name t)
 plain_transport transports.Udp = is_plain-plain (codes "udp") refl
 plain_transport transports.Tcp = is_plain-plain (codes "tcp") refl
 
-some_flow : (t : Transport) (source target : IpAddr × ℕ) → IsEndpoint source → IsEndpoint target → IsText (flow_object t source target) (json_of_value (Flow t source target)) 2
+some_flow : (t : Transport) (source target : Endpoint) → IsEndpoint source → IsEndpoint target → IsText (flow_object t source target) (json_of_value (Flow t source target)) 2
 unfolding json_of_value
 some_flow t source target h k =
     as_text

@@ -5,9 +5,9 @@ use Rattle.std.specs.List.{flat_map}
 use Rattle.std.specs.Net.Text.{ip_text}
 use Rattle.json.specs.Json.{Json, null, boolean, number, string, array, object, Members, no_members, member}
 use Rattle.json.specs.Value.{items_of}
+use Rattle.krb_net.specs.declared.endpoint.Endpoint.{Endpoint}
 use Rattle.krb_der.specs.Reasons.{reason_number, reason_name}
 use Rattle.krb_der.specs.declared.verdict.Refusal.{Refusal}
-use Rattle.std.specs.declared.net.ip_addr.IpAddr.{IpAddr}
 use Rattle.krb_registry.specs.Rows.{name_of}
 use Rattle.krb_registry.specs.declared.registry.Registry.{Registry}
 use Rattle.krb_registry.specs.declared.registry.Registry.TheVariants as registries
@@ -101,8 +101,8 @@ refused_json refusal =
     )
     ∷ [])
 
-abbrev pub endpoint_json : IpAddr × ℕ → Json
-endpoint_json e = object_of ((codes "address", string (ip_text e.0)) ∷ (codes "port", count_of e.1) ∷ [])
+abbrev pub endpoint_json : Endpoint → Json
+endpoint_json e = object_of ((codes "address", string (ip_text e.address)) ∷ (codes "port", count_of e.port) ∷ [])
 
 -- the value of a field
 unfoldable pub json_of_value : Value → Json

@@ -7,6 +7,7 @@ use Rattle.json.specs.Json.{Json, document}
 use Rattle.json.specs.Print.{print}
 use Rattle.json.specs.Strict.{HasUniqueKeys}
 use Rattle.json.specs.Tree.{json_tokens}
+use Rattle.krb_net.specs.declared.endpoint.Endpoint.{Endpoint}
 use Rattle.krb_der.specs.declared.profile.Profile.TheVariants as profiles
 use Rattle.krb_der.specs.declared.verdict.Refusal.{Refusal}
 use Rattle.krb_der.specs.declared.why.Why.{Why}
@@ -19,12 +20,11 @@ use Rattle.krb_msg.specs.Types.{ticket_value}
 use Rattle.krb_msg.specs.Views.{IsInProfile}
 use Rattle.krb_msg.specs.declared.message.Message.{Message}
 use Rattle.krb_msg.specs.declared.ticket.Ticket.{Ticket}
-use Rattle.std.specs.declared.net.ip_addr.IpAddr.{IpAddr}
-use Rattle.krb_text.specs.Captures.{capture_refused_record, count_fields, lost_record, origin_fields, password_record}
+use Rattle.krb_record.specs.Captures.{capture_refused_record, count_fields, lost_record, origin_fields, password_record}
 use Rattle.krb_record.specs.Files.{file_record}
 use Rattle.krb_record.specs.Forms.{record_text}
 use Rattle.krb_record.specs.Inputs.{input_refused_record}
-use Rattle.krb_text.specs.Laws.{OriginIsInRange}
+use Rattle.krb_record.specs.Laws.{OriginIsInRange}
 use Rattle.krb_record.specs.Origins.{message_origin}
 use Rattle.krb_text.specs.Messages.{message_record, ticket_record}
 use Rattle.krb_record.specs.Refusals.{extent_in, file_refused_record, message_refused_record, path_in, refusal_record}
@@ -32,11 +32,11 @@ use Rattle.krb_text.specs.StreamEnds.{end_record}
 use Rattle.krb_record.specs.Streams.{counted_end_record, refused_frame}
 use Rattle.krb_record.specs.Text.{IsPrintable}
 use Rattle.krb_record.specs.Values.{Value, Number, Named, Numbers, ErrorCode, Reason, Word, Flags, Encrypted, Principal, Address, Digest, Offset, RefusedTicket, Flow, Field, Part, Printed, printed, with_origin}
-use Rattle.krb_text.specs.declared.capture.CaptureCounts.{CaptureCounts}
+use Rattle.krb_record.specs.declared.capture.CaptureCounts.{CaptureCounts}
 use Rattle.krb_record.specs.declared.extent.Extent.{Extent}
 use Rattle.krb_record.specs.declared.form.Form.TheVariants as forms
 use Rattle.krb_record.specs.declared.input.InputFault.{InputFault}
-use Rattle.krb_text.specs.declared.origin.Origin.{Origin}
+use Rattle.krb_record.specs.declared.capture_origin.CaptureOrigin.{CaptureOrigin}
 use Rattle.krb_input.specs.declared.layer.Layer.{Layer}
 use Rattle.krb_laws.specs.Json.{json_of}
 
@@ -63,8 +63,8 @@ are_different (first ∷ others) = list_all (λ other. not (bytes_eq first other
 abbrev pub IsSmall : ℤ → Type 0
 IsSmall n = unsigned_abs n < 2 ^ 63
 
-abbrev pub IsEndpoint : IpAddr × ℕ → Type 0
-IsEndpoint e = MatchIp e.0 IsIpv4Addr IsIpv6Addr × (e.1 < 2 ^ 64)
+abbrev pub IsEndpoint : Endpoint → Type 0
+IsEndpoint e = MatchIp e.address IsIpv4Addr IsIpv6Addr × (e.port < 2 ^ 64)
 
 -- numbers and sizes are of 64 bits, words are printable, and addresses are as their types have them; octets may be any
 abbrev pub ValueFits : Value → Type 0
@@ -145,11 +145,11 @@ pub record EndsAreJson : Type 0 where
   pub name : (name : List ℕ) → PrintsJson (file_record name)
 
 -- the origin of a record of a capture: its numbers and addresses are as their types have them
-pub record IsFlowOrigin (origin : Origin) : Type 0 where
+pub record IsFlowOrigin (origin : CaptureOrigin) : Type 0 where
   pub in_range : OriginIsInRange origin
   pub packet : origin.packet < 2 ^ 63
-  pub source : origin.source.port < 2 ^ 16
-  pub target : origin.target.port < 2 ^ 16
+  pub source : origin.flow.source.port < 2 ^ 16
+  pub target : origin.flow.target.port < 2 ^ 16
 
 pub record AreCounts (counts : CaptureCounts) : Type 0 where
   pub packets : counts.packets < 2 ^ 63
@@ -160,10 +160,10 @@ pub record AreCounts (counts : CaptureCounts) : Type 0 where
 
 -- of what is found in a capture, and of its end or its refusal
 pub record CapturesAreJson : Type 0 where
-  pub message : (origin : Origin) (m : Message) → IsFlowOrigin origin → IsInProfile profiles.Lenient m → PrintsJson (with_origin (origin_fields origin) (message_record m))
-  pub refusal : (origin : Origin) (refusal : Refusal) (path : Option (List ℕ)) (extent : Extent) → IsFlowOrigin origin → refusal.place < 2 ^ 63 → IsExtent extent → PrintsJson (with_origin (origin_fields origin) (refusal_record refusal (path_in forms.Json path ++ extent_in forms.Json extent)))
-  pub joined : (origin : Origin) → IsFlowOrigin origin → PrintsJson (with_origin (origin_fields origin) (printed (codes "joined") []))
-  pub lost : (origin : Origin) (place octets : ℕ) (path : Option (List ℕ)) → IsFlowOrigin origin → place < 2 ^ 63 → octets < 2 ^ 63 → PrintsJson (with_origin (origin_fields origin) (lost_record forms.Json place octets path))
-  pub password : (origin : Origin) (version ap rest : ℕ) → IsFlowOrigin origin → version < 2 ^ 16 → ap < 2 ^ 16 → rest < 2 ^ 63 → PrintsJson (with_origin (origin_fields origin) (password_record version ap rest))
+  pub message : (origin : CaptureOrigin) (m : Message) → IsFlowOrigin origin → IsInProfile profiles.Lenient m → PrintsJson (with_origin (origin_fields origin) (message_record m))
+  pub refusal : (origin : CaptureOrigin) (refusal : Refusal) (path : Option (List ℕ)) (extent : Extent) → IsFlowOrigin origin → refusal.place < 2 ^ 63 → IsExtent extent → PrintsJson (with_origin (origin_fields origin) (refusal_record refusal (path_in forms.Json path ++ extent_in forms.Json extent)))
+  pub joined : (origin : CaptureOrigin) → IsFlowOrigin origin → PrintsJson (with_origin (origin_fields origin) (printed (codes "joined") []))
+  pub lost : (origin : CaptureOrigin) (place octets : ℕ) (path : Option (List ℕ)) → IsFlowOrigin origin → place < 2 ^ 63 → octets < 2 ^ 63 → PrintsJson (with_origin (origin_fields origin) (lost_record forms.Json place octets path))
+  pub password : (origin : CaptureOrigin) (version ap rest : ℕ) → IsFlowOrigin origin → version < 2 ^ 16 → ap < 2 ^ 16 → rest < 2 ^ 63 → PrintsJson (with_origin (origin_fields origin) (password_record version ap rest))
   pub end : (counts : CaptureCounts) → AreCounts counts → PrintsJson (printed (codes "end") (count_fields counts))
   pub file : (counts : CaptureCounts) (place : ℕ) (reason : FileWhy) (path : Option (List ℕ)) (extent : Extent) → AreCounts counts → place < 2 ^ 63 → IsExtent extent → PrintsJson (capture_refused_record forms.Json counts place reason path extent)

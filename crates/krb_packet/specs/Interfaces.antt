@@ -7,7 +7,7 @@ use Rattle.krb_file.specs.Fields.{Reader, ◌>>=◌, succeed, called, next_octet
 use Rattle.krb_file.specs.FieldReaders.{skipped_at}
 use Rattle.krb_file.specs.declared.field_name.FieldName.TheVariants as fields
 use Rattle.krb_packet.specs.declared.order.ByteOrder.{ByteOrder}
-use Rattle.krb_packet.specs.declared.packet.Time.{Time}
+use Rattle.krb_net.specs.declared.timestamp.Timestamp.{Timestamp}
 use Rattle.krb_packet.specs.declared.interface.Interface.{Interface}
 use Rattle.krb_packet.specs.declared.interface.Clock.{Clock}
 use Rattle.krb_packet.specs.declared.interface.Options.{Options}
@@ -92,7 +92,7 @@ nanoseconds resolution units = units * 10 ^ 9 / units_in_second resolution
 abbrev pub seconds_after : ℤ → ℕ → ℕ
 seconds_after offset seconds = when (int_lt offset (pos 0)) (λ _. seconds - unsigned_abs offset) (λ _. seconds + unsigned_abs offset)
 
-abbrev pub clock_time : Clock → ℕ → Option Time
+abbrev pub clock_time : Clock → ℕ → Option Timestamp
 clock_time clock units =
     let after = nanoseconds clock.resolution units in
     time_at (seconds_after clock.offset (after / 10 ^ 9)) (after % 10 ^ 9)

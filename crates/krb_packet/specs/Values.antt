@@ -3,7 +3,7 @@ use Rattle.std.specs.Prelude.{ℕ, ◌/◌, ◌%◌, ◌^◌, ◌||◌, ◌==◌
 use Rattle.krb_der.specs.Octets.{when}
 use Rattle.krb_packet.specs.declared.packet.LinkType.{LinkType}
 use Rattle.krb_packet.specs.declared.packet.LinkType.TheVariants as links
-use Rattle.krb_packet.specs.declared.packet.Time.{Time}
+use Rattle.krb_net.specs.declared.timestamp.Timestamp.{Timestamp}
 
 abbrev pub link_type : ℕ → LinkType
 link_type number =
@@ -18,8 +18,8 @@ link_type number =
     links.Other number))))))))
 
 -- a time after the beginning of 1970, if its seconds are a number of 32 bits and not 0
-abbrev pub time_at : ℕ → ℕ → Option Time
+abbrev pub time_at : ℕ → ℕ → Option Timestamp
 time_at seconds nanoseconds = when (seconds == 0 || nat_le (2 ^ 32) seconds) (λ _. None) (λ _. Some (record { seconds = seconds; nanoseconds = nanoseconds }))
 
-abbrev pub time_of : ℕ → Option Time
+abbrev pub time_of : ℕ → Option Timestamp
 time_of nanoseconds = time_at (nanoseconds / 10 ^ 9) (nanoseconds % 10 ^ 9)

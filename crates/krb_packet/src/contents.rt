@@ -1,16 +1,8 @@
 //! What packets carry.
 
 use crate::payload::Payload;
+use krb_net::Endpoint;
 use std::net::IpAddr;
-
-/// A source or a target of octets.
-#[derive(Clone, Copy, PartialEq, Eq, PartialOrd, Ord, Hash, Debug)]
-pub struct Endpoint {
-    /// The address.
-    pub address: IpAddr,
-    /// The port.
-    pub port: u16,
-}
 
 /// The two ends between which octets are sent.
 #[derive(Clone, Copy, PartialEq, Eq, Debug)]

@@ -5,11 +5,12 @@ ghost use Rattle.std.specs.Option.{SomeIff};
 ghost use Rattle.krb_file.specs.Fields.{called, is_at_end, octets_to_end};
 ghost use Rattle.krb_file.specs.declared.field_name.FieldName.TheVariants as fields;
 ghost use Rattle.krb_file.specs.FieldReaders.{Follows, Keeps, source_at};
-ghost use Rattle.krb_packet.specs.Interfaces.{padded, with_setting, setting_at, value_at, option_at, options_within, options_at, clock_of, interface_at, units_in_second, nanoseconds, seconds_after, clock_time, no_options};
+ghost use Rattle.krb_packet.specs.Interfaces.{padded, with_setting, setting_at, value_at, option_at, options_within, clock_of, interface_at, units_in_second, nanoseconds, seconds_after, clock_time, no_options};
 
 use crate::order::{ByteOrder, field16, field32, number16};
-use crate::packet::{LinkType, NANOSECONDS, Time};
+use crate::packet::{LinkType, NANOSECONDS, time_at};
 use krb_file::{FieldName, FieldReader, FileFault, FileRefusal, called};
+use krb_net::Timestamp;
 
 /// What packets of a pcapng were captured from.
 #[derive(Clone, Copy, PartialEq, Eq, Debug)]
@@ -272,12 +273,12 @@ fn seconds_after(offset: i64, seconds: u128) -> u128
 
 impl Clock {
     /// Returns the time of a number of units.
-    pub(crate) fn time(self, units: u64) -> Option<Time>
+    pub(crate) fn time(self, units: u64) -> Option<Timestamp>
         ensures { result ≡ clock_time self units }
     {
         let nanoseconds = nanoseconds(self.resolution, units);
         let second = u128::from(NANOSECONDS);
         let seconds = seconds_after(self.offset, nanoseconds / second);
-        Time::at(seconds, (nanoseconds % second) as u32)
+        time_at(seconds, (nanoseconds % second) as u32)
     }
 }

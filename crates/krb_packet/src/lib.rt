@@ -31,12 +31,12 @@ mod pcap;
 mod transport;
 
 pub use block::Section;
-pub use contents::{Contents, Datagram, Endpoint, Ends, Fragment, Original, Segment};
+pub use contents::{Contents, Datagram, Ends, Fragment, Original, Segment};
 pub use format::Format;
 pub use fragments::{Fragments, Reassembled};
 pub use interface::{Clock, Interface};
 pub use order::ByteOrder;
-pub use packet::{LinkType, Packet, Time, contents_of};
+pub use packet::{LinkType, Packet, contents_of};
 pub use packets::Packets;
 pub use payload::Payload;
 pub use pcap::{Form, Header, Precision};

@@ -8,6 +8,7 @@ use crate::contents::Contents;
 use crate::link::frame;
 use crate::payload::Payload;
 use krb_der::Octets;
+use krb_net::Timestamp;
 
 /// What a packet was captured from, which says what its first header is.
 #[derive(Clone, Copy, PartialEq, Eq, Debug)]
@@ -54,37 +55,26 @@ impl LinkType {
 /// How many nanoseconds a second has.
 pub(crate) const NANOSECONDS: u64 = 1_000_000_000;
 
-/// A time after the beginning of 1970.
-#[derive(Clone, Copy, PartialEq, Eq, Debug)]
-pub struct Time {
-    /// The seconds.
-    pub seconds: u32,
-    /// The nanoseconds after these, fewer than a second has.
-    pub nanoseconds: u32,
+/// Returns the time of these seconds and nanoseconds, or `None` if the seconds are 0 or above
+/// 4294967295.
+pub(crate) fn time_at(seconds: u128, nanoseconds: u32) -> Option<Timestamp>
+    ensures { result ≡ time_at seconds nanoseconds }
+{
+    if seconds == 0 || seconds >= 1 << 32 {
+        return None;
+    }
+    Some(Timestamp {
+        seconds: seconds as u32,
+        nanoseconds,
+    })
 }
 
-impl Time {
-    /// Returns the time of these seconds and nanoseconds, or `None` if the seconds are 0 or above
-    /// 4294967295.
-    pub(crate) fn at(seconds: u128, nanoseconds: u32) -> Option<Time>
-        ensures { result ≡ time_at seconds nanoseconds }
-    {
-        if seconds == 0 || seconds >= 1 << 32 {
-            return None;
-        }
-        Some(Time {
-            seconds: seconds as u32,
-            nanoseconds,
-        })
-    }
-
-    /// Returns the time of these nanoseconds, or `None` if its seconds are 0 or above 4294967295.
-    pub(crate) fn of(nanoseconds: u64) -> Option<Time>
-        ensures { result ≡ time_of nanoseconds }
-    {
-        let seconds = nanoseconds / NANOSECONDS;
-        Time::at(u128::from(seconds), (nanoseconds % NANOSECONDS) as u32)
-    }
+/// Returns the time of these nanoseconds, or `None` if its seconds are 0 or above 4294967295.
+pub(crate) fn time_of(nanoseconds: u64) -> Option<Timestamp>
+    ensures { result ≡ time_of nanoseconds }
+{
+    let seconds = nanoseconds / NANOSECONDS;
+    time_at(u128::from(seconds), (nanoseconds % NANOSECONDS) as u32)
 }
 
 /// A packet of a capture file.
@@ -93,7 +83,7 @@ pub struct Packet {
     /// Which one of the file it is, from 1.
     pub number: u64,
     /// When it was captured, if the file says so.
-    pub time: Option<Time>,
+    pub time: Option<Timestamp>,
     /// What it was captured from.
     pub link: LinkType,
     /// The octets that were captured.

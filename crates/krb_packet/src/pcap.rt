@@ -11,9 +11,10 @@ ghost use Rattle.krb_packet.specs.inner.PacketHeads.{packet_head_of};
 
 use crate::block::SECTION_HEADER;
 use crate::order::{ByteOrder, checked, field32};
-use crate::packet::{LinkType, NANOSECONDS, Packet, Time};
+use crate::packet::{LinkType, NANOSECONDS, Packet, time_of};
 use krb_der::Octets;
 use krb_file::{FieldName, FieldReader, FileFault, FileWhy};
+use krb_net::Timestamp;
 use std::alloc::Global;
 
 /// What the fractions of seconds count.
@@ -139,14 +140,14 @@ pub(crate) fn read_header<F: FieldReader>(form: Form, reader: &mut F) -> Result<
 }
 
 /// Returns the time of a packet.
-fn time(precision: Precision, seconds: u32, fraction: u32) -> Option<Time>
+fn time(precision: Precision, seconds: u32, fraction: u32) -> Option<Timestamp>
     ensures { result ≡ time_of (seconds * 10 ^ 9 + fraction * unit precision) }
 {
     let unit = match precision {
         Precision::Microseconds => 1000,
         Precision::Nanoseconds => 1,
     };
-    Time::of(u64::from(seconds) * NANOSECONDS + u64::from(fraction) * unit)
+    time_of(u64::from(seconds) * NANOSECONDS + u64::from(fraction) * unit)
 }
 
 /// Reads how many octets of a packet were captured.

@@ -3,8 +3,9 @@
 ghost use Rattle.std.specs.Prelude.{◌≡◌};
 ghost use Rattle.krb_packet.specs.Contents.{datagram, ends, or_unread_between, segment, transport};
 
-use crate::contents::{Contents, Datagram, Endpoint, Ends, Segment};
+use crate::contents::{Contents, Datagram, Ends, Segment};
 use crate::payload::Payload;
+use krb_net::Endpoint;
 use std::net::IpAddr;
 
 /// How many octets a header of UDP has.

@@ -4,7 +4,7 @@ use Rattle.std.proofs.lemmas.Bool.{cases_lt}
 use Rattle.jiff_core.specs.Calendar.{days_in_year, days_in_month}
 use Rattle.jiff_core.proofs.CalendarLemmas.{days_in_year_bounds}
 use Rattle.krb_record.specs.Text.{IsPrintable}
-use Rattle.krb_record.specs.Time.{CivilDate, date_in_year, date_from, civil_date, two_digits, date_text, clock_text, second_text, moment_text, last_digits, instant_text}
+use Rattle.krb_record.specs.Time.{CivilDate, date_in_year, date_from, civil_date, two_digits, date_text, clock_text, second_text, moment_text, last_digits, timestamp_text}
 use Rattle.krb_record.proofs.Dates.{in_year-here, in_year-next, from-zero, from-here, from-next}
 use Rattle.krb_record.proofs.Printable.{Prints, word, join}
 
@@ -59,7 +59,7 @@ all-digits : (k n : ℕ) → IsPrintable (last_digits k n)
 all-digits zero n = tt
 all-digits (suc k) n = ((omega arith, omega arith), all-digits k n)
 
-pub instant : (seconds nanoseconds : ℕ) → seconds < 2 ^ 32 → Prints (instant_text seconds nanoseconds)
-unfolding instant_text
-instant seconds nanoseconds h =
+pub timestamp : (seconds nanoseconds : ℕ) → seconds < 2 ^ 32 → Prints (timestamp_text seconds nanoseconds)
+unfolding timestamp_text
+timestamp seconds nanoseconds h =
     join (join (join (second seconds h) (word (codes ".") refl)) (record { all = all-digits 9 nanoseconds })) (word (codes "Z") refl)

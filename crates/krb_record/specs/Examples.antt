@@ -190,10 +190,10 @@ unfolding ticket_flags_text names_text flag_name eight_hex
 flags_without_names = refl
 
 -- ---- addresses of IPv6
-loopback : endpoint_text (ip.V6 (record { segments = 0 ∷ 0 ∷ 0 ∷ 0 ∷ 0 ∷ 0 ∷ 0 ∷ 1 ∷ [] }), 88) ≡ codes "[::1]:88"
+loopback : endpoint_text (record { address = ip.V6 (record { segments = 0 ∷ 0 ∷ 0 ∷ 0 ∷ 0 ∷ 0 ∷ 0 ∷ 1 ∷ [] }); port = 88 }) ≡ codes "[::1]:88"
 unfolding digits ipv6_text hex_groups_text hex
 loopback = refl
 
-mapped : endpoint_text (ip.V6 (record { segments = 0 ∷ 0 ∷ 0 ∷ 0 ∷ 0 ∷ 0xFFFF ∷ 0x7F00 ∷ 1 ∷ [] }), 88) ≡ codes "[::ffff:127.0.0.1]:88"
+mapped : endpoint_text (record { address = ip.V6 (record { segments = 0 ∷ 0 ∷ 0 ∷ 0 ∷ 0 ∷ 0xFFFF ∷ 0x7F00 ∷ 1 ∷ [] }); port = 88 }) ≡ codes "[::ffff:127.0.0.1]:88"
 unfolding digits ipv6_text hex_groups_text hex
 mapped = refl

@@ -1,6 +1,7 @@
 -- Laws of records.
-use Rattle.std.specs.Prelude.{ℕ, pos, ◌≡◌, ◌≤◌, unsigned_abs, Option, None, IfSome, List, ◌++◌}
+use Rattle.std.specs.Prelude.{ℕ, pos, ◌≡◌, ◌<◌, ◌≤◌, ◌^◌, unsigned_abs, Option, None, IfSome, List, ◌++◌}
 use Rattle.std.specs.List.{AllByRecursion}
+use Rattle.std.specs.Net.Addr.{IsIpv4Addr, IsIpv6Addr, MatchIp}
 use Rattle.jiff_core.specs.Date.{epoch_day}
 use Rattle.jiff_core.specs.declared.civil.date.Date.{Date}
 use Rattle.krb_der.specs.Octets.{AreOctets}
@@ -8,6 +9,8 @@ use Rattle.krb_file.specs.declared.fault.FileWhy.{FileWhy}
 use Rattle.krb_der.specs.declared.verdict.Refusal.{Refusal}
 use Rattle.krb_der.specs.declared.why.Why.{Why}
 use Rattle.krb_input.specs.declared.spelling.Spelling.{Spelling}
+use Rattle.krb_record.specs.declared.capture.CaptureCounts.{CaptureCounts}
+use Rattle.krb_record.specs.declared.capture_origin.CaptureOrigin.{CaptureOrigin}
 use Rattle.krb_record.specs.declared.form.Form.{Form}
 use Rattle.krb_record.specs.declared.form.Form.TheVariants.{Lines}
 use Rattle.krb_record.specs.Forms.{record_line}
@@ -17,6 +20,7 @@ use Rattle.krb_record.specs.declared.input.InputFault.{InputFault}
 use Rattle.krb_record.specs.Inputs.{input_refused_line}
 use Rattle.krb_record.specs.Refusals.{file_refused_line, message_refused_line, untold_message_refused_line}
 use Rattle.krb_record.specs.Streams.{counted_end_line, untold_refused_line}
+use Rattle.krb_record.specs.Captures.{capture_end_line, capture_refused_line, captured_refused_line, joined_line, lost_line, password_line}
 use Rattle.krb_record.specs.Files.{file_line}
 use Rattle.krb_record.specs.Origins.{message_origin}
 use Rattle.krb_record.specs.Time.{civil_date, the_date}
@@ -67,6 +71,37 @@ CountedStreamEndIsOneLine = (form : Form) (messages refused : ℕ) → IsOneLine
 -- that of a file's name
 abbrev pub FileNameIsOneLine : Type 0
 FileNameIsOneLine = (form : Form) (name : List ℕ) → AreOctets name → IsOneLine (file_line form name)
+
+-- ---- those of captures, too
+-- the seconds of its time and the addresses are as their types have them
+pub record OriginIsInRange (origin : CaptureOrigin) : Type 0 where
+  pub time : IfSome origin.time (λ time. time.seconds < 2 ^ 32)
+  pub source : MatchIp origin.flow.source.address IsIpv4Addr IsIpv6Addr
+  pub target : MatchIp origin.flow.target.address IsIpv4Addr IsIpv6Addr
+
+-- that of a refused message of a capture
+abbrev pub CapturedRefusalIsOneLine : Type 0
+CapturedRefusalIsOneLine = (form : Form) (origin : CaptureOrigin) (refusal : Refusal) (path : Option (List ℕ)) (extent : Extent) → OriginIsInRange origin → IfSome path AreOctets → IsOneLine (captured_refused_line form origin refusal path extent)
+
+-- that of a direction whose first octets come without a SYN
+abbrev pub JoinedIsOneLine : Type 0
+JoinedIsOneLine = (form : Form) (origin : CaptureOrigin) → OriginIsInRange origin → IsOneLine (joined_line form origin)
+
+-- that of octets that are not in a capture
+abbrev pub LostIsOneLine : Type 0
+LostIsOneLine = (form : Form) (origin : CaptureOrigin) (place octets : ℕ) (path : Option (List ℕ)) → OriginIsInRange origin → IfSome path AreOctets → IsOneLine (lost_line form origin place octets path)
+
+-- that of a message that changes a password
+abbrev pub PasswordIsOneLine : Type 0
+PasswordIsOneLine = (form : Form) (origin : CaptureOrigin) (version ap rest : ℕ) → OriginIsInRange origin → IsOneLine (password_line form origin version ap rest)
+
+-- the last of a capture
+abbrev pub CaptureEndIsOneLine : Type 0
+CaptureEndIsOneLine = (form : Form) (counts : CaptureCounts) → IsOneLine (capture_end_line form counts)
+
+-- the last of a capture that is refused
+abbrev pub CaptureRefusalIsOneLine : Type 0
+CaptureRefusalIsOneLine = (form : Form) (counts : CaptureCounts) (place : ℕ) (reason : FileWhy) (path : Option (List ℕ)) (extent : Extent) → IfSome path AreOctets → IsOneLine (capture_refused_line form counts place reason path extent)
 
 -- ---- a line without names has nothing of what is inside
 abbrev pub PlainLinesHaveNothingInside : Type 0

@@ -9,9 +9,11 @@ pub mod Forms
 pub mod Items
 pub mod Origins
 pub mod Refusals
+pub mod Captures
 pub mod Inputs
 pub mod Files
 pub mod Streams
 pub mod Laws
 pub mod Examples
+pub mod CaptureExamples
 pub mod inner

@@ -64,5 +64,5 @@ last_digits zero n = []
 last_digits (suc k) n = (48 + n / 10 ^ k % 10) ∷ last_digits k n
 
 -- the moment of a packet, with nine digits of nanoseconds
-unfoldable pub instant_text : ℕ → ℕ → List ℕ
-instant_text seconds nanoseconds = second_text seconds ++ codes "." ++ last_digits 9 nanoseconds ++ codes "Z"
+unfoldable pub timestamp_text : ℕ → ℕ → List ℕ
+timestamp_text seconds nanoseconds = second_text seconds ++ codes "." ++ last_digits 9 nanoseconds ++ codes "Z"

@@ -1,7 +1,7 @@
 -- What is printed, before it is text: records. A record is a kind and fields, and maybe an origin, which is fields, too; a field is a name and a value. The record of a message may have parts, which are records inside of it.
 use Rattle.std.specs.Prelude.{ℕ, ℤ, pos, Bool, List, [], Option, Some, None, length}
-use Rattle.std.specs.declared.net.ip_addr.IpAddr.{IpAddr}
 use Rattle.krb_der.specs.declared.verdict.Refusal.{Refusal}
+use Rattle.krb_net.specs.declared.endpoint.Endpoint.{Endpoint}
 use Rattle.krb_registry.specs.declared.registry.Registry.{Registry}
 use Rattle.krb_record.specs.declared.flow.Transport.{Transport}
 use Rattle.krb_input.specs.declared.layer.Layer.{Layer}
@@ -30,7 +30,7 @@ pub data Value : Type 0 where
   YesNo : (holds : Bool) → Value
   Offset : (seconds : ℤ) → (microseconds : ℤ) → Value
   RefusedTicket : (refusal : Refusal) → Value
-  Flow : (transport : Transport) → (source : IpAddr × ℕ) → (target : IpAddr × ℕ) → Value
+  Flow : (transport : Transport) → (source : Endpoint) → (target : Endpoint) → Value
   Layers : (layers : List Layer) → Value
 
 pub record Field : Type 0 where

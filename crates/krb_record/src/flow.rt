@@ -7,6 +7,7 @@ ghost use Rattle.krb_record.specs.Values.{Flow as IsFlow};
 
 use crate::shown::{Shown, put_begin};
 use crate::text_buffer::TextBuffer;
+use krb_net::Endpoint;
 use std::alloc::AllocError;
 use std::net::IpAddr;
 
@@ -30,9 +31,6 @@ impl Transport {
         }
     }
 }
-
-/// An address and a port.
-pub type Endpoint = (IpAddr, u16);
 
 /// A flow: the protocol, and the two ends.
 #[derive(Clone, Copy)]
@@ -87,9 +85,9 @@ fn put_host(text: &mut TextBuffer, address: IpAddr) -> Result<(), AllocError>
 fn put_endpoint(text: &mut TextBuffer, endpoint: Endpoint) -> Result<(), AllocError>
     ensures { OnOk result (text.new ≡ text.old ++ endpoint_text endpoint) }
 {
-    put_host(text, endpoint.0)?;
+    put_host(text, endpoint.address)?;
     text.push_str(":")?;
-    text.push_number(u64::from(endpoint.1))
+    text.push_number(u64::from(endpoint.port))
 }
 
 /// Appends what an object has after the text of its address: the port.
@@ -106,8 +104,8 @@ fn put_endpoint_object(object: &mut TextBuffer, endpoint: Endpoint) -> Result<()
     ensures { OnOk result (object.new ≡ object.old ++ endpoint_object endpoint) }
 {
     object.push_str("{\"address\":\"")?;
-    put_address(object, endpoint.0)?;
-    put_port_end(object, endpoint.1)
+    put_address(object, endpoint.address)?;
+    put_port_end(object, endpoint.port)
 }
 
 /// Appends the flow as a line has it.

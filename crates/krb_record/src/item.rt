@@ -3,7 +3,7 @@
 ghost use Rattle.std.specs.Prelude.{◌≡◌, ◌++◌, List, OnOk, codes, true, ℕ};
 ghost use Rattle.krb_registry.specs.Rows.{name_of};
 ghost use Rattle.krb_record.specs.Forms.{name_string, number_text, octets_string};
-ghost use Rattle.krb_record.specs.Text.{escape, or_dash};
+ghost use Rattle.krb_record.specs.Text.{escape};
 ghost use Rattle.krb_record.specs.declared.json.Escape.TheVariants as escapes;
 ghost use Rattle.krb_record.specs.Items.{number_item};
 ghost use Rattle.krb_record.specs.inner.Strings.{quoted};

@@ -8,11 +8,13 @@
 //!
 //! Records are made of [`put_opening`], [`put_field`] of what is [`Shown`], and [`put_end`]; values
 //! are numbers of registries ([`Numbered`]), names of principals ([`Principal`]), flags
-//! ([`FlagBits`]), times ([`Instant`]) and others. What is refused has a call for each source,
+//! ([`FlagBits`]), times ([`FileTime`]) and others. What is refused has a call for each source,
 //! [`put_message_refusal`] among them, which takes an [`Extent`]: where the octets lie that are
 //! refused. Nothing here knows messages, and nothing reads or writes a file.
 #![tactic(auto)]
 
+mod capture;
+mod capture_origin;
 mod error_code;
 mod escape;
 mod extent;
@@ -26,6 +28,7 @@ mod item;
 mod json;
 mod message_origin;
 mod number;
+mod origin;
 mod principal;
 mod refusal;
 mod shown;
@@ -34,13 +37,18 @@ mod text_buffer;
 mod ticket_flags;
 mod time;
 
+pub use capture::{
+    CaptureCounts, put_capture_end, put_capture_refusal, put_captured_refusal, put_joined,
+    put_lost, put_password,
+};
+pub use capture_origin::{CaptureOrigin, put_captured_opening};
 pub use error_code::ErrorCode;
 pub use escape::put_escaped;
 pub use extent::Extent;
 pub use field::{put_closing, put_end, put_field, put_opening};
 pub use file_name::{FileName, put_file};
 pub use flags::FlagBits;
-pub use flow::{Endpoint, Flow, Transport};
+pub use flow::{Flow, Transport};
 pub use form::Form;
 pub use input::{InputFault, put_input_refusal};
 pub use item::{NumberForm, put_number_item};
@@ -58,4 +66,4 @@ pub use stream::{
 };
 pub use text_buffer::TextBuffer;
 pub use ticket_flags::TicketFlags;
-pub use time::{FileTime, Instant, put_time, time_text};
+pub use time::{FileTime, put_time, time_text};

@@ -2,7 +2,7 @@
 
 ghost use Rattle.std.specs.Prelude.{◌≡◌, ◌++◌, [], OnOk, codes};
 ghost use Rattle.std.specs.List.{flat_map};
-ghost use Rattle.krb_record.specs.Forms.{heading, json_string, opening_from, origin_text};
+ghost use Rattle.krb_record.specs.Forms.{heading, json_string};
 ghost use Rattle.krb_record.specs.Origins.{message_origin};
 ghost use Rattle.krb_record.specs.Text.{joined, list_text};
 ghost use Rattle.krb_record.specs.Values.{Layers as AreLayers};
@@ -11,6 +11,7 @@ ghost use Rattle.krb_input.specs.Layers.{layer_name};
 use crate::field::put_opening;
 use crate::form::Form;
 use crate::json::put_string;
+use crate::origin::{Origin, put_opening_from};
 use crate::put_field;
 use crate::shown::{Shown, put_begin};
 use crate::text_buffer::TextBuffer;
@@ -101,46 +102,20 @@ impl<'a> Shown for Layers<'a> {
     }
 }
 
-/// Appends the fields of an origin: the line, and what the message lies in.
-fn put_origin(
-    text: &mut TextBuffer,
-    form: Form,
-    origin: &MessageOrigin<'_>,
-) -> Result<(), AllocError>
-    ensures { OnOk result (text.new ≡ text.old ++ origin_text form (message_origin origin.now.line origin.now.layers.now)) }
-{
-    let layers = origin.layers;
-    match (origin.line, layers.split_first()) {
-        (None, None) => Ok(()),
-        (None, Some(_)) => put_field!(text, form, first "via": &Layers(layers)),
-        (Some(line), None) => put_field!(text, form, first "line": &line),
-        (Some(line), Some(_)) => {
-            put_field!(text, form, first "line": &line)?;
-            put_field!(text, form, "via": &Layers(layers))
-        }
-    }
-}
+/// The line, and what the message lies in.
+impl<'a> Origin for MessageOrigin<'a> {
+    ghost fields = { λ origin. message_origin origin.line origin.layers.now };
 
-/// Appends what precedes the fields of a record of an origin that is not empty: in a line the
-/// origin and then the kind, in an object the kind and then the origin.
-#[tactic(auto, unfolding(crate::specs::Forms::opening_from))]
-fn put_opening_from(
-    text: &mut TextBuffer,
-    form: Form,
-    origin: &MessageOrigin<'_>,
-    kind: &str,
-) -> Result<(), AllocError>
-    ensures { OnOk result (text.new ≡ text.old ++ opening_from form (message_origin origin.now.line origin.now.layers.now) kind.now) }
-{
-    match form {
-        Form::Lines | Form::NamedLines => {
-            put_origin(text, form, origin)?;
-            text.push_str(" ")?;
-            text.push_str(kind)
-        }
-        Form::Json => {
-            put_opening(text, form, kind)?;
-            put_origin(text, form, origin)
+    fn put_fields(&self, text: &mut TextBuffer, form: Form) -> Result<(), AllocError> {
+        let layers = self.layers;
+        match (self.line, layers.split_first()) {
+            (None, None) => Ok(()),
+            (None, Some(_)) => put_field!(text, form, first "via": &Layers(layers)),
+            (Some(line), None) => put_field!(text, form, first "line": &line),
+            (Some(line), Some(_)) => {
+                put_field!(text, form, first "line": &line)?;
+                put_field!(text, form, "via": &Layers(layers))
+            }
         }
     }
 }

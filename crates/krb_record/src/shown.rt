@@ -1,10 +1,9 @@
 //! Values as records show them, appended to the text so far.
 
-ghost use Rattle.std.specs.Prelude.{◌≡◌, ◌++◌, ℕ, ℤ, pos, codes, OnOk};
-ghost use Rattle.std.specs.Fmt.{signed_decimal};
+ghost use Rattle.std.specs.Prelude.{◌≡◌, ◌++◌, ℕ, pos, codes, OnOk};
 ghost use Rattle.std.specs.Str.{IsAscii};
 ghost use Rattle.krb_record.specs.Forms.{members, value_text};
-ghost use Rattle.krb_record.specs.Values.{Value, Absent, Hex, Number, Quoted, String as Escaped, Word, YesNo, if_there};
+ghost use Rattle.krb_record.specs.Values.{Value, Hex, Number, Quoted, String as Escaped, Word, YesNo, if_there};
 
 use crate::escape::{put_escaped, put_hex};
 use crate::json::{put_octets_string, put_string};

@@ -2,7 +2,7 @@
 
 ghost use Rattle.std.specs.Prelude.{◌≡◌, ◌++◌, ◌<◌, IfOk, OnOk, pos, string_bytes};
 ghost use Rattle.std.specs.Str.{IsAscii};
-ghost use Rattle.krb_record.specs.Time.{civil_date, clock_text, date_text, file_time, instant_text, last_digits, moment_text, time_text, two_digits};
+ghost use Rattle.krb_record.specs.Time.{civil_date, clock_text, date_text, file_time, timestamp_text, last_digits, moment_text, time_text, two_digits};
 ghost use Rattle.krb_record.specs.Values.{Word};
 ghost use Rattle.jiff_core.specs.Date.{epoch_day};
 
@@ -11,6 +11,7 @@ use crate::shown::{Shown, put_begin};
 use crate::text_buffer::TextBuffer;
 use jiff_core::civil::Date;
 use krb_der::Memory;
+use krb_net::Timestamp;
 use std::alloc::{AllocError, Global};
 
 fn day_after(days: u32) -> Date
@@ -88,18 +89,10 @@ fn moment(seconds: u32) -> [u8; 20]
     ]
 }
 
-/// A moment: seconds since the beginning of 1970, and nanoseconds.
-#[derive(Clone, Copy)]
-pub struct Instant {
-    /// The seconds.
-    pub seconds: u32,
-    /// The nanoseconds; of these the last nine digits are shown.
-    pub nanoseconds: u32,
-}
-
-/// Returns the thirty characters of a moment.
-fn to_the_nanosecond(time: Instant) -> [u8; 30]
-    ensures text { result ≡ instant_text time.seconds time.nanoseconds }
+/// Returns the thirty characters of a time to the nanosecond. Of the nanoseconds the last nine
+/// digits are shown.
+fn to_the_nanosecond(time: Timestamp) -> [u8; 30]
+    ensures text { result ≡ timestamp_text time.seconds time.nanoseconds }
     ensures ascii { IsAscii result }
 {
     let [a, b, c, d, e, f, g, h, i, j] = date_text(time.seconds / 86_400);
@@ -156,8 +149,8 @@ impl Shown for FileTime {
 }
 
 /// The moment, with nine digits of nanoseconds.
-impl Shown for Instant {
-    ghost shown = { λ time. Word (instant_text time.seconds time.nanoseconds) };
+impl Shown for Timestamp {
+    ghost shown = { λ time. Word (timestamp_text time.seconds time.nanoseconds) };
 
     #[tactic(auto, unfolding(crate::specs::Forms::value_text))]
     fn put_text(&self, line: &mut TextBuffer, _names: bool) -> Result<(), AllocError> {

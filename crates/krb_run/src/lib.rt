@@ -36,4 +36,4 @@ pub use record_lines::{
 };
 pub use run::{PIECE_OCTETS, RunEnd, RunFault, status};
 pub use sources::{ListSource, run_sources, run_sources_unnamed};
-pub use transfer::{CountedReader, MOST_ASKS, ReaderState, too_many_reads, write_all};
+pub use transfer::{CountedReader, ReaderState, write_all};

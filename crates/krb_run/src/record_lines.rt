@@ -130,6 +130,7 @@ pub fn put_fault(
     watch: &Watch,
 ) -> Result<RunEnd, RunFault>
     ensures refused { IfOk result (AddsRefusal item form fault text.old text.new) }
+    ensures read { fault ≡ FileFault.Read → IfErr result IsRead }
     ensures fault { IfErr result (λ e. IsWrite e → ⊥) }
     ensures kept { IfErr result (λ e. IsRead e → text.new ≡ text.old) }
 {
@@ -224,6 +225,7 @@ pub fn list_refusal<W: Write>(
     writer: &mut W,
 ) -> Result<RunEnd, RunFault>
     ensures listed { (listing : RecordListing) → IsRefusal form fault listing → ListsRecords listing (W.contents writer.old) (W.contents writer.new) result }
+    ensures read { fault ≡ FileFault.Read → IfErr result (λ e. e ≡ RunFault.Memory → ⊥) }
 {
     let mut text = TextBuffer::new(alloc);
     match put_fault(alloc, &mut text, form, FileItem::File, fault, watch) {

@@ -11,10 +11,10 @@ use std::io;
 use std::io::{ErrorKind, Read, Write};
 
 /// The greatest number of times that a run asks its reader.
-pub const MOST_ASKS: u64 = 1 << 40;
+pub(crate) const MOST_ASKS: u64 = 1 << 40;
 
 /// Returns the error of a reader that was asked [`MOST_ASKS`] times.
-pub fn too_many_reads() -> io::Error {
+pub(crate) fn too_many_reads() -> io::Error {
     io::Error::other("too many reads")
 }
 
@@ -25,7 +25,7 @@ pub enum ReaderState {
     Open,
     /// It has ended.
     Ended,
-    /// A read failed, or it was asked [`MOST_ASKS`] times.
+    /// A read failed, or it was asked 2^40 times.
     Failed,
 }
 
@@ -55,7 +55,7 @@ impl<'a, R: Read> CountedReader<'a, R> {
     }
 
     /// Reads a piece of the octets, and returns how many came, 0 at the end. A read that fails is a
-    /// fault, and so is one more than [`MOST_ASKS`]. No read may follow the end or a fault.
+    /// fault, and so is one more than 2^40. No read may follow the end or a fault.
     pub fn read(&mut self, buffer: &mut [u8]) -> Result<usize, RunFault>
         requires open { self.old.state ≡ ReaderState.Open }
         requires room { 0 < length buffer.old }

@@ -2,7 +2,8 @@
 //! number FFFFFFFB, so octet 5 has number 0.
 
 use krb_flow::{Beginning, Direction, End, Lost};
-use krb_packet::{Endpoint, Payload, Segment};
+use krb_net::Endpoint;
+use krb_packet::{Payload, Segment};
 use std::alloc::Global;
 use std::net::{IpAddr, Ipv4Addr};
 

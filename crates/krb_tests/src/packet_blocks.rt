@@ -1,7 +1,8 @@
 //! The first three blocks of a real pcapng, `mit-udp6`, in which a client of MIT krb5 asks for a
 //! ticket over IPv6; and what Wireshark shows of the packet in the last one.
 
-use krb_packet::{Contents, Endpoint, LinkType, Packet, Packets, Time, contents_of};
+use krb_net::{Endpoint, Timestamp};
+use krb_packet::{Contents, LinkType, Packet, Packets, contents_of};
 use std::alloc::Global;
 use std::net::{IpAddr, Ipv6Addr};
 use std::process::Abort;
@@ -70,7 +71,7 @@ fn local(port: u16) -> Endpoint {
 fn blocks_are_read(rt: HostRuntime) {
     let packet = only_packet(&rt, rt.alloc(), CAPTURE.as_slice());
     assert!(rt; packet.number == 1 && packet.size == 243 && packet.link == LinkType::Ethernet);
-    let time = Time {
+    let time = Timestamp {
         seconds: 1795604155,
         nanoseconds: 555770097,
     };

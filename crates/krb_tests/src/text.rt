@@ -5,16 +5,14 @@ use krb_der::{Profile, Refusal, Why};
 use krb_file::FileWhy;
 use krb_input::{Layer, Spelling};
 use krb_judge::read_ticket_in;
-use krb_packet::{Endpoint, Time};
+use krb_net::{Endpoint, Timestamp};
 use krb_record::{
-    Extent, Form, InputFault, MessageOrigin, TextBuffer, Transport, put_counted_stream_end,
-    put_file, put_file_refusal, put_input_refusal, put_message_refusal, put_stream_refusal,
-    put_untold_message_refusal, put_untold_stream_refusal,
+    CaptureCounts, CaptureOrigin, Extent, Flow, Form, InputFault, MessageOrigin, TextBuffer,
+    Transport, put_capture_end, put_capture_refusal, put_captured_refusal, put_counted_stream_end,
+    put_file, put_file_refusal, put_input_refusal, put_joined, put_lost, put_message_refusal,
+    put_password, put_stream_refusal, put_untold_message_refusal, put_untold_stream_refusal,
 };
-use krb_text::{
-    CaptureCounts, Origin, put_capture_end, put_capture_refusal, put_captured_refusal, put_joined,
-    put_lost, put_message_from, put_password, put_ticket,
-};
+use krb_text::{put_message_from, put_ticket};
 use std::alloc::Global;
 use std::net::{IpAddr, Ipv4Addr, Ipv6Addr};
 use std::test::Fail;
@@ -165,38 +163,42 @@ fn shows_messages_of_an_origin(rt: HostRuntime) -> Result<(), Fail> {
 }
 
 /// Returns a flow over IPv4, and a packet without a time.
-fn sent() -> Origin {
-    Origin {
+fn sent() -> CaptureOrigin {
+    CaptureOrigin {
         packet: 18446744073709551615,
         time: None,
-        transport: Transport::Tcp,
-        source: Endpoint {
-            address: IpAddr::V4(Ipv4Addr::LOCALHOST),
-            port: 65535,
-        },
-        target: Endpoint {
-            address: IpAddr::V4(Ipv4Addr::BROADCAST),
-            port: 0,
+        flow: Flow {
+            transport: Transport::Tcp,
+            source: Endpoint {
+                address: IpAddr::V4(Ipv4Addr::LOCALHOST),
+                port: 65535,
+            },
+            target: Endpoint {
+                address: IpAddr::V4(Ipv4Addr::BROADCAST),
+                port: 0,
+            },
         },
     }
 }
 
 /// Returns a flow over IPv6, and a packet of 2026-11-25T10:56:01.000001090Z.
-fn answered() -> Origin {
-    Origin {
+fn answered() -> CaptureOrigin {
+    CaptureOrigin {
         packet: 1,
-        time: Some(Time {
+        time: Some(Timestamp {
             seconds: 1795604161,
             nanoseconds: 1090,
         }),
-        transport: Transport::Udp,
-        source: Endpoint {
-            address: IpAddr::V6(Ipv6Addr::LOCALHOST),
-            port: 88,
-        },
-        target: Endpoint {
-            address: IpAddr::V6(Ipv6Addr::new(0x2001, 0xDB8, 0, 0, 1, 0, 0, 1)),
-            port: 9,
+        flow: Flow {
+            transport: Transport::Udp,
+            source: Endpoint {
+                address: IpAddr::V6(Ipv6Addr::LOCALHOST),
+                port: 88,
+            },
+            target: Endpoint {
+                address: IpAddr::V6(Ipv6Addr::new(0x2001, 0xDB8, 0, 0, 1, 0, 0, 1)),
+                port: 9,
+            },
         },
     }
 }

@@ -1,10 +1,7 @@
--- Laws of what is printed of messages and captures.
+-- Laws of what is printed of messages.
 use Rattle.std.specs.Prelude.{ℕ, ◌≡◌, ◌<◌, ◌^◌, Option, Some, IfSome, List, length, map}
-use Rattle.std.specs.Net.Addr.{IsIpv4Addr, IsIpv6Addr, MatchIp}
 use Rattle.krb_der.specs.declared.profile.Profile.TheVariants as profiles
 use Rattle.krb_der.specs.Octets.{AreOctets}
-use Rattle.krb_file.specs.declared.fault.FileWhy.{FileWhy}
-use Rattle.krb_der.specs.declared.verdict.Refusal.{Refusal}
 use Rattle.krb_msg.specs.Stream.{End}
 use Rattle.krb_msg.specs.declared.krb_error.KrbError.{KrbError}
 use Rattle.krb_msg.specs.declared.message.Message.{Message}
@@ -14,15 +11,13 @@ use Rattle.krb_msg.specs.Types.{ticket_value}
 use Rattle.krb_msg.specs.declared.ticket.Ticket.{Ticket}
 use Rattle.krb_msg.specs.Term.{Value, Fits, der}
 use Rattle.krb_msg.specs.Views.{IsInProfile}
-use Rattle.krb_text.specs.Captures.{capture_end_line, capture_refused_line, captured_message_line, captured_refused_line, joined_line, lost_line, password_line}
-use Rattle.krb_text.specs.declared.capture.CaptureCounts.{CaptureCounts}
-use Rattle.krb_record.specs.Laws.{IsOneLine}
+use Rattle.krb_record.specs.Laws.{IsOneLine, OriginIsInRange}
 use Rattle.krb_record.specs.declared.form.Form.{Form}
-use Rattle.krb_text.specs.declared.origin.Origin.{Origin}
+use Rattle.krb_record.specs.declared.capture_origin.CaptureOrigin.{CaptureOrigin}
 use Rattle.krb_record.specs.declared.extent.Extent.{Extent}
 use Rattle.krb_text.specs.StreamEnds.{end_line}
 use Rattle.krb_record.specs.Origins.{message_origin}
-use Rattle.krb_text.specs.Messages.{message_record, message_line, message_line_from, ticket_line}
+use Rattle.krb_text.specs.Messages.{captured_message_line, message_record, message_line, message_line_from, ticket_line}
 use Rattle.krb_text.specs.Masks.{masked, masked_method, masked_ticket}
 use Rattle.krb_record.specs.Values.{Field}
 use Rattle.krb_input.specs.declared.layer.Layer.{Layer}
@@ -43,39 +38,9 @@ TicketIsOneLine = (form : Form) (line : Option ℕ) (layers : List Layer) (t : T
 abbrev pub StreamEndIsOneLine : Type 0
 StreamEndIsOneLine = (form : Form) (messages : ℕ) (end : End) (path : Option (List ℕ)) (extent : Extent) → IfSome path AreOctets → IsOneLine (end_line form messages end path extent)
 
--- the seconds of its time and the addresses are as their types have them
-pub record OriginIsInRange (origin : Origin) : Type 0 where
-  pub time : IfSome origin.time (λ time. time.seconds < 2 ^ 32)
-  pub source : MatchIp origin.source.address IsIpv4Addr IsIpv6Addr
-  pub target : MatchIp origin.target.address IsIpv4Addr IsIpv6Addr
-
 -- that of a message of a capture
 abbrev pub CapturedMessageIsOneLine : Type 0
-CapturedMessageIsOneLine = (form : Form) (origin : Origin) (m : Message) → OriginIsInRange origin → IsInProfile profiles.Lenient m → IsOneLine (captured_message_line form origin m)
-
--- that of a refused one
-abbrev pub CapturedRefusalIsOneLine : Type 0
-CapturedRefusalIsOneLine = (form : Form) (origin : Origin) (refusal : Refusal) (path : Option (List ℕ)) (extent : Extent) → OriginIsInRange origin → IfSome path AreOctets → IsOneLine (captured_refused_line form origin refusal path extent)
-
--- that of a direction whose first octets come without a SYN
-abbrev pub JoinedIsOneLine : Type 0
-JoinedIsOneLine = (form : Form) (origin : Origin) → OriginIsInRange origin → IsOneLine (joined_line form origin)
-
--- that of octets that are not in a capture
-abbrev pub LostIsOneLine : Type 0
-LostIsOneLine = (form : Form) (origin : Origin) (place octets : ℕ) (path : Option (List ℕ)) → OriginIsInRange origin → IfSome path AreOctets → IsOneLine (lost_line form origin place octets path)
-
--- that of a message that changes a password
-abbrev pub PasswordIsOneLine : Type 0
-PasswordIsOneLine = (form : Form) (origin : Origin) (version ap rest : ℕ) → OriginIsInRange origin → IsOneLine (password_line form origin version ap rest)
-
--- the last of a capture
-abbrev pub CaptureEndIsOneLine : Type 0
-CaptureEndIsOneLine = (form : Form) (counts : CaptureCounts) → IsOneLine (capture_end_line form counts)
-
--- the last of a capture that is refused
-abbrev pub CaptureRefusalIsOneLine : Type 0
-CaptureRefusalIsOneLine = (form : Form) (counts : CaptureCounts) (place : ℕ) (reason : FileWhy) (path : Option (List ℕ)) (extent : Extent) → IfSome path AreOctets → IsOneLine (capture_refused_line form counts place reason path extent)
+CapturedMessageIsOneLine = (form : Form) (origin : CaptureOrigin) (m : Message) → OriginIsInRange origin → IsInProfile profiles.Lenient m → IsOneLine (captured_message_line form origin m)
 
 -- ---- no octet of what is encrypted or opaque has a part in what is printed
 -- the record of a message, of which its line in each form is made
@@ -96,7 +61,7 @@ CiphersAreNotInTickets = (form : Form) (origin : List Field) (t : Ticket) → ti
 
 -- its line in a capture
 abbrev pub CiphersAreNotInCaptures : Type 0
-CiphersAreNotInCaptures = (form : Form) (origin : Origin) (m : Message) → captured_message_line form origin (masked m) ≡ captured_message_line form origin m
+CiphersAreNotInCaptures = (form : Form) (origin : CaptureOrigin) (m : Message) → captured_message_line form origin (masked m) ≡ captured_message_line form origin m
 
 -- the record of an error whose data are METHOD-DATA, of which the values are 00
 abbrev pub MethodsAreNotInRecords : Type 0

@@ -4,9 +4,7 @@ pub mod MessageFields
 pub mod Inside
 pub mod Messages
 pub mod StreamEnds
-pub mod Captures
 pub mod Masks
 pub mod Laws
 pub mod MessageExamples
-pub mod CaptureExamples
 pub mod inner

@@ -1,17 +1,23 @@
 -- What is printed of messages, computed: octets in hexadecimal, and what is listed of them. The notes are computed of the same values.
-use Rattle.std.specs.Prelude.{ℕ, ◌≡◌, List, ◌++◌, refl, codes}
+use Rattle.std.specs.Prelude.{ℕ, ◌≡◌, List, [], ◌∷◌, ◌++◌, Some, refl, codes, replicate}
 use Rattle.std.specs.Fmt.{digits}
+use Rattle.std.specs.declared.net.ip_addr.IpAddr.{IpAddr}
+use Rattle.std.specs.declared.net.ip_addr.IpAddr.TheVariants as ip
 use Rattle.krb_der.specs.Hex.{hex}
+use Rattle.krb_msg.specs.declared.message.Message.{Message}
 use Rattle.krb_msg.specs.Views.{message_of_der}
 use Rattle.krb_registry.specs.Rows.{rows, name_in, name_of}
+use Rattle.krb_record.specs.declared.capture_origin.CaptureOrigin.{CaptureOrigin}
+use Rattle.krb_record.specs.declared.flow.Transport.TheVariants as transports
 use Rattle.krb_record.specs.declared.form.Form.{Form}
 use Rattle.krb_record.specs.declared.form.Form.TheVariants.{Lines, NamedLines, Json}
 use Rattle.krb_record.specs.Errors.{code_name, code_suffix, code_text}
-use Rattle.krb_record.specs.Forms.{closing, inside_text, json_value, labelled, members, named_flags_text, names_member, opening, part_text, record_text, set_names, unnamed, value_text}
+use Rattle.krb_record.specs.Forms.{closing, inside_text, json_value, labelled, members, named_flags_text, names_member, opening, opening_from, part_text, record_text, set_names, unnamed, value_text}
 use Rattle.krb_text.specs.Inside.{type_of_number}
 use Rattle.krb_text.specs.Judged.{judged}
-use Rattle.krb_text.specs.Messages.{message_record, message_text}
+use Rattle.krb_text.specs.Messages.{captured_message_line, message_record, message_text}
 use Rattle.krb_record.specs.Text.{principal_text}
+use Rattle.krb_record.specs.Time.{civil_date, clock_text, date_from, date_in_year, date_text, timestamp_text, two_digits}
 
 -- what is printed of the message that octets are
 abbrev text_of : Form → List ℕ → List ℕ
@@ -164,3 +170,22 @@ named_request = refl
 named_other : text_of NamedLines (with_pac (hex (codes "3005A003010101"))) ≡ codes "AS-REQ realm=A client=- server=- options=7:40:forwardable from=- till=19700101000000Z rtime=- nonce=-1 etypes=[18:aes256-cts-hmac-sha1-96] padata=[128:PA-PAC-REQUEST] addresses=- authdata=- tickets=- notes=[2:short-flags,3:negative] inside=0"
 unfolding digits closing labelled opening inside_text part_text judged type_of_number record_text value_text named_flags_text set_names unnamed message_record rows name_in name_of
 named_other = refl
+
+-- ---- from a capture: in a server's answer to a request to change a password
+abbrev local : IpAddr
+local = ip.V4 (record { octets = 127 ∷ 0 ∷ 0 ∷ 1 ∷ [] })
+
+abbrev answer : CaptureOrigin
+answer = record { packet = 10; time = Some (record { seconds = 1795604170; nanoseconds = 71545000 }); flow = record { transport = transports.Tcp; source = record { address = local; port = 464 }; target = record { address = local; port = 60806 } } }
+
+-- with other octets in place of those of the cipher
+abbrev answered : Message
+answered = message_of_der (hex (codes "6F8189 308186 A003020105 A10302010F A27A3078 A003020112 A271046F") ++ replicate 111 0)
+
+captured_message : captured_message_line NamedLines answer answered ≡ codes "packet=10 t=2026-11-25T10:56:10.071545000Z flow=tcp/127.0.0.1:464>127.0.0.1:60806 AP-REP enc=18:aes256-cts-hmac-sha1-96:-:111 notes=[]\n"
+unfolding digits civil_date date_from date_in_year two_digits date_text clock_text timestamp_text record_text opening_from opening closing labelled value_text message_record rows name_in name_of
+captured_message = refl
+
+captured_message_object : captured_message_line Json answer answered ≡ codes "{\"kind\":\"AP-REP\",\"packet\":10,\"t\":\"2026-11-25T10:56:10.071545000Z\",\"flow\":{\"over\":\"tcp\",\"source\":{\"address\":\"127.0.0.1\",\"port\":464},\"target\":{\"address\":\"127.0.0.1\",\"port\":60806}},\"enc\":{\"etype\":18,\"etype_name\":\"aes256-cts-hmac-sha1-96\",\"kvno\":null,\"size\":111},\"notes\":[],\"notes_names\":[]}\n"
+unfolding digits civil_date date_from date_in_year two_digits date_text clock_text timestamp_text record_text opening_from opening closing labelled members json_value names_member message_record rows name_in name_of
+captured_message_object = refl

@@ -7,7 +7,9 @@ use Rattle.krb_msg.specs.Notes.{notes_of, notes_of_ticket}
 use Rattle.krb_msg.specs.declared.message.Message.{Message}
 use Rattle.krb_msg.specs.declared.ticket.Ticket.{Ticket}
 use Rattle.krb_msg.specs.Views.{kind_name, kind_of, message_of_der}
+use Rattle.krb_record.specs.declared.capture_origin.CaptureOrigin.{CaptureOrigin}
 use Rattle.krb_record.specs.declared.form.Form.{Form}
+use Rattle.krb_record.specs.Captures.{origin_fields}
 use Rattle.krb_record.specs.Forms.{record_text, record_line}
 use Rattle.krb_text.specs.Inside.{inside_of}
 use Rattle.krb_text.specs.MessageValues.{encrypted, principal}
@@ -35,6 +37,9 @@ ticket_record t =
 -- ---- with an origin
 abbrev pub message_line_from : Form → List Field → Message → List ℕ
 message_line_from form origin m = record_line form (with_origin origin (message_record m))
+
+abbrev pub captured_message_line : Form → CaptureOrigin → Message → List ℕ
+captured_message_line form origin m = message_line_from form (origin_fields origin) m
 
 abbrev pub ticket_line : Form → List Field → Ticket → List ℕ
 ticket_line form origin t = record_line form (with_origin origin (ticket_record t))

@@ -5,19 +5,21 @@ ghost use Rattle.std.specs.Prelude.{◌≡◌, ◌++◌, IfOk, List, MatchOption
 ghost use Rattle.krb_msg.specs.ViewValues.{BeginAs, IsNoMessage};
 ghost use Rattle.krb_record.specs.Forms.{ending, fields_text, heading};
 ghost use Rattle.krb_record.specs.Origins.{message_origin};
-ghost use Rattle.krb_text.specs.Messages.{PutsMessage, message_line, message_line_from, message_text};
+ghost use Rattle.krb_text.specs.Messages.{PutsMessage, captured_message_line, message_line, message_line_from, message_text};
 ghost use Rattle.krb_record.specs.Values.{Field, Part};
 ghost use Rattle.krb_text.specs.inner.Records.{IsRecordedAs, heading_origin, is_kept, text_after};
 
 use crate::notes::{ShownNotes, has_any};
-use crate::origin::{Origin, put_captured_opening};
 use krb_der::{Memory, Profile};
 use krb_msg::message_kinds::{
     ApRepKind, ApReqKind, AsRepKind, AsReqKind, KrbCredKind, KrbErrorKind, KrbPrivKind,
     KrbSafeKind, TgsRepKind, TgsReqKind,
 };
 use krb_msg::{Kind, Message, MessageKind, Notes, encode};
-use krb_record::{Form, MessageOrigin, TextBuffer, put_field, put_message_opening, put_opening};
+use krb_record::{
+    CaptureOrigin, Form, MessageOrigin, TextBuffer, put_captured_opening, put_field,
+    put_message_opening, put_opening,
+};
 use std::alloc::{AllocError, Global};
 
 /// The most octets of a message (RFC 4120, 7.2.2).
@@ -51,7 +53,7 @@ pub(crate) enum Heading<'a> {
     /// Nothing.
     Alone,
     /// That of a message of a capture.
-    Captured(&'a Origin),
+    Captured(&'a CaptureOrigin),
     /// That of a message that does not lie in an input by itself.
     From(&'a MessageOrigin<'a>),
 }
@@ -203,6 +205,20 @@ pub fn put_message_from(
     ensures { IfOk result (PutsMessage profile octets.now (message_line_from form (message_origin origin.now.line origin.now.layers.now)) text.old text.new) }
 {
     put_record_of(text, form, Heading::From(origin), profile, octets)
+}
+
+/// Appends a message of a capture, as a line or an object with its line feed, if octets are one of a
+/// profile, and returns whether they are. More than 2147483647 octets are none.
+pub fn put_captured_message(
+    text: &mut TextBuffer,
+    form: Form,
+    origin: &CaptureOrigin,
+    profile: Profile,
+    octets: &[u8],
+) -> Result<bool, Memory>
+    ensures { IfOk result (PutsMessage profile octets.now (captured_message_line form origin.now) text.old text.new) }
+{
+    put_record_of(text, form, Heading::Captured(origin), profile, octets)
 }
 
 /// Appends a message without its line feed, by its DER octets.

@@ -7,6 +7,7 @@ use Rattle.std.specs.Net.Addr.{IsIpv4Addr, IsIpv6Addr, MatchIp, ipv4_octets, ipv
 use Rattle.std.specs.Net.Text.{ip_text, ipv4_text, ipv6_text, hex_groups_text}
 use Rattle.std.specs.declared.net.ip_addr.IpAddr.{IpAddr}
 use Rattle.std.specs.declared.net.ip_addr.IpAddr.TheVariants as addresses
+use Rattle.krb_net.specs.declared.endpoint.Endpoint.{Endpoint}
 use Rattle.krb_record.specs.Flows.{transport_name, host_text, endpoint_text, endpoint_object, flow_text, flow_object}
 use Rattle.krb_record.specs.Text.{IsPrintable}
 use Rattle.krb_record.specs.declared.flow.Transport.{Transport}
@@ -15,8 +16,8 @@ use Rattle.krb_record.proofs.Printable.{Prints, join, word}
 use Rattle.krb_text_laws.proofs.Printable.{either, number}
 
 -- its addresses are as their types have them
-abbrev pub IsFlowInRange : IpAddr × ℕ → IpAddr × ℕ → Type 0
-IsFlowInRange source target = MatchIp source.0 IsIpv4Addr IsIpv6Addr × MatchIp target.0 IsIpv4Addr IsIpv6Addr
+abbrev pub IsFlowInRange : Endpoint → Endpoint → Type 0
+IsFlowInRange source target = MatchIp source.address IsIpv4Addr IsIpv6Addr × MatchIp target.address IsIpv4Addr IsIpv6Addr
 
 dot : Prints (codes ".")
 dot = word (codes ".") refl
@@ -44,21 +45,21 @@ host : (a : IpAddr) → MatchIp a IsIpv4Addr IsIpv6Addr → Prints (host_text a)
 host (addresses.V4 a) h = address (addresses.V4 a) h
 host (addresses.V6 a) h = join (join (word (codes "[") refl) (address (addresses.V6 a) h)) (word (codes "]") refl)
 
-endpoint : (e : IpAddr × ℕ) → MatchIp e.0 IsIpv4Addr IsIpv6Addr → Prints (endpoint_text e)
-endpoint e h = join (join (host e.0 h) (word (codes ":") refl)) (number e.1)
+endpoint : (e : Endpoint) → MatchIp e.address IsIpv4Addr IsIpv6Addr → Prints (endpoint_text e)
+endpoint e h = join (join (host e.address h) (word (codes ":") refl)) (number e.port)
 
-endpoint_in_object : (e : IpAddr × ℕ) → MatchIp e.0 IsIpv4Addr IsIpv6Addr → Prints (endpoint_object e)
+endpoint_in_object : (e : Endpoint) → MatchIp e.address IsIpv4Addr IsIpv6Addr → Prints (endpoint_object e)
 endpoint_in_object e h =
-    join (join (join (join (word (codes "{\"address\":\"") refl) (address e.0 h)) (word (codes "\",\"port\":") refl)) (number e.1)) (word (codes "}") refl)
+    join (join (join (join (word (codes "{\"address\":\"") refl) (address e.address h)) (word (codes "\",\"port\":") refl)) (number e.port)) (word (codes "}") refl)
 
 transport : (t : Transport) → Prints (transport_name t)
 transport transports.Udp = word _ refl
 transport transports.Tcp = word _ refl
 
-pub in_line : (t : Transport) (source target : IpAddr × ℕ) → IsFlowInRange source target → Prints (flow_text t source target)
+pub in_line : (t : Transport) (source target : Endpoint) → IsFlowInRange source target → Prints (flow_text t source target)
 in_line t source target h =
     join (join (join (join (transport t) (word (codes "/") refl)) (endpoint source h.0)) (word (codes ">") refl)) (endpoint target h.1)
 
-pub in_object : (t : Transport) (source target : IpAddr × ℕ) → IsFlowInRange source target → Prints (flow_object t source target)
+pub in_object : (t : Transport) (source target : Endpoint) → IsFlowInRange source target → Prints (flow_object t source target)
 in_object t source target h =
     join (join (join (join (join (join (word (codes "{\"over\":\"") refl) (transport t)) (word (codes "\",\"source\":") refl)) (endpoint_in_object source h.0)) (word (codes ",\"target\":") refl)) (endpoint_in_object target h.1)) (word (codes "}") refl)

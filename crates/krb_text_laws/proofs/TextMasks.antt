@@ -24,8 +24,9 @@ use Rattle.krb_msg.specs.declared.notes.Notes.{Notes}
 use Rattle.krb_msg.specs.declared.pa_data.PaData.{PaData}
 use Rattle.krb_msg.specs.declared.ticket.Ticket.{Ticket}
 use Rattle.krb_record.specs.declared.form.Form.{Form}
-use Rattle.krb_text.specs.declared.origin.Origin.{Origin}
-use Rattle.krb_text.specs.Captures.{captured_line, captured_message_line}
+use Rattle.krb_record.specs.declared.capture_origin.CaptureOrigin.{CaptureOrigin}
+use Rattle.krb_record.specs.Captures.{captured_line}
+use Rattle.krb_text.specs.Messages.{captured_message_line}
 use Rattle.krb_record.specs.Forms.{record_line}
 use Rattle.krb_text.specs.Inside.{each_if, inside_of, kdc_req_parts, krb_error_parts, method_data_if, method_parts, padata_parts, ticket_part}
 use Rattle.krb_text.specs.Judged.{asks_for_preauth, says_preauth_failed}
@@ -246,5 +247,5 @@ pub ticket_line-same : (form : Form) (origin : List Field) (t : Ticket) → tick
 unfolding ticket_record
 ticket_line-same form origin t = rw (length-zeros (length t.enc_part.cipher)) refl
 
-pub captured-same : (form : Form) (origin : Origin) (m : Message) → captured_message_line form origin (masked m) ≡ captured_message_line form origin m
+pub captured-same : (form : Form) (origin : CaptureOrigin) (m : Message) → captured_message_line form origin (masked m) ≡ captured_message_line form origin m
 captured-same form origin m = ap (captured_line form origin) (record-same m)

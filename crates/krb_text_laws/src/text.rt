@@ -1,6 +1,6 @@
 //! Laws of what is printed. Each is the contract of a function that does nothing.
-ghost use Rattle.krb_record.specs.Laws.{CountedStreamEndIsOneLine, DatesAreTheCalendars, EscapeIsGraphic, FileNameIsOneLine, FileRefusalIsOneLine, InputRefusalIsOneLine, MessageRefusalIsOneLine, PlainLinesHaveNothingInside, PrincipalTextIsInjective, UntoldMessageRefusalIsOneLine, UntoldStreamRefusalIsOneLine};
-ghost use Rattle.krb_text.specs.Laws.{CaptureEndIsOneLine, CaptureRefusalIsOneLine, CapturedMessageIsOneLine, CapturedRefusalIsOneLine, CiphersAreNotInCaptures, CiphersAreNotInLines, CiphersAreNotInLinesFrom, CiphersAreNotInRecords, CiphersAreNotInTickets, JoinedIsOneLine, LostIsOneLine, MessageFromIsOneLine, MessageIsOneLine, MethodsAreNotInRecords, PasswordIsOneLine, StreamEndIsOneLine, TicketIsOneLine};
+ghost use Rattle.krb_record.specs.Laws.{CaptureEndIsOneLine, CaptureRefusalIsOneLine, CapturedRefusalIsOneLine, CountedStreamEndIsOneLine, DatesAreTheCalendars, EscapeIsGraphic, FileNameIsOneLine, FileRefusalIsOneLine, InputRefusalIsOneLine, JoinedIsOneLine, LostIsOneLine, MessageRefusalIsOneLine, PasswordIsOneLine, PlainLinesHaveNothingInside, PrincipalTextIsInjective, UntoldMessageRefusalIsOneLine, UntoldStreamRefusalIsOneLine};
+ghost use Rattle.krb_text.specs.Laws.{CapturedMessageIsOneLine, CiphersAreNotInCaptures, CiphersAreNotInLines, CiphersAreNotInLinesFrom, CiphersAreNotInRecords, CiphersAreNotInTickets, MessageFromIsOneLine, MessageIsOneLine, MethodsAreNotInRecords, StreamEndIsOneLine, TicketIsOneLine};
 
 /// Different components or realms have different texts.
 pub fn principal_text_is_injective()

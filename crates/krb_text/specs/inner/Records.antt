@@ -12,7 +12,7 @@ use Rattle.krb_msg.specs.declared.notes.Notes.{Notes}
 use Rattle.krb_record.specs.declared.form.Form.{Form}
 use Rattle.krb_text.specs.declared.record.Heading.{Heading}
 use Rattle.krb_text.specs.declared.record.Heading.TheVariants as headings
-use Rattle.krb_text.specs.Captures.{origin_fields}
+use Rattle.krb_record.specs.Captures.{origin_fields}
 use Rattle.krb_record.specs.Forms.{record_text}
 use Rattle.krb_text.specs.Inside.{inside_of}
 use Rattle.krb_record.specs.Origins.{message_origin}

@@ -1,35 +1,34 @@
 use Rattle.std.proofs.Common.{◌≡◌, ◌<◌, ◌^◌, true, ◌++◌, [], Option, Some, None, IfSome, refl, codes}
 use Rattle.std.specs.List.{list_all}
 use Rattle.krb_msg.specs.Term.{IfPresent}
-use Rattle.krb_packet.specs.declared.packet.Time.{Time}
-use Rattle.krb_text.specs.Captures.{origin_fields, captured_line, lost_record, password_record, count_fields, capture_refused_record}
-use Rattle.krb_record.specs.Laws.{IsOneLine}
-use Rattle.krb_text.specs.Laws.{OriginIsInRange}
+use Rattle.krb_net.specs.declared.timestamp.Timestamp.{Timestamp}
+use Rattle.krb_record.specs.Captures.{origin_fields, captured_line, lost_record, password_record, count_fields, capture_refused_record}
+use Rattle.krb_record.specs.Laws.{IsOneLine, OriginIsInRange}
 use Rattle.krb_text.specs.Messages.{message_record}
 use Rattle.krb_record.specs.Refusals.{extent_in, path_in, refusal_record}
-use Rattle.krb_record.specs.Time.{instant_text}
+use Rattle.krb_record.specs.Time.{timestamp_text}
 use Rattle.krb_record.specs.Values.{Word, Printed, printed, if_there}
 use Rattle.krb_record.specs.declared.form.Form.{Form}
-use Rattle.krb_text.specs.declared.origin.Origin.{Origin}
+use Rattle.krb_record.specs.declared.capture_origin.CaptureOrigin.{CaptureOrigin}
 use Rattle.krb_text_laws.proofs.EachForm.{ArePlainParts, IsShown, AreShown, names_are_plain}
 use Rattle.krb_text_laws.proofs.EndOneLine.{line_from, one_line, path_is_plain, path_shown, located_is_plain, located_shown}
 use Rattle.krb_text_laws.proofs.MessageOneLine.{record_is_plain}
 use Rattle.krb_record.proofs.Printable.{is_printable}
 use Rattle.krb_record.proofs.Reasons as reasons
-use Rattle.krb_record.proofs.Times.{instant}
+use Rattle.krb_record.proofs.Times.{timestamp}
 use Rattle.krb_text_laws.proofs.Tuples.{◌&◌}
 use Rattle.krb_text_laws.proofs.text.capture_is_one_line_each.Goals as goal
 
 -- ---- origins
-time_shown : (time : Option Time) → IfSome time (λ time. time.seconds < 2 ^ 32) → IsShown (if_there (λ time. Word (instant_text time.seconds time.nanoseconds)) time)
+time_shown : (time : Option Timestamp) → IfSome time (λ time. time.seconds < 2 ^ 32) → IsShown (if_there (λ time. Word (timestamp_text time.seconds time.nanoseconds)) time)
 time_shown None h = tt
-time_shown (Some time) h = (instant time.seconds time.nanoseconds h).all
+time_shown (Some time) h = (timestamp time.seconds time.nanoseconds h).all
 
-shown : (origin : Origin) → OriginIsInRange origin → AreShown (origin_fields origin)
+shown : (origin : CaptureOrigin) → OriginIsInRange origin → AreShown (origin_fields origin)
 shown origin h = tt & time_shown origin.time h.time & (h.source, h.target) & tt
 
 -- ---- records
-captured : (form : Form) (origin : Origin) (r : Printed) → OriginIsInRange origin → list_all is_printable r.kind ≡ true → names_are_plain r.fields ≡ true → AreShown r.fields → IfPresent ArePlainParts r.inside → IsOneLine (captured_line form origin r)
+captured : (form : Form) (origin : CaptureOrigin) (r : Printed) → OriginIsInRange origin → list_all is_printable r.kind ≡ true → names_are_plain r.fields ≡ true → AreShown r.fields → IfPresent ArePlainParts r.inside → IsOneLine (captured_line form origin r)
 captured form origin r h kind names fields inside = line_from form (origin_fields origin) r refl (shown origin h) kind names fields inside
 
 pub returns-clause-message : goal.returns-clause-message

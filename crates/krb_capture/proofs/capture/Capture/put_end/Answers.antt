@@ -1,5 +1,5 @@
 use Rattle.std.proofs.Common.{◌∙◌, ap}
-use Rattle.krb_text.specs.Captures.{capture_end_line}
+use Rattle.krb_record.specs.Captures.{capture_end_line}
 use Rattle.krb_capture.specs.Captures.{end_taken, end_text, is_clean}
 use Rattle.krb_capture.proofs.Following.{last-listed}
 use Rattle.krb_capture.proofs.capture.Capture.put_end.Goals as goal

@@ -1,5 +1,5 @@
 use Rattle.std.specs.Option.{option_copied}
-use Rattle.krb_text.specs.Captures.{capture_refused_line}
+use Rattle.krb_record.specs.Captures.{capture_refused_line}
 use Rattle.krb_capture.specs.Captures.{end_taken, refusal_text}
 use Rattle.krb_capture.proofs.Following.{last-listed}
 use Rattle.krb_capture.proofs.capture.Capture.put_refusal.Goals as goal

@@ -1,6 +1,6 @@
 use Rattle.std.proofs.Common.{◌∙◌, ap, subst}
 use Rattle.std.proofs.lemmas.Result.{IfOk-weaker}
-use Rattle.krb_text.specs.declared.capture.CaptureCounts.{CaptureCounts}
+use Rattle.krb_record.specs.declared.capture.CaptureCounts.{CaptureCounts}
 use Rattle.krb_capture.specs.Captures.{Progress, and_counted, contents_taken, packet_taken, with_packet}
 use Rattle.krb_capture.specs.Found.{and_more}
 use Rattle.krb_capture.specs.Rests.{Lists}

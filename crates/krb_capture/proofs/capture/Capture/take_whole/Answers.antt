@@ -5,7 +5,7 @@ use Rattle.krb_capture.specs.Flows.{service_of}
 use Rattle.krb_capture.specs.Rests.{Lists}
 use Rattle.krb_capture.specs.Found.{and_more}
 use Rattle.krb_capture.specs.declared.capture.Capture.{Capture}
-use Rattle.krb_text.specs.declared.capture.CaptureCounts.{CaptureCounts}
+use Rattle.krb_record.specs.declared.capture.CaptureCounts.{CaptureCounts}
 use Rattle.krb_capture.proofs.Following.{lists-whole, passed-over, unread-listed}
 use Rattle.krb_packet.specs.declared.contents.Contents.TheVariants as contents
 use Rattle.krb_capture.proofs.capture.Capture.take_whole.Goals as goal

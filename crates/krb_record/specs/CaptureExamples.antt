@@ -1,68 +1,51 @@
 -- What is printed of captures, computed: records of captures of real exchanges.
-use Rattle.std.specs.Prelude.{◌≡◌, [], ◌∷◌, ◌++◌, Some, None, codes, refl, replicate}
+use Rattle.std.specs.Prelude.{◌≡◌, [], ◌∷◌, Some, None, codes, refl}
 use Rattle.std.specs.Fmt.{digits}
 use Rattle.std.specs.declared.net.ip_addr.IpAddr.{IpAddr}
 use Rattle.std.specs.declared.net.ip_addr.IpAddr.TheVariants as ip
-use Rattle.krb_der.specs.Hex.{hex as of_hex}
 use Rattle.krb_der.specs.declared.why.Why.TheVariants.{Truncated}
 use Rattle.krb_file.specs.declared.fault.FileWhy.TheVariants as why
-use Rattle.krb_msg.specs.declared.message.Message.{Message}
-use Rattle.krb_msg.specs.Views.{message_of_der}
-use Rattle.krb_registry.specs.Rows.{rows, name_in, name_of}
-use Rattle.krb_text.specs.Captures.{captured_message_line, captured_refused_line, capture_end_line, capture_refused_line, joined_line, lost_line, password_line}
+use Rattle.krb_record.specs.Captures.{captured_refused_line, capture_end_line, capture_refused_line, joined_line, lost_line, password_line}
 use Rattle.krb_record.specs.Forms.{closing, json_value, labelled, members, names_member, opening, opening_from, record_text, value_text}
-use Rattle.krb_text.specs.Messages.{message_record}
-use Rattle.krb_record.specs.Time.{civil_date, date_from, date_in_year, two_digits, date_text, clock_text, instant_text}
-use Rattle.krb_text.specs.declared.capture.CaptureCounts.{CaptureCounts}
+use Rattle.krb_record.specs.Time.{civil_date, date_from, date_in_year, two_digits, date_text, clock_text, timestamp_text}
+use Rattle.krb_record.specs.declared.capture.CaptureCounts.{CaptureCounts}
 use Rattle.krb_record.specs.declared.form.Form.TheVariants.{Lines, NamedLines, Json}
-use Rattle.krb_text.specs.declared.origin.Origin.{Origin}
+use Rattle.krb_record.specs.declared.capture_origin.CaptureOrigin.{CaptureOrigin}
 use Rattle.krb_record.specs.declared.flow.Transport.TheVariants as transports
 
 -- ---- a server's answer to a request to change a password
 abbrev local : IpAddr
 local = ip.V4 (record { octets = 127 ∷ 0 ∷ 0 ∷ 1 ∷ [] })
 
-abbrev answer : Origin
-answer = record { packet = 10; time = Some (record { seconds = 1795604170; nanoseconds = 71545000 }); transport = transports.Tcp; source = record { address = local; port = 464 }; target = record { address = local; port = 60806 } }
-
--- with other octets in place of those of the cipher
-abbrev ap_rep : Message
-ap_rep = message_of_der (of_hex (codes "6F8189 308186 A003020105 A10302010F A27A3078 A003020112 A271046F") ++ replicate 111 0)
+abbrev answer : CaptureOrigin
+answer = record { packet = 10; time = Some (record { seconds = 1795604170; nanoseconds = 71545000 }); flow = record { transport = transports.Tcp; source = record { address = local; port = 464 }; target = record { address = local; port = 60806 } } }
 
 password : password_line Lines answer 1 140 90 ≡ codes "packet=10 t=2026-11-25T10:56:10.071545000Z flow=tcp/127.0.0.1:464>127.0.0.1:60806 KPASSWD version=1 ap=140 rest=90\n"
-unfolding digits civil_date date_from date_in_year two_digits date_text clock_text instant_text record_text opening_from opening closing labelled value_text
+unfolding digits civil_date date_from date_in_year two_digits date_text clock_text timestamp_text record_text opening_from opening closing labelled value_text
 password = refl
 
 password_object : password_line Json answer 1 140 90 ≡ codes "{\"kind\":\"KPASSWD\",\"packet\":10,\"t\":\"2026-11-25T10:56:10.071545000Z\",\"flow\":{\"over\":\"tcp\",\"source\":{\"address\":\"127.0.0.1\",\"port\":464},\"target\":{\"address\":\"127.0.0.1\",\"port\":60806}},\"version\":1,\"ap\":140,\"rest\":90}\n"
-unfolding digits civil_date date_from date_in_year two_digits date_text clock_text instant_text record_text opening_from opening closing labelled members json_value names_member
+unfolding digits civil_date date_from date_in_year two_digits date_text clock_text timestamp_text record_text opening_from opening closing labelled members json_value names_member
 password_object = refl
 
-captured_message : captured_message_line NamedLines answer ap_rep ≡ codes "packet=10 t=2026-11-25T10:56:10.071545000Z flow=tcp/127.0.0.1:464>127.0.0.1:60806 AP-REP enc=18:aes256-cts-hmac-sha1-96:-:111 notes=[]\n"
-unfolding digits civil_date date_from date_in_year two_digits date_text clock_text instant_text record_text opening_from opening closing labelled value_text message_record rows name_in name_of
-captured_message = refl
-
-captured_message_object : captured_message_line Json answer ap_rep ≡ codes "{\"kind\":\"AP-REP\",\"packet\":10,\"t\":\"2026-11-25T10:56:10.071545000Z\",\"flow\":{\"over\":\"tcp\",\"source\":{\"address\":\"127.0.0.1\",\"port\":464},\"target\":{\"address\":\"127.0.0.1\",\"port\":60806}},\"enc\":{\"etype\":18,\"etype_name\":\"aes256-cts-hmac-sha1-96\",\"kvno\":null,\"size\":111},\"notes\":[],\"notes_names\":[]}\n"
-unfolding digits civil_date date_from date_in_year two_digits date_text clock_text instant_text record_text opening_from opening closing labelled members json_value names_member message_record rows name_in name_of
-captured_message_object = refl
-
 -- ---- a packet that was cut at 120 octets
-abbrev request : Origin
-request = record { packet = 7; time = Some (record { seconds = 1795604178; nanoseconds = 390184000 }); transport = transports.Udp; source = record { address = local; port = 59720 }; target = record { address = local; port = 88 } }
+abbrev request : CaptureOrigin
+request = record { packet = 7; time = Some (record { seconds = 1795604178; nanoseconds = 390184000 }); flow = record { transport = transports.Udp; source = record { address = local; port = 59720 }; target = record { address = local; port = 88 } } }
 
 lost : lost_line NamedLines request 78 203 (Some (codes "AS-REQ.padata[1].padata-value")) ≡ codes "packet=7 t=2026-11-25T10:56:18.390184000Z flow=udp/127.0.0.1:59720>127.0.0.1:88 lost place=78 octets=203 in=AS-REQ.padata[1].padata-value\n"
-unfolding digits civil_date date_from date_in_year two_digits date_text clock_text instant_text record_text opening_from opening closing labelled value_text
+unfolding digits civil_date date_from date_in_year two_digits date_text clock_text timestamp_text record_text opening_from opening closing labelled value_text
 lost = refl
 
 lost_object : lost_line Json request 78 203 (Some (codes "AS-REQ.padata[1].padata-value")) ≡ codes "{\"kind\":\"lost\",\"packet\":7,\"t\":\"2026-11-25T10:56:18.390184000Z\",\"flow\":{\"over\":\"udp\",\"source\":{\"address\":\"127.0.0.1\",\"port\":59720},\"target\":{\"address\":\"127.0.0.1\",\"port\":88}},\"place\":78,\"octets\":203,\"in\":\"AS-REQ.padata[1].padata-value\"}\n"
-unfolding digits civil_date date_from date_in_year two_digits date_text clock_text instant_text record_text opening_from opening closing labelled members json_value names_member
+unfolding digits civil_date date_from date_in_year two_digits date_text clock_text timestamp_text record_text opening_from opening closing labelled members json_value names_member
 lost_object = refl
 
 -- ---- a connection that was cut
-abbrev cut : Origin
-cut = record { packet = 46; time = Some (record { seconds = 1795604929; nanoseconds = 329196000 }); transport = transports.Tcp; source = record { address = local; port = 88 }; target = record { address = local; port = 54120 } }
+abbrev cut : CaptureOrigin
+cut = record { packet = 46; time = Some (record { seconds = 1795604929; nanoseconds = 329196000 }); flow = record { transport = transports.Tcp; source = record { address = local; port = 88 }; target = record { address = local; port = 54120 } } }
 
 captured_refusal : captured_refused_line NamedLines cut (record { place = 524; why = Truncated }) (Some (codes "TGS-REP.padata[0].padata-value")) (record { at = 0; length = Some 1475 }) ≡ codes "packet=46 t=2026-11-25T11:08:49.329196000Z flow=tcp/127.0.0.1:88>127.0.0.1:54120 refused place=524 why=16 Truncated in=TGS-REP.padata[0].padata-value at=0 length=1475\n"
-unfolding digits civil_date date_from date_in_year two_digits date_text clock_text instant_text record_text opening_from opening closing labelled value_text
+unfolding digits civil_date date_from date_in_year two_digits date_text clock_text timestamp_text record_text opening_from opening closing labelled value_text
 captured_refusal = refl
 
 -- ---- a packet without a time

@@ -1,42 +1,29 @@
 //! Records of captures.
 
-ghost use Rattle.std.specs.Prelude.{◌≡◌, ◌++◌, IfOk, OnOk};
+ghost use Rattle.std.specs.Prelude.{◌≡◌, ◌++◌, OnOk};
 ghost use Rattle.std.specs.Option.{option_copied};
-ghost use Rattle.krb_text.specs.Captures.{capture_end_line, capture_refused_line, captured_message_line, captured_refused_line, count_fields, joined_line, lost_line, password_line};
+ghost use Rattle.krb_record.specs.Captures.{capture_end_line, capture_refused_line, captured_refused_line, count_fields, joined_line, lost_line, password_line};
 ghost use Rattle.krb_record.specs.Forms.{fields_text};
-ghost use Rattle.krb_text.specs.Messages.{PutsMessage};
 
-use crate::origin::{Origin, put_captured_opening};
-use crate::record::{Heading, put_record_of};
-use krb_der::{Memory, Profile, Refusal};
+use crate::capture_origin::{CaptureOrigin, put_captured_opening};
+use crate::extent::Extent;
+use crate::field::{put_end, put_opening};
+use crate::form::Form;
+use crate::put_field;
+use crate::refusal::{Reason, put_fault_fields, put_path};
+use crate::text_buffer::TextBuffer;
+use krb_der::Refusal;
 use krb_file::FileWhy;
-use krb_record::{
-    Extent, Form, Reason, TextBuffer, put_end, put_fault_fields, put_field, put_opening, put_path,
-};
 use std::alloc::AllocError;
-
-/// Appends a message of a capture, as a line or an object with its line feed, if octets are one of a
-/// profile, and returns whether they are. More than 2147483647 octets are none.
-pub fn put_captured_message(
-    text: &mut TextBuffer,
-    form: Form,
-    origin: &Origin,
-    profile: Profile,
-    octets: &[u8],
-) -> Result<bool, Memory>
-    ensures { IfOk result (PutsMessage profile octets.now (captured_message_line form origin.now) text.old text.new) }
-{
-    put_record_of(text, form, Heading::Captured(origin), profile, octets)
-}
 
 /// Appends the line of a refused message of a capture: the place of the octet at fault and what is
 /// wrong with it, and, to a line only if numbers have their names, the path of the field at fault,
 /// and where the message lies in its direction, or how many octets its datagram has.
-#[tactic(auto, unfolding(krb_record::specs::Forms::record_text))]
+#[tactic(auto, unfolding(crate::specs::Forms::record_text))]
 pub fn put_captured_refusal(
     text: &mut TextBuffer,
     form: Form,
-    origin: &Origin,
+    origin: &CaptureOrigin,
     refusal: Refusal,
     path: Option<&str>,
     extent: Extent,
@@ -52,8 +39,12 @@ pub fn put_captured_refusal(
 
 /// Appends the line of a direction whose first octets come without a SYN: what follows may begin
 /// within a message.
-#[tactic(auto, unfolding(krb_record::specs::Forms::record_text))]
-pub fn put_joined(text: &mut TextBuffer, form: Form, origin: &Origin) -> Result<(), AllocError>
+#[tactic(auto, unfolding(crate::specs::Forms::record_text))]
+pub fn put_joined(
+    text: &mut TextBuffer,
+    form: Form,
+    origin: &CaptureOrigin,
+) -> Result<(), AllocError>
     ensures { OnOk result (text.new ≡ text.old ++ joined_line form origin.now) }
 {
     put_captured_opening(text, form, origin, "joined")?;
@@ -63,11 +54,11 @@ pub fn put_joined(text: &mut TextBuffer, form: Form, origin: &Origin) -> Result<
 /// Appends the line of octets that are not in the capture: their place in the direction or in the
 /// datagram, how many they are, and the path of the field that has the first one, which a line
 /// has only if numbers have their names.
-#[tactic(auto, unfolding(krb_record::specs::Forms::record_text))]
+#[tactic(auto, unfolding(crate::specs::Forms::record_text))]
 pub fn put_lost(
     text: &mut TextBuffer,
     form: Form,
-    origin: &Origin,
+    origin: &CaptureOrigin,
     place: u64,
     octets: u64,
     path: Option<&str>,
@@ -83,11 +74,11 @@ pub fn put_lost(
 
 /// Appends the line of a message that changes a password (RFC 3244, section 2): its version, how
 /// many octets its AP-REQ or AP-REP has, and how many follow it.
-#[tactic(auto, unfolding(krb_record::specs::Forms::record_text))]
+#[tactic(auto, unfolding(crate::specs::Forms::record_text))]
 pub fn put_password(
     text: &mut TextBuffer,
     form: Form,
-    origin: &Origin,
+    origin: &CaptureOrigin,
     version: u16,
     ap: u16,
     rest: u64,
@@ -128,7 +119,7 @@ fn put_counts(text: &mut TextBuffer, form: Form, counts: &CaptureCounts) -> Resu
 }
 
 /// Appends the last line of a capture that is read to its end.
-#[tactic(auto, unfolding(krb_record::specs::Forms::record_text))]
+#[tactic(auto, unfolding(crate::specs::Forms::record_text))]
 pub fn put_capture_end(
     text: &mut TextBuffer,
     form: Form,
@@ -144,7 +135,7 @@ pub fn put_capture_end(
 /// Appends the last line of a capture that is refused: what was counted before, the place of the
 /// field at fault, what is wrong with it, and, to a line only if numbers have their names, its path
 /// and where the part of the file begins that is refused.
-#[tactic(auto, unfolding(krb_record::specs::Forms::record_text))]
+#[tactic(auto, unfolding(crate::specs::Forms::record_text))]
 pub fn put_capture_refusal(
     text: &mut TextBuffer,
     form: Form,

@@ -1,42 +1,32 @@
 -- Records of captures: what is found in a flow, with the packet, its time and the flow; and the last one.
 use Rattle.std.specs.Prelude.{ℕ, pos, List, [], ◌∷◌, ◌++◌, Option, codes}
-use Rattle.std.specs.declared.net.ip_addr.IpAddr.{IpAddr}
 use Rattle.krb_der.specs.declared.verdict.Refusal.{Refusal}
 use Rattle.krb_file.specs.declared.fault.FileWhy.{FileWhy}
-use Rattle.krb_msg.specs.declared.message.Message.{Message}
-use Rattle.krb_packet.specs.declared.contents.Endpoint.{Endpoint}
-use Rattle.krb_text.specs.declared.capture.CaptureCounts.{CaptureCounts}
+use Rattle.krb_record.specs.declared.capture.CaptureCounts.{CaptureCounts}
 use Rattle.krb_record.specs.declared.extent.Extent.{Extent}
 use Rattle.krb_record.specs.declared.form.Form.{Form}
-use Rattle.krb_text.specs.declared.origin.Origin.{Origin}
+use Rattle.krb_record.specs.declared.capture_origin.CaptureOrigin.{CaptureOrigin}
 use Rattle.krb_record.specs.Forms.{record_line}
-use Rattle.krb_text.specs.Messages.{message_record}
 use Rattle.krb_record.specs.Refusals.{extent_in, file_refused_record, path_in, refusal_record}
-use Rattle.krb_record.specs.Time.{instant_text}
+use Rattle.krb_record.specs.Time.{timestamp_text}
 use Rattle.krb_record.specs.Values.{Flow, Number, Word, Field, Printed, the, printed, with_origin, if_there}
 
-abbrev pub endpoint : Endpoint → IpAddr × ℕ
-endpoint e = (e.address, e.port)
-
 -- the packet, its time and the flow
-abbrev pub origin_fields : Origin → List Field
+abbrev pub origin_fields : CaptureOrigin → List Field
 origin_fields origin =
     the (codes "packet") (Number (pos origin.packet))
-    ∷ the (codes "t") (if_there (λ time. Word (instant_text time.seconds time.nanoseconds)) origin.time)
-    ∷ the (codes "flow") (Flow origin.transport (endpoint origin.source) (endpoint origin.target))
+    ∷ the (codes "t") (if_there (λ time. Word (timestamp_text time.seconds time.nanoseconds)) origin.time)
+    ∷ the (codes "flow") (Flow origin.flow.transport origin.flow.source origin.flow.target)
     ∷ []
 
-abbrev pub captured_line : Form → Origin → Printed → List ℕ
+abbrev pub captured_line : Form → CaptureOrigin → Printed → List ℕ
 captured_line form origin r = record_line form (with_origin (origin_fields origin) r)
 
-abbrev pub captured_message_line : Form → Origin → Message → List ℕ
-captured_message_line form origin m = captured_line form origin (message_record m)
-
-abbrev pub captured_refused_line : Form → Origin → Refusal → Option (List ℕ) → Extent → List ℕ
+abbrev pub captured_refused_line : Form → CaptureOrigin → Refusal → Option (List ℕ) → Extent → List ℕ
 captured_refused_line form origin refusal path extent = captured_line form origin (refusal_record refusal (path_in form path ++ extent_in form extent))
 
 -- a direction whose first octets come without its SYN
-abbrev pub joined_line : Form → Origin → List ℕ
+abbrev pub joined_line : Form → CaptureOrigin → List ℕ
 joined_line form origin = captured_line form origin (printed (codes "joined") [])
 
 -- octets that are not in the capture: their place, how many they are, and the path of the field of the first one
@@ -44,7 +34,7 @@ abbrev pub lost_record : Form → ℕ → ℕ → Option (List ℕ) → Printed
 lost_record form place octets path =
     printed (codes "lost") (the (codes "place") (Number (pos place)) ∷ the (codes "octets") (Number (pos octets)) ∷ path_in form path)
 
-abbrev pub lost_line : Form → Origin → ℕ → ℕ → Option (List ℕ) → List ℕ
+abbrev pub lost_line : Form → CaptureOrigin → ℕ → ℕ → Option (List ℕ) → List ℕ
 lost_line form origin place octets path = captured_line form origin (lost_record form place octets path)
 
 -- a message that changes a password (RFC 3244, section 2): its version, the size of its AP-REQ or AP-REP, and that of the rest
@@ -52,7 +42,7 @@ abbrev pub password_record : ℕ → ℕ → ℕ → Printed
 password_record version ap rest =
     printed (codes "KPASSWD") (the (codes "version") (Number (pos version)) ∷ the (codes "ap") (Number (pos ap)) ∷ the (codes "rest") (Number (pos rest)) ∷ [])
 
-abbrev pub password_line : Form → Origin → ℕ → ℕ → ℕ → List ℕ
+abbrev pub password_line : Form → CaptureOrigin → ℕ → ℕ → ℕ → List ℕ
 password_line form origin version ap rest = captured_line form origin (password_record version ap rest)
 
 -- ---- the last record

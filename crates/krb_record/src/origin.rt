@@ -1,0 +1,44 @@
+//! What records begin with that have an origin.
+
+ghost use Rattle.std.specs.Prelude.{◌≡◌, ◌++◌, List, OnOk};
+ghost use Rattle.krb_record.specs.Forms.{opening_from, origin_text};
+ghost use Rattle.krb_record.specs.Values.{Field};
+
+use crate::field::put_opening;
+use crate::form::Form;
+use crate::text_buffer::TextBuffer;
+use std::alloc::AllocError;
+
+/// Where a record comes from.
+pub(crate) trait Origin {
+    /// The fields that say so.
+    ghost fields: { Self → List Field };
+
+    /// Appends these fields.
+    fn put_fields(&self, text: &mut TextBuffer, form: Form) -> Result<(), AllocError>
+        ensures { OnOk result (text.new ≡ text.old ++ origin_text form (fields self.now)) };
+}
+
+/// Appends what precedes the fields of a record of an origin that is not empty: in a line the
+/// origin and then the kind, in an object the kind and then the origin.
+#[tactic(auto, unfolding(crate::specs::Forms::opening_from))]
+pub(crate) fn put_opening_from<O: Origin>(
+    text: &mut TextBuffer,
+    form: Form,
+    origin: &O,
+    kind: &str,
+) -> Result<(), AllocError>
+    ensures { OnOk result (text.new ≡ text.old ++ opening_from form (O.fields origin.now) kind.now) }
+{
+    match form {
+        Form::Lines | Form::NamedLines => {
+            origin.put_fields(text, form)?;
+            text.push_str(" ")?;
+            text.push_str(kind)
+        }
+        Form::Json => {
+            put_opening(text, form, kind)?;
+            origin.put_fields(text, form)
+        }
+    }
+}
