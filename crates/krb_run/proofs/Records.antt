@@ -1,5 +1,5 @@
 -- A run on records, one line after another.
-use Rattle.std.proofs.Common.{◌≡◌, ℕ, List, [], ◌++◌, Option, Some, None, Result, Ok, Err, refl, sym, ◌∙◌, ap, subst, append_assoc}
+use Rattle.std.proofs.Common.{◌≡◌, ℕ, List, [], ◌++◌, Option, Some, None, Result, Ok, Err, IfErr, ◌⊎◌, inl, inr, refl, sym, ◌∙◌, ap, subst, append_assoc}
 use Rattle.std.proofs.lemmas.List.{append-nil}
 use Rattle.std.specs.Io.KnownBytes.{Appends}
 use Rattle.std.proofs.KnownBytes.{Appends-nil, Appends-trans}
@@ -125,6 +125,15 @@ pub write-fault : (all : RecordListing) (written_before after : Option (List ℕ
 write-fault all written_before after (fault.Write e) is prefix = prefix
 write-fault all written_before after (fault.Read e) is prefix = absurd is
 write-fault all written_before after fault.Memory is prefix = absurd is
+
+-- a run that could not read on returns that, or that a write before it failed
+pub unread : (e : RunFault) (written_before written_after : Option (List ℕ)) (old new : List ℕ) (result : Result RunEnd RunFault) → IsRead e → WritesBefore e written_before written_after old new result → IfErr result (λ f. IsRead f ⊎ IsWrite f)
+unread (fault.Read e) written_before written_after old new (Ok ended) is w = tt
+unread (fault.Read e) written_before written_after old new (Err (fault.Read last)) is w = inl tt
+unread (fault.Read e) written_before written_after old new (Err (fault.Write last)) is w = inr tt
+unread (fault.Read e) written_before written_after old new (Err fault.Memory) is w = absurd w
+unread (fault.Write e) written_before written_after old new result is w = absurd is
+unread fault.Memory written_before written_after old new result is w = absurd is
 
 -- memory ran out before anything was written
 pub none_written : (all : RecordListing) (written_before : Option (List ℕ)) (e : RunFault) → e ≡ fault.Memory → ListsRecords all written_before written_before (Err e)

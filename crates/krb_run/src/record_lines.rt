@@ -1,6 +1,6 @@
 //! Runs over files whose lines are written as their records end.
 
-ghost use Rattle.std.specs.Prelude.{◌≡◌, ◌++◌, ℕ, suc, List, [], Some, IfErr, IfOk, OnErr, OnOk, string_bytes};
+ghost use Rattle.std.specs.Prelude.{◌≡◌, ◌++◌, ◌⊎◌, ℕ, suc, List, [], Some, IfErr, IfOk, OnErr, OnOk, string_bytes};
 ghost use Rattle.std.specs.Io.Buffered.{reader_remaining};
 ghost use Rattle.std.specs.Io.KnownBytes.{Appends};
 ghost use Rattle.std.specs.Option.{option_map};
@@ -225,7 +225,7 @@ pub fn list_refusal<W: Write>(
     writer: &mut W,
 ) -> Result<RunEnd, RunFault>
     ensures listed { (listing : RecordListing) → IsRefusal form fault listing → ListsRecords listing (W.contents writer.old) (W.contents writer.new) result }
-    ensures read { fault ≡ FileFault.Read → IfErr result (λ e. e ≡ RunFault.Memory → ⊥) }
+    ensures read { fault ≡ FileFault.Read → IfErr result (λ e. IsRead e ⊎ IsWrite e) }
 {
     let mut text = TextBuffer::new(alloc);
     match put_fault(alloc, &mut text, form, FileItem::File, fault, watch) {
