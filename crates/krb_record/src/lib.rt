@@ -10,7 +10,9 @@
 //! are numbers of registries ([`Numbered`]), names of principals ([`Principal`]), flags
 //! ([`FlagBits`]), times ([`FileTime`]) and others. What is refused has a call for each source,
 //! [`put_message_refusal`] among them, which takes an [`Extent`]: where the octets lie that are
-//! refused. Nothing here knows messages, and nothing reads or writes a file.
+//! refused. What is found in a capture beside messages has one for each kind, [`put_lost`] among
+//! them, which takes a [`CaptureOrigin`]. Nothing here knows messages, and nothing reads or writes a
+//! file.
 #![tactic(auto)]
 
 mod capture;
