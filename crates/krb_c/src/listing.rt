@@ -8,8 +8,9 @@ ghost use Rattle.krb_c.specs.Written.{IsListed};
 use crate::numbers::{form_of, goes_on, limit_of, now_of, port_of, profile_of};
 use crate::writing::{Listing, answer};
 use krb_capture_run::run_capture;
+use krb_file_run::{run_ccache_in, run_keytab_in};
 use krb_run::RunFault;
-use krb_tool::{Form, Limit, Profile, list_octets, run_ccache_in, run_keytab_in, run_stream_in};
+use krb_tool::{Form, Limit, Profile, list_octets, run_stream_in};
 use std::alloc::Global;
 
 /// Returns the line of a message of a profile, or of its refusal.

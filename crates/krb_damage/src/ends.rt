@@ -2,8 +2,9 @@
 
 use crate::fakes::{Narrow, Slow};
 use krb_der::Profile;
+use krb_file_run::{run_ccache, run_keytab};
 use krb_run::{RunEnd, RunFault};
-use krb_tool::{Form, Limit, run_ccache, run_keytab, run_lines_in, run_message_in, run_stream_in};
+use krb_tool::{Form, Limit, run_lines_in, run_message_in, run_stream_in};
 use std::alloc::Global;
 use std::io::{Read, Write};
 

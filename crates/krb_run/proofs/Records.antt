@@ -10,7 +10,7 @@ use Rattle.krb_record.specs.declared.form.Form.{Form}
 use Rattle.krb_run.specs.declared.run.RunEnd.{RunEnd}
 use Rattle.krb_run.specs.declared.run.RunFault.{RunFault}
 use Rattle.krb_run.specs.declared.run.RunFault.TheVariants as fault
-use Rattle.krb_run.specs.Faults.{IsRead, IsWrite}
+use Rattle.krb_run.specs.Faults.{IsFaultAt, IsRead, IsWrite}
 use Rattle.krb_run.specs.Records.{AddsLine, AddsRefusal, IsRefusal, RecordListing, text_of, after_line, AppendsPrefix, ListsRecords}
 use Rattle.krb_run.specs.inner.RecordRuns.{Moves, WritesBefore}
 
@@ -126,14 +126,25 @@ write-fault all written_before after (fault.Write e) is prefix = prefix
 write-fault all written_before after (fault.Read e) is prefix = absurd is
 write-fault all written_before after fault.Memory is prefix = absurd is
 
--- a run that could not read on returns that, or that a write before it failed
-pub unread : (e : RunFault) (written_before written_after : Option (List ℕ)) (old new : List ℕ) (result : Result RunEnd RunFault) → IsRead e → WritesBefore e written_before written_after old new result → IfErr result (λ f. IsRead f ⊎ IsWrite f)
+-- What is written before a fault changes it only to that of a write.
+unread : (e : RunFault) (written_before written_after : Option (List ℕ)) (old new : List ℕ) (result : Result RunEnd RunFault) → IsRead e → WritesBefore e written_before written_after old new result → IfErr result (λ f. IsRead f ⊎ IsWrite f)
 unread (fault.Read e) written_before written_after old new (Ok ended) is w = tt
 unread (fault.Read e) written_before written_after old new (Err (fault.Read last)) is w = inl tt
 unread (fault.Read e) written_before written_after old new (Err (fault.Write last)) is w = inr tt
 unread (fault.Read e) written_before written_after old new (Err fault.Memory) is w = absurd w
 unread (fault.Write e) written_before written_after old new result is w = absurd is
 unread fault.Memory written_before written_after old new result is w = absurd is
+
+no_memory : (e : RunFault) (written_before written_after : Option (List ℕ)) (old new : List ℕ) (result : Result RunEnd RunFault) → e ≡ fault.Memory → WritesBefore e written_before written_after old new result → IfErr result (λ f. (f ≡ fault.Memory) ⊎ IsWrite f)
+no_memory (fault.Read e) written_before written_after old new result is w = absurd (subst IsRead is tt)
+no_memory (fault.Write e) written_before written_after old new result is w = absurd (subst IsWrite is tt)
+no_memory fault.Memory written_before written_after old new (Ok ended) is w = tt
+no_memory fault.Memory written_before written_after old new (Err last) is w = inl w.0
+
+pub fault_stays : (cause : FileFault) (e : RunFault) (written_before written_after : Option (List ℕ)) (old new : List ℕ) (result : Result RunEnd RunFault) → IsFaultAt cause e → WritesBefore e written_before written_after old new result → IfErr result (λ f. IsFaultAt cause f ⊎ IsWrite f)
+fault_stays faults.Read = unread
+fault_stays (faults.Refused refusal) = no_memory
+fault_stays faults.Memory = no_memory
 
 -- memory ran out before anything was written
 pub none_written : (all : RecordListing) (written_before : Option (List ℕ)) (e : RunFault) → e ≡ fault.Memory → ListsRecords all written_before written_before (Err e)

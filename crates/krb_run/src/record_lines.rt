@@ -5,7 +5,7 @@ ghost use Rattle.std.specs.Io.Buffered.{reader_remaining};
 ghost use Rattle.std.specs.Io.KnownBytes.{Appends};
 ghost use Rattle.std.specs.Option.{option_map};
 ghost use Rattle.krb_run.specs.Extents.{fault_line};
-ghost use Rattle.krb_run.specs.Faults.{IsRead, IsWrite};
+ghost use Rattle.krb_run.specs.Faults.{IsFaultAt, IsRead, IsWrite};
 ghost use Rattle.krb_run.specs.Records.{AddsLine, AddsRefusal, AppendsPrefix, IsRefusal, ListsRecords, RecordListing, after_line};
 ghost use Rattle.krb_run.specs.inner.RecordRuns.{Moves, WritesBefore};
 
@@ -130,8 +130,7 @@ pub fn put_fault(
     watch: &Watch,
 ) -> Result<RunEnd, RunFault>
     ensures refused { IfOk result (AddsRefusal item form fault text.old text.new) }
-    ensures read { fault ≡ FileFault.Read → IfErr result IsRead }
-    ensures fault { IfErr result (λ e. IsWrite e → ⊥) }
+    ensures fault { IfErr result (IsFaultAt fault) }
     ensures kept { IfErr result (λ e. IsRead e → text.new ≡ text.old) }
 {
     match fault {
@@ -225,7 +224,7 @@ pub fn list_refusal<W: Write>(
     writer: &mut W,
 ) -> Result<RunEnd, RunFault>
     ensures listed { (listing : RecordListing) → IsRefusal form fault listing → ListsRecords listing (W.contents writer.old) (W.contents writer.new) result }
-    ensures read { fault ≡ FileFault.Read → IfErr result (λ e. IsRead e ⊎ IsWrite e) }
+    ensures fault { IfErr result (λ e. IsFaultAt fault e ⊎ IsWrite e) }
 {
     let mut text = TextBuffer::new(alloc);
     match put_fault(alloc, &mut text, form, FileItem::File, fault, watch) {

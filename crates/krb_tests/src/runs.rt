@@ -3,10 +3,11 @@
 //! worked out by hand from the rules of `docs/FORMATS.md`.
 
 use crate::fakes::{Asked, Full, Watched};
+use krb_file_run::{run_ccache, run_keytab};
 use krb_run::{RunEnd, RunFault, status};
 use krb_tool::{
-    DecodeEnd, EncodeEnd, Form, Limit, Profile, run_ccache, run_decode, run_decode_unframed,
-    run_encode, run_encode_unframed, run_keytab, run_lines_in, run_message, run_stream,
+    DecodeEnd, EncodeEnd, Form, Limit, Profile, run_decode, run_decode_unframed, run_encode,
+    run_encode_unframed, run_lines_in, run_message, run_stream,
 };
 use std::alloc::{AllocError, Global};
 use std::io::{Read, Write};

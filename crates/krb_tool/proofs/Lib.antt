@@ -5,8 +5,6 @@ pub mod FirstRefusals
 pub mod ListedPieces
 pub mod Files
 pub mod Messages
-pub mod Records
-pub mod CredentialLines
 pub mod KnownLengths
 mod FaultPaths
 pub mod ConversionRuns

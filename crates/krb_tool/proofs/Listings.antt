@@ -18,7 +18,9 @@ use Rattle.krb_frame.specs.Deliveries.{IsMessage, contents_in}
 use Rattle.krb_frame.specs.GoingOn.{Entry, after_contents, entries, entries_size, entry_size}
 use Rattle.krb_record.specs.declared.form.Form.{Form}
 use Rattle.krb_tool.specs.GoingOn.{Listed, Whole, Faulty, entry_of, messages_in, octets_in, refused_in, lines_after, IsCountedListing, counted_run_end, EndsUnknown, ListsStream, FailsStream}
-use Rattle.krb_tool.specs.Lines.{message_line, refused_line, end_line}
+use Rattle.krb_text.specs.Messages.{message_line}
+use Rattle.krb_record.specs.Streams.{refused_line}
+use Rattle.krb_text.specs.StreamEnds.{end_line}
 use Rattle.krb_tool.specs.Listing.{run_end, AllIsRead, IsListing, IsNotRefused, StopsInPiece}
 use Rattle.krb_tool.specs.Paths.{frame_extent, frame_path, last_octets}
 use Rattle.krb_tool.specs.declared.listing.StreamLines.{StreamLines}

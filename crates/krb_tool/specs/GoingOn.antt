@@ -9,9 +9,9 @@ use Rattle.krb_msg.specs.Grammar.{messages}
 use Rattle.krb_msg.specs.Views.{message_der}
 use Rattle.krb_frame.specs.GoingOn.{Entry, Contents, Fault, entries, entry_size}
 use Rattle.krb_record.specs.declared.form.Form.{Form}
-use Rattle.krb_tool.specs.Lines.{message_line}
+use Rattle.krb_text.specs.Messages.{message_line}
 use Rattle.krb_tool.specs.Paths.{frame_extent, frame_path}
-use Rattle.krb_tool.specs.Lines.{refused_line, counted_end_line}
+use Rattle.krb_record.specs.Streams.{refused_line, counted_end_line}
 use Rattle.krb_run.specs.declared.run.RunEnd.{RunEnd}
 use Rattle.krb_run.specs.declared.run.RunEnd.TheVariants as run
 use Rattle.krb_run.specs.declared.run.RunFault.{RunFault}

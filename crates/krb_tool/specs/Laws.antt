@@ -1,5 +1,5 @@
--- The laws of listings and of conversions. Each is the contract of a function of the module `law`.
-use Rattle.std.specs.Prelude.{ℕ, ◌≡◌, ◌+◌, ◌<◌, ◌≤◌, ◌^◌, ◌⊎◌, false, true, List, [], ◌++◌, length, map, Option, None}
+-- The laws of listings and of conversions. Each is the contract of a function of the module `runs` of krb_tool_laws.
+use Rattle.std.specs.Prelude.{ℕ, ◌≡◌, ◌+◌, ◌<◌, ◌^◌, ◌⊎◌, false, true, List, [], ◌++◌, length, map, None}
 use Rattle.std.specs.List.{AllByRecursion, flat_map}
 use Rattle.krb_der.specs.Octets.{AreOctets}
 use Rattle.krb_der.specs.declared.profile.Profile.{Profile}
@@ -12,23 +12,12 @@ use Rattle.krb_json.specs.Laws.{IsSpelled, IsText}
 use Rattle.krb_json.specs.Lines.{line_of}
 use Rattle.krb_json.specs.Masked.{masked_in}
 use Rattle.krb_json.specs.Unencrypted.{unencrypted_in}
-use Rattle.krb_keytab.specs.Laws.{IsUpToKey}
-use Rattle.krb_ccache.specs.declared.value.Cache3.{Cache3}
-use Rattle.krb_ccache.specs.Laws.{IsUpToKey as IsUpToSessionKey}
-use Rattle.krb_ccache.specs.Spelling.{CcacheSpells, Spells3, upgraded}
 use Rattle.krb_frame.specs.Frame.{framed}
 use Rattle.krb_frame.specs.Laws.{IsRefusedWith}
-use Rattle.krb_record.specs.declared.form.Form.{Form}
-use Rattle.krb_run.specs.declared.run.RunEnd.TheVariants as run
-use Rattle.krb_tool.specs.Files.{keytab_listing, ccache_listing}
 use Rattle.krb_tool.specs.Listing.{end_of}
 use Rattle.krb_tool.specs.Paths.{end_extent}
 use Rattle.krb_tool.specs.Decoding as decoding
 use Rattle.krb_tool.specs.Encoding as encoding
-
--- A cache of version 3 that is listed without a refusal has the listing of its upgrade.
-abbrev pub UpgradeIsListedAlike : Type 0
-UpgradeIsListedAlike = (form : Form) (now : Option ℕ) (v : Cache3) (file other : List ℕ) → AreOctets file → Spells3 v file → CcacheSpells (upgraded v) other → (ccache_listing form now file).end ≡ run.Clean → ccache_listing form now other ≡ ccache_listing form now file
 
 -- A stream all of which is decoded comes back octet for octet when the lines are encoded.
 abbrev pub StreamsComeBack : Type 0
@@ -41,18 +30,6 @@ MessageComesBack = (profile : Profile) (limit : ℕ) (octets : List ℕ) → Are
 pub record DecodedComesBack : Type 0 where
   pub streams : StreamsComeBack
   pub messages : MessageComesBack
-
--- Two keytabs that differ in octets of one key alone have one listing, up to the same end or the same refusal.
-abbrev pub KeysAreNotListed : Type 0
-KeysAreNotListed =
-    (form : Form) (before key other after : List ℕ) (size : ℕ) → IsUpToKey before size → length key ≤ size → length other ≡ length key
-    → keytab_listing form (before ++ (key ++ after)) ≡ keytab_listing form (before ++ (other ++ after))
-
--- So do two caches.
-abbrev pub SessionKeysAreNotListed : Type 0
-SessionKeysAreNotListed =
-    (form : Form) (now : Option ℕ) (before key other after : List ℕ) (size : ℕ) → IsUpToSessionKey before size → length key ≤ size → length other ≡ length key
-    → ccache_listing form now (before ++ (key ++ after)) ≡ ccache_listing form now (before ++ (other ++ after))
 
 -- The first octet with which a stream is refused is the one at the offset and the place that its last line tells.
 abbrev pub RefusalsAreAtOffsets : Type 0

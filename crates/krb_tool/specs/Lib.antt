@@ -1,4 +1,3 @@
-pub mod Lines
 pub mod Paths
 pub mod Listing
 pub mod GoingOn

@@ -8,8 +8,8 @@ use Rattle.krb_msg.specs.Grammar.{messages}
 use Rattle.krb_msg.specs.Views.{message_der}
 use Rattle.krb_msg.specs.Stream.{End, Boundary, Within, Refused, frames}
 use Rattle.krb_record.specs.declared.form.Form.{Form}
-use Rattle.krb_tool.specs.Lines.{message_line}
-use Rattle.krb_tool.specs.Lines.{end_line}
+use Rattle.krb_text.specs.Messages.{message_line}
+use Rattle.krb_text.specs.StreamEnds.{end_line}
 use Rattle.krb_tool.specs.Paths.{end_extent, end_path}
 use Rattle.krb_run.specs.declared.run.RunEnd.{RunEnd}
 use Rattle.krb_run.specs.declared.run.RunEnd.TheVariants as run

@@ -4,7 +4,6 @@ pub mod LineReaders
 pub mod Listers
 pub mod StreamLines
 pub mod FileRuns
-pub mod RecordRuns
 pub mod Conversions
 pub mod JsonLines
 pub mod EncodedLines

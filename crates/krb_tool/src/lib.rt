@@ -1,22 +1,23 @@
-//! What `krbls` does, over any reader and writer: it lists octets, a record for each message,
-//! record or credential, and then the record of the end, or of what is refused and at which place;
-//! and it decodes messages to lines of JSON, and encodes these.
+//! What `krbls` does with messages, over any reader and writer: it lists them, a record for each,
+//! and then the record of the end, or of what is refused and at which place; and it decodes them to
+//! lines of JSON, and encodes these.
 //!
 //! The main calls:
 //!
-//! - [`run_stream`] lists framed messages, [`run_message`] one message that an input
-//!   spells, [`run_lines_in`] messages that lines spell, [`run_keytab`] a keytab and [`run_ccache`] a credential cache. [`run_stream_in`] and its like
-//!   take the form of the records ([`Form`]) and the profile of messages ([`Profile`]), and a
-//!   stream whether it is gone on with after refusals.
+//! - [`run_stream`] lists framed messages, [`run_message`] one message that an input spells, and
+//!   [`run_lines_in`] messages that lines spell. [`run_stream_in`] and its like take the form of the
+//!   records ([`Form`]) and the profile of messages ([`Profile`]), and a stream whether it is gone
+//!   on with after refusals.
 //! - [`run_decode`] writes framed messages as lines of JSON, and [`run_encode`] the messages that
 //!   such lines spell as frames; [`run_decode_unframed`] and [`run_encode_unframed`] do so for one
 //!   message without its length.
 //! - [`list_octets`] returns the line of a message that is in memory.
 //!
-//! `krb_run` has how runs end, and what lists several sources.
+//! `krb_run` has how runs end, and what lists several sources; `krb_file_run` has the runs over
+//! keytabs and caches, and `krb_capture_run` that over a capture.
 //!
-//! Nothing here opens a file or reads a command line: `krbls` and `krb_words` do. `krb_text` and
-//! `krb_list` say what is in a record.
+//! Nothing here opens a file or reads a command line: `krbls` and `krb_words` do. `krb_text` says
+//! what is in a record.
 #![tactic(auto)]
 
 mod decode_run;
@@ -30,7 +31,6 @@ mod lines_run;
 mod listing;
 mod message_input;
 mod message_run;
-mod record_run;
 mod run;
 mod stream_run;
 mod whole_run;
@@ -43,6 +43,5 @@ pub use krb_frame::Limit;
 pub use krb_record::Form;
 pub use lines_run::run_lines_in;
 pub use message_run::{list_octets, run_message, run_message_in};
-pub use record_run::{run_ccache, run_ccache_in, run_keytab, run_keytab_in};
 pub use run::{run_stream, run_stream_in};
 pub use whole_run::run_decode_unframed;

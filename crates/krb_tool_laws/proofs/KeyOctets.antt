@@ -15,9 +15,9 @@ use Rattle.krb_ccache.specs.Laws.{IsUpToKey as IsUpToSessionKey, masked_items, s
 use Rattle.krb_record.specs.declared.form.Form.{Form}
 use Rattle.krb_record.specs.Forms.{record_line as line_of}
 use Rattle.krb_list.specs.Laws.{RecordKeyIsNotShown, CredentialKeyIsNotShown}
-use Rattle.krb_tool.specs.Lines.{record_line, cache_line, credential_line}
+use Rattle.krb_file_run.specs.Lines.{record_line, cache_line, credential_line}
 use Rattle.krb_run.specs.Records.{RecordListing, after_line, refused_listing, end_of}
-use Rattle.krb_tool.specs.Files.{field_limit, keytab_last, records_listing, keytab_listing, ccache_last, credentials_listing, cache_listing, ccache_listing}
+use Rattle.krb_file_run.specs.Files.{field_limit, keytab_last, records_listing, keytab_listing, ccache_last, credentials_listing, cache_listing, ccache_listing}
 
 -- the lines of values are those of the same values masked
 lines-same : {A : Type 0} (line : A → List ℕ) (mask : A → A) → ((a : A) → line (mask a) ≡ line a) → (values : List A) → flat_map line (map mask values) ≡ flat_map line values

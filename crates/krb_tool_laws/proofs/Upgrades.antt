@@ -13,10 +13,10 @@ use Rattle.krb_ccache.specs.Reading.{CacheItems}
 use Rattle.krb_ccache.specs.Spelling.{ccache, CcacheSpells, Spells3, upgraded}
 use Rattle.krb_ccache.specs.Streaming.{file_start, credentials, Holds}
 use Rattle.krb_record.specs.declared.form.Form.{Form}
-use Rattle.krb_tool.specs.Lines.{cache_line}
+use Rattle.krb_file_run.specs.Lines.{cache_line}
 use Rattle.krb_run.specs.declared.run.RunEnd.TheVariants as run
 use Rattle.krb_run.specs.Records.{RecordListing, after_line, end_of}
-use Rattle.krb_tool.specs.Files.{field_limit, cache_listing, credentials_listing, ccache_listing}
+use Rattle.krb_file_run.specs.Files.{field_limit, cache_listing, credentials_listing, ccache_listing}
 
 -- a listing without a refusal has an end
 ended : (e : Result ℕ Fault) → end_of e ≡ run.Clean → (size : ℕ) × (e ≡ Ok size)

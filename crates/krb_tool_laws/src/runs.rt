@@ -1,6 +1,7 @@
 //! Laws of listings and of conversions. Each is the contract of a function that does nothing.
 ghost use Rattle.krb_capture_run.specs.Laws.{CapturesAreListed};
-ghost use Rattle.krb_tool.specs.Laws.{DecodedComesBack, DecodedIsLines, EncodedIsMessages, KeysAreNotListed, RefusalsAreAtOffsets, SessionKeysAreNotListed, UnencryptedIsNotDecoded, UpgradeIsListedAlike};
+ghost use Rattle.krb_file_run.specs.Laws.{KeysAreNotListed, SessionKeysAreNotListed, UpgradeIsListedAlike};
+ghost use Rattle.krb_tool.specs.Laws.{DecodedComesBack, DecodedIsLines, EncodedIsMessages, RefusalsAreAtOffsets, UnencryptedIsNotDecoded};
 
 use krb_file_laws::ccache::{session_keys_change_nothing_else, upgrade_holds_the_same};
 use krb_file_laws::keytab::keys_change_nothing_else;

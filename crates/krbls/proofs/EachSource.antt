@@ -5,7 +5,7 @@ use Rattle.krb_run.specs.Sources.{ListsEach, ListsOne, Named, Reports, Run, name
 use Rattle.krb_run.specs.declared.naming.Naming.{Naming as Labels}
 use Rattle.krb_words.specs.declared.sources.Source.{Source}
 use Rattle.krb_words.specs.declared.words.CommandLine.{CommandLine}
-use Rattle.krbls.specs.Around.{Around}
+use Rattle.krb_host.specs.Around.{Around}
 use Rattle.krbls.specs.Program.{DoesFrom, ListsSources, is_converted, labels_of, name_of}
 
 module _ (around : Around) (command_line : CommandLine) (now : Option ℕ) (sources : List Source) (written_before written_after : Option (List ℕ)) (status : ℕ) where

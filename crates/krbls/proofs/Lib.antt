@@ -1,4 +1,3 @@
 mod Conversions
 mod EachSource
 mod Commands
-mod Stand

@@ -13,7 +13,8 @@ use Rattle.krb_capture_run.specs.Captures.{capture_listing}
 use Rattle.krb_tool.specs.Decoding.{Decodes, DecodesWhole, FailsToDecode, FailsToDecodeWhole}
 use Rattle.krb_tool.specs.Encoding.{Encodes, FailsToEncode}
 use Rattle.krb_run.specs.Records.{ListsRecords}
-use Rattle.krb_tool.specs.Files.{FailsFile, ListsFile, ccache_listing, keytab_listing}
+use Rattle.krb_file_run.specs.Files.{ccache_listing, keytab_listing}
+use Rattle.krb_tool.specs.Files.{FailsFile, ListsFile}
 use Rattle.krb_tool.specs.GoingOn.{FailsAll, ListsAll}
 use Rattle.krb_tool.specs.Listing.{Fails, Lists}
 use Rattle.krb_tool.specs.MessageLines.{FailsLines, ListsLines}

@@ -1,5 +1,3 @@
-pub mod Around
 pub mod Ends
-pub mod Expanded
 pub mod Commands
 pub mod Program

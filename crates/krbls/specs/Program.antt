@@ -28,8 +28,8 @@ use Rattle.krb_words.specs.declared.words.Naming.TheVariants as naming
 use Rattle.krb_words.specs.declared.words.CommandLine.{CommandLine}
 use Rattle.krb_words.specs.declared.words.WordsFault.{WordsFault}
 use Rattle.krb_words.specs.declared.words.WordsFault.TheVariants as words_fault
-use Rattle.krbls.specs.Around.{Around}
-use Rattle.krbls.specs.Expanded.{Expands}
+use Rattle.krb_host.specs.Around.{Around}
+use Rattle.krb_host.specs.Expanded.{Expands}
 use Rattle.krbls.specs.Commands.{Does, chosen, hint_by, kind_used}
 
 -- the name of a source, as it was given

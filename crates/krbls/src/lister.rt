@@ -10,14 +10,15 @@ ghost use Rattle.krbls.specs.Commands.{DecodesBy, Does, EncodesBy, FailsToDecode
 ghost use Rattle.krbls.specs.Program.{DoesFrom, IsHinted, ListsBy, name_of};
 
 use crate::ends::{put_decode_end, put_encode_end};
-use crate::host::Host;
 use krb_capture_run::run_capture;
+use krb_file_run::{run_ccache_in, run_keytab_in};
+use krb_host::Host;
 use krb_input::{Hint, SourceKind, hint_of, kind_of};
 use krb_record::{FileName, TextBuffer};
 use krb_run::{Begun, ListSource, Output, RunEnd, RunFault};
 use krb_tool::{
-    DecodeEnd, EncodeEnd, Form, Limit, Profile, run_ccache_in, run_decode, run_decode_unframed,
-    run_encode, run_encode_unframed, run_keytab_in, run_lines_in, run_message_in, run_stream_in,
+    DecodeEnd, EncodeEnd, Form, Limit, Profile, run_decode, run_decode_unframed, run_encode,
+    run_encode_unframed, run_lines_in, run_message_in, run_stream_in,
 };
 use krb_words::{AfterRefusal, Command, Framing, Inputs, Source, USUAL_PORT, When};
 use std::alloc::{AllocError, Global};

@@ -11,22 +11,18 @@
 //! the command line is wrong, and 3 if a read, a write or an allocation failed. The standard error
 //! has a line for each fault, and for each file that another command reads.
 //!
-//! The command line is read by `krb_words`, and `krb_tool` lists what a reader reads. `run_words`
-//! does what the words say, over any [`host::Host`]: what opens the sources, and what is told of
-//! faults. [`system`] is the host of the program, of which contracts see nothing: its files, its
-//! clock, its standard input and its standard error.
+//! The command line is read by `krb_words`, and `krb_tool`, `krb_file_run` and `krb_capture_run` list
+//! what a reader reads. `run_words` does what the words say, over any [`Host`](krb_host::Host): what
+//! opens the sources, and what is told of faults. [`System`] is the host of the program, of which
+//! contracts see nothing: its files, its clock, its standard input and its standard error.
 #![tactic(auto)]
 
 mod ends;
-mod files;
-mod host;
 mod lister;
 mod program;
-mod sources;
-mod system;
 
 use crate::program::{refuse, run_words};
-use crate::system::System;
+use krb_host::System;
 use krb_words::WordsFault;
 use std::alloc::AllocError;
 use std::env::{Env, FillError};

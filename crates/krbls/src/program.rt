@@ -5,9 +5,8 @@ ghost use Rattle.std.specs.List.{list_any};
 ghost use Rattle.std.specs.Process.{exit_status};
 ghost use Rattle.krbls.specs.Program.{RunsCommand, DoesAny, IsTime, ListsSources, Prints, Refuses, Runs, is_converted, is_directory, labels_of, text_of, when_of};
 
-use crate::host::Host;
 use crate::lister::Lister;
-use crate::sources::expand;
+use krb_host::{Host, expand};
 use krb_run::{Naming as Labels, RunFault, run_sources, run_sources_unnamed};
 use krb_words::{Command, CommandLine, Naming, Source, When, WordsFault, read_words};
 use std::alloc::Global;

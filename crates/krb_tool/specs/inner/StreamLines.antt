@@ -8,7 +8,7 @@ use Rattle.krb_frame.specs.Decoding.{finish_of}
 use Rattle.krb_frame.specs.GoingOn.{Entry, entries, entry_size}
 use Rattle.krb_record.specs.Streams.{stream_end_line}
 use Rattle.krb_record.specs.declared.form.Form.{Form}
-use Rattle.krb_tool.specs.Lines.{refused_line, counted_end_line}
+use Rattle.krb_record.specs.Streams.{refused_line, counted_end_line}
 use Rattle.krb_tool.specs.Paths.{frame_extent, frame_path}
 use Rattle.krb_tool.specs.Listing.{end_of, run_end, IsListing, AllIsRead, AreLines, IsNotRefused, StopsInPiece}
 use Rattle.krb_tool.specs.GoingOn.{Listed, Faulty, entry_of, messages_in, refused_in, lines_after, IsCountedListing, AreCountedLines, EndsUnknown, counted_run_end, octets_in}

@@ -2,7 +2,7 @@ use Rattle.std.proofs.Common.{[], inr, subst}
 use Rattle.std.specs.Io.KnownBytes.{Appends}
 use Rattle.std.proofs.lemmas.Result.{err_from_is_err_and}
 use Rattle.krb_run.specs.Records.{AppendsPrefix, IsRefusal}
-use Rattle.krb_run.proofs.Records.{Listed-start, Listed-before, refusal_is, unread, write-fault}
+use Rattle.krb_run.proofs.Records.{Listed-start, Listed-before, refusal_is, fault_stays, write-fault}
 use Rattle.krb_run.proofs.record_lines.list_refusal.Goals as goal
 
 pub returns-in-Ok-clause-listed : goal.returns-in-Ok-clause-listed
@@ -18,8 +18,8 @@ returns-in_err-write_all-in-Ok-clause-listed g c = λ listing refused.
     rw (p.1, p.2) (write-fault listing (g.W.Write.contents c.args.writer.now) (g.W.Write.contents c.write_all.new.writer) _ c.in_err-write_all-in-Ok.ensures.fault
     (subst (AppendsPrefix (g.W.Write.contents c.args.writer.now) (g.W.Write.contents c.write_all.new.writer)) is.0 prefix))
 
-pub returns-in_err-write_all-in-Ok-clause-read : goal.returns-in_err-write_all-in-Ok-clause-read
-returns-in_err-write_all-in-Ok-clause-read g c = λ is.
+pub returns-in_err-write_all-in-Ok-clause-fault : goal.returns-in_err-write_all-in-Ok-clause-fault
+returns-in_err-write_all-in-Ok-clause-fault g c =
     let p = err_from_is_err_and c.from_residual.result c.from_residual.ensures.1 in
     rw (p.1, p.2) (inr c.in_err-write_all-in-Ok.ensures.fault)
 
@@ -28,5 +28,5 @@ returns-clause-listed g c = λ listing refused.
     let none = Listed-start (IsRefusal c.args.form c.args.fault) listing (g.W.Write.contents c.args.writer.now) [] refused in
     Listed-before _ _ _ _ _ none c.in-Err.fault (g.W.Write.contents c.write_before.new.writer) c.put_fault.new.text c.write_before.new.text c.write_before.result (rw c.new-text.ensures at c.in-Err.ensures.kept) c.write_before.ensures
 
-pub returns-clause-read : goal.returns-clause-read
-returns-clause-read g c = λ is. unread c.in-Err.fault (g.W.Write.contents c.args.writer.now) (g.W.Write.contents c.write_before.new.writer) c.put_fault.new.text c.write_before.new.text c.write_before.result (c.in-Err.ensures.read is) c.write_before.ensures
+pub returns-clause-fault : goal.returns-clause-fault
+returns-clause-fault g c = fault_stays c.args.fault c.in-Err.fault (g.W.Write.contents c.args.writer.now) (g.W.Write.contents c.write_before.new.writer) c.put_fault.new.text c.write_before.new.text c.write_before.result c.in-Err.ensures.fault c.write_before.ensures

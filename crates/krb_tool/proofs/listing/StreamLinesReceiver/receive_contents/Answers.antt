@@ -5,7 +5,7 @@ use Rattle.krb_msg.proofs.Judged.{whole_is_message}
 use Rattle.krb_frame.specs.GoingOn.{Contents}
 use Rattle.krb_text.specs.Messages.{PutsMessage}
 use Rattle.krb_tool.specs.GoingOn.{Whole}
-use Rattle.krb_tool.specs.Lines.{message_line}
+use Rattle.krb_text.specs.Messages.{message_line}
 use Rattle.krb_tool.proofs.DecodedFrames.{of_message}
 use Rattle.krb_tool.proofs.listing.StreamLinesReceiver.receive_contents.Goals as goal
 

@@ -1,0 +1,4 @@
+pub mod Lines
+pub mod Files
+pub mod Laws
+pub mod inner

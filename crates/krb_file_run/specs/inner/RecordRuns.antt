@@ -1,0 +1,33 @@
+-- What the parts of a run on the records of a file promise each other.
+use Rattle.std.specs.Prelude.{ℕ, Bool, ◌≡◌, List, length, drop, Option, Result}
+use Rattle.std.specs.List.{flat_map}
+use Rattle.krb_file.specs.FieldReaders.{Cursor}
+use Rattle.krb_file.specs.declared.progress.Progress.{Progress}
+use Rattle.krb_file.specs.Fields.{Fault}
+use Rattle.krb_file.specs.Items.{Items}
+use Rattle.krb_keytab.specs.Reading.{items as keytab_records}
+use Rattle.krb_keytab.specs.Streaming.{Reads as ReadsRecords}
+use Rattle.krb_keytab.specs.declared.value.Stop.{Stop}
+use Rattle.krb_ccache.specs.declared.reading.Start.{Start}
+use Rattle.krb_ccache.specs.Streaming.{Reads as ReadsCredentials, credentials}
+use Rattle.krb_record.specs.declared.form.Form.{Form}
+use Rattle.krb_file_run.specs.Lines.{record_line, credential_line}
+use Rattle.krb_run.specs.Records.{RecordListing, end_of}
+use Rattle.krb_file_run.specs.Files.{field_limit, keytab_last, ccache_last}
+
+-- what is left after `count` items
+abbrev pub left_of : {A E : Type 0} → (A → List ℕ) → (ℕ → Result E Fault → List ℕ) → Items A (Result E Fault) → ℕ → RecordListing
+left_of line last all count = record { lines = flat_map line (drop count all.items); last = last (length all.items) all.end; end = end_of all.end }
+
+-- A reader returned the first `count` items of a file, and this is left of its listing.
+pub record AreLeft {A E : Type 0} (line : A → List ℕ) (last : ℕ → Result E Fault → List ℕ) (all : List ℕ → Items A (Result E Fault)) (Reads : List ℕ → ℕ → Type 0) (count : ℕ) (left : RecordListing) : Type 0 where
+  pub file : List ℕ
+  pub reads : Reads file count
+  pub is : left ≡ left_of line last (all file) count
+
+abbrev pub AreRecordsLeft : Form → Cursor → Progress Bool Stop → ℕ → RecordListing → Type 0
+AreRecordsLeft form cursor state = AreLeft (λ r. record_line form r) (keytab_last form) (keytab_records field_limit) (λ file count. ReadsRecords field_limit cursor state file count)
+
+-- the same of credentials, at a time if there is one
+abbrev pub AreCredentialsLeft : Form → Cursor → Start → Progress (Unit {0}) (Unit {0}) → Option ℕ → ℕ → RecordListing → Type 0
+AreCredentialsLeft form cursor start state now = AreLeft (λ c. credential_line form now c) (ccache_last form) (credentials field_limit) (λ file count. ReadsCredentials field_limit cursor start state file count)
