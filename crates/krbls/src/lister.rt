@@ -25,7 +25,7 @@ use std::alloc::{AllocError, Global};
 use std::io::{Read, Write};
 
 /// What does the command of a command line with sources.
-#[derive(Clone, Copy)]
+#[derive(Drop)]
 pub(crate) struct Lister<'a, H> {
     pub(crate) alloc: Global,
     pub(crate) host: &'a H,
