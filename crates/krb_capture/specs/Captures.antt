@@ -10,7 +10,7 @@ use Rattle.krb_packet.specs.Fragments.{contents_of_whole, no_fragments, step, un
 use Rattle.krb_packet.specs.Table.{Table as Fragments}
 use Rattle.krb_packet.specs.declared.contents.Segment.{Segment}
 use Rattle.krb_packet.specs.declared.packet.Packet.{Packet}
-use Rattle.krb_file.specs.declared.fault.FileWhy.{FileWhy}
+use Rattle.krb_source.specs.declared.file_why.FileWhy.{FileWhy}
 use Rattle.krb_record.specs.Captures.{capture_end_line, capture_refused_line}
 use Rattle.krb_record.specs.declared.capture.CaptureCounts.{CaptureCounts}
 use Rattle.krb_record.specs.declared.extent.Extent.{Extent}

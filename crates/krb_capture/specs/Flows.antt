@@ -1,6 +1,6 @@
 -- Flows, what they carry, and the packets with which records are due.
 use Rattle.std.specs.Prelude.{ℕ, ◌||◌, ◌==◌, if◌then◌else◌, Option, Some, None}
-use Rattle.krb_net.specs.declared.endpoint.Endpoint.{Endpoint}
+use Rattle.krb_source.specs.declared.endpoint.Endpoint.{Endpoint}
 use Rattle.krb_packet.specs.declared.packet.Packet.{Packet}
 use Rattle.krb_record.specs.declared.capture_origin.CaptureOrigin.{CaptureOrigin}
 use Rattle.krb_record.specs.declared.flow.Transport.{Transport}

@@ -7,7 +7,7 @@ use Rattle.krb_packet.specs.Table.{Table as Fragments}
 use Rattle.krb_packet.specs.declared.contents.Contents.{Contents}
 use Rattle.krb_packet.specs.declared.contents.Contents.TheVariants as contents
 use Rattle.krb_packet.specs.declared.contents.Datagram.{Datagram}
-use Rattle.krb_net.specs.declared.endpoint.Endpoint.{Endpoint}
+use Rattle.krb_source.specs.declared.endpoint.Endpoint.{Endpoint}
 use Rattle.krb_packet.specs.declared.contents.Segment.{Segment}
 use Rattle.krb_packet.specs.declared.fragments.Reassembled.{Reassembled}
 use Rattle.krb_packet.specs.declared.packet.Packet.{Packet}

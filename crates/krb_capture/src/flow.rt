@@ -3,9 +3,9 @@
 ghost use Rattle.std.specs.Prelude.{◌≡◌};
 ghost use Rattle.krb_capture.specs.Flows.{due_with, flow_between, origin_of, service_of};
 
-use krb_net::{Endpoint, Timestamp};
 use krb_packet::Packet;
 use krb_record::{CaptureOrigin, Transport};
+use krb_source::{Endpoint, Timestamp};
 
 /// The port of changes of passwords (RFC 3244, 2).
 const PASSWORD_PORT: u16 = 464;

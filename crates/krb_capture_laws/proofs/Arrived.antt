@@ -1,7 +1,7 @@
 -- Four segments that are all of a stream: its SYN, its last octets with the FIN, its first ones, of which one is a copy, and the last ones again.
 use Rattle.std.proofs.Common.{ℕ, ◌<◌, inl, inr, Bool, true, false, List, [], ◌∷◌, length, refl, arith}
 use Rattle.std.proofs.lemmas.Bool.{cases_lt}
-use Rattle.krb_net.specs.declared.endpoint.Endpoint.{Endpoint}
+use Rattle.krb_source.specs.declared.endpoint.Endpoint.{Endpoint}
 use Rattle.krb_flow.specs.declared.direction.Beginning.TheVariants.{Syn}
 use Rattle.krb_flow.specs.Arrivals.{AreAllOf}
 use Rattle.krb_flow.specs.Laws.{Piece, IsCaptured}

@@ -12,8 +12,8 @@ use Rattle.std.specs.declared.net.ip_addr.IpAddr.{IpAddr}
 use Rattle.std.specs.declared.net.ip_addr.IpAddr.TheVariants as ip
 use Rattle.std.specs.contracts.net.ip_addr.IpAddrOrd.TheImpl as address_order
 use Rattle.std.proofs.lemmas.Map.Lookups.{exact_unsigned, exact_bytes}
-use Rattle.krb_net.specs.declared.endpoint.Endpoint.{Endpoint}
-use Rattle.krb_net.specs.contracts.endpoint.EndpointOrd.TheImpl as endpoint_order
+use Rattle.krb_source.specs.declared.endpoint.Endpoint.{Endpoint}
+use Rattle.krb_source.specs.contracts.endpoint.EndpointOrd.TheImpl as endpoint_order
 use Rattle.krb_packet.specs.Fragments.{same_address}
 use Rattle.krb_capture.specs.Directions.{flow_cmp}
 use Rattle.krb_capture.specs.Flows.{flow_between}

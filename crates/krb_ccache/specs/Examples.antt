@@ -3,8 +3,8 @@ use Rattle.std.specs.Prelude.{ℕ, zero, suc, pos, negsuc, ◌≡◌, Bool, true
 use Rattle.krb_der.specs.Octets.{when}
 use Rattle.krb_der.specs.Hex.{hex}
 use Rattle.krb_file.specs.Fields.{Fault}
-use Rattle.krb_file.specs.declared.fault.FileWhy.{FileWhy}
-use Rattle.krb_file.specs.declared.fault.FileWhy.TheVariants as why
+use Rattle.krb_source.specs.declared.file_why.FileWhy.{FileWhy}
+use Rattle.krb_source.specs.declared.file_why.FileWhy.TheVariants as why
 use Rattle.krb_file.specs.declared.field_name.FieldName.{FieldName}
 use Rattle.krb_file.specs.declared.field_name.FieldName.TheVariants as words
 use Rattle.krb_file.specs.declared.field_name.FilePart.{FilePart}

@@ -4,7 +4,7 @@ use Rattle.std.specs.Int.{w16, w32}
 use Rattle.krb_der.specs.Octets.{AreOctets}
 use Rattle.krb_file.specs.Fields.{Source, Fault, limited, Reader, and_then, ◌>>=◌, called, number_at}
 use Rattle.krb_file.specs.Limits.{number_before}
-use Rattle.krb_file.specs.declared.fault.FileWhy.TheVariants as why
+use Rattle.krb_source.specs.declared.file_why.FileWhy.TheVariants as why
 use Rattle.krb_file.specs.declared.field_name.FieldName.TheVariants as field
 use Rattle.krb_file.specs.declared.field_name.FilePart.TheVariants as parts
 use Rattle.krb_ccache.specs.declared.value.Cache3.{Cache3}

@@ -12,8 +12,8 @@ use Rattle.std.specs.Int.{Width, w8, w16, w32, byte_len, from_be_bytes, to_be_by
 use Rattle.std.specs.Int.RustNames.{FitsSigned}
 use Rattle.krb_der.specs.Octets.{when, AreOctets}
 use Rattle.krb_file.specs.Fields.{signed, counted, Names, names, bound_of, IsCounted, AreNames, Source, Fault, Bounds, Reader, and_then, ◌>>=◌, succeed, refused, exceeds, with_name, with_part, refused_at, called, begun_at, one_part, in_part, next_octets_at, octets_at, number_at, signed_at, counted_at, times, component_at, names_at, is_one_of, expect, version_at}
-use Rattle.krb_file.specs.declared.fault.FileWhy.{FileWhy}
-use Rattle.krb_file.specs.declared.fault.FileWhy.TheVariants as why
+use Rattle.krb_source.specs.declared.file_why.FileWhy.{FileWhy}
+use Rattle.krb_source.specs.declared.file_why.FileWhy.TheVariants as why
 use Rattle.krb_file.specs.declared.field_name.FieldName.{FieldName}
 use Rattle.krb_file.specs.declared.field_name.FieldName.TheVariants as words
 use Rattle.krb_file.specs.declared.field_name.FilePart.{FilePart}

@@ -3,8 +3,8 @@ use Rattle.std.proofs.Common.{◌≡◌, ℕ, ◌+◌, ◌-◌, ◌<◌, ◌≤�
 use Rattle.std.specs.Int.{Width, w8, byte_len, from_be_bytes, cast_signed}
 use Rattle.krb_file.specs.Fields.{Source, Bounds, Reader, ◌>>=◌, succeed, is_empty, next_octets_at, octets_at, octets_to_end, rest_at, number_at, signed_at, counted_at, with_name, with_part, called, one_part, in_part, within, is_one_of, expect, version_at, refused}
 use Rattle.krb_der.specs.Octets.{when}
-use Rattle.krb_file.specs.declared.fault.FileWhy.{FileWhy}
-use Rattle.krb_file.specs.declared.fault.FileWhy.TheVariants as why
+use Rattle.krb_source.specs.declared.file_why.FileWhy.{FileWhy}
+use Rattle.krb_source.specs.declared.file_why.FileWhy.TheVariants as why
 use Rattle.krb_file.specs.FieldReaders.{Cursor, BeginsWith, source_at, fetched, FetchesTo, FetchesToAnnounced, Stays, LooksAheadTo, HasRead, ended_at}
 use Rattle.krb_file.specs.declared.field_name.FieldName.{FieldName}
 use Rattle.krb_file.specs.declared.field_name.FieldName.TheVariants as words

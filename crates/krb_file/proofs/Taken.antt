@@ -11,7 +11,7 @@ use Rattle.krb_file.specs.FieldReaders.{Cursor, BeginsWith, MayRemain, left_of, 
 use Rattle.krb_file.specs.inner.Takes.{Takes, FallsShort, FailsTaking, AreNear}
 use Rattle.krb_file.specs.declared.fault.FileFault.{FileFault}
 use Rattle.krb_file.specs.declared.fault.FileFault.TheVariants as faults
-use Rattle.krb_file.specs.declared.fault.FileWhy.TheVariants as why
+use Rattle.krb_source.specs.declared.file_why.FileWhy.TheVariants as why
 use Rattle.krb_file.proofs.FieldReaders.{some_rest, skipped}
 
 pub Takes-none : (cursor : Cursor) → Takes cursor cursor []

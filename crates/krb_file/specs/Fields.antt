@@ -3,8 +3,8 @@ use Rattle.std.specs.Prelude.{ℕ, zero, suc, ℤ, ◌+◌, ◌-◌, ◌*◌, �
 use Rattle.std.specs.List.{flat_map, list_all, list_any, AllByRecursion}
 use Rattle.std.specs.Int.{Width, w8, byte_len, from_be_bytes, to_be_bytes, cast_signed, cast_unsigned}
 use Rattle.krb_der.specs.Octets.{when, AreOctets}
-use Rattle.krb_file.specs.declared.fault.FileWhy.{FileWhy}
-use Rattle.krb_file.specs.declared.fault.FileWhy.TheVariants as why
+use Rattle.krb_source.specs.declared.file_why.FileWhy.{FileWhy}
+use Rattle.krb_source.specs.declared.file_why.FileWhy.TheVariants as why
 use Rattle.krb_file.specs.declared.fault.FileRefusal.{FileRefusal}
 use Rattle.krb_file.specs.declared.fault.FileFault.{FileFault}
 use Rattle.krb_file.specs.declared.fault.FileFault.TheVariants as faults

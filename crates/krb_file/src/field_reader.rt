@@ -5,9 +5,10 @@ ghost use Rattle.std.specs.Int.{w8, w16, w32};
 ghost use Rattle.krb_file.specs.Fields.{succeed, called, next_octets_at, octets_at, number_at, signed_at, counted_at, component_at, names_at, rest_at, times, is_one_of, expect, version_at, Reader};
 ghost use Rattle.krb_file.specs.FieldReaders.{Cursor, HasRead, Follows, Keeps, FetchesTo, LooksAheadTo, ended_at, skipped_at, bounded};
 
-use crate::fault::{FileFault, FileWhy, called};
+use crate::fault::{FileFault, called};
 use crate::field_name::FieldName;
 use krb_der::KString;
+use krb_source::FileWhy;
 use std::alloc::Global;
 
 /// A reader of the fields of a file. It knows the place of the next octet, the end of the entry or

@@ -30,14 +30,12 @@ mod progress;
 mod slice_reader;
 mod stream_reader;
 
-pub use fault::{
-    FileFault, FileRefusal, FileWhy, called, file_why_length, file_why_number, file_why_text,
-    in_part,
-};
+pub use fault::{FileFault, FileRefusal, called, in_part};
 pub use field_name::{FieldName, FileField, FilePart};
 pub use field_path::{FieldPath, FileItem};
 pub use field_reader::{Field, FieldReader, String16, String32, read_many};
 pub use krb_der::Limit;
+pub use krb_source::{FileWhy, file_why_length, file_why_number, file_why_text};
 pub use part::{
     Count16, Count32, Counted16, Counted32, Each, GREATEST_FILE, Listed, Measured, Part, Plain,
     Strings16, Then,

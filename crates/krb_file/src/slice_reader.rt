@@ -1,8 +1,9 @@
 //! A reader of files that are in memory.
 
-use crate::fault::{FileFault, FileWhy};
+use crate::fault::FileFault;
 use crate::field_reader::FieldReader;
 use krb_der::KString;
+use krb_source::FileWhy;
 use std::alloc::Global;
 use std::marker::Model;
 

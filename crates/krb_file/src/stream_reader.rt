@@ -1,10 +1,11 @@
 //! A reader of files as they come.
 
 use crate::ahead::Ahead;
-use crate::fault::{FileFault, FileWhy, ReadFailed};
+use crate::fault::{FileFault, ReadFailed};
 use crate::field_reader::FieldReader;
 use crate::slice_reader::are_zero;
 use krb_der::{GiveBack, KString, Limit, SpareVectors};
+use krb_source::FileWhy;
 use std::alloc::Global;
 use std::io::Read;
 use std::marker::Model;

@@ -5,7 +5,7 @@ use Rattle.std.specs.Int.{w8, w16, w32, cast_signed}
 use Rattle.krb_der.specs.Octets.{AreOctets}
 use Rattle.krb_file.specs.Fields.{Source, source_of, Fault, Bounds, limited, ◌>>=◌, called, next_octets_at, number_at, signed_at, counted_at, names_at, rest_at, within, version_at, are_zero, with_name}
 use Rattle.krb_file.specs.Limits.{number_from, number_before}
-use Rattle.krb_file.specs.declared.fault.FileWhy.TheVariants as why
+use Rattle.krb_source.specs.declared.file_why.FileWhy.TheVariants as why
 use Rattle.krb_file.specs.declared.field_name.FieldName.TheVariants as fields
 use Rattle.krb_file.proofs.Fields.{at, done, ok_is, and_then-ok, refused_at-ok, begun_at-ok, begun_at-err, version-one}
 use Rattle.krb_file_laws.proofs.FileLimits.{IsOf, IsTooLong, IsSameOrTooLong, Limited, either-then, begun-same, Limited-then, Limited-succeed, Limited-called, Limited-piece, Limited-number, Limited-signed, Limited-counted, Limited-rest, Limited-names, Limited-version, signed-is}

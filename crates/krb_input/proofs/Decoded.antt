@@ -13,7 +13,7 @@ use Rattle.krb_input.specs.Octets.{first_no_text, is_marked, without_mark}
 use Rattle.krb_input.specs.Inputs.{as_form, line_spelled, line_spelled_by, spelled_in_braces}
 use Rattle.krb_input.specs.Braces.{after_first}
 use Rattle.krb_input.specs.Laws.{without_blanks, DecodedLinesAreSpelled}
-use Rattle.krb_input.specs.declared.spelling.Spelling.TheVariants as form
+use Rattle.krb_source.specs.declared.spelling.Spelling.TheVariants as form
 
 pub record AreRead (text : List ℕ) (reading : Reading) (octets : List ℕ) : Type 0 where
   pub read : reading ≡ Ok octets

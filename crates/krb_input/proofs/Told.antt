@@ -5,7 +5,7 @@ use Rattle.krb_input.specs.Readings.{Reading}
 use Rattle.krb_input.specs.Braces.{before, block, to_brace}
 use Rattle.krb_input.specs.Inputs.{Spells, IsFaultOf, as_form}
 use Rattle.krb_input.specs.inner.Results.{IsFault, IsSpelled, Reads}
-use Rattle.krb_input.specs.declared.spelling.Spelling.{Spelling}
+use Rattle.krb_source.specs.declared.spelling.Spelling.{Spelling}
 use Rattle.krb_input.specs.declared.spelled.Spelled.{Spelled}
 use Rattle.krb_input.specs.declared.spelled.InputFault.{InputFault}
 use Rattle.krb_input.specs.declared.text_fault.TextFault.{TextFault}

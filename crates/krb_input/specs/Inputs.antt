@@ -10,8 +10,8 @@ use Rattle.krb_input.specs.Headers.{token_of}
 use Rattle.krb_input.specs.Tokens.{first_unfit, tokens}
 use Rattle.krb_input.specs.Base64.{base64, first_octet}
 use Rattle.krb_input.specs.Dumps.{begins_dump, dump}
-use Rattle.krb_input.specs.declared.spelling.Spelling.{Spelling}
-use Rattle.krb_input.specs.declared.spelling.Spelling.TheVariants as form
+use Rattle.krb_source.specs.declared.spelling.Spelling.{Spelling}
+use Rattle.krb_source.specs.declared.spelling.Spelling.TheVariants as form
 use Rattle.krb_input.specs.declared.spelled.InputFault.{InputFault}
 use Rattle.krb_input.specs.declared.spelled.InputFault.TheVariants.{Misspelled, Memory}
 

@@ -4,7 +4,7 @@ use Rattle.std.specs.List.{filter}
 use Rattle.hex.specs.Hex.{decode_of}
 use Rattle.krb_input.specs.Characters.{is_blank}
 use Rattle.krb_input.specs.Inputs.{line_spelled}
-use Rattle.krb_input.specs.declared.spelling.Spelling.TheVariants as form
+use Rattle.krb_source.specs.declared.spelling.Spelling.TheVariants as form
 
 -- a text without its blanks
 abbrev pub without_blanks : List ℕ → List ℕ

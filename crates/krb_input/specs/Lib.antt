@@ -1,4 +1,3 @@
-pub mod Spellings
 pub mod Characters
 pub mod Readings
 pub mod Digits
@@ -14,6 +13,5 @@ pub mod Inputs
 pub mod Signatures
 pub mod Sources
 pub mod Hints
-pub mod Layers
 pub mod Laws
 pub mod inner

@@ -14,10 +14,10 @@ use crate::escapes::{has_escape, read_escapes};
 use crate::header::token_of;
 use crate::octets::{begin_message, first_no_text, is_marked, is_tag, without_mark};
 use crate::spelled::{InputFault, Misspelling, Spelled};
-use crate::spelling::Spelling;
 use crate::text::Text;
 use crate::text_fault::TextFault;
 use crate::tokens::{first_unfit, read_tokens};
+use krb_source::Spelling;
 use std::alloc::Global;
 
 /// Returns the octets that an input spells. These are the input itself, if it has an octet that is

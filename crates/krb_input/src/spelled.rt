@@ -3,7 +3,7 @@
 ghost use Rattle.std.specs.Prelude.{◌≡◌};
 ghost use Rattle.krb_input.specs.declared.spelled.InputFault.TheVariants.{Memory};
 
-use crate::spelling::Spelling;
+use krb_source::Spelling;
 use std::alloc::AllocError;
 
 /// The octets that an input spells.

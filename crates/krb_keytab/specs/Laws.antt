@@ -4,7 +4,7 @@ use Rattle.std.specs.Int.{w8, w16, w32, cast_signed}
 use Rattle.krb_der.specs.Octets.{AreOctets}
 use Rattle.krb_file.specs.Fields.{Source, Fault, limited, Reader, ◌>>=◌, called, number_at, signed_at, names_at, within}
 use Rattle.krb_file.specs.Limits.{number_from, number_before}
-use Rattle.krb_file.specs.declared.fault.FileWhy.TheVariants as why
+use Rattle.krb_source.specs.declared.file_why.FileWhy.TheVariants as why
 use Rattle.krb_file.specs.declared.field_name.FieldName.TheVariants as fields
 use Rattle.krb_keytab.specs.declared.value.Keytab.{Keytab}
 use Rattle.krb_keytab.specs.declared.value.Record.{Record}

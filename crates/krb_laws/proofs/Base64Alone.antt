@@ -18,7 +18,7 @@ use Rattle.krb_input.specs.Headers.{after_arrow, after_field, after_name, after_
 use Rattle.krb_input.specs.Inputs.{as_form, is_first, is_first_of, spelled_in_braces, spelled_in_field, spelled_in_tokens}
 use Rattle.krb_input.specs.Laws.{without_blanks}
 use Rattle.krb_input.specs.Tokens.{first_unfit, is_mark}
-use Rattle.krb_input.specs.declared.spelling.Spelling.TheVariants as form
+use Rattle.krb_source.specs.declared.spelling.Spelling.TheVariants as form
 use Rattle.krb_laws.specs.Spelled.{Base64IsSpelled}
 use Rattle.krb_laws.proofs.Base64.{base64_read, first_octet_read, high_bits, text_begins}
 use Rattle.krb_laws.proofs.Blanks.{each_or_blank, next}

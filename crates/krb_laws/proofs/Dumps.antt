@@ -10,7 +10,7 @@ use Rattle.krb_input.specs.Dumps.{begins_dump, dump_from, lines, then_lines}
 use Rattle.krb_input.specs.Inputs.{as_form, spelled}
 use Rattle.krb_input.specs.Octets.{first_no_text}
 use Rattle.krb_input.specs.Readings.{prepend}
-use Rattle.krb_input.specs.declared.spelling.Spelling.TheVariants as form
+use Rattle.krb_source.specs.declared.spelling.Spelling.TheVariants as form
 use Rattle.krb_laws.specs.Spelled.{DumpsAreSpelled}
 use Rattle.krb_laws.specs.Written.{IsBeside, IsGroup, IsLayout, Layout, after_blanks, colon_if, dump_end, dump_line, dump_lines, rows_of, spaced}
 use Rattle.krb_laws.proofs.DumpRows.{end_read, four_octets, group_counted, line_read, none_counted}

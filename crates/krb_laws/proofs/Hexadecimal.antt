@@ -14,7 +14,7 @@ use Rattle.krb_input.specs.Dumps.{is_prefixed, without_prefix, count_zeros, begi
 use Rattle.krb_input.specs.Braces.{after_first}
 use Rattle.krb_input.specs.Inputs.{as_form, spelled, spelled_in_braces}
 use Rattle.krb_input.specs.Laws.{without_blanks}
-use Rattle.krb_input.specs.declared.spelling.Spelling.TheVariants as form
+use Rattle.krb_source.specs.declared.spelling.Spelling.TheVariants as form
 use Rattle.krb_input.proofs.Decoded.{AreRead, is_decoded}
 use Rattle.krb_laws.specs.Spelled.{HexadecimalIsSpelled, HexadecimalIsNoDump, DigitsAreSpelled}
 use Rattle.krb_laws.proofs.Inputs.{spelled_no_dump}

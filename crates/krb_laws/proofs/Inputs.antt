@@ -6,7 +6,7 @@ use Rattle.krb_input.specs.Characters.{is_text}
 use Rattle.krb_input.specs.Octets.{first_no_text, is_marked, without_mark}
 use Rattle.krb_input.specs.Dumps.{begins_dump, dump}
 use Rattle.krb_input.specs.Inputs.{as_form, spelled, spelled_by, spelled_in_text, spelled_plainly}
-use Rattle.krb_input.specs.declared.spelling.Spelling.TheVariants as form
+use Rattle.krb_source.specs.declared.spelling.Spelling.TheVariants as form
 
 -- ---- marks
 pub no_mark : (input : List ℕ) → begins_with 0xEF input ≡ false → is_marked input ≡ false

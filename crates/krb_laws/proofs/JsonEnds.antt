@@ -4,14 +4,14 @@ use Rattle.std.proofs.lemmas.Bool.{leb-true}
 use Rattle.krb_der.specs.Reasons.{reason_number, reason_name}
 use Rattle.krb_der.specs.declared.why.Why.{Why}
 use Rattle.krb_der.specs.declared.why.Why.TheVariants as whys
-use Rattle.krb_file.specs.Faults.{file_reason_number, file_reason_name}
-use Rattle.krb_file.specs.declared.fault.FileWhy.{FileWhy}
-use Rattle.krb_file.specs.declared.fault.FileWhy.TheVariants as files
-use Rattle.krb_input.specs.Spellings.{spelling_name}
-use Rattle.krb_input.specs.declared.spelling.Spelling.{Spelling}
-use Rattle.krb_input.specs.declared.spelling.Spelling.TheVariants as spellings
+use Rattle.krb_source.specs.FileReasons.{file_reason_number, file_reason_name}
+use Rattle.krb_source.specs.declared.file_why.FileWhy.{FileWhy}
+use Rattle.krb_source.specs.declared.file_why.FileWhy.TheVariants as files
+use Rattle.krb_source.specs.Spellings.{spelling_name}
+use Rattle.krb_source.specs.declared.spelling.Spelling.{Spelling}
+use Rattle.krb_source.specs.declared.spelling.Spelling.TheVariants as spellings
 use Rattle.krb_msg.specs.Stream.{End, Boundary, Within, Refused}
-use Rattle.krb_net.specs.declared.timestamp.Timestamp.{Timestamp}
+use Rattle.krb_source.specs.declared.timestamp.Timestamp.{Timestamp}
 use Rattle.krb_record.specs.Captures.{capture_refused_record, count_fields, lost_record, origin_fields, password_record}
 use Rattle.krb_record.specs.Files.{file_record}
 use Rattle.krb_record.specs.Inputs.{input_refused_record, input_word}

@@ -15,7 +15,7 @@ use Rattle.krb_record.specs.Origins.{message_origin}
 use Rattle.krb_text.specs.Messages.{fields_of, message_record, notes, ticket_record}
 use Rattle.krb_record.specs.Values.{Field, the, with_origin}
 use Rattle.krb_text_laws.proofs.MessageOneLine.{record_is_plain}
-use Rattle.krb_input.specs.declared.layer.Layer.{Layer}
+use Rattle.krb_source.specs.declared.layer.Layer.{Layer}
 use Rattle.krb_laws.specs.JsonLaws.{IsLine, MessagesAreJson, PartFits, PrintsJson}
 use Rattle.krb_laws.proofs.JsonInside.{error_inside, kdc_req_inside, padata_inside, tickets_inside}
 use Rattle.krb_laws.proofs.JsonNumbers.{cred, error, its_notes, its_encrypted, kdc_rep, kdc_req, of_ap_req, safe}

@@ -6,7 +6,7 @@ use Rattle.std.specs.List.{AllByRecursion, flat_map}
 use Rattle.std.specs.Net.Text.{ip_text}
 use Rattle.json.specs.Json.{Json, Members, member, object, string}
 use Rattle.json.specs.Strict.{keys}
-use Rattle.krb_net.specs.declared.endpoint.Endpoint.{Endpoint}
+use Rattle.krb_source.specs.declared.endpoint.Endpoint.{Endpoint}
 use Rattle.krb_der.specs.Reasons.{reason_number, reason_name}
 use Rattle.krb_der.specs.declared.verdict.Refusal.{Refusal}
 use Rattle.krb_der.specs.declared.why.Why.{Why}
@@ -21,9 +21,9 @@ use Rattle.krb_record.specs.Text.{IsPrintable, hex, principal_text, list_text}
 use Rattle.krb_record.specs.Values.{Value, Absent, NoTicket, Number, Named, Numbers, ErrorCode, Reason, NoReason, String, Quoted, FileName, Word, Hex, Flags, TicketFlags, Encrypted, Principal, Address, Digest, YesNo, Offset, RefusedTicket, Flow, Layers}
 use Rattle.krb_record.specs.declared.flow.Transport.{Transport}
 use Rattle.krb_record.specs.declared.flow.Transport.TheVariants as transports
-use Rattle.krb_input.specs.Layers.{layer_name}
-use Rattle.krb_input.specs.declared.layer.Layer.{Layer}
-use Rattle.krb_input.specs.declared.layer.Layer.TheVariants as layers
+use Rattle.krb_source.specs.Layers.{layer_name}
+use Rattle.krb_source.specs.declared.layer.Layer.{Layer}
+use Rattle.krb_source.specs.declared.layer.Layer.TheVariants as layers
 use Rattle.krb_laws.specs.Json.{address_json, digest_json, endpoint_json, flags_json, if_known, json_of_value, list_of, name_json, number_of, octets_of, offset_json, principal_json, refused_json, encrypted_json}
 use Rattle.krb_laws.specs.JsonLaws.{IsEndpoint, IsSmall, ValueFits, are_different, is_plain}
 use Rattle.krb_laws.proofs.JsonNames.{distinct}

@@ -5,7 +5,7 @@ use Rattle.krb_der.specs.Octets.{when}
 use Rattle.krb_input.specs.Characters.{is_text}
 use Rattle.krb_input.specs.Octets.{begin_message, first_no_text, is_marked}
 use Rattle.krb_input.specs.Inputs.{spelled, spelled_by}
-use Rattle.krb_input.specs.declared.spelling.Spelling.TheVariants as form
+use Rattle.krb_source.specs.declared.spelling.Spelling.TheVariants as form
 use Rattle.krb_laws.specs.Spelled.{OctetsAreSpelled}
 
 octets_by : (octets : List ℕ) (left : Option ℕ) → is_marked octets ≡ false → begin_message octets ≡ true → is_some left ≡ true → spelled_by left octets ≡ Ok (form.Octets, octets)

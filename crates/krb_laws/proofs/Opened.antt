@@ -14,7 +14,7 @@ use Rattle.krb_msg.specs.Term.{Value, der}
 use Rattle.krb_msg.proofs.Grammars.{whole_is_value}
 use Rattle.krb_token.specs.Opened.{Opened, Ticket, Ntlm, message_under, refused_bare, under}
 use Rattle.krb_token.specs.Tokens.{frame_of_length, frame_opened, gss_opened, is_ntlm, opened, whole}
-use Rattle.krb_input.specs.declared.layer.Layer.TheVariants.{Frame}
+use Rattle.krb_source.specs.declared.layer.Layer.TheVariants.{Frame}
 use Rattle.krb_laws.specs.Spelled.{MessagesAreOpened, TicketsAreOpened}
 use Rattle.krb_laws.proofs.Nested.{message_nested}
 

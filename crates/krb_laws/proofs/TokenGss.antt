@@ -14,7 +14,7 @@ use Rattle.krb_token.specs.Gss.{identified, is_kerberos, kerberos, kerberos_of_w
 use Rattle.krb_token.specs.Items.{Item, entered, expected, simple_item}
 use Rattle.krb_token.specs.Opened.{Part, Fault, Found, Message, Refused, Opened, and_then, opened_by, under, message_under, fault_in, bare_fault}
 use Rattle.krb_laws.specs.Opened.{Ends, IsItem, BeginsWithItem, IsGssOf, IsKerberos, IsGssToken}
-use Rattle.krb_input.specs.declared.layer.Layer.{Layer}
+use Rattle.krb_source.specs.declared.layer.Layer.{Layer}
 use Rattle.krb_token.specs.declared.simple.Simple.TheVariants as simple
 
 -- ---- what was found

@@ -21,8 +21,8 @@ use Rattle.krb_laws.specs.Opened.{IsItem, AreFields, IsGssOf, IsGssToken, IsNegT
 use Rattle.krb_token.specs.Tokens.{frame_of_length, frame_opened, is_ntlm, is_message_tag, gss_in_spnego, token_in, neg_opened, spnego_opened, spnego_in_gss, mechanism_opened, gss_opened, whole, opened}
 use Rattle.krb_token.specs.declared.fields.NegToken.{NegToken}
 use Rattle.krb_token.specs.declared.fields.NegToken.TheVariants as neg
-use Rattle.krb_input.specs.declared.layer.Layer.{Layer}
-use Rattle.krb_input.specs.declared.layer.Layer.TheVariants.{Frame, Gss, Spnego}
+use Rattle.krb_source.specs.declared.layer.Layer.{Layer}
+use Rattle.krb_source.specs.declared.layer.Layer.TheVariants.{Frame, Gss, Spnego}
 
 -- ---- a token of SPNEGO
 rising : (neg : NegToken) → AreRising 0 (neg_fields neg)

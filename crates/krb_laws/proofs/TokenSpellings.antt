@@ -9,13 +9,13 @@ use Rattle.krb_input.specs.Characters.{is_text}
 use Rattle.krb_der.specs.declared.why.Why.TheVariants as why
 use Rattle.krb_input.specs.Inputs.{spelled}
 use Rattle.krb_input.specs.Octets.{first_no_text}
-use Rattle.krb_input.specs.declared.spelling.Spelling.TheVariants as form
+use Rattle.krb_source.specs.declared.spelling.Spelling.TheVariants as form
 use Rattle.krb_msg.specs.Judgement.{Head, Got, head}
 use Rattle.krb_token.specs.Items.{Item, entered, expected, item_after, item_of_head}
 use Rattle.krb_token.specs.Opened.{Fault, Opened, Part, and_then, fault_in, opened_by}
 use Rattle.krb_token.specs.Tokens.{is_ntlm, mechanism_opened, opened, whole}
-use Rattle.krb_input.specs.declared.layer.Layer.{Layer}
-use Rattle.krb_input.specs.declared.layer.Layer.TheVariants.{Frame, Gss}
+use Rattle.krb_source.specs.declared.layer.Layer.{Layer}
+use Rattle.krb_source.specs.declared.layer.Layer.TheVariants.{Frame, Gss}
 use Rattle.krb_laws.specs.Spelled.{AreToken, FramesAreSpelled, IsFound, TokensAreSpelled}
 use Rattle.krb_laws.specs.Written.{base64_text}
 use Rattle.krb_laws.proofs.Base64.{high_bits, text_begins}

@@ -13,8 +13,8 @@ use Rattle.krb_laws.specs.Opened.{TicketTagsAreOpened}
 use Rattle.krb_token.specs.Tokens.{frame_of_length, frame_opened, is_ntlm, is_message_tag, gss_in_spnego, token_in, neg_opened, spnego_opened, spnego_in_gss, mechanism_opened, gss_opened, whole, opened}
 use Rattle.krb_token.specs.declared.fields.NegToken.{NegToken}
 use Rattle.krb_token.specs.declared.fields.NegToken.TheVariants as neg
-use Rattle.krb_input.specs.declared.layer.Layer.{Layer}
-use Rattle.krb_input.specs.declared.layer.Layer.TheVariants.{Gss, Spnego}
+use Rattle.krb_source.specs.declared.layer.Layer.{Layer}
+use Rattle.krb_source.specs.declared.layer.Layer.TheVariants.{Gss, Spnego}
 
 abbrev NoTicket : Opened → Type 0
 NoTicket it = it.found ≡ Ticket → ⊥

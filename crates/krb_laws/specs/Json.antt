@@ -5,7 +5,7 @@ use Rattle.std.specs.List.{flat_map}
 use Rattle.std.specs.Net.Text.{ip_text}
 use Rattle.json.specs.Json.{Json, null, boolean, number, string, array, object, Members, no_members, member}
 use Rattle.json.specs.Value.{items_of}
-use Rattle.krb_net.specs.declared.endpoint.Endpoint.{Endpoint}
+use Rattle.krb_source.specs.declared.endpoint.Endpoint.{Endpoint}
 use Rattle.krb_der.specs.Reasons.{reason_number, reason_name}
 use Rattle.krb_der.specs.declared.verdict.Refusal.{Refusal}
 use Rattle.krb_registry.specs.Rows.{name_of}
@@ -15,7 +15,7 @@ use Rattle.krb_record.specs.Flows.{transport_name}
 use Rattle.krb_record.specs.Forms.{four_octets, set_names, shown_octet}
 use Rattle.krb_record.specs.Text.{hex, principal_text}
 use Rattle.krb_record.specs.Values.{Value, Absent, NoTicket, Number, Named, Numbers, ErrorCode, Reason, NoReason, String, Quoted, FileName, Word, Hex, Flags, TicketFlags, Encrypted, Principal, Address, Digest, YesNo, Offset, RefusedTicket, Flow, Layers, Field, Part, Printed}
-use Rattle.krb_input.specs.Layers.{layer_name}
+use Rattle.krb_source.specs.Layers.{layer_name}
 
 -- ---- values of JSON
 -- an object of members in order

@@ -13,8 +13,8 @@ use Rattle.krb_token.specs.declared.simple.Simple.{Simple}
 use Rattle.krb_token.specs.declared.simple.Simple.TheVariants as simple
 use Rattle.krb_token.specs.declared.fields.NegToken.{NegToken}
 use Rattle.krb_token.specs.declared.fields.NegToken.TheVariants as neg
-use Rattle.krb_input.specs.declared.layer.Layer.{Layer}
-use Rattle.krb_input.specs.declared.layer.Layer.TheVariants.{Frame, Gss, Spnego}
+use Rattle.krb_source.specs.declared.layer.Layer.{Layer}
+use Rattle.krb_source.specs.declared.layer.Layer.TheVariants.{Frame, Gss, Spnego}
 
 -- octets do not begin with others
 abbrev pub DoNotBegin : (octets first : List ℕ) → Type 0

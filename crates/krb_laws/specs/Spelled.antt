@@ -15,10 +15,10 @@ use Rattle.krb_msg.specs.Profiles.{profile_term}
 use Rattle.krb_token.specs.Laws.{IsFrame}
 use Rattle.krb_token.specs.Opened.{Found, Refused, Ticket, message_under, under}
 use Rattle.krb_token.specs.Tokens.{opened}
-use Rattle.krb_input.specs.declared.layer.Layer.{Layer}
-use Rattle.krb_input.specs.declared.layer.Layer.TheVariants.{Frame}
+use Rattle.krb_source.specs.declared.layer.Layer.{Layer}
+use Rattle.krb_source.specs.declared.layer.Layer.TheVariants.{Frame}
 use Rattle.krb_laws.specs.Written.{IsLayout, Layout, base64_text, dump_text, hexdump, xxd}
-use Rattle.krb_input.specs.declared.spelling.Spelling.TheVariants as form
+use Rattle.krb_source.specs.declared.spelling.Spelling.TheVariants as form
 
 -- ---- hexadecimal
 -- Hexadecimal in any case, with blanks anywhere, that does not begin as a dump spells the octets that are decoded of it.

@@ -3,7 +3,7 @@ use Rattle.std.proofs.Common.{◌≡◌, ℕ, Result, Ok, Err, refl, ap, sym, �
 use Rattle.std.specs.Int.{Width}
 use Rattle.krb_file.specs.Fields.{Source, Fault, fault_of, with_name, fault_at, Reader, and_then, ◌>>=◌}
 use Rattle.krb_file.specs.FieldReaders.{Cursor, HasRead, FailsBy, Follows, source_at}
-use Rattle.krb_file.specs.declared.fault.FileWhy.{FileWhy}
+use Rattle.krb_source.specs.declared.file_why.FileWhy.{FileWhy}
 use Rattle.krb_file.specs.declared.fault.FileFault.{FileFault}
 use Rattle.krb_file.specs.declared.fault.FileFault.TheVariants as faults
 use Rattle.krb_file.specs.declared.field_name.FieldName.{FieldName}

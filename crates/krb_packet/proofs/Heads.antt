@@ -3,7 +3,7 @@ use Rattle.std.proofs.Common.{◌≡◌, ℕ, ◌+◌, None, Result, Ok, Err, Li
 use Rattle.std.specs.Int.{w32}
 use Rattle.krb_file.specs.Fields.{Reader, ◌>>=◌, succeed, called, next_octets_at}
 use Rattle.krb_file.specs.FieldReaders.{Cursor, HasRead, FailsBy, source_at}
-use Rattle.krb_file.specs.declared.fault.FileWhy.{FileWhy}
+use Rattle.krb_source.specs.declared.file_why.FileWhy.{FileWhy}
 use Rattle.krb_file.specs.declared.fault.FileFault.{FileFault}
 use Rattle.krb_file.specs.declared.field_name.FieldName.{FieldName}
 use Rattle.krb_file.specs.declared.field_name.FieldName.TheVariants as fields

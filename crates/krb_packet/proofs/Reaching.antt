@@ -4,7 +4,7 @@ use Rattle.std.specs.Int.{Width, byte_len, from_be_bytes}
 use Rattle.krb_der.specs.Octets.{when}
 use Rattle.krb_file.specs.Fields.{Source, Fault, fault_of, Bounds, Reader, ◌>>=◌, succeed, with_name, with_part, called, are_zero, next_octets_at, octets_at, number_at}
 use Rattle.krb_file.specs.FieldReaders.{Cursor, HasRead, source_at, skipped_at}
-use Rattle.krb_file.specs.declared.fault.FileWhy.{FileWhy}
+use Rattle.krb_source.specs.declared.file_why.FileWhy.{FileWhy}
 use Rattle.krb_file.specs.declared.field_name.FieldName.{FieldName}
 use Rattle.krb_file.specs.declared.field_name.FileField.{FileField}
 use Rattle.krb_file.specs.declared.field_name.FilePart.{FilePart}

@@ -3,8 +3,8 @@ use Rattle.std.specs.Prelude.{ℕ, ◌+◌, ◌-◌, ◌*◌, ◌%◌, ◌^◌, 
 use Rattle.std.specs.Int.{w16, w32}
 use Rattle.krb_der.specs.Octets.{when}
 use Rattle.krb_file.specs.Fields.{Source, Fault, ended, source_of, Reader, ◌>>=◌, succeed, called, next_octets_at, octets_at, octets_to_end, is_empty}
-use Rattle.krb_file.specs.declared.fault.FileWhy.{FileWhy}
-use Rattle.krb_file.specs.declared.fault.FileWhy.TheVariants as why
+use Rattle.krb_source.specs.declared.file_why.FileWhy.{FileWhy}
+use Rattle.krb_source.specs.declared.file_why.FileWhy.TheVariants as why
 use Rattle.krb_file.specs.declared.field_name.FieldName.TheVariants as fields
 use Rattle.krb_packet.specs.declared.order.ByteOrder.{ByteOrder}
 use Rattle.krb_packet.specs.declared.order.ByteOrder.TheVariants as orders

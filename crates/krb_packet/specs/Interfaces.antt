@@ -7,7 +7,7 @@ use Rattle.krb_file.specs.Fields.{Reader, ◌>>=◌, succeed, called, next_octet
 use Rattle.krb_file.specs.FieldReaders.{skipped_at}
 use Rattle.krb_file.specs.declared.field_name.FieldName.TheVariants as fields
 use Rattle.krb_packet.specs.declared.order.ByteOrder.{ByteOrder}
-use Rattle.krb_net.specs.declared.timestamp.Timestamp.{Timestamp}
+use Rattle.krb_source.specs.declared.timestamp.Timestamp.{Timestamp}
 use Rattle.krb_packet.specs.declared.interface.Interface.{Interface}
 use Rattle.krb_packet.specs.declared.interface.Clock.{Clock}
 use Rattle.krb_packet.specs.declared.interface.Options.{Options}

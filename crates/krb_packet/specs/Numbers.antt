@@ -2,7 +2,7 @@
 use Rattle.std.specs.Prelude.{ℕ, None, Result, Ok, Err, List, reverse}
 use Rattle.std.specs.Int.{Width, byte_len, from_be_bytes}
 use Rattle.krb_file.specs.Fields.{Fault, fault_of, Reader, ◌>>=◌, succeed, called, next_octets_at, with_name, fault_at}
-use Rattle.krb_file.specs.declared.fault.FileWhy.{FileWhy}
+use Rattle.krb_source.specs.declared.file_why.FileWhy.{FileWhy}
 use Rattle.krb_file.specs.declared.fault.FileFault.{FileFault}
 use Rattle.krb_file.specs.declared.fault.FileFault.TheVariants as faults
 use Rattle.krb_file.specs.declared.field_name.FieldName.{FieldName}

@@ -3,7 +3,7 @@ use Rattle.std.specs.Prelude.{ℕ, ◌/◌, ◌%◌, ◌^◌, ◌||◌, ◌==◌
 use Rattle.krb_der.specs.Octets.{when}
 use Rattle.krb_packet.specs.declared.packet.LinkType.{LinkType}
 use Rattle.krb_packet.specs.declared.packet.LinkType.TheVariants as links
-use Rattle.krb_net.specs.declared.timestamp.Timestamp.{Timestamp}
+use Rattle.krb_source.specs.declared.timestamp.Timestamp.{Timestamp}
 
 abbrev pub link_type : ℕ → LinkType
 link_type number =

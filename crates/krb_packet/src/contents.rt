@@ -1,7 +1,7 @@
 //! What packets carry.
 
 use crate::payload::Payload;
-use krb_net::Endpoint;
+use krb_source::Endpoint;
 use std::net::IpAddr;
 
 /// The two ends between which octets are sent.

@@ -10,7 +10,7 @@ ghost use Rattle.krb_packet.specs.Interfaces.{padded, with_setting, setting_at, 
 use crate::order::{ByteOrder, field16, field32, number16};
 use crate::packet::{LinkType, NANOSECONDS, time_at};
 use krb_file::{FieldName, FieldReader, FileFault, FileRefusal, called};
-use krb_net::Timestamp;
+use krb_source::Timestamp;
 
 /// What packets of a pcapng were captured from.
 #[derive(Clone, Copy, PartialEq, Eq, Debug)]

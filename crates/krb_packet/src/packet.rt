@@ -8,7 +8,7 @@ use crate::contents::Contents;
 use crate::link::frame;
 use crate::payload::Payload;
 use krb_der::Octets;
-use krb_net::Timestamp;
+use krb_source::Timestamp;
 
 /// What a packet was captured from, which says what its first header is.
 #[derive(Clone, Copy, PartialEq, Eq, Debug)]

@@ -14,7 +14,7 @@ use crate::order::{ByteOrder, checked, field32};
 use crate::packet::{LinkType, NANOSECONDS, Packet, time_of};
 use krb_der::Octets;
 use krb_file::{FieldName, FieldReader, FileFault, FileWhy};
-use krb_net::Timestamp;
+use krb_source::Timestamp;
 use std::alloc::Global;
 
 /// What the fractions of seconds count.

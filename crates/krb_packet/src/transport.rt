@@ -5,7 +5,7 @@ ghost use Rattle.krb_packet.specs.Contents.{datagram, ends, or_unread_between, s
 
 use crate::contents::{Contents, Datagram, Ends, Segment};
 use crate::payload::Payload;
-use krb_net::Endpoint;
+use krb_source::Endpoint;
 use std::net::IpAddr;
 
 /// How many octets a header of UDP has.

@@ -1,10 +1,10 @@
 -- The names of reasons are printable, and so ASCII.
 use Rattle.std.proofs.Common.{refl}
 use Rattle.std.specs.Str.{IsAscii}
-use Rattle.krb_file.specs.Faults.{file_reason_name}
+use Rattle.krb_source.specs.FileReasons.{file_reason_name}
 use Rattle.krb_der.specs.Reasons.{reason_name}
-use Rattle.krb_file.specs.declared.fault.FileWhy.{FileWhy}
-use Rattle.krb_file.specs.declared.fault.FileWhy.TheVariants as files
+use Rattle.krb_source.specs.declared.file_why.FileWhy.{FileWhy}
+use Rattle.krb_source.specs.declared.file_why.FileWhy.TheVariants as files
 use Rattle.krb_der.specs.declared.why.Why.{Why}
 use Rattle.krb_der.specs.declared.why.Why.TheVariants as whys
 use Rattle.krb_record.proofs.Printable.{Prints, ascii, word}

@@ -4,7 +4,7 @@ use Rattle.std.specs.Fmt.{digits}
 use Rattle.std.specs.declared.net.ip_addr.IpAddr.{IpAddr}
 use Rattle.std.specs.declared.net.ip_addr.IpAddr.TheVariants as ip
 use Rattle.krb_der.specs.declared.why.Why.TheVariants.{Truncated}
-use Rattle.krb_file.specs.declared.fault.FileWhy.TheVariants as why
+use Rattle.krb_source.specs.declared.file_why.FileWhy.TheVariants as why
 use Rattle.krb_record.specs.Captures.{captured_refused_line, capture_end_line, capture_refused_line, joined_line, lost_line, password_line}
 use Rattle.krb_record.specs.Forms.{closing, json_value, labelled, members, names_member, opening, opening_from, record_text, value_text}
 use Rattle.krb_record.specs.Time.{civil_date, date_from, date_in_year, two_digits, date_text, clock_text, timestamp_text}

@@ -5,8 +5,8 @@ use Rattle.std.specs.Net.Text.{hex, hex_groups_text, ipv6_text}
 use Rattle.std.specs.declared.net.ip_addr.IpAddr.TheVariants as ip
 use Rattle.krb_der.specs.declared.why.Why.TheVariants as whys
 use Rattle.krb_der.specs.declared.why.Why.TheVariants.{Range, HighBit, Overrun}
-use Rattle.krb_file.specs.declared.fault.FileWhy.TheVariants as why
-use Rattle.krb_input.specs.declared.spelling.Spelling.TheVariants.{Octets, Hex, Dump}
+use Rattle.krb_source.specs.declared.file_why.FileWhy.TheVariants as why
+use Rattle.krb_source.specs.declared.spelling.Spelling.TheVariants.{Octets, Hex, Dump}
 use Rattle.krb_record.specs.declared.extent.Extent.{Extent}
 use Rattle.krb_record.specs.declared.form.Form.TheVariants.{Lines, NamedLines, Json}
 use Rattle.krb_record.specs.declared.input.InputFault.TheVariants.{Length, Misspelled, Ntlm}
@@ -16,7 +16,7 @@ use Rattle.krb_record.specs.Inputs.{input_refused_line}
 use Rattle.krb_record.specs.Origins.{message_origin}
 use Rattle.krb_record.specs.Refusals.{file_refused_line, message_refused_line, untold_message_refused_line}
 use Rattle.krb_record.specs.Streams.{refused_line as frame_refused_line, untold_refused_line}
-use Rattle.krb_input.specs.declared.layer.Layer.TheVariants.{Frame, Gss, Spnego}
+use Rattle.krb_source.specs.declared.layer.Layer.TheVariants.{Frame, Gss, Spnego}
 use Rattle.krb_record.specs.TicketFlags.{ticket_flags_text, names_text, flag_name, eight_hex}
 use Rattle.krb_record.specs.Text.{principal_text}
 use Rattle.krb_record.specs.Time.{civil_date, date_from, date_in_year, the_date, time_text, two_digits, date_text, clock_text}

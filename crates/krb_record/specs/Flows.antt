@@ -3,7 +3,7 @@ use Rattle.std.specs.Prelude.{ℕ, List, ◌++◌, codes, decimal}
 use Rattle.std.specs.Net.Text.{ip_text}
 use Rattle.std.specs.declared.net.ip_addr.IpAddr.{IpAddr}
 use Rattle.std.specs.declared.net.ip_addr.IpAddr.TheVariants as addresses
-use Rattle.krb_net.specs.declared.endpoint.Endpoint.{Endpoint}
+use Rattle.krb_source.specs.declared.endpoint.Endpoint.{Endpoint}
 use Rattle.krb_record.specs.declared.flow.Transport.{Transport}
 use Rattle.krb_record.specs.declared.flow.Transport.TheVariants as transports
 

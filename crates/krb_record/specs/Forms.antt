@@ -15,7 +15,7 @@ use Rattle.krb_record.specs.FileNames.{name_text}
 use Rattle.krb_record.specs.Flows.{flow_text, flow_object}
 use Rattle.krb_record.specs.TicketFlags.{ticket_flags_text}
 use Rattle.krb_record.specs.Errors.{code_text}
-use Rattle.krb_input.specs.Layers.{layer_name}
+use Rattle.krb_source.specs.Layers.{layer_name}
 use Rattle.krb_record.specs.Values.{Value, Absent, NoTicket, Number, Named, Numbers, ErrorCode, Reason, NoReason, String, Quoted, FileName, Word, Hex, Flags, TicketFlags, Encrypted, Principal, Address, Digest, YesNo, Offset, RefusedTicket, Flow, Layers, Field, Part, Printed}
 
 -- ---- flags by name; bit 0 is the highest of the first octet

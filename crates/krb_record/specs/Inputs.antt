@@ -1,7 +1,7 @@
 -- Input that is refused before it is looked at as a message.
 use Rattle.std.specs.Prelude.{ℕ, pos, List, [], ◌∷◌, ◌++◌, Option, codes}
-use Rattle.krb_input.specs.Spellings.{spelling_name}
-use Rattle.krb_input.specs.declared.spelling.Spelling.{Spelling}
+use Rattle.krb_source.specs.Spellings.{spelling_name}
+use Rattle.krb_source.specs.declared.spelling.Spelling.{Spelling}
 use Rattle.krb_record.specs.declared.extent.Extent.{Extent}
 use Rattle.krb_record.specs.declared.form.Form.{Form}
 use Rattle.krb_record.specs.declared.form.Form.TheVariants as forms

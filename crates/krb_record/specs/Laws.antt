@@ -5,10 +5,10 @@ use Rattle.std.specs.Net.Addr.{IsIpv4Addr, IsIpv6Addr, MatchIp}
 use Rattle.jiff_core.specs.Date.{epoch_day}
 use Rattle.jiff_core.specs.declared.civil.date.Date.{Date}
 use Rattle.krb_der.specs.Octets.{AreOctets}
-use Rattle.krb_file.specs.declared.fault.FileWhy.{FileWhy}
+use Rattle.krb_source.specs.declared.file_why.FileWhy.{FileWhy}
 use Rattle.krb_der.specs.declared.verdict.Refusal.{Refusal}
 use Rattle.krb_der.specs.declared.why.Why.{Why}
-use Rattle.krb_input.specs.declared.spelling.Spelling.{Spelling}
+use Rattle.krb_source.specs.declared.spelling.Spelling.{Spelling}
 use Rattle.krb_record.specs.declared.capture.CaptureCounts.{CaptureCounts}
 use Rattle.krb_record.specs.declared.capture_origin.CaptureOrigin.{CaptureOrigin}
 use Rattle.krb_record.specs.declared.form.Form.{Form}
@@ -25,7 +25,7 @@ use Rattle.krb_record.specs.Files.{file_line}
 use Rattle.krb_record.specs.Origins.{message_origin}
 use Rattle.krb_record.specs.Time.{civil_date, the_date}
 use Rattle.krb_record.specs.Values.{Printed}
-use Rattle.krb_input.specs.declared.layer.Layer.{Layer}
+use Rattle.krb_source.specs.declared.layer.Layer.{Layer}
 
 -- different components or realms have different texts
 abbrev pub PrincipalTextIsInjective : Type 0

@@ -1,6 +1,6 @@
 -- The origin of a message that does not lie in an input by itself, as fields.
 use Rattle.std.specs.Prelude.{ℕ, pos, List, [], ◌∷◌, ◌++◌, Option, Some, None, codes}
-use Rattle.krb_input.specs.declared.layer.Layer.{Layer}
+use Rattle.krb_source.specs.declared.layer.Layer.{Layer}
 use Rattle.krb_record.specs.Values.{Number, Layers, Field, the}
 
 -- the number of the line, if the input is one of several lines

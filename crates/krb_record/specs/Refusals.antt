@@ -2,10 +2,10 @@
 use Rattle.std.specs.Prelude.{ℕ, pos, List, [], ◌∷◌, ◌++◌, Option, Some, codes}
 use Rattle.krb_der.specs.Reasons.{reason_number, reason_name}
 use Rattle.krb_der.specs.declared.verdict.Refusal.{Refusal}
-use Rattle.krb_file.specs.Faults.{file_reason_number, file_reason_name}
-use Rattle.krb_file.specs.declared.fault.FileWhy.{FileWhy}
-use Rattle.krb_input.specs.Spellings.{spelling_name}
-use Rattle.krb_input.specs.declared.spelling.Spelling.{Spelling}
+use Rattle.krb_source.specs.FileReasons.{file_reason_number, file_reason_name}
+use Rattle.krb_source.specs.declared.file_why.FileWhy.{FileWhy}
+use Rattle.krb_source.specs.Spellings.{spelling_name}
+use Rattle.krb_source.specs.declared.spelling.Spelling.{Spelling}
 use Rattle.krb_record.specs.declared.extent.Extent.{Extent}
 use Rattle.krb_record.specs.declared.form.Form.{Form}
 use Rattle.krb_record.specs.declared.form.Form.TheVariants as forms

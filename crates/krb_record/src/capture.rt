@@ -13,7 +13,7 @@ use crate::put_field;
 use crate::refusal::{Reason, put_fault_fields, put_path};
 use crate::text_buffer::TextBuffer;
 use krb_der::Refusal;
-use krb_file::FileWhy;
+use krb_source::FileWhy;
 use std::alloc::AllocError;
 
 /// Appends the line of a refused message of a capture: the place of the octet at fault and what is

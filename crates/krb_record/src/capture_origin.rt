@@ -9,7 +9,7 @@ use crate::form::Form;
 use crate::origin::{Origin, put_opening_from};
 use crate::put_field;
 use crate::text_buffer::TextBuffer;
-use krb_net::Timestamp;
+use krb_source::Timestamp;
 use std::alloc::AllocError;
 
 /// Where a record of a capture comes from: the packet with which it is due, and the flow.

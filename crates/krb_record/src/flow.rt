@@ -7,7 +7,7 @@ ghost use Rattle.krb_record.specs.Values.{Flow as IsFlow};
 
 use crate::shown::{Shown, put_begin};
 use crate::text_buffer::TextBuffer;
-use krb_net::Endpoint;
+use krb_source::Endpoint;
 use std::alloc::AllocError;
 use std::net::IpAddr;
 

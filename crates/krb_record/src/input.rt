@@ -13,7 +13,7 @@ use crate::put_field;
 use crate::refusal::{NoReason, put_at_and_length, put_form_field};
 use crate::shown::{ABSENT, Plain};
 use crate::text_buffer::TextBuffer;
-use krb_input::Spelling;
+use krb_source::Spelling;
 use std::alloc::AllocError;
 
 /// Why input is not looked at as a message.

@@ -6,7 +6,7 @@ ghost use Rattle.krb_record.specs.Forms.{heading, json_string};
 ghost use Rattle.krb_record.specs.Origins.{message_origin};
 ghost use Rattle.krb_record.specs.Text.{joined, list_text};
 ghost use Rattle.krb_record.specs.Values.{Layers as AreLayers};
-ghost use Rattle.krb_input.specs.Layers.{layer_name};
+ghost use Rattle.krb_source.specs.Layers.{layer_name};
 
 use crate::field::put_opening;
 use crate::form::Form;
@@ -15,7 +15,7 @@ use crate::origin::{Origin, put_opening_from};
 use crate::put_field;
 use crate::shown::{Shown, put_begin};
 use crate::text_buffer::TextBuffer;
-use krb_input::Layer;
+use krb_source::Layer;
 use std::alloc::AllocError;
 
 /// Where a message comes from: the line of an input that has one in each line, and what the message

@@ -3,7 +3,7 @@
 ghost use Rattle.std.specs.Prelude.{◌≡◌, [], ◌∷◌, ◌++◌, OnOk, codes, pos};
 ghost use Rattle.std.specs.Option.{option_copied};
 ghost use Rattle.krb_der.specs.Reasons.{reason_name, reason_number};
-ghost use Rattle.krb_file.specs.Faults.{file_reason_name, file_reason_number};
+ghost use Rattle.krb_source.specs.FileReasons.{file_reason_name, file_reason_number};
 ghost use Rattle.krb_record.specs.Forms.{field, fields_text};
 ghost use Rattle.krb_record.specs.Origins.{message_origin};
 ghost use Rattle.krb_record.specs.Refusals.{at_field, extent_in, fault_record, file_refused_line, form_field, length_field, message_refused_line, path_in, spelling_in, untold_message_refused_line};
@@ -18,8 +18,7 @@ use crate::put_field;
 use crate::shown::{ABSENT, Plain, Shown, Text, put_begin};
 use crate::text_buffer::TextBuffer;
 use krb_der::{Refusal, Why, why_number, why_text};
-use krb_file::{FileWhy, file_why_number, file_why_text};
-use krb_input::Spelling;
+use krb_source::{FileWhy, Spelling, file_why_number, file_why_text};
 use std::alloc::AllocError;
 use std::marker::Model;
 

@@ -11,7 +11,7 @@ use crate::shown::{Shown, put_begin};
 use crate::text_buffer::TextBuffer;
 use jiff_core::civil::Date;
 use krb_der::Memory;
-use krb_net::Timestamp;
+use krb_source::Timestamp;
 use std::alloc::{AllocError, Global};
 
 fn day_after(days: u32) -> Date

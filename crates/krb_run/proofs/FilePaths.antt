@@ -1,6 +1,6 @@
 -- The line of a refused file, by the path that its form shows.
 use Rattle.std.proofs.Common.{◌≡◌, List, ℕ, ◌++◌, ◌∷◌, pos, Option, ◌∙◌, ap, codes}
-use Rattle.krb_file.specs.Faults.{file_reason_number, file_reason_name}
+use Rattle.krb_source.specs.FileReasons.{file_reason_number, file_reason_name}
 use Rattle.krb_file.specs.Fields.{Fault}
 use Rattle.krb_file.specs.declared.field_path.FileItem.{FileItem}
 use Rattle.krb_record.specs.declared.form.Form.{Form}

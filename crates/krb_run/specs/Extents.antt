@@ -1,7 +1,7 @@
 -- What records of refusals tell of where these are.
 use Rattle.std.specs.Prelude.{ℕ, List, Option}
 use Rattle.krb_file.specs.Fields.{Fault}
-use Rattle.krb_file.specs.Faults.{file_reason_length}
+use Rattle.krb_source.specs.FileReasons.{file_reason_length}
 use Rattle.krb_record.specs.declared.extent.Extent.{Extent}
 use Rattle.krb_record.specs.declared.form.Form.{Form}
 use Rattle.krb_record.specs.Refusals.{file_refused_line}

@@ -2,8 +2,8 @@
 //! number FFFFFFFB, so octet 5 has number 0.
 
 use krb_flow::{Beginning, Direction, End, Lost};
-use krb_net::Endpoint;
 use krb_packet::{Payload, Segment};
+use krb_source::Endpoint;
 use std::alloc::Global;
 use std::net::{IpAddr, Ipv4Addr};
 

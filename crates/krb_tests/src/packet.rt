@@ -2,8 +2,8 @@
 //! connection to port 88 and is refused; and what Wireshark shows of them.
 
 use krb_file::{FieldName, FileFault, FileField, FilePart, FileRefusal, FileWhy};
-use krb_net::Endpoint;
 use krb_packet::{Contents, LinkType, Packet, Packets, Segment, contents_of};
+use krb_source::Endpoint;
 use std::alloc::Global;
 use std::net::{IpAddr, Ipv4Addr};
 use std::process::Abort;

@@ -1,8 +1,8 @@
 //! The first three blocks of a real pcapng, `mit-udp6`, in which a client of MIT krb5 asks for a
 //! ticket over IPv6; and what Wireshark shows of the packet in the last one.
 
-use krb_net::{Endpoint, Timestamp};
 use krb_packet::{Contents, LinkType, Packet, Packets, contents_of};
+use krb_source::{Endpoint, Timestamp};
 use std::alloc::Global;
 use std::net::{IpAddr, Ipv6Addr};
 use std::process::Abort;

@@ -5,13 +5,13 @@ use krb_der::{Profile, Refusal, Why};
 use krb_file::FileWhy;
 use krb_input::{Layer, Spelling};
 use krb_judge::read_ticket_in;
-use krb_net::{Endpoint, Timestamp};
 use krb_record::{
     CaptureCounts, CaptureOrigin, Extent, Flow, Form, InputFault, MessageOrigin, TextBuffer,
     Transport, put_capture_end, put_capture_refusal, put_captured_refusal, put_counted_stream_end,
     put_file, put_file_refusal, put_input_refusal, put_joined, put_lost, put_message_refusal,
     put_password, put_stream_refusal, put_untold_message_refusal, put_untold_stream_refusal,
 };
+use krb_source::{Endpoint, Timestamp};
 use krb_text::{put_message_from, put_ticket};
 use std::alloc::Global;
 use std::net::{IpAddr, Ipv4Addr, Ipv6Addr};

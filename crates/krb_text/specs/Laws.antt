@@ -20,7 +20,7 @@ use Rattle.krb_record.specs.Origins.{message_origin}
 use Rattle.krb_text.specs.Messages.{captured_message_line, message_record, message_line, message_line_from, ticket_line}
 use Rattle.krb_text.specs.Masks.{masked, masked_method, masked_ticket}
 use Rattle.krb_record.specs.Values.{Field}
-use Rattle.krb_input.specs.declared.layer.Layer.{Layer}
+use Rattle.krb_source.specs.declared.layer.Layer.{Layer}
 
 -- a message's
 abbrev pub MessageIsOneLine : Type 0

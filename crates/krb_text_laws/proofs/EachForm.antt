@@ -23,9 +23,9 @@ use Rattle.krb_record.specs.Text.{AllAreOctets, IsPrintable, principal_text, two
 use Rattle.krb_record.specs.TicketFlags.{flag_name, set_flags, names_text, other_flags, eight_hex, others_text, ticket_flags_text}
 use Rattle.krb_record.specs.Values.{Value, Absent, NoTicket, Number, Named, Numbers, ErrorCode, Reason, NoReason, String, Quoted, FileName, Word, Hex, Flags, TicketFlags, Encrypted, Principal, Address, Digest, YesNo, Offset, RefusedTicket, Flow, Layers, Field, Part, Printed}
 use Rattle.krb_record.specs.inner.Flags.{names_set}
-use Rattle.krb_input.specs.Layers.{layer_name}
-use Rattle.krb_input.specs.declared.layer.Layer.{Layer}
-use Rattle.krb_input.specs.declared.layer.Layer.TheVariants as layers
+use Rattle.krb_source.specs.Layers.{layer_name}
+use Rattle.krb_source.specs.declared.layer.Layer.{Layer}
+use Rattle.krb_source.specs.declared.layer.Layer.TheVariants as layers
 use Rattle.krb_text_laws.proofs.Flows as flow
 use Rattle.krb_record.proofs.Printable.{Prints, is_printable, word, join}
 use Rattle.krb_text_laws.proofs.Printable.{either, flat, number, signed, escaped, in_hex, optional, always, all_joined, every, listed, list, principal}

@@ -2,9 +2,9 @@
 use Rattle.std.proofs.Common.{◌≡◌, ℕ, true, List, [], ◌++◌, Option, Some, None, IfSome, pos, ◌∷◌, refl}
 use Rattle.std.specs.List.{list_all}
 use Rattle.krb_der.specs.Octets.{AreOctets}
-use Rattle.krb_input.specs.Spellings.{spelling_name}
-use Rattle.krb_input.specs.declared.spelling.Spelling.{Spelling}
-use Rattle.krb_input.specs.declared.spelling.Spelling.TheVariants as spellings
+use Rattle.krb_source.specs.Spellings.{spelling_name}
+use Rattle.krb_source.specs.declared.spelling.Spelling.{Spelling}
+use Rattle.krb_source.specs.declared.spelling.Spelling.TheVariants as spellings
 use Rattle.krb_record.specs.declared.extent.Extent.{Extent}
 use Rattle.krb_record.specs.declared.form.Form.{Form}
 use Rattle.krb_record.specs.declared.form.Form.TheVariants as forms
@@ -18,7 +18,7 @@ use Rattle.krb_record.specs.Refusals.{path_in, extent_in, spelling_in}
 use Rattle.krb_record.specs.Text.{line_feed}
 use Rattle.krb_msg.specs.Term.{IfPresent}
 use Rattle.krb_record.specs.Values.{Field, Number, String, Word, Printed, if_there, with_inside, with_origin}
-use Rattle.krb_input.specs.declared.layer.Layer.{Layer}
+use Rattle.krb_source.specs.declared.layer.Layer.{Layer}
 use Rattle.krb_record.proofs.Printable.{Prints, is_printable, word}
 use Rattle.krb_text_laws.proofs.EachForm.{ArePlainParts, IsShown, AreShown, names_are_plain, record_prints}
 

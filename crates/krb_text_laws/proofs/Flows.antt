@@ -7,7 +7,7 @@ use Rattle.std.specs.Net.Addr.{IsIpv4Addr, IsIpv6Addr, MatchIp, ipv4_octets, ipv
 use Rattle.std.specs.Net.Text.{ip_text, ipv4_text, ipv6_text, hex_groups_text}
 use Rattle.std.specs.declared.net.ip_addr.IpAddr.{IpAddr}
 use Rattle.std.specs.declared.net.ip_addr.IpAddr.TheVariants as addresses
-use Rattle.krb_net.specs.declared.endpoint.Endpoint.{Endpoint}
+use Rattle.krb_source.specs.declared.endpoint.Endpoint.{Endpoint}
 use Rattle.krb_record.specs.Flows.{transport_name, host_text, endpoint_text, endpoint_object, flow_text, flow_object}
 use Rattle.krb_record.specs.Text.{IsPrintable}
 use Rattle.krb_record.specs.declared.flow.Transport.{Transport}

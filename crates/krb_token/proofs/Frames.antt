@@ -10,8 +10,8 @@ use Rattle.krb_token.specs.Laws.{IsFrame, FramesAreOpened}
 use Rattle.krb_token.specs.Opened.{Part, Found, Opened, Message, Ticket, Ntlm, Refused, under, message_under, refused_bare}
 use Rattle.krb_token.specs.Tokens.{frame_of_length, frame_opened, opened_from, opened, whole, is_ntlm, gss_opened, spnego_opened}
 use Rattle.krb_token.specs.declared.fields.NegToken.TheVariants as neg
-use Rattle.krb_input.specs.declared.layer.Layer.{Layer}
-use Rattle.krb_input.specs.declared.layer.Layer.TheVariants.{Frame, Gss, Spnego}
+use Rattle.krb_source.specs.declared.layer.Layer.{Layer}
+use Rattle.krb_source.specs.declared.layer.Layer.TheVariants.{Frame, Gss, Spnego}
 
 -- ---- by the length
 length_is_all : (message : List ℕ) (announced : ℕ) → announced ≡ length message → 0 < length message → frame_of_length announced message ≡ message_under (Frame ∷ []) 4 message

@@ -10,8 +10,8 @@ use Rattle.krb_token.specs.Spnego.{neg_read, neg_path}
 use Rattle.krb_token.specs.Tokens.{is_message_tag, is_ntlm, gss_in_spnego, token_in, neg_opened, spnego_opened, spnego_in_gss, mechanism_opened, gss_opened}
 use Rattle.krb_token.specs.declared.fields.NegToken.{NegToken}
 use Rattle.krb_token.specs.declared.fields.NegToken.TheVariants as neg
-use Rattle.krb_input.specs.declared.layer.Layer.{Layer}
-use Rattle.krb_input.specs.declared.layer.Layer.TheVariants.{Gss, Spnego}
+use Rattle.krb_source.specs.declared.layer.Layer.{Layer}
+use Rattle.krb_source.specs.declared.layer.Layer.TheVariants.{Gss, Spnego}
 
 abbrev pub first_layer : List Layer → Option Layer
 first_layer [] = None

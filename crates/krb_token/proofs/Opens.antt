@@ -2,7 +2,7 @@
 use Rattle.std.proofs.Common.{◌≡◌, ℕ, ◌≤◌, List, [], ◌∷◌, length, get_or, refl, arith}
 use Rattle.krb_token.specs.Tokens.{opened, spnego_opened, whole}
 use Rattle.krb_token.specs.declared.fields.NegToken.TheVariants as neg
-use Rattle.krb_input.specs.declared.layer.Layer.TheVariants.{Spnego}
+use Rattle.krb_source.specs.declared.layer.Layer.TheVariants.{Spnego}
 
 pub opens_init : (octets : List ℕ) → 1 ≤ length octets → get_or octets 0 0 ≡ 160 → opened octets ≡ spnego_opened (Spnego ∷ []) neg.Init (whole octets)
 opens_init [] h e = absurd (omega (arith, h))

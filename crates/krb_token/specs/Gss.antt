@@ -7,7 +7,7 @@ use Rattle.krb_msg.specs.Views.{kind_tag}
 use Rattle.krb_msg.specs.declared.message.Kind.TheVariants as kind
 use Rattle.krb_token.specs.Opened.{Part, Fault, Opened, refused_in, refused_bare, message_under, and_then}
 use Rattle.krb_token.specs.Items.{Item, entered, expected, simple_item, simple_tag}
-use Rattle.krb_input.specs.declared.layer.Layer.{Layer}
+use Rattle.krb_source.specs.declared.layer.Layer.{Layer}
 use Rattle.krb_token.specs.declared.simple.Simple.TheVariants as simple
 
 -- ---- identifiers of mechanisms

@@ -3,7 +3,7 @@ use Rattle.std.specs.Prelude.{ℕ, ◌≡◌, ◌<◌, ◌↔◌, List, [], ◌�
 use Rattle.krb_der.specs.Octets.{number}
 use Rattle.krb_token.specs.Opened.{message_under}
 use Rattle.krb_token.specs.Tokens.{opened}
-use Rattle.krb_input.specs.declared.layer.Layer.TheVariants.{Frame}
+use Rattle.krb_source.specs.declared.layer.Layer.TheVariants.{Frame}
 
 -- The octets are a frame of a message, of fewer than 2^24 octets and not of none (RFC 4120, 7.2.2): four octets of its length, and the message.
 pub record IsFrame (message octets : List ℕ) : Type 0 where

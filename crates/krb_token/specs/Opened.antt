@@ -1,7 +1,7 @@
 -- What octets are opened to: the layers that are opened, and what is found in the last of these.
 use Rattle.std.specs.Prelude.{ℕ, List, Option, Some, None, Result, Ok, Err}
 use Rattle.krb_der.specs.declared.why.Why.{Why}
-use Rattle.krb_input.specs.declared.layer.Layer.{Layer}
+use Rattle.krb_source.specs.declared.layer.Layer.{Layer}
 
 -- octets, of which the first is at a place
 pub record Part : Type 0 where

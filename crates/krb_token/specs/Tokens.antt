@@ -11,8 +11,8 @@ use Rattle.krb_token.specs.Opened.{Part, Opened, Ticket, Ntlm, under, message_un
 use Rattle.krb_token.specs.Spnego.{neg_read, neg_path, spnego}
 use Rattle.krb_token.specs.declared.fields.NegToken.{NegToken}
 use Rattle.krb_token.specs.declared.fields.NegToken.TheVariants as neg
-use Rattle.krb_input.specs.declared.layer.Layer.{Layer}
-use Rattle.krb_input.specs.declared.layer.Layer.TheVariants.{Frame, Gss, Spnego}
+use Rattle.krb_source.specs.declared.layer.Layer.{Layer}
+use Rattle.krb_source.specs.declared.layer.Layer.TheVariants.{Frame, Gss, Spnego}
 
 -- ---- frames (RFC 4120, 7.2.2)
 -- a message of which the length is announced

@@ -5,7 +5,7 @@ ghost use Rattle.std.specs.Prelude.{◌≡◌, ◌++◌, ◌∷◌, [], IfOk, Ma
 ghost use Rattle.krb_token.specs.Gss.{identified, is_kerberos as is_identifier_of_kerberos, kerberos_opened, message_in, message_tag, unknown_mechanism as unknown};
 ghost use Rattle.krb_token.specs.Seen.{IsShort, IsInLayer, fault_of, item_of, opened_of, part_of, path_text};
 ghost use Rattle.krb_token.specs.Tokens.{gss_in_spnego, gss_opened, is_ntlm as is_of_ntlm, mechanism_opened, spnego_in_gss, spnego_opened, token_in};
-ghost use Rattle.krb_input.specs.declared.layer.Layer.TheVariants.{Gss, Spnego};
+ghost use Rattle.krb_source.specs.declared.layer.Layer.TheVariants.{Gss, Spnego};
 
 use crate::fields::NegToken;
 use crate::item::{Item, Part};

@@ -24,8 +24,8 @@ use Rattle.krb_record.specs.Refusals.{path_in, extent_in, spelling_in, refusal_r
 use Rattle.krb_record.specs.Values.{Field, with_origin}
 use Rattle.krb_record.specs.declared.form.Form.{Form}
 use Rattle.krb_record.specs.declared.input.InputFault.TheVariants as faults
-use Rattle.krb_input.specs.declared.spelling.Spelling.{Spelling}
-use Rattle.krb_input.specs.declared.layer.Layer.{Layer}
+use Rattle.krb_source.specs.declared.spelling.Spelling.{Spelling}
+use Rattle.krb_source.specs.declared.layer.Layer.{Layer}
 use Rattle.krb_token.specs.Seen.{found_of, opened_of}
 use Rattle.krb_token.specs.Tokens.{opened}
 use Rattle.krb_token.specs.declared.opening.Found.{Found as FoundOfCode}

@@ -4,8 +4,8 @@ use Rattle.krb_der.specs.declared.profile.Profile.{Profile}
 use Rattle.krb_der.specs.declared.verdict.Refusal.{Refusal}
 use Rattle.krb_der.specs.declared.why.Why.TheVariants.{TooLong}
 use Rattle.krb_input.specs.Inputs.{line_spelled, spelled}
-use Rattle.krb_input.specs.declared.spelling.Spelling.{Spelling}
-use Rattle.krb_input.specs.declared.spelling.Spelling.TheVariants.{Octets}
+use Rattle.krb_source.specs.declared.spelling.Spelling.{Spelling}
+use Rattle.krb_source.specs.declared.spelling.Spelling.TheVariants.{Octets}
 use Rattle.krb_msg.specs.Grammar.{ticket}
 use Rattle.krb_msg.specs.Types.{ticket_of}
 use Rattle.krb_msg.specs.ValueOfDer.{value_of_der}
@@ -22,7 +22,7 @@ use Rattle.krb_record.specs.declared.input.InputFault.{InputFault}
 use Rattle.krb_record.specs.declared.input.InputFault.TheVariants as faults
 use Rattle.krb_token.specs.Opened.{Found, Message, Ticket as IsTicket, Ntlm, Refused, Opened}
 use Rattle.krb_token.specs.Tokens.{opened}
-use Rattle.krb_input.specs.declared.layer.Layer.{Layer}
+use Rattle.krb_source.specs.declared.layer.Layer.{Layer}
 use Rattle.krb_tool.specs.Files.{FileListing}
 use Rattle.krb_tool.specs.Paths.{refused_path, ticket_refused_path}
 use Rattle.krb_tool.specs.declared.message_input.Layered.{Layered as LayeredOctets}

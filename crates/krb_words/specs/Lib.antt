@@ -2,4 +2,5 @@ pub mod Names
 pub mod Sources
 pub mod Times
 pub mod Words
+pub mod Tasks
 pub mod inner

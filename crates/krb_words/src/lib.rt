@@ -6,7 +6,7 @@
 //!   them. Words are octets, as the system has them: what is not UTF-8 names a file like any other.
 //! - [`CommandLine`] has what is to be listed ([`Command`]), in which form ([`Form`]), which records name their
 //!   file ([`Naming`]), and from which sources ([`Source`]). A [`Command`] may also be a text to print: a
-//!   help or the version.
+//!   help or the version. [`Command::listing`] is the one that lists a source of a kind.
 //! - [`When`] is the time that credentials are compared with: the clock's, which the program reads,
 //!   or a number of seconds.
 //!
@@ -18,6 +18,7 @@ mod commands;
 mod help;
 mod names;
 mod sources;
+mod tasks;
 mod when;
 mod words;
 

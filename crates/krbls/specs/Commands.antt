@@ -1,13 +1,10 @@
 -- What is done with a source by a command: the run of its command, in the form and by the profile, the limit and the numbers of the command.
-use Rattle.std.specs.Prelude.{ℕ, ◌≡◌, Bool, true, false, List, [], ◌∷◌, Option, Some, None, IfOk, IfErr, OnErr}
+use Rattle.std.specs.Prelude.{ℕ, ◌≡◌, Bool, true, false, List, [], ◌∷◌, Option, Some, IfOk, IfErr, OnErr}
 use Rattle.std.specs.Option.{option_and_then}
 use Rattle.krb_der.specs.declared.profile.Profile.{Profile}
-use Rattle.krb_der.specs.declared.profile.Profile.TheVariants as profile
 use Rattle.krb_input.specs.Hints.{hint_for}
 use Rattle.krb_input.specs.Sources.{command_for}
 use Rattle.krb_input.specs.declared.hint.Hint.{Hint}
-use Rattle.krb_input.specs.declared.source_kind.SourceKind.{SourceKind}
-use Rattle.krb_input.specs.declared.source_kind.SourceKind.TheVariants as kind
 use Rattle.krb_record.specs.declared.form.Form.{Form}
 use Rattle.krb_capture_run.specs.Captures.{capture_listing}
 use Rattle.krb_tool.specs.Decoding.{Decodes, DecodesWhole, FailsToDecode, FailsToDecodeWhole}
@@ -24,10 +21,10 @@ use Rattle.krb_tool.specs.declared.decode_run.DecodeEnd.{DecodeEnd}
 use Rattle.krb_tool.specs.declared.encode_run.EncodeEnd.{EncodeEnd}
 use Rattle.krb_run.specs.declared.run.RunEnd.{RunEnd}
 use Rattle.krb_run.specs.declared.run.RunEnd.TheVariants as run
+use Rattle.krb_words.specs.Tasks.{kind_used, listing_for}
 use Rattle.krb_words.specs.declared.words.AfterRefusal.TheVariants as after
 use Rattle.krb_words.specs.declared.words.Framing.{Framing}
 use Rattle.krb_words.specs.declared.words.Framing.TheVariants as framing
-use Rattle.krb_words.specs.declared.when.When.{When}
 use Rattle.krb_words.specs.declared.words.Inputs.TheVariants as inputs
 use Rattle.krb_words.specs.declared.words.Command.{Command}
 use Rattle.krb_words.specs.declared.words.Command.TheVariants as commands
@@ -61,34 +58,10 @@ pub record Turns {E : Type 0} (TurnsTo : E → Type 0) (line : E → List ℕ) (
   pub told : TellsEnd IsTold (line end) ended
 
 -- ---- the command of a source
--- the command that lists a source of a kind, without options but a time
-abbrev pub listing_for : SourceKind → Option When → Command
-listing_for kind.Keytab when = commands.Keytab
-listing_for kind.Ccache when = commands.Ccache when
-listing_for kind.Capture when = commands.Capture 16777216 88
-listing_for kind.Message when = commands.Message profile.Lenient inputs.Whole
-listing_for kind.Stream when = commands.Stream 16777216 profile.Lenient after.Ends
-
 -- the command that a source has by its first octets, if there is no command
 abbrev pub chosen : Command → (first : List ℕ) → Command
 chosen (commands.List when) first = listing_for (command_for first) when
 chosen named first = named
-
--- the kind of the sources that a command lists
-abbrev pub kind_used : Command → Option SourceKind
-kind_used commands.Keytab = Some kind.Keytab
-kind_used (commands.Ccache when) = Some kind.Ccache
-kind_used (commands.Capture limit port) = Some kind.Capture
-kind_used (commands.Message profile each) = Some kind.Message
-kind_used (commands.Stream limit profile refused) = Some kind.Stream
-kind_used _ = None
-
--- how many octets of a source are awaited before its run begins: the first one of a stream, which may be live, else those by which a command or a hint is chosen
-abbrev pub octets_awaited : Command → ℕ
-octets_awaited (commands.Stream limit profile refused) = 1
-octets_awaited (commands.Decode limit profile how) = 1
-octets_awaited (commands.Encode limit profile how) = 1
-octets_awaited _ = 16
 
 -- the hint for a source that is listed by a command, by its first octets
 abbrev pub hint_by : Command → (first : List ℕ) → Option Hint

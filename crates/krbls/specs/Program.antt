@@ -16,13 +16,13 @@ use Rattle.krb_run.specs.declared.output.Place.{Place}
 use Rattle.krb_run.specs.declared.run.RunFault.{RunFault}
 use Rattle.krb_run.specs.declared.run.RunFault.TheVariants as fault
 use Rattle.krb_words.specs.Sources.{place_of}
+use Rattle.krb_words.specs.Tasks.{is_conversion, kind_used, text_of, when_of}
 use Rattle.krb_words.specs.Words.{IsFaultIn, IsCommandLineIn}
 use Rattle.krb_words.specs.declared.sources.Source.{Source}
 use Rattle.krb_words.specs.declared.sources.Source.TheVariants as source
 use Rattle.krb_words.specs.declared.when.When.{When}
 use Rattle.krb_words.specs.declared.when.When.TheVariants as when
 use Rattle.krb_words.specs.declared.words.Command.{Command}
-use Rattle.krb_words.specs.declared.words.Command.TheVariants as commands
 use Rattle.krb_words.specs.declared.words.Naming.{Naming}
 use Rattle.krb_words.specs.declared.words.Naming.TheVariants as naming
 use Rattle.krb_words.specs.declared.words.CommandLine.{CommandLine}
@@ -30,7 +30,7 @@ use Rattle.krb_words.specs.declared.words.WordsFault.{WordsFault}
 use Rattle.krb_words.specs.declared.words.WordsFault.TheVariants as words_fault
 use Rattle.krb_host.specs.Around.{Around}
 use Rattle.krb_host.specs.Expanded.{Expands}
-use Rattle.krbls.specs.Commands.{Does, chosen, hint_by, kind_used}
+use Rattle.krbls.specs.Commands.{Does, chosen, hint_by}
 
 -- the name of a source, as it was given
 abbrev pub name_of : Source → List ℕ
@@ -39,12 +39,6 @@ name_of (source.File file) = file.name.items
 name_of (source.Directory directory) = directory.name.items
 
 -- ---- times
--- the time that a command compares credentials with
-abbrev pub when_of : Command → Option When
-when_of (commands.List when) = when
-when_of (commands.Ccache when) = when
-when_of _ = None
-
 -- it is a number of seconds, or what the clock says
 abbrev pub IsTime : Around → Option When → Option ℕ → Type 0
 IsTime around None now = now ≡ None
@@ -98,12 +92,6 @@ DoesFrom around form now command s written_before written_after outcome =
     DoesOpened around form now command s written_before written_after outcome
     ⊎ ((written_after ≡ written_before) × IsUnread outcome)
 
--- messages and lines of JSON are turned into each other
-abbrev pub is_converted : Command → Bool
-is_converted (commands.Decode limit profile how) = true
-is_converted (commands.Encode limit profile how) = true
-is_converted _ = false
-
 -- Each cache of a directory has its record, even if it is the only one.
 abbrev pub is_directory : Source → Bool
 is_directory (source.Directory directory) = true
@@ -119,7 +107,7 @@ labels_of command_line = labels_by command_line.naming command_line.sources.item
 
 -- which names are printed of so many sources; what sources become is written without their names
 abbrev pub names_for : CommandLine → ℕ → Named
-names_for command_line count = if is_converted command_line.command then unnamed else names_of (labels_of command_line) command_line.form count
+names_for command_line count = if is_conversion command_line.command then unnamed else names_of (labels_of command_line) command_line.form count
 
 abbrev pub ListsSources : Around → CommandLine → Option ℕ → List Source → RunOver
 ListsSources around command_line now sources =
@@ -144,12 +132,6 @@ Prints around text written_before written_after status =
     ⊎ ((told : RunFault) × IsWrite told × around.IsFaultTold source.Input told × (status ≡ 3))
 
 -- ---- the words
--- the text that a command line asks for
-abbrev pub text_of : Command → Option (List ℕ)
-text_of (commands.Help text) = Some (string_bytes text)
-text_of (commands.Version text) = Some (string_bytes text)
-text_of _ = None
-
 -- the command is done, or memory ran out before, which is told
 abbrev pub DoesAny : Around → CommandLine → RunOver
 DoesAny around command_line written_before written_after status =

@@ -5,22 +5,23 @@ ghost use Rattle.krb_record.specs.FileNames.{name_text};
 ghost use Rattle.krb_run.specs.Begun.{begun_remaining, first_of};
 ghost use Rattle.krb_tool.specs.Encoding.{FailsToEncode};
 ghost use Rattle.krb_run.specs.Outputs.{output_contents};
+ghost use Rattle.krb_words.specs.Tasks.{kind_used};
 ghost use Rattle.krbls.specs.Ends.{decode_end_line, encode_end_line};
-ghost use Rattle.krbls.specs.Commands.{DecodesBy, Does, EncodesBy, FailsToDecodeBy, TellsEnd, Turns, chosen, hint_by, is_framed, listing_for, kind_used, octets_awaited};
+ghost use Rattle.krbls.specs.Commands.{DecodesBy, Does, EncodesBy, FailsToDecodeBy, TellsEnd, Turns, chosen, hint_by, is_framed};
 ghost use Rattle.krbls.specs.Program.{DoesFrom, IsHinted, ListsBy, name_of};
 
 use crate::ends::{put_decode_end, put_encode_end};
 use krb_capture_run::run_capture;
 use krb_file_run::{run_ccache_in, run_keytab_in};
 use krb_host::Host;
-use krb_input::{Hint, SourceKind, hint_of, kind_of};
+use krb_input::{Hint, hint_of, kind_of};
 use krb_record::{FileName, TextBuffer};
 use krb_run::{Begun, ListSource, Output, RunEnd, RunFault};
 use krb_tool::{
     DecodeEnd, EncodeEnd, Form, Limit, Profile, run_decode, run_decode_unframed, run_encode,
     run_encode_unframed, run_lines_in, run_message_in, run_stream_in,
 };
-use krb_words::{AfterRefusal, Command, Framing, Inputs, Source, USUAL_PORT, When};
+use krb_words::{AfterRefusal, Command, Framing, Inputs, Source};
 use std::alloc::{AllocError, Global};
 use std::io::{Read, Write};
 
@@ -33,35 +34,6 @@ pub(crate) struct Lister<'a, H> {
     pub(crate) form: Form,
     /// The time that credentials are compared with, in seconds since 1970, if there is one.
     pub(crate) time: Option<u32>,
-}
-
-/// Returns the command that lists a source of a kind, without options but a time.
-fn listing_for(kind: SourceKind, when: Option<When>) -> Command
-    ensures { result ≡ listing_for kind when }
-{
-    match kind {
-        SourceKind::Keytab => Command::Keytab,
-        SourceKind::Ccache => Command::Ccache(when),
-        SourceKind::Capture => Command::Capture(Limit::DEFAULT, USUAL_PORT),
-        SourceKind::Message => Command::Message(Profile::Lenient, Inputs::Whole),
-        SourceKind::Stream => {
-            Command::Stream(Limit::DEFAULT, Profile::Lenient, AfterRefusal::Ends)
-        }
-    }
-}
-
-/// Returns the kind of the sources that a command lists, if it lists.
-fn kind_used(command: &Command) -> Option<SourceKind>
-    ensures { result ≡ kind_used command.now }
-{
-    match command {
-        Command::Keytab => Some(SourceKind::Keytab),
-        Command::Ccache(_) => Some(SourceKind::Ccache),
-        Command::Capture(..) => Some(SourceKind::Capture),
-        Command::Message(..) => Some(SourceKind::Message),
-        Command::Stream(..) => Some(SourceKind::Stream),
-        _ => None,
-    }
 }
 
 impl<H: Host> Lister<'_, H> {
@@ -197,7 +169,7 @@ fn encode<R: Read, W: Write>(
 fn hint_by(command: &Command, first: &[u8]) -> Option<Hint>
     ensures { result ≡ hint_by command.now first.now }
 {
-    match kind_used(command) {
+    match command.kind() {
         Some(kind) => hint_of(kind, first),
         None => None,
     }
@@ -212,7 +184,7 @@ impl<H: Host> Lister<'_, H> {
             return Ok(());
         };
         let name = shown_name(self.alloc, source)?;
-        let text = hint.text(self.alloc, kind_used(self.command), name.as_str())?;
+        let text = hint.text(self.alloc, self.command.kind(), name.as_str())?;
         self.host.tell_hint(source, text.as_str());
         Ok(())
     }
@@ -247,7 +219,7 @@ impl<H: Host> Lister<'_, H> {
     {
         match self.command {
             Command::List(when) => {
-                let command = listing_for(kind_of(reader.first()), *when);
+                let command = Command::listing(kind_of(reader.first()), *when);
                 self.list_by(source, &command, reader, output)
             }
             command => self.list_by(source, command, reader, output),
@@ -272,17 +244,6 @@ fn octets_name(source: &Source) -> &[u8]
     }
 }
 
-/// Returns how many octets of a source are awaited before it is listed: those by which its command
-/// or a hint is chosen. A stream is listed as it comes, since it may be live.
-fn octets_awaited(command: &Command) -> usize
-    ensures { result ≡ octets_awaited command.now }
-{
-    match command {
-        Command::Stream(..) | Command::Decode(..) | Command::Encode(..) => 1,
-        _ => 16,
-    }
-}
-
 impl<H: Host> ListSource<Source> for Lister<'_, H> {
     ghost called = { name_of };
 
@@ -297,7 +258,7 @@ impl<H: Host> ListSource<Source> for Lister<'_, H> {
     fn list<W: Write>(&self, source: &Source, output: &mut Output<W>) -> Result<RunEnd, RunFault> {
         match self.host.open(source) {
             Ok(reader) => {
-                let mut begun = Begun::begin(reader, octets_awaited(self.command));
+                let mut begun = Begun::begin(reader, self.command.octets_awaited());
                 self.list_begun(source, &mut begun, output)
             }
             Err(error) => Err(RunFault::Read(error)),

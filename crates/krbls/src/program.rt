@@ -1,9 +1,10 @@
 //! What the program does by its words.
 
-ghost use Rattle.std.specs.Prelude.{◌≡◌, map, option_map};
+ghost use Rattle.std.specs.Prelude.{◌≡◌, map};
 ghost use Rattle.std.specs.List.{list_any};
 ghost use Rattle.std.specs.Process.{exit_status};
-ghost use Rattle.krbls.specs.Program.{RunsCommand, DoesAny, IsTime, ListsSources, Prints, Refuses, Runs, is_converted, is_directory, labels_of, text_of, when_of};
+ghost use Rattle.krb_words.specs.Tasks.{when_of};
+ghost use Rattle.krbls.specs.Program.{RunsCommand, DoesAny, IsTime, ListsSources, Prints, Refuses, Runs, is_directory, labels_of};
 
 use crate::lister::Lister;
 use krb_host::{Host, expand};
@@ -45,44 +46,18 @@ fn run_command<H: Host, W: Write>(
 ) -> (W, ExitCode)
     ensures { RunsCommand (H.around host.now) command_line.now (W.contents writer) (W.contents result.0) (exit_status result.1) }
 {
-    match text_of(&command_line.command) {
+    match command_line.command.text() {
         Some(text) => print_text(host, text, writer),
         None => do_each(alloc, host, command_line, writer),
     }
 }
 
-/// Returns the text that is to be printed, if there is one.
-fn text_of(command: &Command) -> Option<&str>
-    ensures { option_map (λ text. text.now) result ≡ text_of command.now }
-{
-    match command {
-        Command::Help(text) | Command::Version(text) => Some(text.as_str()),
-        _ => None,
-    }
-}
-
-/// Returns whether a command turns sources into another form.
-fn is_converted(command: &Command) -> bool
-    ensures { result ≡ is_converted command.now }
-{
-    matches!(command, Command::Decode(..) | Command::Encode(..))
-}
-
-/// Returns the time that a command compares credentials with, if there is one.
-fn when_of(command: &Command) -> Option<When>
-    ensures { result ≡ when_of command.now }
-{
-    match command {
-        Command::List(when) | Command::Ccache(when) => *when,
-        _ => None,
-    }
-}
-
-/// Returns that time in seconds since 1970: the clock is read if it is asked for.
+/// Returns the time that a command compares credentials with, in seconds since 1970, if there is one:
+/// the clock is read if it is asked for.
 fn time_of<H: Host>(host: &H, command: &Command) -> Option<u32>
     ensures { IsTime (H.around host.now) (when_of command.now) result }
 {
-    match when_of(command) {
+    match command.when() {
         None => None,
         Some(When::Seconds(seconds)) => Some(seconds),
         Some(When::Clock) => Some(host.now()),
@@ -130,7 +105,7 @@ fn list_each<H: Host, W: Write>(
         form: command_line.form,
         time: now,
     };
-    if is_converted(&command_line.command) {
+    if command_line.command.is_conversion() {
         run_sources_unnamed(alloc, &lister, sources, writer)
     } else {
         run_sources(

@@ -7,9 +7,9 @@ use krb_capture::Capture;
 use krb_file::{FileFault, FileRefusal};
 use krb_flow::Direction;
 use krb_frame::Limit;
-use krb_net::Endpoint;
 use krb_packet::{Fragment, Fragments, Original, Packets, Payload, Reassembled, Segment};
 use krb_record::{Extent, Form, TextBuffer};
+use krb_source::Endpoint;
 use std::alloc::Global;
 use std::net::{IpAddr, Ipv4Addr};
 

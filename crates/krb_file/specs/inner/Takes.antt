@@ -4,7 +4,7 @@ use Rattle.krb_file.specs.Fields.{exceeds, fault_of}
 use Rattle.krb_file.specs.FieldReaders.{Cursor, MayRemain, FetchesTo}
 use Rattle.krb_file.specs.declared.fault.FileFault.{FileFault}
 use Rattle.krb_file.specs.declared.fault.FileFault.TheVariants as faults
-use Rattle.krb_file.specs.declared.fault.FileWhy.TheVariants as why
+use Rattle.krb_source.specs.declared.file_why.FileWhy.TheVariants as why
 
 -- Octets were taken: whatever may remain now, it may have remained before, after these octets.
 pub record Takes (had left : Cursor) (taken : List ℕ) : Type 0 where

@@ -1,7 +1,7 @@
 -- The numbers before the octets of a packet of a pcap, in sixteen octets that are there.
 use Rattle.std.specs.Prelude.{ℕ, Result, Ok, Err, List, take, drop}
 use Rattle.std.specs.Int.{w32}
-use Rattle.krb_file.specs.declared.fault.FileWhy.{FileWhy}
+use Rattle.krb_source.specs.declared.file_why.FileWhy.{FileWhy}
 use Rattle.krb_packet.specs.declared.order.ByteOrder.{ByteOrder}
 use Rattle.krb_packet.specs.declared.pcap.PacketHead.{PacketHead}
 use Rattle.krb_packet.specs.Numbers.{in_order}

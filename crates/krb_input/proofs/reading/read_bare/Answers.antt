@@ -2,7 +2,7 @@ use Rattle.std.proofs.Common.{◌≡◌, None, true, false, refl}
 use Rattle.krb_input.specs.Comments.{text_left}
 use Rattle.krb_input.specs.Tokens.{first_unfit, tokens}
 use Rattle.krb_input.specs.Inputs.{spelled_in_field}
-use Rattle.krb_input.specs.declared.spelling.Spelling.TheVariants as form
+use Rattle.krb_source.specs.declared.spelling.Spelling.TheVariants as form
 use Rattle.krb_input.proofs.Told.{told_is}
 use Rattle.krb_input.proofs.reading.read_bare.Goals as goal
 

@@ -4,7 +4,7 @@ use Rattle.krb_input.specs.Escapes.{has_escape, escapes}
 use Rattle.krb_input.specs.Headers.{token_of}
 use Rattle.krb_input.specs.Base64.{base64}
 use Rattle.krb_input.specs.Inputs.{spelled_in_braces}
-use Rattle.krb_input.specs.declared.spelling.Spelling.TheVariants as form
+use Rattle.krb_source.specs.declared.spelling.Spelling.TheVariants as form
 use Rattle.krb_input.proofs.Told.{told_is}
 use Rattle.krb_input.proofs.reading.read_escaped.Goals as goal
 

@@ -1,7 +1,7 @@
 use Rattle.std.proofs.Common.{◌≡◌, true, refl}
 use Rattle.krb_input.specs.Base64.{base64, first_octet}
 use Rattle.krb_input.specs.Inputs.{is_first_of, spelled_otherwise}
-use Rattle.krb_input.specs.declared.spelling.Spelling.TheVariants as form
+use Rattle.krb_source.specs.declared.spelling.Spelling.TheVariants as form
 use Rattle.krb_input.proofs.Told.{told_is}
 use Rattle.krb_input.proofs.reading.read_otherwise.Goals as goal
 

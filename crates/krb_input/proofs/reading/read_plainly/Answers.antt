@@ -2,7 +2,7 @@ use Rattle.std.proofs.Common.{◌≡◌, Some, true, false, refl}
 use Rattle.krb_input.specs.Digits.{are_digits, digits}
 use Rattle.krb_input.specs.Braces.{after_first, braces}
 use Rattle.krb_input.specs.Inputs.{spelled_plainly}
-use Rattle.krb_input.specs.declared.spelling.Spelling.TheVariants as form
+use Rattle.krb_source.specs.declared.spelling.Spelling.TheVariants as form
 use Rattle.krb_input.proofs.Told.{told_is}
 use Rattle.krb_input.proofs.reading.read_plainly.Goals as goal
 

@@ -1,7 +1,7 @@
 use Rattle.std.proofs.Common.{◌≡◌, true, refl}
 use Rattle.krb_input.specs.Dumps.{begins_dump, dump}
 use Rattle.krb_input.specs.Inputs.{spelled_in_text}
-use Rattle.krb_input.specs.declared.spelling.Spelling.TheVariants as form
+use Rattle.krb_source.specs.declared.spelling.Spelling.TheVariants as form
 use Rattle.krb_input.proofs.Told.{told_is}
 use Rattle.krb_input.proofs.reading.read_text.Goals as goal
 

@@ -1,6 +1,6 @@
 use Rattle.std.proofs.Common.{◌≡◌, ◌++◌, codes, take}
 use Rattle.std.specs.List.{flat_map}
-use Rattle.krb_input.specs.Layers.{layer_name}
+use Rattle.krb_source.specs.Layers.{layer_name}
 use Rattle.krb_record.proofs.message_origin.put_other_names.Given as goal
 
 -- the commas and names so far

@@ -1,7 +1,7 @@
 use Rattle.std.proofs.Common.{◌≡◌, ◌<◌, ◌^◌, true, ◌++◌, [], Option, Some, None, IfSome, refl, codes}
 use Rattle.std.specs.List.{list_all}
 use Rattle.krb_msg.specs.Term.{IfPresent}
-use Rattle.krb_net.specs.declared.timestamp.Timestamp.{Timestamp}
+use Rattle.krb_source.specs.declared.timestamp.Timestamp.{Timestamp}
 use Rattle.krb_record.specs.Captures.{origin_fields, captured_line, lost_record, password_record, count_fields, capture_refused_record}
 use Rattle.krb_record.specs.Laws.{IsOneLine, OriginIsInRange}
 use Rattle.krb_text.specs.Messages.{message_record}

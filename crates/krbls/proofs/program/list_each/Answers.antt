@@ -2,12 +2,12 @@ use Rattle.std.proofs.Common.{sym, ◌∙◌}
 use Rattle.krbls.proofs.EachSource.{each_named, each_unnamed}
 use Rattle.krbls.proofs.program.list_each.Goals as goal
 
-pub returns-then-is_converted : goal.returns-then-is_converted
-returns-then-is_converted g c =
+pub returns-then-is_conversion : goal.returns-then-is_conversion
+returns-then-is_conversion g c =
     each_unnamed (g.H.Host.around c.args.host.now) c.args.command_line.now c.args.now _ _ _ _
-    (sym c.is_converted.ensures ∙ c.if-is_converted.true) c.run_sources_unnamed.ensures
+    (sym c.is_conversion.ensures ∙ c.if-is_conversion.true) c.run_sources_unnamed.ensures
 
-pub returns-else-is_converted : goal.returns-else-is_converted
-returns-else-is_converted g c =
+pub returns-else-is_conversion : goal.returns-else-is_conversion
+returns-else-is_conversion g c =
     each_named (g.H.Host.around c.args.host.now) c.args.command_line.now c.args.now _ _ _ _ c.labels_of.result c.labels_of.ensures
-    (sym c.is_converted.ensures ∙ c.if-is_converted.false) c.run_sources.ensures
+    (sym c.is_conversion.ensures ∙ c.if-is_conversion.false) c.run_sources.ensures

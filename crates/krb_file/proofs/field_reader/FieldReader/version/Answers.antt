@@ -1,6 +1,6 @@
 use Rattle.std.proofs.Common.{◌≡◌, ◌+◌, [], ◌∷◌, arith}
 use Rattle.krb_file.specs.Fields.{called, expect}
-use Rattle.krb_file.specs.declared.fault.FileWhy.TheVariants as why
+use Rattle.krb_source.specs.declared.file_why.FileWhy.TheVariants as why
 use Rattle.krb_file.specs.declared.field_name.FieldName.TheVariants as words
 use Rattle.krb_file.proofs.FieldReaders.{FetchesTo-then}
 use Rattle.krb_file.proofs.Reaching.{Exactly-expect, Exactly-called, goes_to}

@@ -1,7 +1,7 @@
 -- The names of the spellings of octets.
 use Rattle.std.specs.Prelude.{List, ℕ, codes}
-use Rattle.krb_input.specs.declared.spelling.Spelling.{Spelling}
-use Rattle.krb_input.specs.declared.spelling.Spelling.TheVariants as spellings
+use Rattle.krb_source.specs.declared.spelling.Spelling.{Spelling}
+use Rattle.krb_source.specs.declared.spelling.Spelling.TheVariants as spellings
 
 abbrev pub spelling_name : Spelling → List ℕ
 spelling_name spellings.Octets = codes "octets"

@@ -1,7 +1,7 @@
 //! What a message lies in.
 
 ghost use Rattle.std.specs.Prelude.{◌≡◌};
-ghost use Rattle.krb_input.specs.Layers.{layer_name};
+ghost use Rattle.krb_source.specs.Layers.{layer_name};
 
 /// What a message lies in.
 #[derive(Clone, Copy, PartialEq, Eq, Debug)]

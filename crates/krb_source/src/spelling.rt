@@ -1,7 +1,7 @@
 //! How octets are spelled.
 
 ghost use Rattle.std.specs.Prelude.{◌≡◌};
-ghost use Rattle.krb_input.specs.Spellings.{spelling_name};
+ghost use Rattle.krb_source.specs.Spellings.{spelling_name};
 
 /// How octets are spelled in an input.
 #[derive(Clone, Copy, PartialEq, Eq, Debug)]

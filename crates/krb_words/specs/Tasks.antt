@@ -1,0 +1,52 @@
+-- What a command says to do: the text that it prints, the kind that it lists, and the time and the first octets that it needs.
+use Rattle.std.specs.Prelude.{ℕ, Bool, true, false, List, Option, Some, None, string_bytes}
+use Rattle.krb_der.specs.declared.profile.Profile.TheVariants as profile
+use Rattle.krb_input.specs.declared.source_kind.SourceKind.{SourceKind}
+use Rattle.krb_input.specs.declared.source_kind.SourceKind.TheVariants as kind
+use Rattle.krb_words.specs.declared.when.When.{When}
+use Rattle.krb_words.specs.declared.words.AfterRefusal.TheVariants as after
+use Rattle.krb_words.specs.declared.words.Inputs.TheVariants as inputs
+use Rattle.krb_words.specs.declared.words.Command.{Command}
+use Rattle.krb_words.specs.declared.words.Command.TheVariants as commands
+
+-- the text that is all that a command prints
+abbrev pub text_of : Command → Option (List ℕ)
+text_of (commands.Help text) = Some (string_bytes text)
+text_of (commands.Version text) = Some (string_bytes text)
+text_of _ = None
+
+-- messages and lines of JSON are turned into each other
+abbrev pub is_conversion : Command → Bool
+is_conversion (commands.Decode limit profile how) = true
+is_conversion (commands.Encode limit profile how) = true
+is_conversion _ = false
+
+-- the command that lists a source of a kind, without options but a time
+abbrev pub listing_for : SourceKind → Option When → Command
+listing_for kind.Keytab when = commands.Keytab
+listing_for kind.Ccache when = commands.Ccache when
+listing_for kind.Capture when = commands.Capture 16777216 88
+listing_for kind.Message when = commands.Message profile.Lenient inputs.Whole
+listing_for kind.Stream when = commands.Stream 16777216 profile.Lenient after.Ends
+
+-- the kind of the sources that a command lists
+abbrev pub kind_used : Command → Option SourceKind
+kind_used commands.Keytab = Some kind.Keytab
+kind_used (commands.Ccache when) = Some kind.Ccache
+kind_used (commands.Capture limit port) = Some kind.Capture
+kind_used (commands.Message profile each) = Some kind.Message
+kind_used (commands.Stream limit profile refused) = Some kind.Stream
+kind_used _ = None
+
+-- the time that a command compares credentials with
+abbrev pub when_of : Command → Option When
+when_of (commands.List when) = when
+when_of (commands.Ccache when) = when
+when_of _ = None
+
+-- how many octets of a source are awaited before its run begins: the first one of a stream, which may be live, else those by which a command or a hint is chosen
+abbrev pub octets_awaited : Command → ℕ
+octets_awaited (commands.Stream limit profile refused) = 1
+octets_awaited (commands.Decode limit profile how) = 1
+octets_awaited (commands.Encode limit profile how) = 1
+octets_awaited _ = 16

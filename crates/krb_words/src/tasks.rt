@@ -1,0 +1,81 @@
+//! What a command says to do.
+
+ghost use Rattle.std.specs.Prelude.{◌≡◌};
+ghost use Rattle.std.specs.Option.{option_map};
+ghost use Rattle.krb_words.specs.Tasks.{is_conversion, kind_used, listing_for, octets_awaited, text_of, when_of};
+
+use crate::when::When;
+use crate::words::{AfterRefusal, Command, Inputs, USUAL_PORT};
+use krb_der::{Limit, Profile};
+use krb_input::SourceKind;
+
+impl Command {
+    /// Returns the command that lists a source of a kind, without options but a time.
+    pub fn listing(kind: SourceKind, when: Option<When>) -> Command
+        ensures { result ≡ listing_for kind when }
+    {
+        match kind {
+            SourceKind::Keytab => Command::Keytab,
+            SourceKind::Ccache => Command::Ccache(when),
+            SourceKind::Capture => Command::Capture(Limit::DEFAULT, USUAL_PORT),
+            SourceKind::Message => Command::Message(Profile::Lenient, Inputs::Whole),
+            SourceKind::Stream => {
+                Command::Stream(Limit::DEFAULT, Profile::Lenient, AfterRefusal::Ends)
+            }
+        }
+    }
+
+    /// Returns the text that is all that the command prints, if it is a help or the version.
+    pub fn text(&self) -> Option<&str>
+        ensures { option_map (λ text. text.now) result ≡ text_of self.now }
+    {
+        match self {
+            Command::Help(text) | Command::Version(text) => Some(text.as_str()),
+            _ => None,
+        }
+    }
+
+    /// Returns whether the command turns sources into another form.
+    pub fn is_conversion(&self) -> bool
+        ensures { result ≡ is_conversion self.now }
+    {
+        matches!(self, Command::Decode(..) | Command::Encode(..))
+    }
+
+    /// Returns the kind of the sources that the command lists. `None` if it finds that out, or does
+    /// not list.
+    pub fn kind(&self) -> Option<SourceKind>
+        ensures { result ≡ kind_used self.now }
+    {
+        match self {
+            Command::Keytab => Some(SourceKind::Keytab),
+            Command::Ccache(_) => Some(SourceKind::Ccache),
+            Command::Capture(..) => Some(SourceKind::Capture),
+            Command::Message(..) => Some(SourceKind::Message),
+            Command::Stream(..) => Some(SourceKind::Stream),
+            _ => None,
+        }
+    }
+
+    /// Returns the time that the command compares credentials with, if there is one.
+    pub fn when(&self) -> Option<When>
+        ensures { result ≡ when_of self.now }
+    {
+        match self {
+            Command::List(when) | Command::Ccache(when) => *when,
+            _ => None,
+        }
+    }
+
+    /// Returns how many octets of a source are awaited before it is listed: those by which the
+    /// command of the source or a hint is chosen. A stream is listed as it comes, since it may be
+    /// live.
+    pub fn octets_awaited(&self) -> usize
+        ensures { result ≡ octets_awaited self.now }
+    {
+        match self {
+            Command::Stream(..) | Command::Decode(..) | Command::Encode(..) => 1,
+            _ => 16,
+        }
+    }
+}
