@@ -1,3 +1,2 @@
-mod Conversions
 mod EachSource
 mod Commands

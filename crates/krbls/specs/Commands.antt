@@ -1,14 +1,14 @@
 -- What is done with a source by a command: the run of its command, in the form and by the profile, the limit and the numbers of the command.
-use Rattle.std.specs.Prelude.{ℕ, ◌≡◌, Bool, true, false, List, [], ◌∷◌, Option, Some, IfOk, IfErr, OnErr}
+use Rattle.std.specs.Prelude.{ℕ, ◌≡◌, List, [], ◌∷◌, Option, Some, IfOk, IfErr, OnErr}
 use Rattle.std.specs.Option.{option_and_then}
-use Rattle.krb_der.specs.declared.profile.Profile.{Profile}
 use Rattle.krb_input.specs.Hints.{hint_for}
 use Rattle.krb_input.specs.Sources.{command_for}
 use Rattle.krb_input.specs.declared.hint.Hint.{Hint}
 use Rattle.krb_record.specs.declared.form.Form.{Form}
 use Rattle.krb_capture_run.specs.Captures.{capture_listing}
-use Rattle.krb_tool.specs.Decoding.{Decodes, DecodesWhole, FailsToDecode, FailsToDecodeWhole}
-use Rattle.krb_tool.specs.Encoding.{Encodes, FailsToEncode}
+use Rattle.krb_convert.specs.Conversions.{DecodesBy, EncodesBy, FailsToDecodeBy, is_framed}
+use Rattle.krb_convert.specs.Ends.{decode_end_line, encode_end_line}
+use Rattle.krb_tool.specs.Encoding.{FailsToEncode}
 use Rattle.krb_run.specs.Records.{ListsRecords}
 use Rattle.krb_file_run.specs.Files.{ccache_listing, keytab_listing}
 use Rattle.krb_tool.specs.Files.{FailsFile, ListsFile}
@@ -17,39 +17,18 @@ use Rattle.krb_tool.specs.Listing.{Fails, Lists}
 use Rattle.krb_tool.specs.MessageLines.{FailsLines, ListsLines}
 use Rattle.krb_tool.specs.Messages.{IsMessageListing}
 use Rattle.krb_run.specs.Sources.{Run}
-use Rattle.krb_tool.specs.declared.decode_run.DecodeEnd.{DecodeEnd}
-use Rattle.krb_tool.specs.declared.encode_run.EncodeEnd.{EncodeEnd}
 use Rattle.krb_run.specs.declared.run.RunEnd.{RunEnd}
 use Rattle.krb_run.specs.declared.run.RunEnd.TheVariants as run
 use Rattle.krb_words.specs.Tasks.{kind_used, listing_for}
 use Rattle.krb_words.specs.declared.words.AfterRefusal.TheVariants as after
-use Rattle.krb_words.specs.declared.words.Framing.{Framing}
-use Rattle.krb_words.specs.declared.words.Framing.TheVariants as framing
 use Rattle.krb_words.specs.declared.words.Inputs.TheVariants as inputs
 use Rattle.krb_words.specs.declared.words.Command.{Command}
 use Rattle.krb_words.specs.declared.words.Command.TheVariants as commands
-use Rattle.krbls.specs.Ends.{decode_end_line, encode_end_line}
 
 -- The standard error has a line of a source if it was not turned into another form to its end, and then the run has refused something.
 abbrev pub TellsEnd : (IsTold : List ℕ → Type 0) → (line : List ℕ) → RunEnd → Type 0
 TellsEnd IsTold [] ended = ended ≡ run.Clean
 TellsEnd IsTold (octet ∷ line) ended = (ended ≡ run.Refused) × IsTold (octet ∷ line)
-
--- ---- messages to lines, and lines to messages
-abbrev pub DecodesBy : Framing → Profile → (limit : ℕ) → (had left written_before written_after : Option (List ℕ)) → DecodeEnd → Type 0
-DecodesBy framing.Framed profile limit had left written_before written_after ended = Decodes profile limit had left written_before written_after ended
-DecodesBy framing.Unframed profile limit had left written_before written_after ended = DecodesWhole profile limit had left written_before written_after ended
-
-abbrev pub FailsToDecodeBy : Framing → Profile → (limit : ℕ) → (had left written_before written_after : Option (List ℕ)) → Type 0
-FailsToDecodeBy framing.Framed profile limit had left written_before written_after = FailsToDecode profile limit had left written_before written_after
-FailsToDecodeBy framing.Unframed profile limit had left written_before written_after = FailsToDecodeWhole profile limit had left written_before written_after
-
-abbrev pub is_framed : Framing → Bool
-is_framed framing.Framed = true
-is_framed framing.Unframed = false
-
-abbrev pub EncodesBy : Framing → Profile → (limit : ℕ) → (had left written_before written_after : Option (List ℕ)) → EncodeEnd → Type 0
-EncodesBy how profile limit had left written_before written_after ended = Encodes (is_framed how) profile limit had left written_before written_after ended
 
 -- A source was turned into another form up to an end, of which the standard error has the line.
 pub record Turns {E : Type 0} (TurnsTo : E → Type 0) (line : E → List ℕ) (IsTold : List ℕ → Type 0) (ended : RunEnd) : Type 0 where

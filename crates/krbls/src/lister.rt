@@ -6,21 +6,19 @@ ghost use Rattle.krb_run.specs.Begun.{begun_remaining, first_of};
 ghost use Rattle.krb_tool.specs.Encoding.{FailsToEncode};
 ghost use Rattle.krb_run.specs.Outputs.{output_contents};
 ghost use Rattle.krb_words.specs.Tasks.{kind_used};
-ghost use Rattle.krbls.specs.Ends.{decode_end_line, encode_end_line};
-ghost use Rattle.krbls.specs.Commands.{DecodesBy, Does, EncodesBy, FailsToDecodeBy, TellsEnd, Turns, chosen, hint_by, is_framed};
+ghost use Rattle.krb_convert.specs.Conversions.{DecodesBy, EncodesBy, FailsToDecodeBy, is_framed};
+ghost use Rattle.krb_convert.specs.Ends.{decode_end_line, encode_end_line};
+ghost use Rattle.krbls.specs.Commands.{Does, TellsEnd, Turns, chosen, hint_by};
 ghost use Rattle.krbls.specs.Program.{DoesFrom, IsHinted, ListsBy, name_of};
 
-use crate::ends::{put_decode_end, put_encode_end};
 use krb_capture_run::run_capture;
+use krb_convert::{decode, encode, put_decode_end, put_encode_end};
 use krb_file_run::{run_ccache_in, run_keytab_in};
 use krb_host::Host;
 use krb_input::{Hint, hint_of, kind_of};
 use krb_record::{FileName, TextBuffer};
 use krb_run::{Begun, ListSource, Output, RunEnd, RunFault};
-use krb_tool::{
-    DecodeEnd, EncodeEnd, Form, Limit, Profile, run_decode, run_decode_unframed, run_encode,
-    run_encode_unframed, run_lines_in, run_message_in, run_stream_in,
-};
+use krb_tool::{Form, Limit, Profile, run_lines_in, run_message_in, run_stream_in};
 use krb_words::{AfterRefusal, Command, Framing, Inputs, Source};
 use std::alloc::{AllocError, Global};
 use std::io::{Read, Write};
@@ -126,42 +124,6 @@ impl<H: Host> Lister<'_, H> {
         }
         self.host.tell_end(source, line.as_str());
         RunEnd::Refused
-    }
-}
-
-/// Turns messages into lines of JSON.
-fn decode<R: Read, W: Write>(
-    alloc: Global,
-    framing: Framing,
-    profile: Profile,
-    reader: &mut R,
-    writer: &mut W,
-    limit: Limit,
-) -> Result<DecodeEnd, RunFault>
-    ensures decoded { IfOk result (DecodesBy framing profile limit (R.remaining reader.old) (R.remaining reader.new) (W.contents writer.old) (W.contents writer.new)) }
-    ensures fault { OnErr result (FailsToDecodeBy framing profile limit (R.remaining reader.old) (R.remaining reader.new) (W.contents writer.old) (W.contents writer.new)) }
-{
-    match framing {
-        Framing::Framed => run_decode(alloc, profile, reader, writer, limit),
-        Framing::Unframed => run_decode_unframed(alloc, profile, reader, writer, limit),
-    }
-}
-
-/// Turns lines of JSON into messages.
-fn encode<R: Read, W: Write>(
-    alloc: Global,
-    framing: Framing,
-    profile: Profile,
-    reader: &mut R,
-    writer: &mut W,
-    limit: Limit,
-) -> Result<EncodeEnd, RunFault>
-    ensures encoded { IfOk result (EncodesBy framing profile limit (R.remaining reader.old) (R.remaining reader.new) (W.contents writer.old) (W.contents writer.new)) }
-    ensures fault { OnErr result (FailsToEncode (is_framed framing) profile limit (R.remaining reader.old) (R.remaining reader.new) (W.contents writer.old) (W.contents writer.new)) }
-{
-    match framing {
-        Framing::Framed => run_encode(alloc, profile, reader, writer, limit),
-        Framing::Unframed => run_encode_unframed(alloc, profile, reader, writer, limit),
     }
 }
 

@@ -17,7 +17,6 @@
 //! contracts see nothing: its files, its clock, its standard input and its standard error.
 #![tactic(auto)]
 
-mod ends;
 mod lister;
 mod program;
 

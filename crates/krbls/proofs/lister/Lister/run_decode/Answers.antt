@@ -1,4 +1,4 @@
-use Rattle.krbls.proofs.Conversions.{at_fault, decoded_in_part}
+use Rattle.krb_convert.proofs.Conversions.{at_fault, decoded_in_part}
 use Rattle.krbls.proofs.lister.Lister.run_decode.Goals as goal
 
 pub returns-in_err-put_decode_end-clause-fault : goal.returns-in_err-put_decode_end-clause-fault

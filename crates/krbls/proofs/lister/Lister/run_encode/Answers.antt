@@ -1,4 +1,4 @@
-use Rattle.krbls.proofs.Conversions.{at_fault, encoded_in_part}
+use Rattle.krb_convert.proofs.Conversions.{at_fault, encoded_in_part}
 use Rattle.krbls.proofs.lister.Lister.run_encode.Goals as goal
 
 pub returns-in_err-put_encode_end-clause-fault : goal.returns-in_err-put_encode_end-clause-fault

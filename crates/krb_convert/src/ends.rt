@@ -1,7 +1,7 @@
 //! What is said of a source that was not turned into another form to its end.
 
 ghost use Rattle.std.specs.Prelude.{◌≡◌, ◌++◌, OnOk};
-ghost use Rattle.krbls.specs.Ends.{decode_end_line, encode_end_line};
+ghost use Rattle.krb_convert.specs.Ends.{decode_end_line, encode_end_line};
 
 use krb_record::{Form, TextBuffer, put_untold_message_refusal, put_untold_stream_refusal};
 use krb_tool::{DecodeEnd, EncodeEnd};
@@ -10,7 +10,7 @@ use std::alloc::AllocError;
 
 /// Appends the line that says why messages were not decoded to their end; if they were, there is
 /// none.
-pub(crate) fn put_decode_end(
+pub fn put_decode_end(
     line: &mut TextBuffer,
     framing: Framing,
     end: &DecodeEnd,
@@ -47,7 +47,7 @@ pub(crate) fn put_decode_end(
 }
 
 /// Appends the line that says why lines were not encoded to their end; if they were, there is none.
-pub(crate) fn put_encode_end(line: &mut TextBuffer, end: &EncodeEnd) -> Result<(), AllocError>
+pub fn put_encode_end(line: &mut TextBuffer, end: &EncodeEnd) -> Result<(), AllocError>
     ensures { OnOk result (line.new ≡ line.old ++ encode_end_line end.now) }
 {
     match end {

@@ -7,7 +7,7 @@ use Rattle.krb_tool.specs.declared.decode_run.DecodeEnd.{DecodeEnd}
 use Rattle.krb_tool.specs.declared.encode_run.EncodeEnd.{EncodeEnd}
 use Rattle.krb_words.specs.declared.words.Framing.{Framing}
 use Rattle.krb_words.specs.declared.words.Framing.TheVariants as framing
-use Rattle.krbls.specs.Commands.{DecodesBy, EncodesBy, FailsToDecodeBy, is_framed}
+use Rattle.krb_convert.specs.Conversions.{DecodesBy, EncodesBy, FailsToDecodeBy, is_framed}
 
 -- what holds in any case holds at a fault
 pub at_fault : {T E P : Type 0} (result : Result T E) → P → OnErr result P
