@@ -5,7 +5,7 @@ use Rattle.krb_record.specs.declared.form.Form.{Form}
 use Rattle.krb_capture_run.specs.Captures.{capture_listing}
 use Rattle.krb_run.specs.Records.{RecordListing, text_of}
 use Rattle.krb_file_run.specs.Files.{ccache_listing, keytab_listing}
-use Rattle.krb_tool.specs.Files.{FileListing}
+use Rattle.krb_run.specs.Files.{FileListing}
 use Rattle.krb_tool.specs.GoingOn.{ListsStream}
 use Rattle.krb_tool.specs.Messages.{octets_listing}
 use Rattle.krb_run.specs.declared.run.RunEnd.{RunEnd}

@@ -1,10 +1,10 @@
 -- What was turned into another form, of which the line could not be made.
 use Rattle.std.proofs.Common.{ℕ, List, [], Option, Result, Ok, Err, OnErr, refl, sym, append-nil}
 use Rattle.krb_der.specs.declared.profile.Profile.{Profile}
-use Rattle.krb_tool.specs.Conversions.{Converted, Converts, ConvertsInPart}
-use Rattle.krb_tool.specs.Encoding.{FailsToEncode}
-use Rattle.krb_tool.specs.declared.decode_run.DecodeEnd.{DecodeEnd}
-use Rattle.krb_tool.specs.declared.encode_run.EncodeEnd.{EncodeEnd}
+use Rattle.krb_run.specs.Conversions.{Converted, Converts, ConvertsInPart}
+use Rattle.krb_convert.specs.Encoding.{FailsToEncode}
+use Rattle.krb_convert.specs.declared.decode_run.DecodeEnd.{DecodeEnd}
+use Rattle.krb_convert.specs.declared.encode_run.EncodeEnd.{EncodeEnd}
 use Rattle.krb_words.specs.declared.words.Framing.{Framing}
 use Rattle.krb_words.specs.declared.words.Framing.TheVariants as framing
 use Rattle.krb_convert.specs.Conversions.{DecodesBy, EncodesBy, FailsToDecodeBy, is_framed}

@@ -1,1 +1,4 @@
+pub mod DecodedFrames
+pub mod EncodedLines
+pub mod WholeRuns
 pub mod Conversions

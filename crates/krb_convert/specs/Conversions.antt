@@ -1,10 +1,10 @@
 -- What messages are turned into lines of JSON by, and lines into messages: in frames, or one alone.
 use Rattle.std.specs.Prelude.{ℕ, Bool, true, false, List, Option}
 use Rattle.krb_der.specs.declared.profile.Profile.{Profile}
-use Rattle.krb_tool.specs.Decoding.{Decodes, DecodesWhole, FailsToDecode, FailsToDecodeWhole}
-use Rattle.krb_tool.specs.Encoding.{Encodes}
-use Rattle.krb_tool.specs.declared.decode_run.DecodeEnd.{DecodeEnd}
-use Rattle.krb_tool.specs.declared.encode_run.EncodeEnd.{EncodeEnd}
+use Rattle.krb_convert.specs.Decoding.{Decodes, DecodesWhole, FailsToDecode, FailsToDecodeWhole}
+use Rattle.krb_convert.specs.Encoding.{Encodes}
+use Rattle.krb_convert.specs.declared.decode_run.DecodeEnd.{DecodeEnd}
+use Rattle.krb_convert.specs.declared.encode_run.EncodeEnd.{EncodeEnd}
 use Rattle.krb_words.specs.declared.words.Framing.{Framing}
 use Rattle.krb_words.specs.declared.words.Framing.TheVariants as framing
 

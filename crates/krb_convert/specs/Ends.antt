@@ -5,10 +5,10 @@ use Rattle.krb_json.specs.Reading.{read_fault_text}
 use Rattle.krb_record.specs.Refusals.{untold_message_refused_line}
 use Rattle.krb_record.specs.Streams.{untold_refused_line}
 use Rattle.krb_record.specs.declared.form.Form.TheVariants.{NamedLines}
-use Rattle.krb_tool.specs.declared.decode_run.DecodeEnd.{DecodeEnd}
-use Rattle.krb_tool.specs.declared.decode_run.DecodeEnd.TheVariants as decoded
-use Rattle.krb_tool.specs.declared.encode_run.EncodeEnd.{EncodeEnd}
-use Rattle.krb_tool.specs.declared.encode_run.EncodeEnd.TheVariants as encoded
+use Rattle.krb_convert.specs.declared.decode_run.DecodeEnd.{DecodeEnd}
+use Rattle.krb_convert.specs.declared.decode_run.DecodeEnd.TheVariants as decoded
+use Rattle.krb_convert.specs.declared.encode_run.EncodeEnd.{EncodeEnd}
+use Rattle.krb_convert.specs.declared.encode_run.EncodeEnd.TheVariants as encoded
 use Rattle.krb_words.specs.declared.words.Framing.{Framing}
 use Rattle.krb_words.specs.declared.words.Framing.TheVariants as framing
 

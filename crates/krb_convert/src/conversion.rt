@@ -1,14 +1,15 @@
 //! Messages to lines of JSON, and back, in frames or alone.
 
 ghost use Rattle.std.specs.Prelude.{IfOk, OnErr};
-ghost use Rattle.krb_tool.specs.Encoding.{FailsToEncode};
+ghost use Rattle.krb_convert.specs.Encoding.{FailsToEncode};
 ghost use Rattle.krb_convert.specs.Conversions.{DecodesBy, EncodesBy, FailsToDecodeBy, is_framed};
 
+use crate::decode_run::{DecodeEnd, run_decode};
+use crate::encode_run::{EncodeEnd, run_encode, run_encode_unframed};
+use crate::whole_run::run_decode_unframed;
+use krb_der::Profile;
+use krb_frame::Limit;
 use krb_run::RunFault;
-use krb_tool::{
-    DecodeEnd, EncodeEnd, Limit, Profile, run_decode, run_decode_unframed, run_encode,
-    run_encode_unframed,
-};
 use krb_words::Framing;
 use std::alloc::Global;
 use std::io::{Read, Write};

@@ -3,8 +3,9 @@
 ghost use Rattle.std.specs.Prelude.{◌≡◌, ◌++◌, OnOk};
 ghost use Rattle.krb_convert.specs.Ends.{decode_end_line, encode_end_line};
 
+use crate::decode_run::DecodeEnd;
+use crate::encode_run::EncodeEnd;
 use krb_record::{Form, TextBuffer, put_untold_message_refusal, put_untold_stream_refusal};
-use krb_tool::{DecodeEnd, EncodeEnd};
 use krb_words::Framing;
 use std::alloc::AllocError;
 

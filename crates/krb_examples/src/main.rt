@@ -9,6 +9,7 @@
 use anyhow::Result;
 use krb_capture::Capture;
 use krb_ccache::{Ccache, Credentials, TicketStateView, read3, ticket_view_of, upgrade};
+use krb_convert::{DecodeEnd, EncodeEnd, run_decode, run_encode};
 use krb_der::{Int32, KString, Many, Memory, Octets, Profile, Refusal, Verdict};
 use krb_file::{Field, FieldReader, FileFault, SliceReader, String16};
 use krb_file_run::run_keytab;
@@ -26,7 +27,6 @@ use krb_registry::{Registry, name_of};
 use krb_run::status;
 use krb_scan::Scanner;
 use krb_text::message_line;
-use krb_tool::{DecodeEnd, EncodeEnd, run_decode, run_encode};
 use krb_words::{Command, WordsFault, read_words};
 use std::alloc::{AllocError, Global};
 use std::io::Read;

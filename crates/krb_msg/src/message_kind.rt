@@ -7,6 +7,7 @@ ghost use Rattle.krb_msg.specs.Viewed.{IfElse};
 ghost use Rattle.krb_msg.specs.declared.message.Kind.{Kind};
 ghost use Rattle.krb_msg.specs.declared.message_view.MessageView.{MessageView};
 
+use crate::message_view::MessageView;
 use crate::notes::Notes;
 
 /// A kind of message, whose octets are viewed in place (RFC 4120, 5.4 to 5.9).
@@ -26,6 +27,10 @@ pub trait MessageKind<'a> {
         requires { BeginAs kind octets.now }
         ensures { IfElse result (IsMessageView octets.now (as_message seen.new)) (IsNoMessage octets.now) };
 
+    /// Returns a view as that of a message of any kind.
+    fn into_message(view: Self::View) -> MessageView<'a>
+        ensures { result ≡ as_message view };
+
     /// Returns the notes that hold in a message. It allocates nothing.
     fn notes(view: &Self::View) -> Notes
         requires { IsValidMessage (as_message view.now) }
@@ -34,13 +39,13 @@ pub trait MessageKind<'a> {
 
 /// Returns a view of the message of a kind that octets are, if they are one.
 #[inline(always)]
-pub(crate) fn view_of<'a, K: MessageKind<'a>>(octets: &'a [u8]) -> Option<K::View>
+pub(crate) fn view_of<'a, K: MessageKind<'a>>(octets: &'a [u8]) -> Option<MessageView<'a>>
     requires { BeginAs K.kind octets.now }
-    ensures { MatchOption result (IsNoMessage octets.now) (λ m. IsMessageView octets.now (K.as_message m)) }
+    ensures { MatchOption result (IsNoMessage octets.now) (λ m. IsMessageView octets.now m) }
 {
     let mut seen = Default::default();
     if K::view_into(octets, &mut seen) {
-        Some(seen)
+        Some(K::into_message(seen))
     } else {
         None
     }

@@ -13,6 +13,7 @@ use crate::krb_error::{KrbError, KrbErrorView};
 use crate::krb_priv::{KrbPriv, KrbPrivView};
 use crate::krb_safe::{KrbSafe, KrbSafeView};
 use crate::message_kind::MessageKind;
+use crate::message_view::MessageView;
 use crate::notes::Notes;
 use crate::view::view_whole_into;
 
@@ -29,6 +30,11 @@ impl<'a> MessageKind<'a> for AsReqKind {
     #[inline(always)]
     fn view_into(octets: &'a [u8], seen: &mut KdcReqView<'a>) -> bool {
         KdcReq::view_into::<10>(octets, seen)
+    }
+
+    #[inline(always)]
+    fn into_message(view: KdcReqView<'a>) -> MessageView<'a> {
+        MessageView::AsReq(view)
     }
 
     #[inline(always)]
@@ -53,6 +59,11 @@ impl<'a> MessageKind<'a> for AsRepKind {
     }
 
     #[inline(always)]
+    fn into_message(view: KdcRepView<'a>) -> MessageView<'a> {
+        MessageView::AsRep(view)
+    }
+
+    #[inline(always)]
     fn notes(view: &KdcRepView<'a>) -> Notes {
         view.notes::<11>()
     }
@@ -71,6 +82,11 @@ impl<'a> MessageKind<'a> for TgsReqKind {
     #[inline(always)]
     fn view_into(octets: &'a [u8], seen: &mut KdcReqView<'a>) -> bool {
         KdcReq::view_into::<12>(octets, seen)
+    }
+
+    #[inline(always)]
+    fn into_message(view: KdcReqView<'a>) -> MessageView<'a> {
+        MessageView::TgsReq(view)
     }
 
     #[inline(always)]
@@ -95,6 +111,11 @@ impl<'a> MessageKind<'a> for TgsRepKind {
     }
 
     #[inline(always)]
+    fn into_message(view: KdcRepView<'a>) -> MessageView<'a> {
+        MessageView::TgsRep(view)
+    }
+
+    #[inline(always)]
     fn notes(view: &KdcRepView<'a>) -> Notes {
         view.notes::<13>()
     }
@@ -113,6 +134,11 @@ impl<'a> MessageKind<'a> for ApReqKind {
     #[inline(always)]
     fn view_into(octets: &'a [u8], seen: &mut ApReqView<'a>) -> bool {
         view_whole_into::<ApReq>(octets, seen)
+    }
+
+    #[inline(always)]
+    fn into_message(view: ApReqView<'a>) -> MessageView<'a> {
+        MessageView::ApReq(view)
     }
 
     #[inline(always)]
@@ -137,6 +163,11 @@ impl<'a> MessageKind<'a> for ApRepKind {
     }
 
     #[inline(always)]
+    fn into_message(view: ApRepView<'a>) -> MessageView<'a> {
+        MessageView::ApRep(view)
+    }
+
+    #[inline(always)]
     fn notes(view: &ApRepView<'a>) -> Notes {
         ApRep::notes(view)
     }
@@ -155,6 +186,11 @@ impl<'a> MessageKind<'a> for KrbSafeKind {
     #[inline(always)]
     fn view_into(octets: &'a [u8], seen: &mut KrbSafeView<'a>) -> bool {
         view_whole_into::<KrbSafe>(octets, seen)
+    }
+
+    #[inline(always)]
+    fn into_message(view: KrbSafeView<'a>) -> MessageView<'a> {
+        MessageView::KrbSafe(view)
     }
 
     #[inline(always)]
@@ -179,6 +215,11 @@ impl<'a> MessageKind<'a> for KrbPrivKind {
     }
 
     #[inline(always)]
+    fn into_message(view: KrbPrivView<'a>) -> MessageView<'a> {
+        MessageView::KrbPriv(view)
+    }
+
+    #[inline(always)]
     fn notes(view: &KrbPrivView<'a>) -> Notes {
         KrbPriv::notes(view)
     }
@@ -200,6 +241,11 @@ impl<'a> MessageKind<'a> for KrbCredKind {
     }
 
     #[inline(always)]
+    fn into_message(view: KrbCredView<'a>) -> MessageView<'a> {
+        MessageView::KrbCred(view)
+    }
+
+    #[inline(always)]
     fn notes(view: &KrbCredView<'a>) -> Notes {
         KrbCred::notes(view)
     }
@@ -218,6 +264,11 @@ impl<'a> MessageKind<'a> for KrbErrorKind {
     #[inline(always)]
     fn view_into(octets: &'a [u8], seen: &mut KrbErrorView<'a>) -> bool {
         view_whole_into::<KrbError>(octets, seen)
+    }
+
+    #[inline(always)]
+    fn into_message(view: KrbErrorView<'a>) -> MessageView<'a> {
+        MessageView::KrbError(view)
     }
 
     #[inline(always)]

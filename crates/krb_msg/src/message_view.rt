@@ -143,15 +143,15 @@ pub(crate) fn view_of_kind(kind: Kind, octets: &[u8]) -> Option<MessageView<'_>>
     ensures { MatchOption result (IsNoMessage octets.now) (λ m. IsMessageView octets.now m) }
 {
     match kind {
-        Kind::AsReq => Some(MessageView::AsReq(view_of::<AsReqKind>(octets)?)),
-        Kind::AsRep => Some(MessageView::AsRep(view_of::<AsRepKind>(octets)?)),
-        Kind::TgsReq => Some(MessageView::TgsReq(view_of::<TgsReqKind>(octets)?)),
-        Kind::TgsRep => Some(MessageView::TgsRep(view_of::<TgsRepKind>(octets)?)),
-        Kind::ApReq => Some(MessageView::ApReq(view_of::<ApReqKind>(octets)?)),
-        Kind::ApRep => Some(MessageView::ApRep(view_of::<ApRepKind>(octets)?)),
-        Kind::KrbSafe => Some(MessageView::KrbSafe(view_of::<KrbSafeKind>(octets)?)),
-        Kind::KrbPriv => Some(MessageView::KrbPriv(view_of::<KrbPrivKind>(octets)?)),
-        Kind::KrbCred => Some(MessageView::KrbCred(view_of::<KrbCredKind>(octets)?)),
-        Kind::KrbError => Some(MessageView::KrbError(view_of::<KrbErrorKind>(octets)?)),
+        Kind::AsReq => view_of::<AsReqKind>(octets),
+        Kind::AsRep => view_of::<AsRepKind>(octets),
+        Kind::TgsReq => view_of::<TgsReqKind>(octets),
+        Kind::TgsRep => view_of::<TgsRepKind>(octets),
+        Kind::ApReq => view_of::<ApReqKind>(octets),
+        Kind::ApRep => view_of::<ApRepKind>(octets),
+        Kind::KrbSafe => view_of::<KrbSafeKind>(octets),
+        Kind::KrbPriv => view_of::<KrbPrivKind>(octets),
+        Kind::KrbCred => view_of::<KrbCredKind>(octets),
+        Kind::KrbError => view_of::<KrbErrorKind>(octets),
     }
 }

@@ -4,6 +4,11 @@ pub mod FilePaths
 pub mod Records
 pub mod BegunReaders
 pub mod SourceLineParts
+pub mod StreamRuns
+pub mod Pieces
+pub mod Files
+pub mod ConversionRuns
+pub mod LineReaders
 pub mod OutputWords
 pub mod OutputLabels
 pub mod OutputLines

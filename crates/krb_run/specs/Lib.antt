@@ -5,6 +5,13 @@ pub mod Paths
 pub mod Records
 pub mod Transfers
 pub mod TextLines
+pub mod Runs
+pub mod Streams
+pub mod Pieces
+pub mod Conversions
+pub mod ConversionRules
+pub mod LineReaders
+pub mod Files
 pub mod Outputs
 pub mod Sources
 pub mod Begun

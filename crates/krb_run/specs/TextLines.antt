@@ -1,6 +1,6 @@
 -- The lines of a text.
-use Rattle.std.specs.Prelude.{ℕ, ◌==◌, List, [], ◌∷◌}
-use Rattle.std.specs.List.{slice_split}
+use Rattle.std.specs.Prelude.{ℕ, ◌==◌, ◌||◌, Bool, List, [], ◌∷◌}
+use Rattle.std.specs.List.{list_all, slice_split}
 
 -- what is before, between and after the line feeds
 abbrev pub parts : List ℕ → List (List ℕ)
@@ -20,3 +20,10 @@ abbrev pub ended_of : List (List ℕ) → List (List ℕ)
 ended_of [] = []
 ended_of (last ∷ []) = []
 ended_of (line ∷ next ∷ lines) = line ∷ ended_of (next ∷ lines)
+
+-- a space, a tab and CR
+abbrev pub is_blank : ℕ → Bool
+is_blank octet = octet == 32 || octet == 9 || octet == 13
+
+abbrev pub is_blank_line : List ℕ → Bool
+is_blank_line line = list_all is_blank line

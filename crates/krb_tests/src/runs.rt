@@ -3,12 +3,12 @@
 //! worked out by hand from the rules of `docs/FORMATS.md`.
 
 use crate::fakes::{Asked, Full, Watched};
+use krb_convert::{
+    DecodeEnd, EncodeEnd, run_decode, run_decode_unframed, run_encode, run_encode_unframed,
+};
 use krb_file_run::{run_ccache, run_keytab};
 use krb_run::{RunEnd, RunFault, status};
-use krb_tool::{
-    DecodeEnd, EncodeEnd, Form, Limit, Profile, run_decode, run_decode_unframed, run_encode,
-    run_encode_unframed, run_lines_in, run_message, run_stream,
-};
+use krb_tool::{Form, Limit, Profile, run_lines_in, run_message, run_stream};
 use std::alloc::{AllocError, Global};
 use std::io::{Read, Write};
 use std::test::Fail;

@@ -22,12 +22,13 @@ use Rattle.krb_frame.proofs.GoingOn.{entries-refused}
 use Rattle.krb_frame.proofs.Skips.{entries-waiting, entries-last}
 use Rattle.krb_tool.specs.GoingOn.{EndsUnknown}
 use Rattle.krb_tool.specs.Listing.{IsNotRefused}
-use Rattle.krb_tool.specs.inner.Listers.{Adds, AreListed, Ends, FrameLister, HasListed, IsDecoded, IsDone, IsRefused, IsStart, LinesKind, current_end, last_frames, last_of, lister_kind}
-use Rattle.krb_tool.specs.inner.Pieces.{Goes, IsLastOf, TakesPiece, WaitsAfter, listing_of}
-use Rattle.krb_tool.specs.inner.Streams.{AcceptsPiece, Begins, EndsListing, Feeds, Finishes, IsLast, IsNew, MayFinish, Clears, Taken, with_piece}
+use Rattle.krb_tool.specs.Starts.{IsStart}
+use Rattle.krb_tool.specs.inner.Listers.{Adds, AreListed, Ends, FrameLister, HasListed, IsDecoded, IsDone, IsRefused, LinesKind, current_end, last_frames, last_of, lister_kind}
+use Rattle.krb_run.specs.Pieces.{Goes, IsLastOf, TakesPiece, WaitsAfter, listing_of}
+use Rattle.krb_run.specs.Streams.{AcceptsPiece, Begins, EndsListing, Feeds, Finishes, IsLast, IsNew, MayFinish, Clears, Taken, with_piece}
 use Rattle.krb_tool.proofs.FirstRefusals.{IsTold, SameEnd, frames-begin, frames-first, is_told}
 use Rattle.krb_tool.proofs.KnownLengths.{known_last, known_more, none_unknown}
-use Rattle.krb_tool.proofs.Pieces.{Clears-made, Feeds-made, Finishes-made, IsNew-made}
+use Rattle.krb_run.proofs.Pieces.{Clears-made, Feeds-made, Finishes-made, IsNew-made}
 
 -- the frames of octets, by the decoder of a lister
 abbrev pub entries_of : {S : Type 0} → FrameLister S → List ℕ → List Entry

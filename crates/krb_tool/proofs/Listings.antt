@@ -21,7 +21,8 @@ use Rattle.krb_tool.specs.GoingOn.{Listed, Whole, Faulty, entry_of, messages_in,
 use Rattle.krb_text.specs.Messages.{message_line}
 use Rattle.krb_record.specs.Streams.{refused_line}
 use Rattle.krb_text.specs.StreamEnds.{end_line}
-use Rattle.krb_tool.specs.Listing.{run_end, AllIsRead, IsListing, IsNotRefused, StopsInPiece}
+use Rattle.krb_tool.specs.Listing.{run_end, AllIsRead, IsListing, IsNotRefused}
+use Rattle.krb_run.specs.Runs.{StopsInPiece}
 use Rattle.krb_tool.specs.Paths.{frame_extent, frame_path, last_octets}
 use Rattle.krb_tool.specs.declared.listing.StreamLines.{StreamLines}
 use Rattle.krb_run.specs.declared.run.RunEnd.{RunEnd}
@@ -29,7 +30,7 @@ use Rattle.krb_run.specs.declared.run.RunFault.{RunFault}
 use Rattle.krb_run.specs.declared.run.RunFault.TheVariants as fault
 use Rattle.krb_tool.specs.inner.Listers.{Adds, AreListed, FrameLister, HasListed, IsDone, current_end, last_frames, last_of, lister_kind}
 use Rattle.krb_tool.specs.inner.StreamLines.{AddsEnd, AddsRefused, AsksAfter, HasLines, ListsEntry, PutsClosing, closing, last_listed, listed_last, rules_of, stream_lines}
-use Rattle.krb_tool.specs.inner.Streams.{EndsListing, FailsBy, ListsBy, Taken}
+use Rattle.krb_run.specs.Streams.{EndsListing, FailsBy, ListsBy, Taken}
 use Rattle.krb_tool.proofs.FirstRefusals.{SameEnd, frames-begin}
 use Rattle.krb_tool.proofs.ListedPieces.{IsOver, SameLast, done-first, waits-known, waits-whole}
 

@@ -3,9 +3,9 @@ use Rattle.std.proofs.Common.{◌≡◌, ℕ, ◌+◌, ◌-◌, ◌≤◌, Bool,
 use Rattle.std.specs.Prelude.{nat_lt, not, ◌&&◌, ◌==◌}
 use Rattle.std.proofs.lemmas.Bool.Decides.{nat_tests}
 use Rattle.krb_der.specs.Octets.{when}
-use Rattle.krb_tool.specs.Conversions.{Converted, after_text}
-use Rattle.krb_tool.specs.Encoding.{is_blank_line}
-use Rattle.krb_tool.specs.Files.{FileListing}
+use Rattle.krb_run.specs.Conversions.{Converted, after_text}
+use Rattle.krb_run.specs.TextLines.{is_blank_line}
+use Rattle.krb_run.specs.Files.{FileListing}
 use Rattle.krb_tool.specs.MessageLines.{is_passed, next_line, with_line, with_record}
 use Rattle.krb_tool.specs.Messages.{Puts, input_limit, input_listing}
 use Rattle.krb_tool.specs.declared.lines_run.LineLister.{LineLister}
@@ -14,7 +14,7 @@ use Rattle.krb_tool.specs.declared.lines_run.Seen.{Seen}
 use Rattle.krb_tool.specs.declared.message_input.MessageInput.{MessageInput}
 use Rattle.krb_run.specs.declared.run.RunEnd.{RunEnd}
 use Rattle.krb_run.specs.declared.run.RunEnd.TheVariants as run
-use Rattle.krb_tool.specs.inner.LineReaders.{Adds, EndsLine, HasLine, IsStopped}
+use Rattle.krb_run.specs.LineReaders.{Adds, EndsLine, HasLine, IsStopped}
 use Rattle.krb_tool.specs.inner.MessageLines.{IsCounted, PutsLine, kept_octets, message_lines, records_from}
 use Rattle.krb_run.proofs.FirstOctets.{first-both, first-kept}
 use Rattle.krb_tool.proofs.Messages.{too-long}

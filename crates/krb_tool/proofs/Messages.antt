@@ -30,7 +30,7 @@ use Rattle.krb_token.specs.Seen.{found_of, opened_of}
 use Rattle.krb_token.specs.Tokens.{opened}
 use Rattle.krb_token.specs.declared.opening.Found.{Found as FoundOfCode}
 use Rattle.krb_token.specs.declared.opening.Opened.{Opened as OpenedOfCode}
-use Rattle.krb_tool.specs.Files.{FileListing}
+use Rattle.krb_run.specs.Files.{FileListing}
 use Rattle.krb_tool.specs.Messages.{IsMessageListing, Layered, Puts, extent_of, found_listing, input_limit, input_listing, input_octets_listing, judged_listing, message_listing, opened_listing, refused_listing, refused_with, spelled_in, spelled_listing, ticket_listing, ticket_of_der, unread_listing, whole_input}
 use Rattle.krb_tool.specs.Paths.{refused_path, ticket_refused_path}
 use Rattle.krb_run.proofs.FirstOctets.{take-few}

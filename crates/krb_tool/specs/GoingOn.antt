@@ -16,7 +16,8 @@ use Rattle.krb_run.specs.declared.run.RunEnd.{RunEnd}
 use Rattle.krb_run.specs.declared.run.RunEnd.TheVariants as run
 use Rattle.krb_run.specs.declared.run.RunFault.{RunFault}
 use Rattle.krb_run.specs.declared.run.RunFault.TheVariants as fault
-use Rattle.krb_tool.specs.Listing.{Fails, Lists, StopsInPiece, WritesPrefix}
+use Rattle.krb_tool.specs.Listing.{Fails, Lists}
+use Rattle.krb_run.specs.Runs.{StopsInPiece, WritesPrefix}
 
 -- what is listed of a frame: its message, or what it is refused for, with its octets up to the refused one
 pub data Listed : Type 0 where

@@ -1,11 +1,8 @@
 pub mod Paths
+pub mod Starts
 pub mod Listing
 pub mod GoingOn
-pub mod Files
 pub mod Messages
 pub mod inner
-pub mod Conversions
-pub mod Decoding
-pub mod Encoding
 pub mod Laws
 pub mod MessageLines

@@ -1,5 +1,5 @@
 -- The listing of a stream, and what a run does to its reader and its writer.
-use Rattle.std.specs.Prelude.{ℕ, ◌≡◌, ◌≤◌, List, ◌++◌, length, map, Option}
+use Rattle.std.specs.Prelude.{ℕ, ◌≡◌, List, ◌++◌, length, map, Option}
 use Rattle.std.specs.List.{flat_map}
 use Rattle.std.specs.Io.KnownBytes.{Consumes, Appends, IsAtEnd}
 use Rattle.krb_der.specs.declared.profile.Profile.{Profile}
@@ -15,7 +15,7 @@ use Rattle.krb_run.specs.declared.run.RunEnd.{RunEnd}
 use Rattle.krb_run.specs.declared.run.RunEnd.TheVariants as run
 use Rattle.krb_run.specs.declared.run.RunFault.{RunFault}
 use Rattle.krb_run.specs.declared.run.RunFault.TheVariants as fault
-use Rattle.krb_run.specs.Records.{AppendsPrefix}
+use Rattle.krb_run.specs.Runs.{StopsInPiece, WritesPrefix}
 
 -- the end of a stream by a profile, with frames of at most n octets
 abbrev pub end_of : Profile → ℕ → List ℕ → End
@@ -44,14 +44,6 @@ IsNotRefused Boundary = Unit {0}
 IsNotRefused (Within present) = Unit {0}
 IsNotRefused (Refused place reason) = ⊥
 
--- no more was read than octets after which others are asked for, and then one piece
-pub record StopsInPiece (GoesOn : List ℕ → Type 0) (read : List ℕ) : Type 0 where
-  pub prefix : List ℕ
-  pub piece : List ℕ
-  pub parts : read ≡ prefix ++ piece
-  pub goes_on : GoesOn prefix
-  pub short : length piece ≤ 65536
-
 -- A run read octets that its reader had, and appended their listing to what is written; the reader has the rest.
 pub record Lists (form : Form) (profile : Profile) (limit : ℕ) (had left written_before written_after : Option (List ℕ)) (ended : RunEnd) : Type 0 where
   pub read : List ℕ
@@ -70,14 +62,6 @@ pub record AreLines (form : Form) (profile : Profile) (limit : ℕ) (stream text
   pub others : List (List ℕ)
   pub in_frames : (frames (messages profile) limit stream).contents ≡ map message_der found ++ others
   pub lines : text ≡ flat_map (message_line form) found
-
--- A run read octets that its reader had, and appended a prefix of their text to what is written.
-pub record WritesPrefix (IsText : List ℕ → List ℕ → Type 0) (had left written_before written_after : Option (List ℕ)) : Type 0 where
-  pub read : List ℕ
-  pub text : List ℕ
-  pub taken : Consumes had left read
-  pub is_text : IsText read text
-  pub added : AppendsPrefix written_before written_after text
 
 -- If a run fails by a write, a prefix of the listing of what was read is written. If a read fails or memory runs out, it is a prefix of the lines of messages, and no last line.
 abbrev pub Fails : Form → Profile → ℕ → Option (List ℕ) → Option (List ℕ) → Option (List ℕ) → Option (List ℕ) → RunFault → Type 0

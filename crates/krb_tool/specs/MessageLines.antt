@@ -3,9 +3,9 @@ use Rattle.std.specs.Prelude.{ℕ, ◌+◌, ◌==◌, ◌&&◌, nat_lt, not, Boo
 use Rattle.krb_der.specs.Octets.{when}
 use Rattle.krb_der.specs.declared.profile.Profile.{Profile}
 use Rattle.krb_record.specs.declared.form.Form.{Form}
-use Rattle.krb_tool.specs.Conversions.{Converted, after_text, Converts, ConvertsInPart}
+use Rattle.krb_run.specs.Conversions.{Converted, after_text, Converts, ConvertsInPart}
 use Rattle.krb_run.specs.TextLines.{lines_of}
-use Rattle.krb_tool.specs.Encoding.{is_blank_line}
+use Rattle.krb_run.specs.TextLines.{is_blank_line}
 use Rattle.krb_record.specs.Streams.{counted_end_line}
 use Rattle.krb_tool.specs.Messages.{input_limit, input_listing}
 use Rattle.krb_tool.specs.declared.lines_run.Seen.{Seen}

@@ -23,7 +23,7 @@ use Rattle.krb_record.specs.declared.input.InputFault.TheVariants as faults
 use Rattle.krb_token.specs.Opened.{Found, Message, Ticket as IsTicket, Ntlm, Refused, Opened}
 use Rattle.krb_token.specs.Tokens.{opened}
 use Rattle.krb_source.specs.declared.layer.Layer.{Layer}
-use Rattle.krb_tool.specs.Files.{FileListing}
+use Rattle.krb_run.specs.Files.{FileListing}
 use Rattle.krb_tool.specs.Paths.{refused_path, ticket_refused_path}
 use Rattle.krb_tool.specs.declared.message_input.Layered.{Layered as LayeredOctets}
 use Rattle.krb_tool.specs.declared.message_input.MessageInput.{MessageInput}

@@ -1,11 +1,3 @@
-pub mod Streams
-pub mod Pieces
-pub mod LineReaders
 pub mod Listers
 pub mod StreamLines
-pub mod FileRuns
-pub mod Conversions
-pub mod JsonLines
-pub mod EncodedLines
-pub mod WholeRuns
 pub mod MessageLines

@@ -37,7 +37,7 @@ fn shown_path(
 
 /// Returns the path in the frame that a decoder refused or has a part of, as a message by a profile,
 /// if records of the form show it.
-pub(crate) fn frame_path(
+pub fn frame_path(
     alloc: Global,
     form: Form,
     profile: Profile,
@@ -64,7 +64,7 @@ pub(crate) fn frame_extent(offset: u64, decoder: &Decoder) -> Extent
 }
 
 /// Returns the path in octets that are refused as a message, if records of the form show it.
-pub(crate) fn refused_path(
+pub fn refused_path(
     alloc: Global,
     form: Form,
     profile: Profile,

@@ -3,16 +3,17 @@
 ghost use Rattle.std.specs.Prelude.{◌≡◌, ◌+◌, ◌<◌, ◌^◌, IfOk, IfErr, OnOk, OnErr};
 ghost use Rattle.krb_tool.specs.MessageLines.{ListsLines, FailsLines, end_of, is_passed};
 ghost use Rattle.krb_run.specs.declared.run.RunFault.TheVariants as fault;
-ghost use Rattle.krb_tool.specs.inner.LineReaders.{line_rules, reader_kind};
+ghost use Rattle.krb_run.specs.LineReaders.{line_rules, reader_kind};
 ghost use Rattle.krb_tool.specs.inner.MessageLines.{PutsLine, message_lines};
-ghost use Rattle.krb_tool.specs.inner.Pieces.{listing_of};
+ghost use Rattle.krb_run.specs.Pieces.{listing_of};
 
-use crate::lines::{ReadLines, end_lines, feed_lines, is_blank_line};
 use crate::message_input::{MOST_INPUT, MessageInput};
-use crate::stream_run::{ListStream, list_all};
 use krb_der::Profile;
 use krb_record::{Form, TextBuffer, put_counted_stream_end};
-use krb_run::{CountedReader, RunEnd, RunFault};
+use krb_run::{
+    CountedReader, ListStream, ReadLines, RunEnd, RunFault, end_lines, feed_lines, is_blank_line,
+    list_all,
+};
 use std::alloc::Global;
 use std::io::{Read, Write};
 

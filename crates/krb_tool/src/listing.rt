@@ -3,24 +3,34 @@
 ghost use Rattle.std.specs.Prelude.{◌≡◌, IfErr, IfOk, OnOk};
 ghost use Rattle.krb_tool.specs.GoingOn.{counted_run_end};
 ghost use Rattle.krb_run.specs.declared.run.RunFault.TheVariants as fault;
-ghost use Rattle.krb_tool.specs.inner.Listers.{IsStart, lister_kind};
-ghost use Rattle.krb_tool.specs.inner.Pieces.{listing_of};
+ghost use Rattle.krb_tool.specs.Starts.{IsStart};
+ghost use Rattle.krb_tool.specs.inner.Listers.{lister_kind};
+ghost use Rattle.krb_run.specs.Pieces.{listing_of};
 ghost use Rattle.krb_tool.specs.inner.StreamLines.{AddsRefused, ListsEntry, PutsClosing, stream_lines};
 
 use crate::fault_path::{frame_extent, frame_path};
-use crate::stream_run::{ListStream, Request};
 use krb_der::{Memory, Profile, Refusal};
 use krb_frame::{Decoder, Delivered, Limit, Receiver, SkippingDecoder};
-use krb_record::{TextBuffer, put_counted_stream_end, put_stream_end, put_stream_refusal};
-use krb_run::{RunEnd, RunFault};
+use krb_record::{Form, TextBuffer, put_counted_stream_end, put_stream_end, put_stream_refusal};
+use krb_run::{ListStream, RunEnd, RunFault};
 use krb_text::put_message_in;
 use std::alloc::Global;
 
 /// The number of octets of a frame's length.
 const LENGTH_OCTETS: u64 = 4;
 
+/// What a listing is asked for: its form, the profile of the messages, the greatest length of a
+/// frame, and whether it goes on after refusals.
+#[derive(Drop)]
+pub(crate) struct Request {
+    pub form: Form,
+    pub profile: Profile,
+    pub limit: Limit,
+    pub keep_going: bool,
+}
+
 /// Returns the decoder of a stream with no octets yet.
-pub(crate) fn start_stream(alloc: Global, limit: Limit, profile: Profile) -> SkippingDecoder
+pub fn start_stream(alloc: Global, limit: Limit, profile: Profile) -> SkippingDecoder
     ensures { IsStart profile limit result }
 {
     SkippingDecoder::new(Decoder::with_profile(alloc, limit, profile))

@@ -1,15 +1,14 @@
 //! A run over one message, which an input spells.
 
 ghost use Rattle.std.specs.Prelude.{◌≡◌, IfErr, IfOk};
-ghost use Rattle.krb_tool.specs.Files.{ListsFile, FailsFile, shown};
+ghost use Rattle.krb_run.specs.Files.{ListsFile, FailsFile, shown};
 ghost use Rattle.krb_tool.specs.Messages.{IsMessageListing, octets_listing};
 
-use crate::file_run::{FileFormat, FileText, run_file};
 use crate::message_input::{MOST_INPUT, MessageInput};
 use krb_der::Profile;
 use krb_input::Spelling;
 use krb_record::{Form, TextBuffer};
-use krb_run::{CountedReader, RunEnd, RunFault};
+use krb_run::{CountedReader, FileFormat, FileText, RunEnd, RunFault, run_file};
 use std::alloc::Global;
 use std::io::{Read, Write};
 

@@ -4,12 +4,11 @@ ghost use Rattle.std.specs.Prelude.{IfErr, IfOk};
 ghost use Rattle.krb_tool.specs.GoingOn.{ListsStream, FailsStream};
 ghost use Rattle.krb_tool.specs.Listing.{Lists, Fails};
 
-use crate::listing::Lister;
-use crate::stream_run::{Request, list_all};
+use crate::listing::{Lister, Request};
 use krb_der::Profile;
 use krb_frame::Limit;
 use krb_record::Form;
-use krb_run::{CountedReader, RunEnd, RunFault};
+use krb_run::{CountedReader, RunEnd, RunFault, list_all};
 use std::alloc::Global;
 use std::io::{Read, Write};
 

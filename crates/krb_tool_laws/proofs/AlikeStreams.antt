@@ -16,12 +16,12 @@ use Rattle.krb_judge.proofs.Slices.{message_not_refused}
 use Rattle.krb_json.specs.Laws.{IsSpelled, UnencryptedChangesNothing}
 use Rattle.krb_json.specs.Lines.{line_of}
 use Rattle.krb_json.specs.Unencrypted.{unencrypted_in}
-use Rattle.krb_tool.specs.Conversions.{Converted, after_text}
-use Rattle.krb_tool.specs.Decoding.{Ending, All, Unencrypted, ending_at, line_and, lines_after, decoded, decoded_whole}
-use Rattle.krb_tool.specs.Laws.{AreAlike, UnencryptedIsNotDecoded}
+use Rattle.krb_run.specs.Conversions.{Converted, after_text}
+use Rattle.krb_convert.specs.Decoding.{Ending, All, Unencrypted, ending_at, line_and, lines_after, decoded, decoded_whole}
+use Rattle.krb_convert.specs.Laws.{AreAlike, UnencryptedIsNotDecoded}
 use Rattle.krb_tool.specs.Paths.{found_path, frame_path, last_octets}
 use Rattle.krb_tool_laws.proofs.EncodedMessages.{is_message}
-use Rattle.krb_tool.proofs.WholeRuns.{whole-short}
+use Rattle.krb_convert.proofs.WholeRuns.{whole-short}
 
 -- ---- a line
 -- that of a message before others, or none if it is not encrypted

@@ -18,13 +18,13 @@ use Rattle.krb_judge.proofs.Slices.{message_in}
 use Rattle.krb_json.specs.Laws.{TextsAreJson}
 use Rattle.krb_json.specs.Lines.{line_of}
 use Rattle.krb_json.specs.Unencrypted.{unencrypted_in}
-use Rattle.krb_tool.specs.Conversions.{Converted}
-use Rattle.krb_tool.specs.Decoding.{Ending, All, ending_at, line_and, lines_after, message_decoded, decoded, decoded_whole}
-use Rattle.krb_tool.specs.Laws.{AreLines, DecodedIsLines}
+use Rattle.krb_run.specs.Conversions.{Converted}
+use Rattle.krb_convert.specs.Decoding.{Ending, All, ending_at, line_and, lines_after, message_decoded, decoded, decoded_whole}
+use Rattle.krb_convert.specs.Laws.{AreLines, DecodedIsLines}
 use Rattle.krb_tool.specs.Paths.{found_path}
-use Rattle.krb_tool.proofs.DecodedFrames.{of_message}
+use Rattle.krb_convert.proofs.DecodedFrames.{of_message}
 use Rattle.krb_tool_laws.proofs.RoundTrips.{both_are}
-use Rattle.krb_tool.proofs.WholeRuns.{whole-long, whole-short}
+use Rattle.krb_convert.proofs.WholeRuns.{whole-long, whole-short}
 
 no_lines : AreLines []
 no_lines = record { those = []; each = tt; form = refl }

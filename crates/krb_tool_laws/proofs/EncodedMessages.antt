@@ -19,15 +19,16 @@ use Rattle.krb_frame.specs.Frame.{framed}
 use Rattle.krb_json.specs.Laws.{IsSpelled, LinesSpellMessages}
 use Rattle.krb_json.specs.Lines.{LineFault, line_of, line_spells}
 use Rattle.krb_json.specs.Unencrypted.{unencrypted_in}
-use Rattle.krb_tool.specs.Conversions.{Converted}
-use Rattle.krb_tool.specs.Decoding as decoding
-use Rattle.krb_tool.specs.Decoding.{AllAreEncrypted, decoded, ending_at}
+use Rattle.krb_run.specs.Conversions.{Converted}
+use Rattle.krb_convert.specs.Decoding as decoding
+use Rattle.krb_convert.specs.Decoding.{AllAreEncrypted, decoded, ending_at}
 use Rattle.krb_run.specs.TextLines.{lines_of}
-use Rattle.krb_tool.specs.Encoding.{Ending, All, SecondMessage, is_blank_line, message_and, encoded_lines, encoded}
-use Rattle.krb_tool.specs.Laws.{AreFrames, EncodedIsMessages, IsOneMessage}
+use Rattle.krb_convert.specs.Encoding.{Ending, All, SecondMessage, message_and, encoded_lines, encoded}
+use Rattle.krb_run.specs.TextLines.{is_blank_line}
+use Rattle.krb_convert.specs.Laws.{AreFrames, EncodedIsMessages, IsOneMessage}
 use Rattle.krb_tool.specs.Paths.{found_path}
-use Rattle.krb_tool.specs.inner.JsonLines.{octets_line}
-use Rattle.krb_tool.proofs.DecodedFrames.{decoded-all, stream_ending}
+use Rattle.krb_convert.specs.inner.JsonLines.{octets_line}
+use Rattle.krb_convert.proofs.DecodedFrames.{decoded-all, stream_ending}
 
 -- ---- a message in a frame
 are_octets : (profile : Profile) (m : Message) → IsInProfile profile m → AreOctets (message_der m)

@@ -28,19 +28,20 @@ use Rattle.krb_judge.proofs.Slices.{message_in}
 use Rattle.krb_json.specs.Laws.{TextsAreJson, TextsComeBack}
 use Rattle.krb_json.specs.Lines.{message_text, line_spells}
 use Rattle.krb_json.specs.Unencrypted.{unencrypted_in}
-use Rattle.krb_tool.specs.Conversions.{after_text}
-use Rattle.krb_tool.specs.Decoding as decoding
-use Rattle.krb_tool.specs.Decoding.{ending_at, line_and, decoded, message_decoded, decoded_whole, AllAreEncrypted}
-use Rattle.krb_tool.specs.Encoding as encoding
+use Rattle.krb_run.specs.Conversions.{after_text}
+use Rattle.krb_convert.specs.Decoding as decoding
+use Rattle.krb_convert.specs.Decoding.{ending_at, line_and, decoded, message_decoded, decoded_whole, AllAreEncrypted}
+use Rattle.krb_convert.specs.Encoding as encoding
 use Rattle.krb_run.specs.TextLines.{parts, without_empty_last, lines_of}
-use Rattle.krb_tool.specs.Encoding.{is_blank_line, written_as, encoded_lines, encoded}
-use Rattle.krb_tool.specs.Laws.{StreamsComeBack, MessageComesBack, DecodedComesBack}
+use Rattle.krb_convert.specs.Encoding.{written_as, encoded_lines, encoded}
+use Rattle.krb_run.specs.TextLines.{is_blank_line}
+use Rattle.krb_convert.specs.Laws.{StreamsComeBack, MessageComesBack, DecodedComesBack}
 use Rattle.krb_tool.specs.Paths.{found_path, refused_path}
-use Rattle.krb_tool.specs.inner.JsonLines.{IsOfMessage, octets_line}
-use Rattle.krb_tool.proofs.DecodedFrames.{decoded-all, encrypted_all, of_message}
-use Rattle.krb_tool.proofs.EncodedLines.{read-step, message-step}
+use Rattle.krb_convert.specs.inner.JsonLines.{IsOfMessage, octets_line}
+use Rattle.krb_convert.proofs.DecodedFrames.{decoded-all, encrypted_all, of_message}
+use Rattle.krb_convert.proofs.EncodedLines.{read-step, message-step}
 use Rattle.krb_run.proofs.SourceLineParts.{lines-empty}
-use Rattle.krb_tool.proofs.WholeRuns.{whole-long, whole-short}
+use Rattle.krb_convert.proofs.WholeRuns.{whole-long, whole-short}
 
 -- ---- all of a stream is decoded
 at_boundary : (count : ℕ) (end : End) (path : Option (List ℕ)) → ending_at count end path ≡ decoding.All → end ≡ Boundary

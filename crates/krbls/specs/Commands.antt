@@ -8,10 +8,10 @@ use Rattle.krb_record.specs.declared.form.Form.{Form}
 use Rattle.krb_capture_run.specs.Captures.{capture_listing}
 use Rattle.krb_convert.specs.Conversions.{DecodesBy, EncodesBy, FailsToDecodeBy, is_framed}
 use Rattle.krb_convert.specs.Ends.{decode_end_line, encode_end_line}
-use Rattle.krb_tool.specs.Encoding.{FailsToEncode}
+use Rattle.krb_convert.specs.Encoding.{FailsToEncode}
 use Rattle.krb_run.specs.Records.{ListsRecords}
 use Rattle.krb_file_run.specs.Files.{ccache_listing, keytab_listing}
-use Rattle.krb_tool.specs.Files.{FailsFile, ListsFile}
+use Rattle.krb_run.specs.Files.{FailsFile, ListsFile}
 use Rattle.krb_tool.specs.GoingOn.{FailsAll, ListsAll}
 use Rattle.krb_tool.specs.Listing.{Fails, Lists}
 use Rattle.krb_tool.specs.MessageLines.{FailsLines, ListsLines}

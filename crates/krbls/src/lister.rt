@@ -3,7 +3,7 @@
 ghost use Rattle.std.specs.Prelude.{◌≡◌, IfOk, OnErr, OnOk, string_bytes};
 ghost use Rattle.krb_record.specs.FileNames.{name_text};
 ghost use Rattle.krb_run.specs.Begun.{begun_remaining, first_of};
-ghost use Rattle.krb_tool.specs.Encoding.{FailsToEncode};
+ghost use Rattle.krb_convert.specs.Encoding.{FailsToEncode};
 ghost use Rattle.krb_run.specs.Outputs.{output_contents};
 ghost use Rattle.krb_words.specs.Tasks.{kind_used};
 ghost use Rattle.krb_convert.specs.Conversions.{DecodesBy, EncodesBy, FailsToDecodeBy, is_framed};

@@ -1,13 +1,13 @@
 //! Messages as JSON, and lines of JSON as messages.
 
 use super::octets::{KRB_ERROR, message_of};
+use krb_convert::{
+    DecodeEnd, EncodeEnd, run_decode, run_decode_unframed, run_encode, run_encode_unframed,
+};
 use krb_der::{Memory, Profile};
 use krb_frame::Limit;
 use krb_json::{LineFault, Scratch, put_text, read_line, unencrypted_path};
 use krb_run::RunFault;
-use krb_tool::{
-    DecodeEnd, EncodeEnd, run_decode, run_decode_unframed, run_encode, run_encode_unframed,
-};
 use std::alloc::Global;
 use std::io;
 use std::io::{ErrorKind, Write};

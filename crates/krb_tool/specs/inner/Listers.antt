@@ -8,24 +8,22 @@ use Rattle.krb_msg.specs.Grammar.{messages as grammar}
 use Rattle.krb_msg.specs.Stream.{End, Refused}
 use Rattle.krb_frame.specs.Decoding.{Decoding, found, status_of, finish_of}
 use Rattle.krb_frame.specs.Deliveries.{IsMessage}
-use Rattle.krb_frame.specs.GoingOn.{Entry, Contents, Fault, Skipping, IsClear, entries, entries_size, entry_size, rest_to_come, GoesOn}
+use Rattle.krb_frame.specs.GoingOn.{Entry, Contents, Fault, Skipping, entries, entries_size, entry_size, rest_to_come, GoesOn}
 use Rattle.krb_frame.specs.declared.decoder.Status.TheVariants as status
-use Rattle.krb_tool.specs.Listing.{IsNotRefused, StopsInPiece}
+use Rattle.krb_tool.specs.Listing.{IsNotRefused}
+use Rattle.krb_run.specs.Runs.{StopsInPiece}
 use Rattle.krb_tool.specs.GoingOn.{EndsUnknown}
-use Rattle.krb_tool.specs.inner.Streams.{Rules, Taken}
-use Rattle.krb_tool.specs.inner.Pieces.{NeedsMore, Kind}
+use Rattle.krb_run.specs.Streams.{Rules, Taken}
+use Rattle.krb_run.specs.Pieces.{Kind}
+
+-- a decoder needs more octets
+abbrev pub NeedsMore : Decoding → Type 0
+NeedsMore decoding = status_of (grammar decoding.profile) decoding ≡ status.More
 
 -- a lister: its decoder, and what it lists
 pub record FrameLister (S : Type 0) : Type 0 where
   pub decoder : Skipping
   pub lines : S
-
--- a decoder of a stream with no octets yet
-pub record IsStart (profile : Profile) (limit : ℕ) (decoder : Skipping) : Type 0 where
-  pub same_profile : decoder.current.profile ≡ profile
-  pub same_limit : decoder.current.limit ≡ limit
-  pub clear : IsClear decoder
-  pub goes_on : GoesOn (grammar profile) decoder [] []
 
 -- ---- lines
 -- What is known of the lines of frames, and of how runs end that write them.

@@ -1,12 +1,12 @@
 -- What a lister of lines does with a text.
 use Rattle.std.specs.Prelude.{ℕ, ◌≡◌, ◌+◌, ◌≤◌, List, ◌∷◌, ◌++◌, length, take}
-use Rattle.krb_tool.specs.Conversions.{Converted, after_text}
+use Rattle.krb_run.specs.Conversions.{Converted, after_text}
 use Rattle.krb_tool.specs.MessageLines.{none_seen, records_of, with_line}
 use Rattle.krb_tool.specs.declared.lines_run.LineLister.{LineLister}
 use Rattle.krb_tool.specs.declared.lines_run.LinesRequest.{LinesRequest}
 use Rattle.krb_tool.specs.declared.lines_run.Seen.{Seen}
 use Rattle.krb_run.specs.declared.run.RunEnd.{RunEnd}
-use Rattle.krb_tool.specs.inner.LineReaders.{LineKind}
+use Rattle.krb_run.specs.LineReaders.{LineKind}
 
 -- so many octets of a line decide its record
 abbrev pub kept_octets : ℕ

@@ -10,13 +10,14 @@ use Rattle.krb_record.specs.Streams.{stream_end_line}
 use Rattle.krb_record.specs.declared.form.Form.{Form}
 use Rattle.krb_record.specs.Streams.{refused_line, counted_end_line}
 use Rattle.krb_tool.specs.Paths.{frame_extent, frame_path}
-use Rattle.krb_tool.specs.Listing.{end_of, run_end, IsListing, AllIsRead, AreLines, IsNotRefused, StopsInPiece}
+use Rattle.krb_tool.specs.Listing.{end_of, run_end, IsListing, AllIsRead, AreLines, IsNotRefused}
+use Rattle.krb_run.specs.Runs.{StopsInPiece}
 use Rattle.krb_tool.specs.GoingOn.{Listed, Faulty, entry_of, messages_in, refused_in, lines_after, IsCountedListing, AreCountedLines, EndsUnknown, counted_run_end, octets_in}
 use Rattle.krb_tool.specs.inner.Listers.{FrameLister, IsDecoded, LinesKind}
-use Rattle.krb_tool.specs.inner.Streams.{Rules}
+use Rattle.krb_run.specs.Streams.{Rules}
 use Rattle.krb_tool.specs.declared.listing.StreamLines.{StreamLines}
 use Rattle.krb_run.specs.declared.run.RunEnd.{RunEnd}
-use Rattle.krb_tool.specs.declared.stream_run.Request.{Request}
+use Rattle.krb_tool.specs.declared.listing.Request.{Request}
 
 -- The line of a frame was added. The frame is counted, with its octets, unless there are too many.
 pub record ListsEntry (old : StreamLines) (entry : Entry) (new : StreamLines) : Type 0 where

@@ -1,7 +1,7 @@
 use Rattle.std.proofs.Common.{rules}
 use Rattle.std.proofs.lemmas.Result.{IfOk-weaker}
 use Rattle.krb_tool.specs.MessageLines.{lines_listed}
-use Rattle.krb_tool.proofs.ConversionRuns.{Converts-listed, ConvertsInPart-failed}
+use Rattle.krb_run.proofs.ConversionRuns.{Converts-listed, ConvertsInPart-failed}
 use Rattle.krb_tool.proofs.lines_run.run_lines_in.Goals as goal
 
 pub returns-clause-listed : goal.returns-clause-listed

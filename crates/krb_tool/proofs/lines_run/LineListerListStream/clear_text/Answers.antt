@@ -1,8 +1,8 @@
 use Rattle.std.proofs.Common.{◌++◌, refl, sym, ap, ◌∙◌, append-nil}
-use Rattle.krb_tool.specs.Conversions.{after_text}
-use Rattle.krb_tool.specs.inner.LineReaders.{reader_kind}
+use Rattle.krb_run.specs.Conversions.{after_text}
+use Rattle.krb_run.specs.LineReaders.{reader_kind}
 use Rattle.krb_tool.specs.inner.MessageLines.{message_lines, records_from}
-use Rattle.krb_tool.proofs.Pieces.{Clears-made}
+use Rattle.krb_run.proofs.Pieces.{Clears-made}
 use Rattle.krb_tool.proofs.lines_run.LineListerListStream.clear_text.Goals as goal
 
 pub returns : goal.returns

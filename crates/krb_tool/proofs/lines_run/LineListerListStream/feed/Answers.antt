@@ -1,6 +1,6 @@
 use Rattle.std.proofs.lemmas.Result.{IfOk-weaker}
 use Rattle.krb_tool.specs.inner.MessageLines.{message_lines}
-use Rattle.krb_tool.proofs.LineReaders.{feeds}
+use Rattle.krb_run.proofs.LineReaders.{feeds}
 use Rattle.krb_tool.proofs.lines_run.LineListerListStream.feed.Goals as goal
 
 pub returns-clause-fed : goal.returns-clause-fed

@@ -1,6 +1,6 @@
 use Rattle.krb_tool.specs.inner.MessageLines.{message_lines}
 use Rattle.krb_tool.specs.declared.lines_run.LineLister.{LineLister}
-use Rattle.krb_tool.proofs.LineReaders.{finishes}
+use Rattle.krb_run.proofs.LineReaders.{finishes}
 use Rattle.krb_tool.proofs.lines_run.LineListerListStream.finish.Goals as goal
 
 pub returns-clause-finished : goal.returns-clause-finished

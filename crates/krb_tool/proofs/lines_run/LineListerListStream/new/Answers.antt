@@ -1,8 +1,8 @@
 use Rattle.std.proofs.Common.{refl, sym, arith}
-use Rattle.krb_tool.specs.Conversions.{after_text}
+use Rattle.krb_run.specs.Conversions.{after_text}
 use Rattle.krb_tool.specs.MessageLines.{none_seen}
 use Rattle.krb_tool.specs.inner.MessageLines.{message_lines, records_from}
-use Rattle.krb_tool.proofs.LineReaders.{is_new}
+use Rattle.krb_run.proofs.LineReaders.{is_new}
 use Rattle.krb_tool.proofs.lines_run.LineListerListStream.new.Goals as goal
 
 pub returns : goal.returns

@@ -6,7 +6,7 @@ use Rattle.krb_frame.specs.GoingOn.{Contents}
 use Rattle.krb_text.specs.Messages.{PutsMessage}
 use Rattle.krb_tool.specs.GoingOn.{Whole}
 use Rattle.krb_text.specs.Messages.{message_line}
-use Rattle.krb_tool.proofs.DecodedFrames.{of_message}
+use Rattle.krb_convert.proofs.DecodedFrames.{of_message}
 use Rattle.krb_tool.proofs.listing.StreamLinesReceiver.receive_contents.Goals as goal
 
 pub returns : goal.returns

@@ -4,7 +4,7 @@ use Rattle.std.specs.Option.{option_map}
 use Rattle.krb_judge.specs.Parses.{refusal_of}
 use Rattle.krb_record.specs.Origins.{message_origin}
 use Rattle.krb_text.specs.Messages.{PutsMessage, message_line_from}
-use Rattle.krb_tool.specs.Files.{FileListing}
+use Rattle.krb_run.specs.Files.{FileListing}
 use Rattle.krb_tool.specs.Messages.{Puts, judged_listing, layered_of}
 use Rattle.krb_tool.proofs.Messages.{puts-message, read_never, refused-message, refusal-within}
 use Rattle.krb_tool.proofs.message_input.MessageInput.put_message.Goals as goal

@@ -1,6 +1,6 @@
 use Rattle.std.proofs.Common.{arith, subst}
 use Rattle.std.specs.Prelude.{IfOk}
-use Rattle.krb_tool.specs.Files.{FileListing}
+use Rattle.krb_run.specs.Files.{FileListing}
 use Rattle.krb_tool.specs.Messages.{Puts}
 use Rattle.krb_tool.proofs.Messages.{opened-listing}
 use Rattle.krb_tool.proofs.message_input.MessageInput.put_octets.Goals as goal

@@ -2,7 +2,7 @@ use Rattle.std.proofs.Common.{refl, subst}
 use Rattle.std.specs.Prelude.{IfOk, string_bytes}
 use Rattle.std.specs.Option.{option_map}
 use Rattle.krb_judge.specs.Parses.{ticket_refusal}
-use Rattle.krb_tool.specs.Files.{FileListing}
+use Rattle.krb_run.specs.Files.{FileListing}
 use Rattle.krb_tool.specs.Messages.{Puts, layered_of}
 use Rattle.krb_tool.proofs.Messages.{not_refused, puts-ticket, refused-ticket, ticket-read}
 use Rattle.krb_tool.proofs.message_input.MessageInput.put_ticket.Goals as goal

@@ -1,0 +1,149 @@
+-- Lines that are encoded, piece by piece.
+use Rattle.std.proofs.Common.{◌≡◌, ℕ, ◌+◌, Bool, true, false, List, [], ◌∷◌, ◌++◌, length, Option, Some, None, refl, sym, ◌∙◌, ap, subst, arith, append-nil}
+use Rattle.std.specs.Option.{option_map}
+use Rattle.std.specs.Prelude.{◌&&◌, ◌==◌, not, is_some, IsSome, IfSome, Result, Err}
+use Rattle.krb_run.specs.Conversions.{Converted, after_text}
+use Rattle.krb_convert.specs.Encoding.{Ending, Faulty, SecondMessage, written_as, message_and, ending_of, ending_after, IsNoFault}
+use Rattle.krb_run.specs.TextLines.{is_blank_line}
+use Rattle.krb_der.specs.Octets.{when}
+use Rattle.krb_json.specs.Lines as lines
+use Rattle.krb_json.specs.Reading.{AreSpelled, line_fault_of}
+use Rattle.krb_json.specs.declared.line_fault.LineFault.{LineFault}
+use Rattle.krb_json.specs.declared.line_fault.LineFault.TheVariants as wrong
+use Rattle.krb_msg.specs.declared.message.Message.{Message}
+use Rattle.krb_convert.specs.declared.encode_run.EncodeEnd.{EncodeEnd}
+use Rattle.krb_convert.specs.declared.json_reader.EncodeRequest.{EncodeRequest}
+use Rattle.krb_convert.specs.declared.json_reader.JsonReader.{JsonReader}
+use Rattle.krb_convert.specs.inner.EncodedLines.{KeepsFault, TakesLine, encoded_from, json_reading, read_and, rest_by, rest_of}
+use Rattle.krb_run.specs.LineReaders.{EndsLine, Follows, GoesOn, HasLine}
+use Rattle.krb_run.proofs.SourceLineParts.{is_nothing, is_something}
+
+-- ---- a line
+abbrev second : ℕ → Converted Ending
+second number = record { text = []; end = SecondMessage number }
+
+abbrev pub faulty : ℕ → Option lines.LineFault → Converted Ending
+faulty number found = record { text = []; end = Faulty number found }
+
+-- a blank one
+pub blank-step : (request : EncodeRequest) (number : ℕ) (came : Bool) (line : List ℕ) (more : List (List ℕ)) → is_blank_line line ≡ true → encoded_from request number came (line ∷ more) ≡ after_text [] (encoded_from request (number + 1) came more)
+blank-step request number came line more e =
+    ap (λ b. when b (λ _. encoded_from request (number + 1) came more) (λ _. when (not request.is_framed && came) (λ _. second number) (λ _. read_and request number line (encoded_from request (number + 1) true more)))) e
+
+-- one after the message that is all
+pub second-step : (request : EncodeRequest) (number : ℕ) (came : Bool) (line : List ℕ) (more : List (List ℕ)) → is_blank_line line ≡ false → (not request.is_framed && came) ≡ true → encoded_from request number came (line ∷ more) ≡ second number
+second-step request number came line more blank full =
+    (λ i. when (blank i) (λ _. encoded_from request (number + 1) came more) (λ _. when (full i) (λ _. second number) (λ _. read_and request number line (encoded_from request (number + 1) true more))))
+
+-- one that is read
+pub read-step : (request : EncodeRequest) (number : ℕ) (came : Bool) (line : List ℕ) (more : List (List ℕ)) → is_blank_line line ≡ false → (not request.is_framed && came) ≡ false → encoded_from request number came (line ∷ more) ≡ read_and request number line (encoded_from request (number + 1) true more)
+read-step request number came line more blank full =
+    (λ i. when (blank i) (λ _. encoded_from request (number + 1) came more) (λ _. when (full i) (λ _. second number) (λ _. read_and request number line (encoded_from request (number + 1) true more))))
+
+pub message-step : (is_framed : Bool) (number : ℕ) (spells : Result Message lines.LineFault) (octets : List ℕ) (others : Converted Ending) → AreSpelled spells octets → message_and is_framed number spells others ≡ after_text (written_as is_framed octets) others
+message-step is_framed number spells octets others a = ap (λ s. message_and is_framed number s others) a.spelled ∙ ap (λ o. after_text (written_as is_framed o) others) (sym a.form)
+
+pub fault-step : (is_framed : Bool) (number : ℕ) (spells : Result Message lines.LineFault) (found : Option lines.LineFault) (others : Converted Ending) → IsSome found → IfSome found (λ fault. spells ≡ Err fault) → message_and is_framed number spells others ≡ faulty number found
+fault-step is_framed number spells None others some e = absurd cc
+fault-step is_framed number spells (Some fault) others some e = ap (λ s. message_and is_framed number s others) e
+
+pub found_some : (fault : LineFault) → (fault ≡ wrong.Memory → ⊥) → IsSome (line_fault_of fault)
+found_some wrong.NotJson never = refl
+found_some wrong.NotAMessage never = refl
+found_some (wrong.At found) never = refl
+found_some wrong.Memory never = absurd (never refl)
+
+-- ---- the line of a reader
+no_fault : (is_framed came : Bool) → IsNoFault (ending_after is_framed came)
+no_fault true came = tt
+no_fault false true = tt
+no_fault false false = tt
+
+not_kept : (reader : JsonReader) → reader.fault ≡ None → option_map ending_of reader.fault ≡ None
+not_kept reader none = ap (option_map ending_of) none
+
+-- it is blank
+pub takes-blank : (reader : JsonReader) → reader.fault ≡ None → is_blank_line reader.line.items ≡ true → TakesLine reader reader true
+takes-blank reader none blank = record {
+  added = [];
+  text = sym (append-nil reader.text.items);
+  request = refl;
+  lines = refl;
+  step = λ more. blank-step reader.request (reader.lines + 1) reader.came reader.line.items more blank ∙ ap (λ fault. after_text [] (rest_by fault reader.request (reader.lines + 1 + 1) reader.came more)) (sym (not_kept reader none));
+  fault = none;
+}
+
+-- it is at fault
+pub takes-fault : (old new : JsonReader) (ending : Ending) → option_map ending_of new.fault ≡ Some ending → (IsNoFault ending → ⊥) → new.text ≡ old.text → new.request ≡ old.request → new.lines ≡ old.lines → ((more : List (List ℕ)) → encoded_from old.request (old.lines + 1) old.came (old.line.items ∷ more) ≡ record { text = []; end = ending }) → TakesLine old new false
+takes-fault old new ending kept wrong text request lines step = record {
+  added = [];
+  text = ap (λ t. t.items) text ∙ sym (append-nil old.text.items);
+  request = request;
+  lines = lines;
+  step = λ more. step more ∙ ap (λ fault. after_text [] (rest_by fault old.request (old.lines + 1 + 1) new.came more)) (sym kept);
+  fault = (ending, kept, wrong);
+}
+
+-- it spells a message, whose octets were added
+pub takes-message : (old new : JsonReader) (added : List ℕ) → new.fault ≡ None → new.came ≡ true → new.text.items ≡ old.text.items ++ added → new.request ≡ old.request → new.lines ≡ old.lines → ((more : List (List ℕ)) → encoded_from old.request (old.lines + 1) old.came (old.line.items ∷ more) ≡ after_text added (encoded_from old.request (old.lines + 1 + 1) true more)) → TakesLine old new true
+takes-message old new added none came text request lines step = record {
+  added = added;
+  text = text;
+  request = request;
+  lines = lines;
+  step = λ more. step more ∙ (λ i. after_text added (rest_by (sym (not_kept new none) i) old.request (old.lines + 1 + 1) (sym came i) more));
+  fault = none;
+}
+
+follows : (new : JsonReader) (is_read : Bool) → KeepsFault new is_read → Follows json_reading new is_read
+follows new true none =
+    let rest : rest_of new [] ≡ record { text = []; end = ending_after new.request.is_framed new.came } = ap (λ fault. rest_by fault new.request (new.lines + 1) new.came []) (not_kept new none) in
+    (none, subst (λ c. IsNoFault c.end) (sym rest) (no_fault new.request.is_framed new.came))
+follows new false k = record { end = k.0; rest = λ lines. ap (λ fault. rest_by fault new.request (new.lines + 1) new.came lines) k.1; fault = k.2 }
+
+-- it has ended, and is counted
+pub ends-taken : (old between new : JsonReader) (is_read : Bool) → old.fault ≡ None → TakesLine old between is_read → new.text ≡ between.text → new.request ≡ between.request → new.came ≡ between.came → new.fault ≡ between.fault → new.lines ≡ between.lines + 1 → new.line.items ≡ [] → EndsLine json_reading old new is_read
+ends-taken old between new is_read none t text request came fault lines empty = record {
+  added = t.added;
+  text = ap (λ v. v.items) text ∙ t.text;
+  request = request ∙ t.request;
+  holds = empty;
+  rest = λ line more held.
+      ap (λ f. rest_by f old.request (old.lines + 1) old.came (line ∷ more)) (not_kept old none)
+      ∙ ap (λ l. encoded_from old.request (old.lines + 1) old.came (l ∷ more)) (sym held)
+      ∙ t.step more
+      ∙ (λ i. after_text t.added (rest_by (option_map ending_of (sym fault i)) (sym (request ∙ t.request) i) (sym (lines ∙ ap (λ n. n + 1) t.lines) i + 1) (sym came i) more));
+  few = omega (arith, lines, t.lines);
+  follows = follows new is_read (kept is_read t.fault);
+}
+  where
+    kept : (is_read : Bool) → KeepsFault between is_read → KeepsFault new is_read
+    kept true none = fault ∙ none
+    kept false k = (k.0, ap (option_map ending_of) fault ∙ k.1, k.2)
+
+-- a line that has not ended
+pub not_at_fault : (fault : Option EncodeEnd) → is_some fault ≡ false → fault ≡ None
+not_at_fault None e = refl
+not_at_fault (Some fault) e = absurd cc
+
+pub has-line : (reader : JsonReader) (empty : Bool) → reader.fault ≡ None → empty ≡ (length reader.line.items == 0) → HasLine json_reading reader (not empty)
+has-line reader empty none is = by empty (sym is)
+  where
+    by : (empty : Bool) → (length reader.line.items == 0) ≡ empty → HasLine json_reading reader (not empty)
+    by true e = λ is_open line held. sym held ∙ is_nothing reader.line.items e
+    by false e = (is_something reader.line.items e, λ s. s.fault (subst (λ c. IsNoFault c.end) (s.rest []) (follows reader true none).1))
+
+-- nothing came yet
+pub start-is : (reader : JsonReader) (lines : List (List ℕ)) → reader.fault ≡ None → reader.text.items ≡ [] → reader.lines ≡ 0 → reader.came ≡ false → encoded_from reader.request 1 false lines ≡ after_text reader.text.items (rest_of reader lines)
+start-is reader lines none text count came = λ i. after_text (sym text i) (rest_by (sym (not_kept reader none) i) reader.request (sym count i + 1) (sym came i) lines)
+
+pub goes_on-start : (reader : JsonReader) → reader.fault ≡ None → GoesOn json_reading reader
+goes_on-start reader none = follows reader true none
+
+-- no text is added at the end
+pub rest-nothing : (reader : JsonReader) → reader.text.items ≡ reader.text.items ++ (rest_of reader []).text
+rest-nothing reader = sym (append-nil reader.text.items) ∙ ap (λ t. reader.text.items ++ t) (none (option_map ending_of reader.fault))
+  where
+    none : (fault : Option Ending) → [] ≡ (rest_by fault reader.request (reader.lines + 1) reader.came []).text
+    none None = refl
+    none (Some ending) = refl

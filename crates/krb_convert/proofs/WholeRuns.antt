@@ -1,0 +1,120 @@
+-- A run on one message.
+use Rattle.std.proofs.Common.{◌≡◌, ℕ, ◌+◌, ◌-◌, ◌<◌, ◌≤◌, true, false, List, [], ◌∷◌, ◌++◌, length, take, drop, Option, Some, None, Result, Ok, Err, OnErr, refl, sym, ◌∙◌, ap, subst, arith, append-nil, length-append, length-take, length-drop, take-append-drop}
+use Rattle.std.proofs.KnownBytes.{Consumes-trans, Appends-nil}
+use Rattle.std.specs.Io.KnownBytes.{Consumes, Appends}
+use Rattle.std.specs.Prelude.{nat_lt}
+use Rattle.std.proofs.lemmas.Bool.Decides.{nat_tests}
+use Rattle.krb_der.specs.Octets.{when}
+use Rattle.krb_der.specs.declared.profile.Profile.{Profile}
+use Rattle.krb_der.specs.declared.verdict.Refusal.{Refusal}
+use Rattle.krb_der.specs.declared.why.Why.TheVariants.{TooLong}
+use Rattle.krb_judge.specs.Parses.{refusal_of}
+use Rattle.krb_record.specs.Refusals.{path_in}
+use Rattle.krb_record.specs.Values.{Value, Absent, String, Field, if_there}
+use Rattle.krb_record.specs.declared.form.Form.TheVariants as forms
+use Rattle.krb_run.specs.Runs.{StopsInPiece}
+use Rattle.krb_convert.specs.Decoding.{Refusing, message_decoded, decoded_whole, DecodesWhole, FailsToDecodeWhole}
+use Rattle.krb_run.specs.Records.{AppendsPrefix}
+use Rattle.krb_run.specs.Files.{ReadsSome}
+use Rattle.krb_convert.specs.declared.whole_run.MessageLine.{MessageLine}
+use Rattle.krb_run.specs.Transfers.{ReturnsOctets}
+use Rattle.krb_convert.specs.inner.WholeRuns.{ReadsMost, converted_of}
+
+-- ---- a message
+-- octets that are too many
+pub whole-long : (profile : Profile) (limit : ℕ) (octets : List ℕ) → nat_lt limit (length octets) ≡ true → decoded_whole profile limit octets ≡ record { text = []; end = Refusing 0 (record { place = 0; why = TooLong }) None }
+unfolding decoded_whole
+whole-long profile limit octets e = λ i. when (e i) (λ _. record { text = []; end = Refusing 0 (record { place = 0; why = TooLong }) None }) (λ _. message_decoded profile octets (refusal_of profile octets))
+
+-- and others
+pub whole-short : (profile : Profile) (limit : ℕ) (octets : List ℕ) (found : Option Refusal) → nat_lt limit (length octets) ≡ false → found ≡ refusal_of profile octets → decoded_whole profile limit octets ≡ message_decoded profile octets found
+unfolding decoded_whole
+whole-short profile limit octets found e f = (λ i. when (e i) (λ _. record { text = []; end = Refusing 0 (record { place = 0; why = TooLong }) None }) (λ _. message_decoded profile octets (sym f i)))
+
+-- ---- what was read
+pub some-room : (size : ℕ) → size ≡ 65536 → 0 < size
+some-room size e = omega (arith, e)
+
+pub ReadsMost-ended : (had left after : Option (List ℕ)) (octets piece : List ℕ) (most room : ℕ) → Consumes had left octets → ReturnsOctets left after piece room → piece ≡ [] → 0 < room → length octets ≤ most → ReadsMost had after most octets
+ReadsMost-ended had left after octets piece most room taken given none some few = record {
+  taken = subst (Consumes had after) (ap (λ l. octets ++ l) none ∙ append-nil octets) (Consumes-trans had left after octets piece taken given.taken);
+  few = few;
+  ended = λ less. given.ended none some;
+}
+
+pub ReadsMost-full : (had left : Option (List ℕ)) (octets : List ℕ) (most : ℕ) → Consumes had left octets → length octets ≤ most → most ≤ length octets → ReadsMost had left most octets
+ReadsMost-full had left octets most taken few full = record { taken = taken; few = few; ended = λ less. absurd (omega (arith, less, full)) }
+
+pub nothing_few : (most : ℕ) → 0 ≤ most
+nothing_few most = omega arith
+
+pub taken_few : (kept piece : List ℕ) (count size most : ℕ) → size ≤ most - length kept → length kept ≤ most → count ≤ size → length (kept ++ take count piece) ≤ most
+taken_few kept piece count size most room few within = omega (arith, room, few, within, length-append kept (take count piece), length-take count piece)
+
+-- ---- what a run did
+whole-stops : (limit : ℕ) (read : List ℕ) → length read ≤ limit + 1 → StopsInPiece (λ octets. length octets ≤ limit) read
+whole-stops limit read few = record {
+  prefix = take limit read;
+  piece = drop limit read;
+  parts = sym (take-append-drop limit read);
+  goes_on = omega (arith, length-take limit read);
+  short = omega (arith, length-drop limit read, few);
+}
+
+pub DecodesWhole-made : (profile : Profile) (limit : ℕ) (had left written_before written_after : Option (List ℕ)) (octets : List ℕ) (line : MessageLine) → ReadsMost had left (limit + 1) octets → Appends written_before written_after line.text.items → converted_of line ≡ decoded_whole profile limit octets → DecodesWhole profile limit had left written_before written_after line.end
+DecodesWhole-made profile limit had left written_before written_after octets line r a e = record {
+  converts = record {
+    read = octets;
+    taken = r.taken;
+    added = subst (Appends written_before written_after) (ap (λ c. c.text) e) a;
+    ended_so = ap (λ c. c.end) e;
+    all_read = λ few. r.ended (omega (arith, few));
+    stops = whole-stops limit octets r.few;
+  };
+  few = r.few;
+}
+
+-- nothing was written
+pub whole-unwritten : {T E : Type 0} (r : Result T E) (profile : Profile) (limit : ℕ) (had left written : Option (List ℕ)) → ReadsSome had left → OnErr r (FailsToDecodeWhole profile limit had left written written)
+whole-unwritten (Ok x) profile limit had left written some = tt
+whole-unwritten (Err e) profile limit had left written some = record {
+  read = some.0;
+  text = (decoded_whole profile limit some.0).text;
+  taken = some.1;
+  is_text = refl;
+  added = record { prefix = []; rest = (decoded_whole profile limit some.0).text; added = Appends-nil written; whole = refl };
+}
+
+-- a write failed
+pub whole-written : {T E : Type 0} (r : Result T E) (profile : Profile) (limit : ℕ) (had left written_before written_after : Option (List ℕ)) (octets : List ℕ) (line : MessageLine) → Consumes had left octets → AppendsPrefix written_before written_after line.text.items → converted_of line ≡ decoded_whole profile limit octets → OnErr r (FailsToDecodeWhole profile limit had left written_before written_after)
+whole-written (Ok x) profile limit had left written_before written_after octets line taken f e = tt
+whole-written (Err x) profile limit had left written_before written_after octets line taken f e = record {
+  read = octets;
+  text = line.text.items;
+  taken = taken;
+  is_text = ap (λ c. c.text) e;
+  added = f;
+}
+
+-- ---- a refusal
+pub is_long : (limit got size : ℕ) → got ≡ limit → got < size → nat_lt limit size ≡ true
+is_long limit got size e l = let less : limit < size = omega (arith, e, l) in grind (arith, nat_tests)
+
+pub is_short : (limit got size : ℕ) → got ≡ limit → size ≤ got → nat_lt limit size ≡ false
+is_short limit got size e l = let few : size ≤ limit = omega (arith, e, l) in grind (arith, nat_tests)
+
+-- the value of the one field
+sole_value : List Field → Value
+sole_value [] = Absent
+sole_value (field ∷ fields) = field.value
+
+there : (found wanted : Option (List ℕ)) → if_there String found ≡ if_there String wanted → found ≡ wanted
+there None None e = refl
+there None (Some path) e = cc
+there (Some path) None e = cc
+there (Some path) (Some other) e = cc
+
+-- a path that has names in a line is the path
+pub same_path : (found wanted : Option (List ℕ)) → path_in forms.NamedLines found ≡ path_in forms.NamedLines wanted → found ≡ wanted
+unfolding sole_value
+same_path found wanted e = there found wanted (ap sole_value e)

@@ -1,0 +1,224 @@
+-- Lines that are read piece by piece, whatever becomes of them.
+use Rattle.std.proofs.Common.{◌≡◌, ℕ, ◌+◌, ◌^◌, ◌<◌, ◌≤◌, inl, inr, Bool, true, false, List, [], ◌∷◌, ◌++◌, length, take, drop, Option, refl, sym, ◌∙◌, ap, subst, arith, append-nil, append_assoc, length-take, take-append-drop, take_all}
+use Rattle.std.specs.Io.KnownBytes.{IsAtEnd}
+use Rattle.krb_run.specs.Conversions.{Converted, after_text}
+use Rattle.krb_run.specs.TextLines.{parts, without_empty_last, ended_of, lines_of}
+use Rattle.krb_run.specs.Runs.{StopsInPiece}
+use Rattle.krb_run.specs.ConversionRules.{IsBeginning}
+use Rattle.krb_run.specs.LineReaders.{Adds, EndsLine, EndsText, GoesOn, HasLine, HasRead, IsRight, IsStoppedAfter, LineKind, line_rules, reader_kind}
+use Rattle.krb_run.specs.Pieces.{IsFed, IsLastOf, TakesPiece, WaitsAfter, listing_of}
+use Rattle.krb_run.specs.Streams.{Begins, Feeds, Finishes, IsLast, IsNew, MayFinish, Taken, with_piece}
+use Rattle.krb_run.proofs.ConversionRuns.{after_text-both}
+use Rattle.krb_run.proofs.Pieces.{Feeds-made, Finishes-made, IsFed-used, IsNew-made}
+use Rattle.krb_run.proofs.SourceLineParts.{HasFirst, ended_of-last, ended_of-more, lines-empty, lines-from, lines-last, lines-more, parts_end, parts_grow}
+
+module _ {L : Type 0} (kind : LineKind L) where
+  -- ---- octets of a line came
+  -- what was read so far, and others
+  so_far : (old new : L) (octets written : List ℕ) (lines : List (List ℕ)) → Adds kind old octets new → after_text (written ++ kind.text old) (kind.rest old lines) ≡ after_text (written ++ kind.text new) (kind.rest new lines)
+  so_far old new octets written lines a = λ i. after_text (written ++ sym a.text i) (sym (a.rest lines) i)
+
+  -- those of a line that has not ended
+  read-grown : (old new : L) (stream written octets : List ℕ) → parts octets ≡ octets ∷ [] → Adds kind old octets new → HasRead kind old stream written → HasRead kind new (stream ++ octets) written
+  read-grown old new stream written octets alone a h = record {
+    ended = h.ended;
+    last = h.last ++ octets;
+    all = parts_grow stream h.ended h.last h.all octets alone;
+    holds = a.holds h.last h.holds;
+    goes_on = λ lines. ap (λ q. kind.all q (h.ended ++ lines)) a.request ∙ h.goes_on lines ∙ so_far old new octets written lines a;
+  }
+
+  -- those of one that has ended
+  read-ended : (old full new : L) (goes_on : Bool) (stream written octets : List ℕ) → parts (octets ++ 10 ∷ []) ≡ octets ∷ [] ∷ [] → Adds kind old octets full → EndsLine kind full new goes_on → HasRead kind old stream written → HasRead kind new (stream ++ (octets ++ 10 ∷ [])) written
+  read-ended old full new goes_on stream written octets alone a e h =
+      let last : List ℕ = h.last ++ octets in
+      record {
+        ended = h.ended ++ (h.last ++ octets) ∷ [];
+        last = [];
+        all = parts_end stream h.ended h.last h.all octets alone;
+        holds = e.holds;
+        goes_on = λ lines.
+            ap (kind.all (kind.request new)) (append_assoc h.ended (last ∷ []) lines)
+            ∙ ap (λ q. kind.all q (h.ended ++ last ∷ lines)) (e.request ∙ a.request)
+            ∙ h.goes_on (last ∷ lines)
+            ∙ so_far old full octets written (last ∷ lines) a
+            ∙ ap (after_text (written ++ kind.text full)) (e.rest last lines (a.holds h.last h.holds))
+            ∙ after_text-both (written ++ kind.text full) e.added (kind.rest new lines)
+            ∙ ap (λ t. after_text t (kind.rest new lines)) (append_assoc written (kind.text full) e.added ∙ ap (λ t. written ++ t) (sym e.text));
+      }
+
+  added_open : (old new : L) (octets : List ℕ) → Adds kind old octets new → GoesOn kind old → GoesOn kind new
+  added_open old new octets a g = (a.is_open g.0, subst (λ (c : Converted kind.Ending). kind.IsNoFault c.end) (sym (a.rest [])) g.1)
+
+  -- ---- a line of a piece ends
+  module _ (old full new : L) (rest : List ℕ) (size : ℕ) (first : HasFirst rest size) (a : Adds kind old (take size rest) full) where
+    listed_ended : (goes_on : Bool) → EndsLine kind full new goes_on → (stream written : List ℕ) → HasRead kind old stream written → HasRead kind new (stream ++ take (size + 1) rest) written
+    listed_ended goes_on e stream written h = subst (λ l. HasRead kind new (stream ++ l) written) (sym first.line) (read-ended old full new goes_on stream written (take size rest) first.alone a e h)
+
+    -- and others follow
+    pub fed-line : EndsLine kind full new true → IsFed (reader_kind kind) old rest (drop (size + 1) rest) new
+    fed-line e = IsFed-used (reader_kind kind) old new rest (size + 1) (omega (arith, first.within)) (e.request ∙ a.request) e.follows (omega (arith, e.few, a.few, length-take size rest, first.within)) (listed_ended true e)
+
+    -- and is at fault
+    pub takes-fault : EndsLine kind full new false → TakesPiece (reader_kind kind) old rest new false
+    takes-fault e = record {
+      used = size + 1;
+      within = omega (arith, first.within);
+      same = e.request ∙ a.request;
+      listed = listed_ended false e;
+      few = omega (arith, e.few, a.few, length-take size rest, first.within);
+      goes = e.follows;
+    }
+
+  -- it can be counted
+  pub line_few : (old full : L) (rest : List ℕ) (size : ℕ) → HasFirst rest size → Adds kind old (take size rest) full → kind.count old + length rest < 2 ^ 64 → kind.count full + 1 < 2 ^ 64
+  line_few old full rest size first a few = omega (arith, few, first.within, a.few, length-take size rest)
+
+  -- the rest of a piece came, in which no line ends
+  pub takes-rest : (old new : L) (rest : List ℕ) → parts rest ≡ rest ∷ [] → Adds kind old rest new → GoesOn kind old → TakesPiece (reader_kind kind) old rest new true
+  takes-rest old new rest alone a g = record {
+    used = length rest;
+    within = omega arith;
+    same = a.request;
+    listed = λ stream written h. subst (λ o. HasRead kind new (stream ++ o) written) (sym (take_all (length rest) rest (omega arith))) (read-grown old new stream written rest alone a h);
+    few = a.few;
+    goes = (refl, added_open old new rest a g);
+  }
+
+  -- ---- what was read so far
+  module _ (reader : L) (stream written : List ℕ) (h : HasRead kind reader stream written) where
+    -- it begins what becomes of any text that begins with the lines that ended
+    begins-lines : (text : List ℕ) (others : List (List ℕ)) → lines_of text ≡ h.ended ++ others → IsBeginning (written ++ kind.text reader) (kind.all (kind.request reader) (lines_of text)).text
+    begins-lines text others l = record { rest = (kind.rest reader others).text; parts = ap (λ (c : Converted kind.Ending). c.text) (ap (kind.all (kind.request reader)) l ∙ h.goes_on others) }
+
+    begins-more : (more : List ℕ) → IsBeginning (written ++ kind.text reader) (kind.all (kind.request reader) (lines_of (stream ++ more))).text
+    begins-more more = let m = lines-more stream h.ended h.last h.all more in begins-lines (stream ++ more) m.0 m.1
+
+    -- none of the lines that ended is at fault
+    right-read : GoesOn kind reader → IsRight kind (kind.request reader) stream
+    right-read g =
+        let ended : ended_of (parts stream) ≡ h.ended = ap ended_of h.all ∙ ended_of-last h.ended h.last in
+        let read : kind.all (kind.request reader) (ended_of (parts stream)) ≡ after_text (written ++ kind.text reader) (kind.rest reader []) = ap (kind.all (kind.request reader)) (ended ∙ sym (append-nil h.ended)) ∙ h.goes_on [] in
+        subst (λ (c : Converted kind.Ending). kind.IsNoFault c.end) (sym read) g.1
+
+  begins-waiting : (reader : L) (taken : Taken) → WaitsAfter (reader_kind kind) reader taken → Begins (line_rules kind (kind.request reader)) taken (kind.text reader)
+  begins-waiting reader taken w =
+      let h : HasRead kind reader taken.octets taken.written = w.listed in
+      let now : IsBeginning (taken.written ++ kind.text reader) (kind.all (kind.request reader) (lines_of taken.octets)).text = begins-lines reader taken.octets taken.written h taken.octets (without_empty_last (h.last ∷ [])) (ap without_empty_last h.all ∙ lines-from h.ended h.last []) in
+      record {
+        lines = begins-more reader taken.octets taken.written h;
+        rest = now.rest;
+        listing = sym now.parts;
+      }
+
+  -- ---- after a line that is at fault
+  module _ (reader : L) (taken : Taken) (s : IsStoppedAfter kind reader taken) where
+    stopped-all : (others : List (List ℕ)) → kind.all (kind.request reader) (s.read.ended ++ others) ≡ record { text = taken.written ++ kind.text reader; end = s.stopped.end }
+    stopped-all others =
+        s.read.goes_on others
+        ∙ ap (after_text (taken.written ++ kind.text reader)) (s.stopped.rest others)
+        ∙ ap (λ t. record { text = t; end = s.stopped.end }) (append-nil (taken.written ++ kind.text reader))
+
+    stopped-text : kind.all (kind.request reader) (lines_of taken.octets) ≡ record { text = taken.written ++ kind.text reader; end = s.stopped.end }
+    stopped-text =
+        let m = lines-more s.stream s.read.ended s.read.last s.read.all s.others in
+        ap (λ t. kind.all (kind.request reader) (lines_of t)) s.parts_of ∙ ap (kind.all (kind.request reader)) m.1 ∙ stopped-all m.0
+
+    stopped-wrong : IsRight kind (kind.request reader) taken.octets → ⊥
+    stopped-wrong right =
+        let m = ended_of-more s.stream s.read.ended s.read.last s.read.all s.others in
+        s.stopped.fault (subst (λ (c : Converted kind.Ending). kind.IsNoFault c.end) (ap (λ t. kind.all (kind.request reader) (ended_of (parts t))) s.parts_of ∙ ap (kind.all (kind.request reader)) m.1 ∙ stopped-all m.0) right)
+
+  stops-fault : (old new : L) (piece : List ℕ) (taken : Taken) → length piece ≤ 65536 → WaitsAfter (reader_kind kind) old taken → TakesPiece (reader_kind kind) old piece new false → IsStoppedAfter kind new (with_piece taken piece) × IsBeginning (taken.written ++ kind.text new) (kind.all (kind.request new) (lines_of (taken.octets ++ piece))).text
+  stops-fault old new piece taken short w f =
+      let used : List ℕ = take f.used piece in
+      let h : HasRead kind new (taken.octets ++ used) taken.written = f.listed taken.octets taken.written w.listed in
+      let all : taken.octets ++ piece ≡ (taken.octets ++ used) ++ drop f.used piece = sym (append_assoc taken.octets used (drop f.used piece) ∙ ap (λ l. taken.octets ++ l) (take-append-drop f.used piece)) in (
+        record {
+          stream = taken.octets ++ used;
+          others = drop f.used piece;
+          parts_of = all;
+          read = h;
+          stopped = f.goes;
+          stops = record { prefix = taken.octets; piece = piece; parts = refl; goes_on = subst (λ q. IsRight kind q taken.octets) (sym f.same) (right-read old taken.octets taken.written w.listed w.waits); short = short };
+        },
+        subst (λ o. IsBeginning (taken.written ++ kind.text new) (kind.all (kind.request new) (lines_of o)).text) (sym all) (begins-more new (taken.octets ++ used) taken.written h (drop f.used piece)),
+      )
+
+  -- ---- a reader of a text
+  -- nothing came yet
+  pub is_new : (reader : L) (request : kind.Request) → kind.request reader ≡ request → kind.Holds reader [] → ((lines : List (List ℕ)) → kind.all (kind.request reader) lines ≡ after_text (kind.text reader) (kind.rest reader lines)) → GoesOn kind reader → kind.count reader ≡ 0 → IsNew (line_rules kind request) request (listing_of (reader_kind kind) reader)
+  is_new reader request e holds all g none =
+      IsNew-made (reader_kind kind) begins-waiting e
+      (record {
+        listed = record { ended = []; last = []; all = refl; holds = holds; goes_on = all };
+        waits = g;
+        few = omega (arith, none);
+        short = omega arith;
+      })
+
+  -- a piece came
+  pub feeds : (old new : L) (piece : List ℕ) (goes_on : Bool) → length piece ≤ 65536 → TakesPiece (reader_kind kind) old piece new goes_on → Feeds (line_rules kind) (listing_of (reader_kind kind) old) piece (listing_of (reader_kind kind) new) goes_on
+  feeds old new piece goes_on short t = Feeds-made (reader_kind kind) begins-waiting stops-fault short t
+
+  -- ---- the end
+  -- there is no line that has not ended
+  pub ends-none : (reader : L) → HasLine kind reader false → EndsText kind reader reader
+  ends-none reader none = record { all = by }
+    where
+      by : (taken : Taken) (left : Option (List ℕ)) → IsLastOf (reader_kind kind) reader taken left → kind.all (kind.request reader) (lines_of taken.octets) ≡ after_text (taken.written ++ kind.text reader) (kind.rest reader [])
+      by taken left (inl (w, a)) =
+          let h : HasRead kind reader taken.octets taken.written = w.listed in
+          let empty : h.last ≡ [] = none w.waits.0 h.last h.holds in
+          ap (kind.all (kind.request reader)) (ap without_empty_last (h.all ∙ ap (λ l. h.ended ++ l ∷ []) empty) ∙ lines-empty h.ended ∙ sym (append-nil h.ended)) ∙ h.goes_on []
+      by taken left (inr s) =
+          stopped-text reader taken s
+          ∙ ap (λ t. record { text = t; end = s.stopped.end }) (sym (append-nil (taken.written ++ kind.text reader)))
+          ∙ ap (after_text (taken.written ++ kind.text reader)) (sym (s.stopped.rest []))
+
+  -- it ends
+  pub ends-line : (old new : L) (goes_on : Bool) → HasLine kind old true → EndsLine kind old new goes_on → EndsText kind old new
+  ends-line old new goes_on some e = record { all = by }
+    where
+      by : (taken : Taken) (left : Option (List ℕ)) → IsLastOf (reader_kind kind) old taken left → kind.all (kind.request old) (lines_of taken.octets) ≡ after_text (taken.written ++ kind.text new) (kind.rest new [])
+      by taken left (inl (w, a)) =
+          let h : HasRead kind old taken.octets taken.written = w.listed in
+          let full : h.last ≡ [] → ⊥ = λ none. some.0 (subst (kind.Holds old) none h.holds) in
+          ap (kind.all (kind.request old)) (ap without_empty_last h.all ∙ lines-last h.ended h.last full)
+          ∙ h.goes_on (h.last ∷ [])
+          ∙ ap (after_text (taken.written ++ kind.text old)) (e.rest h.last [] h.holds)
+          ∙ after_text-both (taken.written ++ kind.text old) e.added (kind.rest new [])
+          ∙ ap (λ t. after_text t (kind.rest new [])) (append_assoc taken.written (kind.text old) e.added ∙ ap (λ t. taken.written ++ t) (sym e.text))
+      by taken left (inr s) = absurd (some.1 s.stopped)
+
+  -- a line may end, and can be counted
+  pub record MayEnd (reader : L) : Type 0 where
+    pub is_open : kind.IsOpen reader
+    pub few : kind.count reader + 1 < 2 ^ 64
+
+  pub may_end : (reader : L) → HasLine kind reader true → MayFinish (listing_of (reader_kind kind) reader) → MayEnd reader
+  may_end reader some m = by m.last
+    where
+      by : IsLast (listing_of (reader_kind kind) reader) m.request m.taken m.left → MayEnd reader
+      by (inl (w, a)) = record { is_open = w.1.waits.0; few = omega (arith, w.1.few, m.few) }
+      by (inr s) = absurd (some.1 s.1.stopped)
+
+  -- what was read, and when
+  over : (reader : L) (taken : Taken) (left : Option (List ℕ)) → IsLastOf (reader_kind kind) reader taken left → (IsRight kind (kind.request reader) taken.octets → IsAtEnd left) × StopsInPiece (IsRight kind (kind.request reader)) taken.octets
+  over reader taken left (inl (w, a)) = (
+    λ right. a,
+    record { prefix = taken.octets; piece = []; parts = sym (append-nil taken.octets); goes_on = right-read reader taken.octets taken.written w.listed w.waits; short = omega arith },
+  )
+  over reader taken left (inr s) = (λ right. absurd (stopped-wrong reader taken s right), s.stops)
+
+  -- the text of the end was added
+  pub finishes : (old between new : L) (ended : kind.End) → EndsText kind old between → kind.text new ≡ kind.text between ++ (kind.rest between []).text → kind.ending_of ended ≡ (kind.rest between []).end → Finishes (line_rules kind) (listing_of (reader_kind kind) old) (listing_of (reader_kind kind) new) ended
+  finishes old between new ended e text is =
+      Finishes-made (reader_kind kind) old new ended
+      (λ taken left last.
+      let all : kind.all (kind.request old) (lines_of taken.octets) ≡ after_text (taken.written ++ kind.text between) (kind.rest between []) = e.all taken left last in
+      let o = over old taken left last in
+      record {
+        listing = ap (λ t. taken.written ++ t) text ∙ sym (append_assoc taken.written (kind.text between) (kind.rest between []).text) ∙ sym (ap (λ (c : Converted kind.Ending). c.text) all);
+        ends = record { ended_so = is ∙ sym (ap (λ (c : Converted kind.Ending). c.end) all); all_read = o.0; stops = o.1 };
+      })

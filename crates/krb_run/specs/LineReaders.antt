@@ -1,0 +1,107 @@
+-- What a reader of lines does with a text, whatever becomes of them.
+use Rattle.std.specs.Prelude.{ℕ, ◌≡◌, ◌+◌, ◌≤◌, Bool, true, false, List, [], ◌∷◌, ◌++◌, length, Option}
+use Rattle.krb_run.specs.Conversions.{Converted, after_text}
+use Rattle.krb_run.specs.TextLines.{parts, ended_of, lines_of}
+use Rattle.krb_run.specs.Runs.{StopsInPiece}
+use Rattle.krb_run.specs.ConversionRules.{conversion_rules}
+use Rattle.krb_run.specs.Pieces.{IsLastOf, Kind}
+use Rattle.krb_run.specs.Streams.{Rules, Taken}
+
+-- What is known of the readers of a kind.
+pub record LineKind (L : Type 0) : Type 1 where
+  -- what a reader is asked for, how its runs end, and what contracts see of that
+  pub Request : Type 0
+  pub End : Type 0
+  pub Ending : Type 0
+  pub ending_of : End → Ending
+  pub IsNoFault : Ending → Type 0
+  -- what lines become, all of a text and those after the ones that ended
+  pub all : Request → List (List ℕ) → Converted Ending
+  pub rest : L → List (List ℕ) → Converted Ending
+  pub request : L → Request
+  pub text : L → List ℕ
+  -- how many octets, or how much else, are counted
+  pub count : L → ℕ
+  -- it has the octets of the line that has not ended
+  pub Holds : L → List ℕ → Type 0
+  -- a line may end
+  pub IsOpen : L → Type 0
+
+-- octets of the line came
+pub record Adds {L : Type 0} (kind : LineKind L) (old : L) (octets : List ℕ) (new : L) : Type 0 where
+  pub request : kind.request new ≡ kind.request old
+  pub text : kind.text new ≡ kind.text old
+  pub rest : (lines : List (List ℕ)) → kind.rest new lines ≡ kind.rest old lines
+  pub holds : (line : List ℕ) → kind.Holds old line → kind.Holds new (line ++ octets)
+  pub is_open : kind.IsOpen old → kind.IsOpen new
+  pub few : kind.count new ≤ kind.count old + length octets
+
+-- others may follow
+abbrev pub GoesOn : {L : Type 0} → LineKind L → L → Type 0
+GoesOn kind reader = kind.IsOpen reader × kind.IsNoFault (kind.rest reader []).end
+
+-- no line more is read, after one that is at fault
+pub record IsStopped {L : Type 0} (kind : LineKind L) (reader : L) : Type 0 where
+  pub end : kind.Ending
+  pub rest : (lines : List (List ℕ)) → kind.rest reader lines ≡ record { text = []; end = end }
+  pub fault : kind.IsNoFault end → ⊥
+
+abbrev pub Follows : {L : Type 0} → LineKind L → L → Bool → Type 0
+Follows kind reader true = GoesOn kind reader
+Follows kind reader false = IsStopped kind reader
+
+-- the line has ended
+pub record EndsLine {L : Type 0} (kind : LineKind L) (old new : L) (goes_on : Bool) : Type 0 where
+  pub added : List ℕ
+  pub text : kind.text new ≡ kind.text old ++ added
+  pub request : kind.request new ≡ kind.request old
+  pub holds : kind.Holds new []
+  pub rest : (line : List ℕ) (lines : List (List ℕ)) → kind.Holds old line → kind.rest old (line ∷ lines) ≡ after_text added (kind.rest new lines)
+  pub few : kind.count new ≤ kind.count old + 1
+  pub follows : Follows kind new goes_on
+
+-- there are octets of a line that has not ended, and it may end
+abbrev pub HasLine : {L : Type 0} → LineKind L → L → Bool → Type 0
+HasLine kind reader true = (kind.Holds reader [] → ⊥) × (IsStopped kind reader → ⊥)
+HasLine kind reader false = kind.IsOpen reader → (line : List ℕ) → kind.Holds reader line → line ≡ []
+
+-- ---- a text
+-- Lines of a text have ended, and the others are still to come after the octets of the one that has not. What became of those that ended is in what was written and then in the text.
+pub record HasRead {L : Type 0} (kind : LineKind L) (reader : L) (stream written : List ℕ) : Type 0 where
+  pub ended : List (List ℕ)
+  pub last : List ℕ
+  pub all : parts stream ≡ ended ++ last ∷ []
+  pub holds : kind.Holds reader last
+  pub goes_on : (lines : List (List ℕ)) → kind.all (kind.request reader) (ended ++ lines) ≡ after_text (written ++ kind.text reader) (kind.rest reader lines)
+
+-- a text whose lines that end are not at fault
+abbrev pub IsRight : {L : Type 0} → (kind : LineKind L) → kind.Request → List ℕ → Type 0
+IsRight kind request text = kind.IsNoFault (kind.all request (ended_of (parts text))).end
+
+-- A line that ended in the last piece is at fault. What is after it was not read.
+pub record IsStoppedAfter {L : Type 0} (kind : LineKind L) (reader : L) (taken : Taken) : Type 0 where
+  pub stream : List ℕ
+  pub others : List ℕ
+  pub parts_of : taken.octets ≡ stream ++ others
+  pub read : HasRead kind reader stream taken.written
+  pub stopped : IsStopped kind reader
+  pub stops : StopsInPiece (IsRight kind (kind.request reader)) taken.octets
+
+abbrev pub line_rules : {L : Type 0} → (kind : LineKind L) → kind.Request → Rules kind.End
+line_rules kind request = conversion_rules (λ text. kind.all request (lines_of text)) (IsRight kind request) kind.ending_of
+
+abbrev pub reader_kind : {L : Type 0} → (kind : LineKind L) → Kind L kind.Request kind.End
+reader_kind kind = record {
+  rules = line_rules kind;
+  request = kind.request;
+  text = kind.text;
+  count = kind.count;
+  HasListed = HasRead kind;
+  IsWaiting = GoesOn kind;
+  IsRefused = IsStopped kind;
+  Stops = IsStoppedAfter kind;
+}
+
+-- the last line has ended, if there is one
+pub record EndsText {L : Type 0} (kind : LineKind L) (old new : L) : Type 0 where
+  pub all : (taken : Taken) (left : Option (List ℕ)) → IsLastOf (reader_kind kind) old taken left → kind.all (kind.request old) (lines_of taken.octets) ≡ after_text (taken.written ++ kind.text new) (kind.rest new [])

@@ -1,0 +1,98 @@
+//! Runs over files, which are read whole before anything is written.
+
+ghost use Rattle.std.specs.Prelude.{◌≡◌, ◌+◌, ◌^◌, ◌≤◌, ◌⊎◌, List, ℕ, Some, IfSome, IfErr, IfOk, OnErr, OnOk};
+ghost use Rattle.krb_run.specs.declared.transfer.ReaderState.TheVariants as reader;
+ghost use Rattle.krb_run.specs.Files.{ReadsSome, FileListing, ListsFile, FailsFile, IsDecidedByPrefix, MatchesReader, shown};
+ghost use Rattle.krb_run.specs.inner.FileRuns.{ReadsPrefix, IsOfReading};
+
+use crate::run::{PIECE_OCTETS, RunEnd, RunFault};
+use crate::transfer::{CountedReader, write_all};
+use krb_record::TextBuffer;
+use std::alloc::Global;
+use std::io::{Read, Write};
+
+/// What is written of a file or of a message, and how its run ends.
+#[derive(Drop)]
+pub struct FileText {
+    /// The lines, each with its line feed.
+    pub text: TextBuffer,
+    /// Whether something was refused.
+    pub end: RunEnd,
+}
+
+/// Returns how many of `count` octets are kept after the `kept` others: all of them, or those
+/// up to the greatest number.
+fn room(most: Option<usize>, kept: usize, count: usize) -> usize
+    requires { IfSome most (λ most. kept ≤ most) }
+    ensures few { result ≤ count }
+    ensures within { IfSome most (λ most. kept + result ≤ most) }
+    ensures all { (result ≡ count) ⊎ (most ≡ Some (kept + result)) }
+{
+    match most {
+        Some(most) => count.min(most - kept),
+        None => count,
+    }
+}
+
+/// Reads all that a reader has, and returns it, or the first `most` octets of it. The vector grows
+/// as the octets come.
+fn read_all<R: Read>(
+    alloc: Global,
+    counted: &mut CountedReader<'_, R>,
+    most: Option<usize>,
+) -> Result<Vec<u8>, RunFault>
+    requires open { counted.old.state ≡ reader.Open }
+    ensures same_reader { counted.new.reader.ghost_name ≡ counted.old.reader.ghost_name }
+    ensures prefix { IfOk result (λ file. ReadsPrefix (R.remaining counted.old.reader.now) (R.remaining counted.new.reader.now) most file.items) }
+    ensures ended { OnOk result (counted.new.state ≡ reader.Ended) }
+    ensures fault { IfErr result (IsOfReading counted.new.state) }
+    ensures taken { OnErr result (ReadsSome (R.remaining counted.old.reader.now) (R.remaining counted.new.reader.now)) }
+    ensures asks { counted.new.made ≤ 2 ^ 40 }
+{
+    let mut buffer = vec![in alloc; 0u8; PIECE_OCTETS]?;
+    let mut file = Vec::new(alloc);
+    'pieces: loop {
+        let count = counted.read(buffer.as_mut_slice())?;
+        if count == 0 {
+            return Ok(file);
+        }
+        let kept = room(most, file.len(), count);
+        file.extend_from_slice(&buffer[..kept])?;
+    }
+}
+
+/// A format of files that can be listed.
+pub trait FileFormat {
+    /// What the listing of a file is.
+    ghost Lists: { Self → List ℕ → FileListing → Type 0 };
+
+    /// Returns the number of octets of a file that decide its listing, if there is one: octets
+    /// after them change nothing.
+    fn most(&self) -> Option<usize>
+        ensures { IsDecidedByPrefix (Lists self.now) result };
+
+    /// Returns the lines of a file, or the line of its refusal.
+    fn list(&self, alloc: Global, file: &[u8]) -> Result<FileText, RunFault>
+        ensures listed { IfOk result (λ made. Lists self.now file.now (shown made)) }
+        ensures fault { IfErr result (λ e. e ≡ RunFault.Memory) };
+}
+
+/// Lists a file of a format. All that the reader has is read first, by at most 2^40 reads of 64 KiB
+/// each.
+pub fn run_file<R: Read, W: Write, F: FileFormat>(
+    alloc: Global,
+    counted: &mut CountedReader<'_, R>,
+    writer: &mut W,
+    format: &F,
+) -> Result<RunEnd, RunFault>
+    requires open { counted.old.state ≡ reader.Open }
+    ensures same_reader { counted.new.reader.ghost_name ≡ counted.old.reader.ghost_name }
+    ensures listed { IfOk result (ListsFile (F.Lists format.now) (R.remaining counted.old.reader.now) (R.remaining counted.new.reader.now) (W.contents writer.old) (W.contents writer.new)) }
+    ensures fault { IfErr result (FailsFile (F.Lists format.now) (R.remaining counted.old.reader.now) (R.remaining counted.new.reader.now) (W.contents writer.old) (W.contents writer.new)) }
+    ensures decided { IfErr result (MatchesReader counted.new.state) }
+{
+    let file = read_all(alloc, counted, format.most())?;
+    let listed = format.list(alloc, file.as_slice())?;
+    write_all(writer, listed.text.octets())?;
+    Ok(listed.end)
+}
