@@ -11,10 +11,11 @@
 //! the command line is wrong, and 3 if a read, a write or an allocation failed. The standard error
 //! has a line for each fault, and for each file that another command reads.
 //!
-//! The command line is read by `krb_words`, and `krb_tool`, `krb_file_run` and `krb_capture_run` list
-//! what a reader reads. `run_words` does what the words say, over any [`Host`](krb_host::Host): what
-//! opens the sources, and what is told of faults. [`System`] is the host of the program, of which
-//! contracts see nothing: its files, its clock, its standard input and its standard error.
+//! The command line is read by `krb_words`; `krb_tool`, `krb_file_run` and `krb_capture_run` list what
+//! a reader reads, and `krb_convert` turns it into JSON and back. `run_words` does what the words say,
+//! over any [`Host`](krb_host::Host): what opens the sources, and what is told of faults. [`System`] is
+//! the host of the program, of which contracts see nothing: its files, its clock, its standard input
+//! and its standard error.
 #![tactic(auto)]
 
 mod lister;
