@@ -61,7 +61,7 @@ fn read_all<R: Read>(
     }
 }
 
-/// A format of files that can be listed.
+/// A format of files that can be listed: what [`run_file`] asks of it.
 pub trait FileFormat {
     /// What the listing of a file is.
     ghost Lists: { Self → List ℕ → FileListing → Type 0 };
@@ -71,14 +71,16 @@ pub trait FileFormat {
     fn most(&self) -> Option<usize>
         ensures { IsDecidedByPrefix (Lists self.now) result };
 
-    /// Returns the lines of a file, or the line of its refusal.
+    /// Returns the lines of a file, or the line of its refusal. The one error is running out of
+    /// memory.
     fn list(&self, alloc: Global, file: &[u8]) -> Result<FileText, RunFault>
         ensures listed { IfOk result (λ made. Lists self.now file.now (shown made)) }
         ensures fault { IfErr result (λ e. e ≡ RunFault.Memory) };
 }
 
-/// Lists a file of a format. All that the reader has is read first, by at most 2^40 reads of 64 KiB
-/// each.
+/// Lists a file of a format, and returns how the run ended. All that the reader has is read first, by
+/// at most 2^40 reads of 64 KiB each, of which no more is kept than decides the listing. If a read
+/// fails or memory runs out, nothing is written.
 pub fn run_file<R: Read, W: Write, F: FileFormat>(
     alloc: Global,
     counted: &mut CountedReader<'_, R>,

@@ -10,7 +10,8 @@ ghost use Rattle.krb_run.specs.Streams.{AcceptsPiece, MayFinish};
 use crate::line::line_length;
 use crate::run::RunFault;
 
-/// What reads the lines of a text, each as its octets come.
+/// What reads the lines of a text, each as its octets come: what [`feed_lines`] and [`end_lines`] ask
+/// of it. The one error of each call is running out of memory.
 pub trait ReadLines {
     /// What contracts see of it.
     ghost kind: { LineKind Self };
@@ -33,8 +34,9 @@ pub trait ReadLines {
         ensures { HasLine kind self.now result };
 }
 
-/// Takes the next piece of a text, whose lines end at line feeds, and returns whether others may
-/// follow. After a line that lets none follow no octet more is looked at.
+/// Takes the next piece of a text, at most 65536 octets, whose lines end at line feeds, and returns
+/// whether others may follow. After a line that lets none follow no octet more is looked at. The one
+/// error is running out of memory.
 pub fn feed_lines<L: ReadLines>(lines: &mut L, piece: &[u8]) -> Result<bool, RunFault>
     requires waits { AcceptsPiece (listing_of (reader_kind L.kind) lines.old) }
     requires short { length piece.now ≤ 65536 }
@@ -53,7 +55,7 @@ pub fn feed_lines<L: ReadLines>(lines: &mut L, piece: &[u8]) -> Result<bool, Run
     Ok(true)
 }
 
-/// Ends the last line of a text, unless it is empty.
+/// Ends the last line of a text, unless it is empty. The one error is running out of memory.
 pub fn end_lines<L: ReadLines>(lines: &mut L) -> Result<(), RunFault>
     requires { MayFinish (listing_of (reader_kind L.kind) lines.old) }
     ensures ended { OnOk result (EndsText L.kind lines.old lines.new) }
@@ -73,7 +75,7 @@ fn is_blank(octet: u8) -> bool
     matches!(octet, b' ' | b'\t' | b'\r')
 }
 
-/// Returns whether a line has blanks alone.
+/// Returns whether a line has blanks alone: spaces, tabs and CR. An empty one has.
 pub fn is_blank_line(line: &[u8]) -> bool
     ensures { result ≡ is_blank_line line.now }
 {

@@ -9,7 +9,8 @@ use crate::transfer::{CountedReader, write_all};
 use std::alloc::Global;
 use std::io::{Read, Write};
 
-/// A lister of a stream whose octets come in pieces.
+/// A lister of a stream whose octets come in pieces: what [`list_all`] asks of it. The one error of
+/// each call is running out of memory.
 pub trait ListStream: Drop {
     /// What it is asked for.
     type Request;
@@ -27,8 +28,8 @@ pub trait ListStream: Drop {
     fn new(alloc: Global, request: Self::Request) -> Self
         ensures { IsNew (rules request) request (listing result) };
 
-    /// Takes the next piece of the stream, adds the lines of its frames, and returns whether the
-    /// stream goes on.
+    /// Takes the next piece of the stream, at most 65536 octets, adds the lines that it completes, and
+    /// returns whether the stream goes on.
     fn feed(&mut self, piece: &[u8]) -> Result<bool, RunFault>
         requires waits { AcceptsPiece (listing self.old) }
         requires short { length piece.now ≤ 65536 }
@@ -73,8 +74,11 @@ fn feed_next<L: ListStream, R: Read>(
     lister.feed(&buffer[..count])
 }
 
-/// Lists a stream from its first octet. Its lines are written before its reader is asked
-/// again.
+/// Lists a stream from its first octet, by a new lister, and returns how the run ended. The reader is
+/// asked at most 2^40 times, for 64 KiB each, and the lines of what came are written before it is
+/// asked again; it is not asked again after an error, its end, or the piece at which the stream stops.
+/// If a read fails or memory runs out, the lines that were written are those of the first pieces, and
+/// if a write fails, the first octets of the listing.
 pub fn list_all<L: ListStream, R: Read, W: Write>(
     alloc: Global,
     request: L::Request,

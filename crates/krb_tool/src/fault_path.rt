@@ -35,8 +35,8 @@ fn shown_path(
     path(alloc, profile, size, front)
 }
 
-/// Returns the path in the frame that a decoder refused or has a part of, as a message by a profile,
-/// if records of the form show it.
+/// Returns the path of the field at fault in the frame that a decoder refused or has a part of, as a
+/// message by a profile, if records of the form show it. The one error is running out of memory.
 pub fn frame_path(
     alloc: Global,
     form: Form,
@@ -63,7 +63,8 @@ pub(crate) fn frame_extent(offset: u64, decoder: &Decoder) -> Extent
     Extent { at: offset, length }
 }
 
-/// Returns the path in octets that are refused as a message, if records of the form show it.
+/// Returns the path of the field at fault in octets that are refused as a message, if records of the
+/// form show it. Of more than 2147483647 octets there is none. The one error is running out of memory.
 pub fn refused_path(
     alloc: Global,
     form: Form,

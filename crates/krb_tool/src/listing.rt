@@ -29,7 +29,8 @@ pub(crate) struct Request {
     pub keep_going: bool,
 }
 
-/// Returns the decoder of a stream with no octets yet.
+/// Returns the decoder of a stream with no octets yet, by a profile and the greatest length of a
+/// frame.
 pub fn start_stream(alloc: Global, limit: Limit, profile: Profile) -> SkippingDecoder
     ensures { IsStart profile limit result }
 {
