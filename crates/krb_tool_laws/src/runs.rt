@@ -21,9 +21,9 @@ pub fn upgrade_is_listed_alike()
     upgrade_holds_the_same();
 }
 
-/// A stream all of which [`run_decode`](krb_convert::run_decode) decodes comes back octet for octet when
-/// [`run_encode`](krb_convert::run_encode) encodes the lines, by the same profile and limit; and so does
-/// a message by [`run_decode_unframed`](krb_convert::run_decode_unframed) and
+/// A stream all of which [`run_decode`](krb_convert::run_decode) decodes comes back octet for octet
+/// when [`run_encode`](krb_convert::run_encode) encodes the lines, by the same profile and limit; and
+/// so does a message by [`run_decode_unframed`](krb_convert::run_decode_unframed) and
 /// [`run_encode_unframed`](krb_convert::run_encode_unframed).
 pub fn decoded_comes_back()
     ensures { DecodedComesBack }
@@ -58,10 +58,11 @@ pub fn refusals_are_at_offsets()
     refused_at_offsets();
 }
 
-/// What [`run_encode`](krb_convert::run_encode) writes of any text is a stream of messages of the profile,
-/// none of more octets than the limit: nothing in it is refused, and it is decoded to the line of
-/// each message, if all are encrypted. What [`run_encode_unframed`](krb_convert::run_encode_unframed) writes
-/// is nothing or one such message, and the message if it ends without a fault.
+/// What [`run_encode`](krb_convert::run_encode) writes of any text is a stream of messages of the
+/// profile, none of more octets than the limit: nothing in it is refused, and it is decoded to the line
+/// of each message, if all are encrypted. What
+/// [`run_encode_unframed`](krb_convert::run_encode_unframed) writes is nothing or one such message, and
+/// the message if it ends without a fault.
 pub fn encoded_is_messages()
     ensures { EncodedIsMessages }
 {
@@ -69,16 +70,18 @@ pub fn encoded_is_messages()
 }
 
 /// What is not encrypted is not decoded: streams that differ in nothing but the ciphers of
-/// EncryptedDatas of encryption type 0 become the same lines by [`run_decode`](krb_convert::run_decode),
-/// with the same end, and so do messages by [`run_decode_unframed`](krb_convert::run_decode_unframed).
+/// EncryptedDatas of encryption type 0 become the same lines by
+/// [`run_decode`](krb_convert::run_decode), with the same end, and so do messages by
+/// [`run_decode_unframed`](krb_convert::run_decode_unframed).
 pub fn unencrypted_is_not_decoded()
     ensures { UnencryptedIsNotDecoded }
 {
     unencrypted_changes_nothing();
 }
 
-/// What [`run_decode`](krb_convert::run_decode) and [`run_decode_unframed`](krb_convert::run_decode_unframed)
-/// write of any octets is lines of JSON, of printable ASCII, in which no object has a name twice.
+/// What [`run_decode`](krb_convert::run_decode) and
+/// [`run_decode_unframed`](krb_convert::run_decode_unframed) write of any octets is lines of JSON, of
+/// printable ASCII, in which no object has a name twice.
 pub fn decoded_is_lines()
     ensures { DecodedIsLines }
 {
