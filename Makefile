@@ -95,7 +95,7 @@ uninstall:
 # The merge gate alone, and the processor minutes of each of its parts.
 gate:
 	mkdir -p bin
-	tools/minutes bin/minutes rt ci
+	tools/minutes bin/minutes tools/gate
 	cat bin/minutes
 
 # All that is tested: the merge gate, and the built program on tests/data.

@@ -32,10 +32,6 @@ def term_name(it):
     return it.term if "_" in it.term else f"{it.term}_term"
 
 
-# What the clauses that an impl of `View` inherits are written in.
-INHERITED = " ^ < true length AreContents AreNoContents IfElse\n"
-
-
 def ghost_uses(module, it, body):
     """The lines that bring in what the contracts of a type need."""
     term = it.term if it.is_parametric or it.term == term_name(it) else f"{it.term} as {term_name(it)}"
@@ -54,7 +50,7 @@ def ghost_uses(module, it, body):
         ("Rattle.krb_msg.specs.inner.PrefixFree", ["begins", "type_is_prefix_free"]),
         ("Rattle.krb_msg.specs.inner.RoundTrips", [f"{it.term}-back"]),
     ]
-    return brought(body + INHERITED * (not it.is_parametric), homes, "ghost ")
+    return brought(body, homes, "ghost ")
 
 
 def about(it):

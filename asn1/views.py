@@ -2,7 +2,7 @@
 
 from model import is_plain, owned
 from module import Refused, Sequence
-from structs import BASIC, INHERITED, halves, in_one_step, layout_type, structs, term_name, view_impl
+from structs import BASIC, halves, in_one_step, layout_type, structs, term_name, view_impl
 from text import brought, doc, fill
 
 DESCRIBED = "End FlagsView ItemsView Optional Required Sequence Tagged View view_items"
@@ -30,7 +30,7 @@ def ghost_uses(it, body):
         (f"Rattle.{it.crate}.specs.Grammar", [it.term]),
         (f"Rattle.{it.crate}.specs.Types", [f"{it.term}_view_value", f"IsValid{it.rust}"]),
     ]
-    return brought(body + INHERITED, homes, "ghost ")
+    return brought(body, homes, "ghost ")
 
 
 def layout(it):

@@ -11,7 +11,8 @@
 //! A flow is of Kerberos if one of its ports is 88 or another one that is given, and else of
 //! changes of passwords (RFC 3244) if one of them is 464. A UDP datagram is a message; what one end
 //! of a TCP connection sends is a stream of frames (RFC 4120, 7.2.2), in which one goes on after
-//! refusals. Nothing here reads a file: `krb_packet` does, and `krb_tool` runs over both.
+//! refusals. Nothing here reads a file: `krb_packet` does, and `krb_capture_run` runs over
+//! both.
 //!
 //! `specs/Laws` says that the records of a direction are those of its stream, whatever way that was
 //! cut into segments and whatever else the capture has; `krb_capture_laws` proves it.

@@ -13,7 +13,8 @@
 //!
 //! Caches of versions 1 and 2 are refused. Nothing is decrypted, no key is used, and no time, flag
 //! or encryption type is checked; tickets are judged only by [`ticket_of`] and [`ticket_view_of`],
-//! and not when a cache is read. Nothing here opens a file: `krb_tool` lists what a reader reads.
+//! and not when a cache is read. Nothing here opens a file: `krb_file_run` lists what a reader
+//! reads.
 //!
 //! `specs/` reads from the bottom: `Spelling` (which octets spell a cache), `Reading` (a file from
 //! left to right, up to the first fault), `Writing` (why a cache cannot be written),

@@ -1,13 +1,10 @@
 //! The messages of a stream as lines of JSON.
 
-ghost use Rattle.std.specs.Prelude.{◌≡◌, ◌+◌, ◌<◌, ◌^◌, length, [], IfErr, IfOk, IsSome, OnOk, None};
-ghost use Rattle.krb_json.specs.Unencrypted.{unencrypted_in};
+ghost use Rattle.std.specs.Prelude.{◌≡◌, ◌+◌, ◌<◌, ◌^◌, length, [], IfOk, IsSome, OnOk, None};
 ghost use Rattle.krb_msg.specs.Grammar.{messages};
-ghost use Rattle.krb_msg.specs.Views.{message_of_der};
 ghost use Rattle.krb_frame.specs.Decoding.{found};
 ghost use Rattle.krb_convert.specs.Decoding.{ending_of, ending_at};
 ghost use Rattle.krb_tool.specs.Paths.{frame_path};
-ghost use Rattle.krb_run.specs.declared.run.RunFault.TheVariants as fault;
 ghost use Rattle.krb_convert.specs.inner.JsonLines.{AddsLine, IsOfMessage, PutsLine, ReceivesEntry, json_lines};
 ghost use Rattle.krb_tool.specs.inner.Listers.{lister_kind};
 ghost use Rattle.krb_run.specs.Pieces.{listing_of};

@@ -1,7 +1,7 @@
 //! A run over one message that is all of a source, without the octets of a length: a datagram, or
 //! the file of a KRB-CRED.
 
-ghost use Rattle.std.specs.Prelude.{◌≡◌, ◌<◌, ◌≤◌, ◌^◌, length, [], IfErr, IfOk, OnErr};
+ghost use Rattle.std.specs.Prelude.{◌≡◌, ◌<◌, ◌^◌, length, [], IfErr, IfOk, OnErr};
 ghost use Rattle.krb_json.specs.Unencrypted.{unencrypted_in};
 ghost use Rattle.krb_msg.specs.Views.{message_of_der};
 ghost use Rattle.krb_convert.specs.Decoding.{All, line_and, decoded_whole, DecodesWhole, FailsToDecodeWhole};

@@ -43,7 +43,7 @@ mod judging;
 mod messages;
 mod scanning;
 
-ghost use Rattle.std.specs.Prelude.{◌^◌, ◌<◌, length};
+ghost use Rattle.std.specs.Prelude.{◌<◌, length};
 
 use again::{Work, report_frames};
 use ends::{Failed, NONE_FAILED, Run, failures};

@@ -1,6 +1,6 @@
 //! Vectors that are kept to be used again.
 
-ghost use Rattle.std.specs.Prelude.{◌≡◌, ◌≤◌, [], length, IfOk};
+ghost use Rattle.std.specs.Prelude.{◌≡◌, ◌≤◌, [], IfOk};
 
 use crate::kstring::KString;
 use crate::many::Many;

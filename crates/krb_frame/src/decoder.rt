@@ -96,7 +96,6 @@ ghost use Rattle.krb_frame.specs.Feeds.{Feeds, Clears};
 ghost use Rattle.krb_frame.specs.GoingOn.{GivesUp, rest_to_come};
 ghost use Rattle.krb_frame.specs.inner.Deliveries.{Completes};
 ghost use Rattle.krb_frame.specs.inner.Phases.{end_after, phase_of, IsLengthJudged, IsPut, IsScanned, FeedsLength};
-ghost use Rattle.krb_frame.specs.declared.decoder.Phase.TheVariants as phase;
 
 impl Decoder {
     /// Creates a decoder of a stream with no octets yet, by the lenient profile. It

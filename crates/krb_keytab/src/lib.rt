@@ -10,7 +10,7 @@
 //!
 //! Keytabs of format 0x0501 are refused. No key is used, and no time, name or encryption type is
 //! checked; what follows a key is kept, and only its first four octets are read ([`Entry::kvno`]).
-//! Nothing here opens a file: `krb_tool` lists what a reader reads.
+//! Nothing here opens a file: `krb_file_run` lists what a reader reads.
 //!
 //! `specs/` reads from the bottom: `Holes` (holes), `Spelling` (which octets spell a keytab),
 //! `Reading` (a file from left to right, up to the first fault), `Writing` (what is written, and

@@ -1,8 +1,7 @@
 //! Reading keytabs.
 
 ghost use Rattle.std.specs.Prelude.{◌≡◌, ℕ, ◌+◌, None, Some, Ok, IfOk, IfErr, OnOk, OnErr};
-ghost use Rattle.std.specs.Int.{w16, w32};
-ghost use Rattle.krb_file.specs.Fields.{Agrees, IsFaultIn, ended, limited, within};
+ghost use Rattle.krb_file.specs.Fields.{Agrees, IsFaultIn, within};
 ghost use Rattle.krb_file.specs.FieldReaders.{Follows, FetchesTo, Stays, Keeps, FetchesToAnnounced, source_at};
 ghost use Rattle.krb_keytab.specs.Spelling.{ReadAs};
 ghost use Rattle.krb_keytab.specs.declared.value.Keytab.{Keytab as KeytabValue};

@@ -1,6 +1,6 @@
 //! What is printed of credentials.
 
-ghost use Rattle.std.specs.Prelude.{◌≡◌, ◌++◌, [], ◌∷◌, false, IfOk, OnOk, codes, decimal, length, pos, string_bytes};
+ghost use Rattle.std.specs.Prelude.{◌≡◌, ◌++◌, false, IfOk, OnOk, codes, decimal, length, pos, string_bytes};
 ghost use Rattle.krb_der.specs.Reasons.{reason_name, reason_number};
 ghost use Rattle.krb_msg.specs.Types.{IsValidTicket, ticket_of_view};
 ghost use Rattle.krb_ccache.specs.Tickets.{StateLists, state_viewed};

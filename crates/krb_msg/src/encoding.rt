@@ -1,6 +1,6 @@
 //! Messages as octets.
 
-ghost use Rattle.std.specs.Prelude.{◌≡◌, ◌+◌, ◌<◌, ◌≤◌, ◌++◌, ◌↔◌, length, min, IfOk, IfSome, IsNone, IsErrOf};
+ghost use Rattle.std.specs.Prelude.{◌≡◌, ◌<◌, ◌↔◌, length, IfOk, IfSome, IsNone, IsErrOf};
 ghost use Rattle.std.specs.Vec.{vec_len, vec_capacity};
 ghost use Rattle.krb_der.specs.declared.profile.Profile.TheVariants.{Lenient};
 ghost use Rattle.krb_msg.specs.Term.{Fits};

@@ -1,10 +1,9 @@
 //! HostAddress. `asn1/generate` wrote this from `asn1/krb5.asn1`.
 
-ghost use Rattle.std.specs.Prelude.{◌≡◌, refl, ◌^◌, ◌<◌, true, length};
+ghost use Rattle.std.specs.Prelude.{◌≡◌, refl, true};
 ghost use Rattle.krb_msg.specs.Term.{der, Fits, tag_of};
 ghost use Rattle.krb_msg.specs.Grammar.{host_address};
 ghost use Rattle.krb_msg.specs.Types.{host_address_value, host_address_of, host_address_view_value, host_address_of_view, IsValidHostAddress};
-ghost use Rattle.krb_msg.specs.Viewed.{AreContents, AreNoContents, IfElse};
 ghost use Rattle.krb_msg.specs.inner.PrefixFree.{begins, type_is_prefix_free};
 ghost use Rattle.krb_msg.specs.inner.RoundTrips.{host_address-back};
 

@@ -1,10 +1,9 @@
 //! KDC-REQ-BODY. `asn1/generate` wrote this from `asn1/krb5.asn1`.
 
-ghost use Rattle.std.specs.Prelude.{◌≡◌, refl, ◌^◌, ◌<◌, true, length};
+ghost use Rattle.std.specs.Prelude.{◌≡◌, refl, true};
 ghost use Rattle.krb_msg.specs.Term.{der, Fits, tag_of};
 ghost use Rattle.krb_msg.specs.Grammar.{kdc_req_body};
 ghost use Rattle.krb_msg.specs.Types.{kdc_req_body_value, kdc_req_body_of, kdc_req_body_view_value, kdc_req_body_of_view, IsValidKdcReqBody};
-ghost use Rattle.krb_msg.specs.Viewed.{AreContents, AreNoContents, IfElse};
 ghost use Rattle.krb_msg.specs.inner.PrefixFree.{begins, type_is_prefix_free};
 ghost use Rattle.krb_msg.specs.inner.RoundTrips.{kdc_req_body-back};
 

@@ -1,6 +1,6 @@
 //! Messages. `asn1/generate` wrote this from `asn1/krb5.asn1`.
 
-ghost use Rattle.std.specs.Prelude.{◌≡◌, ◌+◌, ◌≤◌, ◌++◌, length};
+ghost use Rattle.std.specs.Prelude.{◌≡◌, ◌+◌, ◌≤◌, length};
 ghost use Rattle.std.specs.Vec.{vec_len, vec_capacity};
 ghost use Rattle.krb_der.specs.Puts.{Puts};
 ghost use Rattle.krb_msg.specs.Notes.{notes_of};

@@ -1,10 +1,10 @@
 //! PA-DATA. `asn1/generate` wrote this from `asn1/krb5.asn1`.
 
-ghost use Rattle.std.specs.Prelude.{◌≡◌, refl, ◌^◌, ◌<◌, true, length, map};
+ghost use Rattle.std.specs.Prelude.{◌≡◌, refl, true, map};
 ghost use Rattle.krb_msg.specs.Term.{der, Fits, tag_of};
 ghost use Rattle.krb_msg.specs.Grammar.{pa_data};
 ghost use Rattle.krb_msg.specs.Types.{pa_data_value, pa_data_of, pa_data_view_value, pa_data_of_view, IsValidPaData};
-ghost use Rattle.krb_msg.specs.Viewed.{AreContents, AreNoContents, IfElse, items_of};
+ghost use Rattle.krb_msg.specs.Viewed.{items_of};
 ghost use Rattle.krb_msg.specs.inner.PrefixFree.{begins, type_is_prefix_free};
 ghost use Rattle.krb_msg.specs.inner.RoundTrips.{pa_data-back};
 

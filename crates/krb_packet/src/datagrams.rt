@@ -1,6 +1,6 @@
 //! Datagrams that are put together, found by what their fragments have in common.
 
-ghost use Rattle.std.specs.Prelude.{◌≡◌, ◌++◌, ◌<◌, None, Some, Err, [], ◌∷◌, length, map, remove, slice_index, if◌then◌else◌, is_some, IfOk, OnErr, OnOk};
+ghost use Rattle.std.specs.Prelude.{◌≡◌, ◌++◌, ◌<◌, None, Some, Err, [], ◌∷◌, length, map, remove, slice_index, IfOk, OnErr, OnOk};
 ghost use Rattle.std.specs.List.{slice_index_or};
 ghost use Rattle.krb_packet.specs.Fragments.{no_fragments, no_fragments_of, whole_of, with_fragment_at, without_first, finished, step, unread};
 ghost use Rattle.krb_packet.specs.Table.{pending_in, table_of};

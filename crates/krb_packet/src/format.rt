@@ -1,6 +1,6 @@
 //! The formats of capture files, which differ in their first four octets.
 
-ghost use Rattle.std.specs.Prelude.{◌≡◌, ◌^◌, ◌<◌, ◌≤◌, OnOk, [], Ok, Err};
+ghost use Rattle.std.specs.Prelude.{◌≡◌, ◌^◌, ◌<◌, ◌≤◌, OnOk, Ok, Err};
 ghost use Rattle.krb_file.specs.FieldReaders.{Follows, Stays, Keeps};
 ghost use Rattle.krb_file.specs.Fields.{fails_at, fails_begun, with_part};
 ghost use Rattle.krb_file.specs.declared.field_name.FilePart.TheVariants as parts;

@@ -60,7 +60,7 @@ impl Model for Fragments {
     ghost invariant = { λ fragments. IsIndexed fragments.datagrams };
 }
 
-ghost use Rattle.std.specs.Prelude.{◌≡◌, ◌+◌, if◌then◌else◌, None, is_some, IfOk, OnErr, OnOk};
+ghost use Rattle.std.specs.Prelude.{◌≡◌, if◌then◌else◌, None, is_some, IfOk, OnErr, OnOk};
 ghost use Rattle.krb_packet.specs.Fragments.{no_fragments_of, plus, pending_with, whole_of, no_fragments, step, unread, contents_of_whole};
 
 impl Pending {

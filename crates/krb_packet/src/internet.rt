@@ -1,7 +1,6 @@
 //! The headers of IPv4 (RFC 791, 3.1) and IPv6 (RFC 8200, 3 and 4).
 
 ghost use Rattle.std.specs.Prelude.{◌≡◌};
-ghost use Rattle.std.specs.Option.{option_map};
 ghost use Rattle.krb_packet.specs.declared.contents.Contents.TheVariants as kinds;
 ghost use Rattle.krb_packet.specs.Contents.{announced, ipv4, options, fragment_header, is_whole, is_skipped, extension, extensions, fragment, fragment_or_other, is_transport, may_lead_to_transport, after_headers, ipv6};
 

@@ -1,9 +1,9 @@
 //! ETYPE-INFO2-ENTRY. `asn1/generate` wrote this from `asn1/padata.asn1`.
 
-ghost use Rattle.std.specs.Prelude.{◌≡◌, ◌^◌, ◌<◌, true, length};
+ghost use Rattle.std.specs.Prelude.{◌≡◌, true};
 ghost use Rattle.krb_msg.specs.Term.{tag_of};
 ghost use Rattle.krb_msg.specs.Basic.{sequence_of};
-ghost use Rattle.krb_msg.specs.Viewed.{AreContents, AreNoContents, AreViewed, IfElse, items_of};
+ghost use Rattle.krb_msg.specs.Viewed.{AreViewed, items_of};
 ghost use Rattle.krb_padata.specs.Grammar.{etype_info2_entry};
 ghost use Rattle.krb_padata.specs.Types.{etype_info2_entry_view_value, IsValidEtypeInfo2Entry};
 

@@ -1,8 +1,7 @@
 //! PA-FOR-USER. `asn1/generate` wrote this from `asn1/padata.asn1`.
 
-ghost use Rattle.std.specs.Prelude.{◌≡◌, ◌^◌, ◌<◌, true, length};
+ghost use Rattle.std.specs.Prelude.{◌≡◌, true};
 ghost use Rattle.krb_msg.specs.Term.{tag_of};
-ghost use Rattle.krb_msg.specs.Viewed.{AreContents, AreNoContents, IfElse};
 ghost use Rattle.krb_padata.specs.Grammar.{pa_for_user};
 ghost use Rattle.krb_padata.specs.Types.{pa_for_user_view_value, IsValidPaForUser};
 

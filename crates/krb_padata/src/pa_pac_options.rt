@@ -1,8 +1,7 @@
 //! PA-PAC-OPTIONS. `asn1/generate` wrote this from `asn1/padata.asn1`.
 
-ghost use Rattle.std.specs.Prelude.{◌≡◌, ◌^◌, ◌<◌, true, length};
+ghost use Rattle.std.specs.Prelude.{◌≡◌, true};
 ghost use Rattle.krb_msg.specs.Term.{tag_of};
-ghost use Rattle.krb_msg.specs.Viewed.{AreContents, AreNoContents, IfElse};
 ghost use Rattle.krb_padata.specs.Grammar.{pa_pac_options};
 ghost use Rattle.krb_padata.specs.Types.{pa_pac_options_view_value, IsValidPaPacOptions};
 

@@ -81,7 +81,7 @@ module _ {L Q E : Type 0} (kind : Kind L Q E) where
   pub may_wait : {lister : L} → AcceptsPiece (listing_of kind lister) → kind.IsWaiting lister
   may_wait m = m.waits.1.waits
 
-  -- the frames of a piece can be counted
+  -- what is listed of a piece can be counted
   pub few_left : {initial now : L} {piece rest : List ℕ} → AcceptsPiece (listing_of kind initial) → length piece ≤ 65536 → IsFed kind initial piece rest now → kind.count now + length rest < 2 ^ 64
   few_left {initial = initial} m short i = let few : kind.count initial ≤ 65536 * m.taken.pieces = m.waits.1.few in omega (arith, m.few, i.few)
 

@@ -6,11 +6,11 @@ use Rattle.krb_run.specs.Streams.{Rules, Taken, Listing}
 -- What is known of the listers of a kind, and of how their runs end.
 pub record Kind (L Q E : Type 0) : Type 1 where
   pub rules : Q → Rules E
-  -- what a lister was asked for, its lines that are not written yet, and how many frames, or how much else, it has listed
+  -- what a lister was asked for, its lines that are not written yet, and how much it has listed
   pub request : L → Q
   pub text : L → List ℕ
   pub count : L → ℕ
-  -- The frames that its decoder cleared of a stream are listed. Their lines are those that were written and then its own.
+  -- What it has used of a stream is listed. The lines are those that were written and then its own.
   pub HasListed : L → List ℕ → List ℕ → Type 0
   -- it needs more octets
   pub IsWaiting : L → Type 0
@@ -19,7 +19,7 @@ pub record Kind (L Q E : Type 0) : Type 1 where
   -- and what came then
   pub Stops : L → Taken → Type 0
 
--- A piece came, of which this rest is not used yet, and the frames that are whole are listed.
+-- A piece came, of which this rest is not used yet, and what is whole is listed.
 pub record IsFed {L Q E : Type 0} (kind : Kind L Q E) (initial : L) (piece rest : List ℕ) (now : L) : Type 0 where
   pub place : rest ≡ drop (length piece - length rest) piece
   pub within : length rest ≤ length piece
@@ -33,7 +33,7 @@ abbrev pub Goes : {L Q E : Type 0} → Kind L Q E → L → ℕ → ℕ → Bool
 Goes kind lister size used true = (used ≡ size) × kind.IsWaiting lister
 Goes kind lister size used false = kind.IsRefused lister
 
--- a piece came, and the frames that are whole now are listed
+-- a piece came, and what is whole now is listed
 pub record TakesPiece {L Q E : Type 0} (kind : Kind L Q E) (old : L) (piece : List ℕ) (new : L) (goes_on : Bool) : Type 0 where
   pub used : ℕ
   pub within : used ≤ length piece

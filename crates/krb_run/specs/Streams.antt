@@ -5,7 +5,7 @@ use Rattle.krb_run.specs.declared.run.RunFault.{RunFault}
 use Rattle.krb_run.specs.declared.run.RunFault.TheVariants as fault
 use Rattle.krb_run.specs.Runs.{WritesPrefix}
 
--- What is written of octets: their listing, or the lines of their first frames. And how a run ends that wrote the listing, with what its reader has left.
+-- What is written of octets: their listing, or its first lines. And how a run ends that wrote the listing, with what its reader has left.
 pub record Rules (E : Type 0) : Type 1 where
   pub IsListing : List ℕ → List ℕ → Type 0
   pub AreLines : List ℕ → List ℕ → Type 0
@@ -32,7 +32,7 @@ pub record Listing (Q : Type 0) : Type 1 where
   pub Stops : Q → Taken → Type 0
 
 -- ---- what a lister does
--- The lines so far are those of first frames, whatever comes next, and the listing of the octets begins with them.
+-- The lines so far are first lines, whatever comes next, and the listing of the octets begins with them.
 pub record Begins {E : Type 0} (rules : Rules E) (taken : Taken) (text : List ℕ) : Type 0 where
   pub lines : (more : List ℕ) → rules.AreLines (taken.octets ++ more) (taken.written ++ text)
   pub rest : List ℕ
@@ -95,7 +95,7 @@ abbrev pub Finishes : {Q E : Type 0} → (Q → Rules E) → Listing Q → Listi
 Finishes {Q} rules old new ended = (request : Q) (taken : Taken) (left : Option (List ℕ)) → IsLast old request taken left → EndsListing (rules request) taken.octets (taken.written ++ new.text) left ended
 
 -- ---- what a run does
--- If a run fails by a write, a prefix of the listing of what was read is written, and else a prefix of the lines of the first frames.
+-- If a run fails by a write, a prefix of the listing of what was read is written, and else a prefix of its first lines.
 abbrev pub FailsBy : {E : Type 0} → Rules E → Option (List ℕ) → Option (List ℕ) → Option (List ℕ) → Option (List ℕ) → RunFault → Type 0
 FailsBy rules had left written_before written_after (fault.Write error) = WritesPrefix rules.IsListing had left written_before written_after
 FailsBy rules had left written_before written_after (fault.Read error) = WritesPrefix rules.AreLines had left written_before written_after

@@ -1,6 +1,6 @@
 //! Outputs that label lines.
 
-ghost use Rattle.std.specs.Prelude.{◌≡◌, ◌+◌, ◌++◌, ◌∷◌, ◌<◌, ◌≤◌, ◌-◌, List, ℕ, [], length, take, drop, min, Some, IfOk, OnErr, OnOk, option_map};
+ghost use Rattle.std.specs.Prelude.{◌≡◌, ◌+◌, ◌++◌, ◌<◌, ◌≤◌, ◌-◌, [], length, take, drop, Some, IfOk, OnErr, OnOk, option_map};
 ghost use Rattle.std.specs.Io.{WritesAtMost};
 ghost use Rattle.krb_run.specs.Outputs.{output_contents, mark_of, label_place, label_text, line_labelled, cut_labelled, object_end, is_nowhere, Moves, Sends, Tells, TakesLine, KeepsAll, CutsLine, Passes, KeepsUnpassed};
 

@@ -1,6 +1,6 @@
 //! Reasons for which files are refused.
 
-ghost use Rattle.std.specs.Prelude.{◌≡◌, Some, None};
+ghost use Rattle.std.specs.Prelude.{◌≡◌, Some};
 ghost use Rattle.krb_source.specs.FileReasons.{file_reason_number, file_reason_name, file_reason_length};
 
 use std::fmt;

@@ -7,7 +7,7 @@ ghost use Rattle.krb_msg.specs.Viewed.{AreViewed, items_of};
 ghost use Rattle.krb_registry.specs.declared.registry.Registry.TheVariants.{PreAuthenticationData};
 ghost use Rattle.krb_record.specs.Forms.{field};
 ghost use Rattle.krb_text.specs.Inside.{krb_error_parts};
-ghost use Rattle.krb_text.specs.Judged.{judged, methods_in};
+ghost use Rattle.krb_text.specs.Judged.{judged};
 ghost use Rattle.krb_text.specs.MessageFields.{krb_error_fields, methods};
 ghost use Rattle.krb_text.specs.MessageValues.{client, principal};
 ghost use Rattle.krb_record.specs.Values.{ErrorCode as IsErrorCode, Number, Numbers, Quoted, Word, count, if_there};

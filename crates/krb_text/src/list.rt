@@ -8,7 +8,7 @@ ghost use Rattle.krb_msg.specs.Shape.{is_unambiguous, has_octet_tags};
 ghost use Rattle.krb_msg.specs.Viewed.{AreViewed, items_of};
 ghost use Rattle.krb_msg.specs.Types.{pa_data_of};
 ghost use Rattle.std.specs.Fmt.{signed_decimal};
-ghost use Rattle.krb_record.specs.Forms.{members, name_string, number_text, value_text};
+ghost use Rattle.krb_record.specs.Forms.{members, name_string, value_text};
 ghost use Rattle.krb_text.specs.Messages.{padata};
 ghost use Rattle.krb_record.specs.Text.{joined, list_text};
 ghost use Rattle.krb_record.specs.Values.{Numbers};

@@ -1,6 +1,6 @@
 //! Parts: records inside of the record of a message.
 
-ghost use Rattle.std.specs.Prelude.{◌≡◌, ◌+◌, ◌++◌, ◌^◌, ◌<◌, ◌≤◌, true, length, map, IfOk, MatchOption, None, OnOk, Some, nat_lt};
+ghost use Rattle.std.specs.Prelude.{◌≡◌, ◌+◌, ◌++◌, ◌^◌, ◌<◌, true, length, map, IfOk, MatchOption, None, OnOk, Some, nat_lt};
 ghost use Rattle.krb_msg.specs.Shape.{has_octet_tags, is_unambiguous};
 ghost use Rattle.krb_msg.specs.Term.{Value};
 ghost use Rattle.krb_msg.specs.Viewed.{AreViewed, items_of};

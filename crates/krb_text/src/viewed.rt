@@ -1,6 +1,6 @@
 //! What views have, as values that records show.
 
-ghost use Rattle.std.specs.Prelude.{◌≡◌, ◌∷◌, [], List, MatchOption, ℕ, map, pos};
+ghost use Rattle.std.specs.Prelude.{◌≡◌, List, ℕ, map, pos};
 ghost use Rattle.std.specs.Option.{option_map};
 ghost use Rattle.krb_der.specs.Scalars.{IsTimeFrom};
 ghost use Rattle.krb_msg.specs.Basic.{flags_of_view, micros_of};

@@ -1,6 +1,6 @@
 //! The record of a message, by the octets that an input spells.
 
-ghost use Rattle.std.specs.Prelude.{◌≡◌, ◌+◌, ◌<◌, ◌≤◌, ◌^◌, length, IfErr, IfOk, Ok, Some, string_bytes};
+ghost use Rattle.std.specs.Prelude.{◌≡◌, ◌+◌, ◌<◌, ◌^◌, length, IfErr, IfOk, Ok, Some, string_bytes};
 ghost use Rattle.std.specs.Option.{option_map};
 ghost use Rattle.krb_input.specs.Inputs.{IsFaultOf};
 ghost use Rattle.krb_judge.specs.Parses.{refusal_of, ticket_refusal};

@@ -1,10 +1,9 @@
 //! The lists of the grammar viewed in place. `asn1/generate` wrote this from `asn1/krb5.asn1`.
 
-ghost use Rattle.std.specs.Prelude.{◌≡◌, ◌^◌, ◌<◌, true, length, MatchOption};
+ghost use Rattle.std.specs.Prelude.{◌≡◌};
 ghost use Rattle.krb_msg.specs.Term.{tag_of};
 ghost use Rattle.krb_msg.specs.Grammar.{sequence_of, host_address, int32, kerberos_string, pa_data, ticket};
-ghost use Rattle.krb_msg.specs.Shape.{is_unambiguous, has_octet_tags};
-ghost use Rattle.krb_msg.specs.Viewed.{AreContents, AreNoContents, AreViewed, items_of};
+ghost use Rattle.krb_msg.specs.Viewed.{AreViewed, items_of};
 
 use crate::fields::View;
 use crate::host_address::HostAddress;

@@ -1,6 +1,6 @@
 //! The scalars (RFC 4120, 5.2) viewed in place.
 
-ghost use Rattle.std.specs.Prelude.{⊤, ◌≡◌, ◌≤ℤ◌, ◌↔◌, ◌^◌, ◌<◌, true, pos, length, MatchOption};
+ghost use Rattle.std.specs.Prelude.{⊤, ◌≡◌, ◌≤ℤ◌, ◌↔◌, ◌^◌, ◌<◌, true, pos, length};
 ghost use Rattle.krb_der.specs.Octets.{AreBits};
 ghost use Rattle.krb_der.specs.Scalars.{IsTimeFrom};
 ghost use Rattle.krb_msg.specs.Term.{tag_of};
