@@ -49,25 +49,26 @@ impl fmt::Display for Wrong {
     ghost output = { λ wrong. Some (wrong_text wrong) };
 
     fn fmt<W: fmt::Write>(&self, f: &mut fmt::Formatter<W>) -> fmt::Result {
-        match self {
-            Wrong::NotAnObject => f.write_str("not an object"),
-            Wrong::NoSuchField => f.write_str("no such field"),
-            Wrong::Twice => f.write_str("twice"),
-            Wrong::Missing => f.write_str("missing"),
-            Wrong::NotAnArray => f.write_str("not an array"),
-            Wrong::Empty => f.write_str("empty"),
-            Wrong::NotANumber => f.write_str("not a number"),
-            Wrong::NotAnInteger => f.write_str("not an integer"),
-            Wrong::Outside { low, high } if high <= low => write!(f, "not {low}"),
-            Wrong::Outside { low, high } => write!(f, "not {low} to {high}"),
-            Wrong::NotAString => f.write_str("not a string"),
-            Wrong::NotHexadecimal => f.write_str("not hexadecimal"),
-            Wrong::NotATime => f.write_str("not a time"),
-            Wrong::Backslash => f.write_str("\\ without x and two hexadecimal digits"),
-            Wrong::HighOctet => f.write_str("an octet above 7f"),
-            Wrong::BitPastLength => f.write_str("a bit past the length is set"),
-            Wrong::FewerBits { least } => write!(f, "fewer than {least} bits"),
-            Wrong::Longer { limit } => write!(f, "longer than {limit} octets"),
-        }
+        let words = match self {
+            Wrong::NotAnObject => "not an object",
+            Wrong::NoSuchField => "no such field",
+            Wrong::Twice => "twice",
+            Wrong::Missing => "missing",
+            Wrong::NotAnArray => "not an array",
+            Wrong::Empty => "empty",
+            Wrong::NotANumber => "not a number",
+            Wrong::NotAnInteger => "not an integer",
+            Wrong::Outside { low, high } if high <= low => return write!(f, "not {low}"),
+            Wrong::Outside { low, high } => return write!(f, "not {low} to {high}"),
+            Wrong::NotAString => "not a string",
+            Wrong::NotHexadecimal => "not hexadecimal",
+            Wrong::NotATime => "not a time",
+            Wrong::Backslash => "\\ without x and two hexadecimal digits",
+            Wrong::HighOctet => "an octet above 7f",
+            Wrong::BitPastLength => "a bit past the length is set",
+            Wrong::FewerBits { least } => return write!(f, "fewer than {least} bits"),
+            Wrong::Longer { limit } => return write!(f, "longer than {limit} octets"),
+        };
+        f.write_str(words)
     }
 }
