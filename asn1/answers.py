@@ -41,7 +41,7 @@ def fields_seen(it):
     """What is known of the views of the fields, and where each of them is."""
     if is_call(it):
         return "c.in-Some.ensures", lambda at: f"c.in-Some.{it.kept[at].rust}"
-    call = "view_whole_into" if it.is_parametric else "view_into"
+    call = "view_whole_sequence" if it.is_parametric else "view_into"
     seen, first = f"c.{call}.new.seen", len(it.kept[: it.cut])
     return f"c.if-not-{call}.ensures", lambda at: path(seen, at) if at < first else f"{seen}{'.1' * first}.{it.kept[at].rust}"
 

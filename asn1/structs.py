@@ -4,7 +4,7 @@ from model import option, owned, viewed
 from module import Basic, Sequence
 from text import an, brought, doc, fill, nested, pairs
 
-FIELDS = "Application Borrowed Cut Encode EncodeFields End FieldOf Fixed Noted NotedView Optional Owned Required Sequence View ViewFields no_optional_notes no_optional_view_notes optional_list_notes optional_list_view_notes optional_notes optional_view_notes view_by_call"
+FIELDS = "Application Borrowed Cut Encode EncodeFields End FieldOf Fixed Noted NotedView Optional Owned Required Sequence View ViewFields ViewSequence no_optional_notes no_optional_view_notes optional_list_notes optional_list_view_notes optional_notes optional_view_notes view_by_call"
 BASIC = "Der Flags Int32 KString KerberosTime Many Memory Micros Octets Wide32"
 
 
@@ -18,7 +18,7 @@ def uses(module, it, body):
         ("crate::notes", ["Notes", "any_of"]),
         ("crate::view::items", ["ItemsView"]),
         ("crate::view::scalars", ["FlagsView"]),
-        ("crate::view", ["view_whole_into"]),
+        ("crate::view", ["view_whole_sequence"]),
         ("krb_der", BASIC.split()),
         ("std::alloc", ["Global"]),
     ]
@@ -147,7 +147,7 @@ def is_call(it):
 def view_impl(it, layout, seen, made):
     """How a view is made of the views of the fields."""
     tag = 0x30 if it.application is None else 0x60 + it.application
-    found = fill("found_by_call.rt", layout=layout.replace("::<", "<"), seen=seen) if is_call(it) else fill("found.rt", layout=layout, seen=seen)
+    found = fill("found_by_call.rt" if is_call(it) else "found.rt", layout=layout, seen=seen)
     return fill("view.rt", tag=f"{tag:02X}", found=found, made=made, type=it.term, Type=it.rust, term=term_name(it))
 
 
@@ -179,7 +179,7 @@ def in_one_step(it):
 
 def view_impls(it):
     """The impls of the view: how it is made, noted and copied."""
-    impls = [view_impl(it, "Layout::<Owned>", *in_one_step(it))]
+    impls = [view_impl(it, "Layout<Owned>", *in_one_step(it))]
     impls += [fill("noted_view.rt", type=it.term, Type=it.rust, noted=noted(it, noted_in_view, "seen"))] if has_notes(it) else []
     return "\n".join([*impls, fill("view_uses.rt", type=it.term, Type=it.rust, copy=copy(it))])
 

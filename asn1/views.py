@@ -5,7 +5,7 @@ from module import Refused, Sequence
 from structs import BASIC, halves, in_one_step, layout_type, structs, term_name, view_impl
 from text import brought, doc, fill
 
-DESCRIBED = "End FlagsView ItemsView Optional Required Sequence Tagged View view_items"
+DESCRIBED = "End FlagsView ItemsView Optional Required Sequence Tagged View ViewSequence view_items"
 
 
 def uses(module, it, body):

@@ -8,7 +8,9 @@ ghost use Rattle.krb_msg.specs.inner.PrefixFree.{begins, type_is_prefix_free};
 ghost use Rattle.krb_msg.specs.inner.RoundTrips.{checksum-back};
 
 use crate::copying::FromView;
-use crate::fields::{Borrowed, Encode, End, FieldOf, Owned, Required, Sequence, View};
+use crate::fields::{
+    Borrowed, Encode, End, FieldOf, Owned, Required, Sequence, View, ViewSequence,
+};
 use crate::item::Item;
 use krb_der::{Der, Int32, Memory, Octets};
 use std::alloc::Global;
@@ -90,7 +92,7 @@ impl<'a> View<'a> for Checksum {
     #[inline(always)]
     fn view_into(contents: &'a [u8], seen: &mut ChecksumView<'a>) -> bool {
         let mut fields = Default::default();
-        if !Layout::<Owned>::view_into(contents, &mut fields) {
+        if !<Layout<Owned> as ViewSequence<'_>>::view_into(contents, &mut fields) {
             return false;
         }
         let (cksumtype, (checksum, ())) = fields;

@@ -10,7 +10,7 @@ ghost use Rattle.krb_msg.specs.inner.RoundTrips.{encrypted_data-back};
 use crate::copying::{FromView, copy_option};
 use crate::fields::{
     Borrowed, Encode, End, FieldOf, Noted, NotedView, Optional, Owned, Required, Sequence, View,
-    optional_notes, optional_view_notes,
+    ViewSequence, optional_notes, optional_view_notes,
 };
 use crate::item::Item;
 use crate::notes::{Notes, any_of};
@@ -113,7 +113,7 @@ impl<'a> View<'a> for EncryptedData {
     #[inline(always)]
     fn view_into(contents: &'a [u8], seen: &mut EncryptedDataView<'a>) -> bool {
         let mut fields = Default::default();
-        if !Layout::<Owned>::view_into(contents, &mut fields) {
+        if !<Layout<Owned> as ViewSequence<'_>>::view_into(contents, &mut fields) {
             return false;
         }
         let (etype, (kvno, (cipher, ()))) = fields;

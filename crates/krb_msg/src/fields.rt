@@ -11,7 +11,7 @@ pub use encode::{Encode, EncodeFields};
 pub use notes::{Noted, NotedList, no_optional_notes, optional_list_notes, optional_notes};
 use std::marker::PhantomData;
 pub(crate) use view::{view_by_call, view_field, view_item};
-pub use view::{View, ViewFields};
+pub use view::{View, ViewFields, ViewSequence};
 pub use view_notes::{
     NotedListView, NotedView, no_optional_view_notes, optional_list_view_notes, optional_view_notes,
 };

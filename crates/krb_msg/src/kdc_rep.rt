@@ -22,7 +22,7 @@ use crate::pa_data::PaData;
 use crate::principal_name::{PrincipalName, PrincipalNameView};
 use crate::ticket::{Ticket, TicketView};
 use crate::view::items::ItemsView;
-use crate::view::view_whole_into;
+use crate::view::view_whole_sequence;
 use krb_der::{KString, Many, Memory};
 use std::alloc::Global;
 
@@ -147,7 +147,7 @@ impl KdcRep {
         ensures { IfElse result (IsViewOf (ApplicationTerm N (kdc_rep N)) octets.now (kdc_rep_view_value N seen.new) × IsValidKdcRep seen.new) (IsNotWhole (ApplicationTerm N (kdc_rep N)) octets.now) }
     {
         let mut fields = Default::default();
-        if !view_whole_into::<Layout<Owned, N>>(octets, &mut fields) {
+        if !view_whole_sequence::<Layout<Owned, N>>(octets, &mut fields) {
             return false;
         }
         let (padata, (crealm, (cname, (ticket, (enc_part, ()))))) = fields;

@@ -20,7 +20,7 @@ use crate::kdc_req_body::{KdcReqBody, KdcReqBodyView};
 use crate::notes::{Notes, any_of};
 use crate::pa_data::PaData;
 use crate::view::items::ItemsView;
-use crate::view::view_whole_into;
+use crate::view::view_whole_sequence;
 use krb_der::{Many, Memory};
 use std::alloc::Global;
 
@@ -106,7 +106,7 @@ impl KdcReq {
         ensures { IfElse result (IsViewOf (ApplicationTerm N (kdc_req N)) octets.now (kdc_req_view_value N seen.new) × IsValidKdcReq seen.new) (IsNotWhole (ApplicationTerm N (kdc_req N)) octets.now) }
     {
         let mut fields = Default::default();
-        if !view_whole_into::<Layout<Owned, N>>(octets, &mut fields) {
+        if !view_whole_sequence::<Layout<Owned, N>>(octets, &mut fields) {
             return false;
         }
         let (padata, (body, ())) = fields;

@@ -11,8 +11,8 @@ use crate::copying::{FromView, copy_item_option, copy_items, copy_option};
 use crate::encrypted_data::{EncryptedData, EncryptedDataView};
 use crate::fields::{
     Borrowed, Cut, Encode, EncodeFields, End, FieldOf, Noted, NotedView, Optional, Owned, Required,
-    Sequence, View, ViewFields, no_optional_notes, no_optional_view_notes, optional_list_notes,
-    optional_list_view_notes, optional_notes, optional_view_notes,
+    Sequence, View, ViewFields, ViewSequence, no_optional_notes, no_optional_view_notes,
+    optional_list_notes, optional_list_view_notes, optional_notes, optional_view_notes,
 };
 use crate::host_address::HostAddress;
 use crate::item::Item;
@@ -294,7 +294,7 @@ impl<'a> View<'a> for KdcReqBody {
     #[inline(always)]
     fn view_into(contents: &'a [u8], seen: &mut KdcReqBodyView<'a>) -> bool {
         let mut fields = Default::default();
-        if !Layout::<Owned>::view_into(contents, &mut fields) {
+        if !<Layout<Owned> as ViewSequence<'_>>::view_into(contents, &mut fields) {
             return false;
         }
         let (kdc_options, (cname, (realm, (sname, (from, (till, rest)))))) = fields;

@@ -11,7 +11,7 @@ use crate::copying::{FromView, copy_items};
 use crate::encrypted_data::{EncryptedData, EncryptedDataView};
 use crate::fields::{
     Application, Borrowed, Encode, End, FieldOf, Fixed, Noted, NotedView, Owned, Required,
-    Sequence, View,
+    Sequence, View, ViewSequence,
 };
 use crate::item::Item;
 use crate::notes::{Notes, any_of};
@@ -117,7 +117,7 @@ impl<'a> View<'a> for KrbCred {
     #[inline(always)]
     fn view_into(contents: &'a [u8], seen: &mut KrbCredView<'a>) -> bool {
         let mut fields = Default::default();
-        if !Layout::<Owned>::view_into(contents, &mut fields) {
+        if !<Layout<Owned> as ViewSequence<'_>>::view_into(contents, &mut fields) {
             return false;
         }
         let (tickets, (enc_part, ())) = fields;

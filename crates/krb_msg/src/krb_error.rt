@@ -10,7 +10,7 @@ ghost use Rattle.krb_msg.specs.inner.RoundTrips.{krb_error-back};
 use crate::copying::{FromView, copy_option};
 use crate::fields::{
     Application, Borrowed, Cut, Encode, EncodeFields, End, FieldOf, Fixed, Noted, NotedView,
-    Optional, Owned, Required, Sequence, View, ViewFields, no_optional_notes,
+    Optional, Owned, Required, Sequence, View, ViewFields, ViewSequence, no_optional_notes,
     no_optional_view_notes, optional_notes, optional_view_notes,
 };
 use crate::item::Item;
@@ -277,7 +277,7 @@ impl<'a> View<'a> for KrbError {
     #[inline(always)]
     fn view_into(contents: &'a [u8], seen: &mut KrbErrorView<'a>) -> bool {
         let mut fields = Default::default();
-        if !Layout::<Owned>::view_into(contents, &mut fields) {
+        if !<Layout<Owned> as ViewSequence<'_>>::view_into(contents, &mut fields) {
             return false;
         }
         let (ctime, (cusec, (stime, (susec, (error_code, rest))))) = fields;

@@ -11,7 +11,7 @@ use crate::checksum::{Checksum, ChecksumView};
 use crate::copying::FromView;
 use crate::fields::{
     Application, Borrowed, Encode, End, FieldOf, Fixed, Noted, NotedView, Owned, Required,
-    Sequence, View,
+    Sequence, View, ViewSequence,
 };
 use crate::item::Item;
 use crate::krb_safe_body::{KrbSafeBody, KrbSafeBodyView};
@@ -116,7 +116,7 @@ impl<'a> View<'a> for KrbSafe {
     #[inline(always)]
     fn view_into(contents: &'a [u8], seen: &mut KrbSafeView<'a>) -> bool {
         let mut fields = Default::default();
-        if !Layout::<Owned>::view_into(contents, &mut fields) {
+        if !<Layout<Owned> as ViewSequence<'_>>::view_into(contents, &mut fields) {
             return false;
         }
         let (body, (cksum, ())) = fields;

@@ -10,7 +10,7 @@ ghost use Rattle.krb_msg.specs.inner.RoundTrips.{krb_safe_body-back};
 use crate::copying::{FromView, copy_option};
 use crate::fields::{
     Borrowed, Encode, End, FieldOf, Noted, NotedView, Optional, Owned, Required, Sequence, View,
-    no_optional_notes, no_optional_view_notes, optional_notes, optional_view_notes,
+    ViewSequence, no_optional_notes, no_optional_view_notes, optional_notes, optional_view_notes,
 };
 use crate::host_address::{HostAddress, HostAddressView};
 use crate::item::Item;
@@ -152,7 +152,7 @@ impl<'a> View<'a> for KrbSafeBody {
     #[inline(always)]
     fn view_into(contents: &'a [u8], seen: &mut KrbSafeBodyView<'a>) -> bool {
         let mut fields = Default::default();
-        if !Layout::<Owned>::view_into(contents, &mut fields) {
+        if !<Layout<Owned> as ViewSequence<'_>>::view_into(contents, &mut fields) {
             return false;
         }
         let (user_data, (timestamp, (usec, (seq_number, (s_address, (r_address, ())))))) = fields;

@@ -16,9 +16,9 @@
 //! octets that were judged.
 //!
 //! A crate above describes a type of its own, of which no message is made, as the types here are
-//! described: its fields as a type like `Sequence<Required<0, Int32, Optional<1, Octets, End>>>`,
-//! in a [`Tagged`] if a tag is round it. That has a [`View`] with the term that the type spells, and
-//! so has a list of its items by [`view_items`].
+//! described: its fields as a type like `Sequence<Required<0, Int32, Optional<1, Octets, End>>>`.
+//! That is a [`ViewSequence`] of the term that the type spells, by which the type has its [`View`];
+//! in a [`Tagged`], if a tag is round it, it has another, and a list of its items by [`view_items`].
 //!
 //! [`notes_of`], and [`notes_of_view`] of a view, return what is unusual in a message
 //! ([`notes_of_ticket`] in a Ticket alone), and [`is_strict`] whether it is in the strict profile, too. [`grammar`] is the table by which octets
@@ -78,7 +78,7 @@ pub use contents::{has_bits, is_padded, is_time_octet};
 pub use copying::FromView;
 pub use encoding::{EncodeFault, encode, size};
 pub use encrypted_data::{EncryptedData, EncryptedDataView};
-pub use fields::{End, Optional, Required, Sequence, Tagged, View, ViewFields};
+pub use fields::{End, Optional, Required, Sequence, Tagged, View, ViewFields, ViewSequence};
 pub use host_address::{HostAddress, HostAddressView};
 pub use item::Item;
 pub use kdc_rep::{KdcRep, KdcRepView};

@@ -9,7 +9,9 @@ ghost use Rattle.krb_msg.specs.inner.PrefixFree.{begins, type_is_prefix_free};
 ghost use Rattle.krb_msg.specs.inner.RoundTrips.{pa_data-back};
 
 use crate::copying::{FromView, copy_items};
-use crate::fields::{Borrowed, Encode, End, FieldOf, Owned, Required, Sequence, View};
+use crate::fields::{
+    Borrowed, Encode, End, FieldOf, Owned, Required, Sequence, View, ViewSequence,
+};
 use crate::item::Item;
 use crate::view::items::ItemsView;
 use krb_der::{Der, Int32, Many, Memory, Octets};
@@ -92,7 +94,7 @@ impl<'a> View<'a> for PaData {
     #[inline(always)]
     fn view_into(contents: &'a [u8], seen: &mut PaDataView<'a>) -> bool {
         let mut fields = Default::default();
-        if !Layout::<Owned>::view_into(contents, &mut fields) {
+        if !<Layout<Owned> as ViewSequence<'_>>::view_into(contents, &mut fields) {
             return false;
         }
         let (padata_type, (padata_value, ())) = fields;

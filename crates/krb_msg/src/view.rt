@@ -10,7 +10,7 @@ mod lists;
 pub mod number;
 pub mod scalars;
 
-use crate::fields::{View, view_item};
+use crate::fields::{View, ViewSequence, view_item};
 use head::only_item;
 
 /// Returns a view of the item that octets are, if they are one: all of them, judged and viewed in
@@ -30,6 +30,24 @@ pub fn view_whole<'a, T: View<'a>>(octets: &'a [u8]) -> Option<T::Of>
 /// [`view_whole`].
 #[inline(always)]
 pub(crate) fn view_whole_into<'a, T: View<'a>>(octets: &'a [u8], seen: &mut T::Of) -> bool
+    requires short { length octets.now < 2 ^ 31 }
+    requires tags { has_octet_tags T.term ≡ true }
+    requires unambiguous { is_unambiguous T.term ≡ true }
+    ensures { IfElse result (IsViewOf T.term octets.now (T.value seen.new) × T.IsValid seen.new) (IsNotWhole T.term octets.now) }
+{
+    match only_item(T::tag(), octets) {
+        None => false,
+        Some(contents) => T::view_into(contents, seen),
+    }
+}
+
+/// Makes `seen` the views of the fields of the message that octets are, and returns whether they are
+/// one.
+#[inline(always)]
+pub(crate) fn view_whole_sequence<'a, T: ViewSequence<'a>>(
+    octets: &'a [u8],
+    seen: &mut T::Of,
+) -> bool
     requires short { length octets.now < 2 ^ 31 }
     requires tags { has_octet_tags T.term ≡ true }
     requires unambiguous { is_unambiguous T.term ≡ true }

@@ -8,7 +8,7 @@ ghost use Rattle.krb_padata.specs.Grammar.{etype_info2_entry};
 ghost use Rattle.krb_padata.specs.Types.{etype_info2_entry_view_value, IsValidEtypeInfo2Entry};
 
 use krb_der::{Int32, KString, Octets};
-use krb_msg::{End, ItemsView, Optional, Required, Sequence, View, view_items};
+use krb_msg::{End, ItemsView, Optional, Required, Sequence, View, ViewSequence, view_items};
 
 /// An encryption type for which the client has a key, with what makes that of a password (RFC 4120,
 /// 5.2.7.5).
@@ -55,7 +55,7 @@ impl<'a> View<'a> for EtypeInfo2Entry {
     #[inline(always)]
     fn view_into(contents: &'a [u8], seen: &mut EtypeInfo2EntryView<'a>) -> bool {
         let mut fields = Default::default();
-        if !Layout::view_into(contents, &mut fields) {
+        if !<Layout as ViewSequence<'_>>::view_into(contents, &mut fields) {
             return false;
         }
         let (etype, (salt, (s2kparams, ()))) = fields;

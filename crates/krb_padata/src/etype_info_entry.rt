@@ -8,7 +8,7 @@ ghost use Rattle.krb_padata.specs.Grammar.{etype_info_entry};
 ghost use Rattle.krb_padata.specs.Types.{etype_info_entry_view_value, IsValidEtypeInfoEntry};
 
 use krb_der::{Int32, Octets};
-use krb_msg::{End, ItemsView, Optional, Required, Sequence, View, view_items};
+use krb_msg::{End, ItemsView, Optional, Required, Sequence, View, ViewSequence, view_items};
 
 /// An encryption type for which the client has a key, with its salt (RFC 4120, 5.2.7.4).
 #[derive(Drop)]
@@ -50,7 +50,7 @@ impl<'a> View<'a> for EtypeInfoEntry {
     #[inline(always)]
     fn view_into(contents: &'a [u8], seen: &mut EtypeInfoEntryView<'a>) -> bool {
         let mut fields = Default::default();
-        if !Layout::view_into(contents, &mut fields) {
+        if !<Layout as ViewSequence<'_>>::view_into(contents, &mut fields) {
             return false;
         }
         let (etype, (salt, ())) = fields;

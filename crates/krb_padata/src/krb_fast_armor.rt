@@ -6,7 +6,7 @@ ghost use Rattle.krb_padata.specs.Grammar.{krb_fast_armor};
 ghost use Rattle.krb_padata.specs.Types.{krb_fast_armor_view_value, IsValidKrbFastArmor};
 
 use krb_der::{Int32, Octets};
-use krb_msg::{End, Required, Sequence, View};
+use krb_msg::{End, Required, Sequence, View, ViewSequence};
 
 /// What armors a request (RFC 6113, 5.4.1).
 #[derive(Drop)]
@@ -48,7 +48,7 @@ impl<'a> View<'a> for KrbFastArmor {
     #[inline(always)]
     fn view_into(contents: &'a [u8], seen: &mut KrbFastArmorView<'a>) -> bool {
         let mut fields = Default::default();
-        if !Layout::view_into(contents, &mut fields) {
+        if !<Layout as ViewSequence<'_>>::view_into(contents, &mut fields) {
             return false;
         }
         let (armor_type, (armor_value, ())) = fields;

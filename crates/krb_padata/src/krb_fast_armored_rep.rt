@@ -5,7 +5,9 @@ ghost use Rattle.krb_msg.specs.Term.{tag_of};
 ghost use Rattle.krb_padata.specs.Grammar.{krb_fast_armored_rep};
 ghost use Rattle.krb_padata.specs.Types.{krb_fast_armored_rep_view_value, IsValidKrbFastArmoredRep};
 
-use krb_msg::{EncryptedData, EncryptedDataView, End, Required, Sequence, Tagged, View};
+use krb_msg::{
+    EncryptedData, EncryptedDataView, End, Required, Sequence, Tagged, View, ViewSequence,
+};
 
 /// An armored reply (RFC 6113, 5.4.3). Its KrbFastResponse is never opened.
 #[derive(Drop)]
@@ -43,7 +45,7 @@ impl<'a> View<'a> for KrbFastArmoredRep {
     #[inline(always)]
     fn view_into(contents: &'a [u8], seen: &mut KrbFastArmoredRepView<'a>) -> bool {
         let mut fields = Default::default();
-        if !Layout::view_into(contents, &mut fields) {
+        if !<Layout as ViewSequence<'_>>::view_into(contents, &mut fields) {
             return false;
         }
         let (enc_fast_rep, ()) = fields;

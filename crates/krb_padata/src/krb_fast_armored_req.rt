@@ -8,7 +8,7 @@ ghost use Rattle.krb_padata.specs.Types.{krb_fast_armored_req_view_value, IsVali
 use crate::krb_fast_armor::{KrbFastArmor, KrbFastArmorView};
 use krb_msg::{
     Checksum, ChecksumView, EncryptedData, EncryptedDataView, End, Optional, Required, Sequence,
-    Tagged, View,
+    Tagged, View, ViewSequence,
 };
 
 /// An armored request (RFC 6113, 5.4.2). Its KrbFastReq is never opened.
@@ -57,7 +57,7 @@ impl<'a> View<'a> for KrbFastArmoredReq {
     #[inline(always)]
     fn view_into(contents: &'a [u8], seen: &mut KrbFastArmoredReqView<'a>) -> bool {
         let mut fields = Default::default();
-        if !Layout::view_into(contents, &mut fields) {
+        if !<Layout as ViewSequence<'_>>::view_into(contents, &mut fields) {
             return false;
         }
         let (armor, (req_checksum, (enc_fast_req, ()))) = fields;

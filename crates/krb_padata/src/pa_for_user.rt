@@ -8,6 +8,7 @@ ghost use Rattle.krb_padata.specs.Types.{pa_for_user_view_value, IsValidPaForUse
 use krb_der::KString;
 use krb_msg::{
     Checksum, ChecksumView, End, PrincipalName, PrincipalNameView, Required, Sequence, View,
+    ViewSequence,
 };
 
 /// For whom a service asks for a ticket to itself (MS-SFU, 2.2.1).
@@ -64,7 +65,7 @@ impl<'a> View<'a> for PaForUser {
     #[inline(always)]
     fn view_into(contents: &'a [u8], seen: &mut PaForUserView<'a>) -> bool {
         let mut fields = Default::default();
-        if !Layout::view_into(contents, &mut fields) {
+        if !<Layout as ViewSequence<'_>>::view_into(contents, &mut fields) {
             return false;
         }
         let (user_name, (user_realm, (cksum, (auth_package, ())))) = fields;

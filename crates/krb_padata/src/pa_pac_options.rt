@@ -6,7 +6,7 @@ ghost use Rattle.krb_padata.specs.Grammar.{pa_pac_options};
 ghost use Rattle.krb_padata.specs.Types.{pa_pac_options_view_value, IsValidPaPacOptions};
 
 use krb_der::Flags;
-use krb_msg::{End, FlagsView, Required, Sequence, View};
+use krb_msg::{End, FlagsView, Required, Sequence, View, ViewSequence};
 
 /// What a client asks of a KDC in its PAC (MS-KILE, 2.2.10).
 #[derive(Drop)]
@@ -44,7 +44,7 @@ impl<'a> View<'a> for PaPacOptions {
     #[inline(always)]
     fn view_into(contents: &'a [u8], seen: &mut PaPacOptionsView<'a>) -> bool {
         let mut fields = Default::default();
-        if !Layout::view_into(contents, &mut fields) {
+        if !<Layout as ViewSequence<'_>>::view_into(contents, &mut fields) {
             return false;
         }
         let (flags, ()) = fields;

@@ -39,10 +39,39 @@ pub trait View<'a> {
         ensures { IfElse result (AreContents term contents.now (value seen.new) × IsValid seen.new) (AreNoContents term contents.now) };
 }
 
+/// A SEQUENCE, or a message that is one, by the fields that describe it: what a [`View`] of a type
+/// is made by. A proof of a call has all that is asked of each field in it, and so little is.
+pub trait ViewSequence<'a> {
+    /// The views of the fields.
+    type Of;
+
+    /// The term.
+    ghost term: { Term };
+
+    /// The views as a value of the term.
+    ghost value: { Self.Of → Value term };
+
+    /// What is known of the views: lists are items, times are times, and so on.
+    ghost IsValid: { Self.Of → Type 0 };
+
+    /// Returns the identifier octet.
+    fn tag() -> u8
+        requires { has_octet_tags term ≡ true }
+        ensures { result ≡ tag_of term };
+
+    /// Makes `seen` the views of the fields of the item with these contents, and returns whether
+    /// they are contents of one.
+    fn view_into(contents: &'a [u8], seen: &mut Self::Of) -> bool
+        requires short { length contents.now < 2 ^ 31 }
+        requires tags { has_octet_tags term ≡ true }
+        requires unambiguous { is_unambiguous term ≡ true }
+        ensures { IfElse result (AreContents term contents.now (value seen.new) × IsValid seen.new) (AreNoContents term contents.now) };
+}
+
 /// Fields, from one on, that are judged and viewed in place.
 pub trait ViewFields<'a> {
-    /// The views of them. Their default are views of none.
-    type Of: Copy + Default;
+    /// The views of them.
+    type Of;
 
     /// The fields of the grammar.
     ghost fields: { TermFields };
@@ -77,16 +106,23 @@ pub(crate) fn view_item<'a, T: View<'a>>(contents: &'a [u8]) -> Option<T::Of>
     }
 }
 
-/// Returns the view of an item, by a call. What a call returns whole stays in memory, and words go
-/// to registers, so its caller makes the view again word by word.
+/// Returns the views of the fields of an item, by a call. What a call returns whole stays in memory,
+/// and words go to registers, so its caller makes the view again word by word.
 #[inline(never)]
-pub(crate) fn view_by_call<'a, T: View<'a>>(contents: &'a [u8]) -> Option<T::Of>
+pub(crate) fn view_by_call<'a, T: ViewSequence<'a, Of: Copy + Default>>(
+    contents: &'a [u8],
+) -> Option<T::Of>
     requires short { length contents.now < 2 ^ 31 }
     requires tags { has_octet_tags T.term ≡ true }
     requires unambiguous { is_unambiguous T.term ≡ true }
     ensures { MatchOption result (AreNoContents T.term contents.now) (λ seen. AreContents T.term contents.now (T.value seen) × T.IsValid seen) }
 {
-    view_item::<T>(contents)
+    let mut seen = Default::default();
+    if T::view_into(contents, &mut seen) {
+        Some(seen)
+    } else {
+        None
+    }
 }
 
 /// Makes `seen` the view of the field `[INDEX]` with which octets begin, and returns what follows
@@ -232,7 +268,7 @@ impl<'a, const INDEX: u8, const NUMBER: u8, F: ViewFields<'a>> ViewFields<'a>
     }
 }
 
-impl<'a, F: ViewFields<'a>> View<'a> for Sequence<F> {
+impl<'a, F: ViewFields<'a>> ViewSequence<'a> for Sequence<F> {
     type Of = F::Of;
 
     ghost term = { SequenceTerm F.fields };
@@ -275,7 +311,7 @@ impl<'a, const INDEX: u8, E: View<'a>> View<'a> for Tagged<INDEX, E> {
     }
 }
 
-impl<'a, const NUMBER: u8, E: View<'a>> View<'a> for Application<NUMBER, E> {
+impl<'a, const NUMBER: u8, E: ViewSequence<'a>> ViewSequence<'a> for Application<NUMBER, E> {
     type Of = E::Of;
 
     ghost term = { ApplicationTerm NUMBER E.term };

@@ -2,4 +2,4 @@
 use Rattle.krb_msg.proofs.kdc_rep.KdcRep.view_into.Goals as goal
 
 pub returns : goal.returns
-returns g c = (c.if-not-view_whole_into.ensures.0, (record { padata = c.if-not-view_whole_into.ensures.1.0; cname = c.if-not-view_whole_into.ensures.1.1.1.0; ticket = c.if-not-view_whole_into.ensures.1.1.1.1.0; enc_part = c.if-not-view_whole_into.ensures.1.1.1.1.1.0 }))
+returns g c = (c.if-not-view_whole_sequence.ensures.0, (record { padata = c.if-not-view_whole_sequence.ensures.1.0; cname = c.if-not-view_whole_sequence.ensures.1.1.1.0; ticket = c.if-not-view_whole_sequence.ensures.1.1.1.1.0; enc_part = c.if-not-view_whole_sequence.ensures.1.1.1.1.1.0 }))

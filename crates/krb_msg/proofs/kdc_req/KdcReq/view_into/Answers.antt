@@ -2,4 +2,4 @@
 use Rattle.krb_msg.proofs.kdc_req.KdcReq.view_into.Goals as goal
 
 pub returns : goal.returns
-returns g c = (c.if-not-view_whole_into.ensures.0, (c.if-not-view_whole_into.ensures.1.0, c.if-not-view_whole_into.ensures.1.1.0))
+returns g c = (c.if-not-view_whole_sequence.ensures.0, (c.if-not-view_whole_sequence.ensures.1.0, c.if-not-view_whole_sequence.ensures.1.1.0))

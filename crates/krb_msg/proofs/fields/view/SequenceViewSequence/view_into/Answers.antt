@@ -1,5 +1,5 @@
 use Rattle.krb_msg.proofs.FieldViews.{else_both, sequence_none, sequence_some}
-use Rattle.krb_msg.proofs.fields.view.SequenceView.view_into.Goals as goal
+use Rattle.krb_msg.proofs.fields.view.SequenceViewSequence.view_into.Goals as goal
 
 pub returns : goal.returns
 returns g c =
