@@ -3,7 +3,7 @@
 from kinds import file, messages_of
 from model import back, fixed_value, is_plain, mapped
 from module import Basic, Sequence
-from structs import in_order_of_copying, is_call, may_have_notes, noted_in_view, noted_of_value
+from structs import copied, in_order_of_copying, is_call, may_have_notes, noted_in_view, noted_of_value, owns
 from tables import count_of_rows
 from text import BY, brought, by, fill, pairs, path, record
 from values import known, parts_in, seen_value
@@ -96,9 +96,9 @@ def copy_answer(it):
     """That the fields of a type with lists are copied, each by a call."""
     calls, rows = {}, []
     for field in in_order_of_copying(it):
-        name = ("copy_item_option" if field.optional else "copy_items") if field.is_list else "copy_option" if field.optional else "from_view"
+        name = copied(field).partition("(")[0].rpartition("::")[2]
         calls[name] = calls.get(name, 0) + 1
-        call = f"c.in_ok-{name}" + (f"-{calls[name]}" if calls[name] > 1 else "")
+        call = ("c.in_ok-" if owns(field) else "c.") + name + (f"-{calls[name]}" if calls[name] > 1 else "")
         rows.append(f"{field.rust} = {copied_part(field, call)}")
     function, given = (f"{it.rust}.copy", "g c") if it.is_parametric else (f"{it.rust}FromView.from_view", "c")
     body = "\n".join(rows)

@@ -12,7 +12,7 @@ def uses(module, it, body):
     """The lines that bring in what the code of a type needs."""
     homes = [(f"crate::{type.term}", [type.rust, f"{type.rust}View"]) for type in module.types if type is not it]
     homes += [
-        ("crate::copying", ["FromView", "copy_item_option", "copy_items", "copy_option"]),
+        ("crate::copying", ["FromPlainView", "FromView", "copy_item_option", "copy_items", "copy_option", "copy_plain_option"]),
         ("crate::fields", FIELDS.split()),
         ("crate::item", ["Item"]),
         ("crate::notes", ["Notes", "any_of"]),
@@ -212,6 +212,8 @@ def noted(it, call, value):
 def copied(field):
     if field.is_list:
         return f"{'copy_item_option' if field.optional else 'copy_items'}(alloc, seen.{field.rust})?"
+    if not owns(field):
+        return f"{'copy_plain_option' if field.optional else f'{field.type.rust}::from_plain_view'}(&seen.{field.rust})"
     return f"{'copy_option' if field.optional else f'{field.type.rust}::from_view'}(alloc, &seen.{field.rust})?"
 
 
@@ -245,7 +247,7 @@ def struct_file(module, it):
     parts += [fill("list_copy.rt", about=doc(made.about), type=it.term, Type=it.rust, term=term_name(it)) for made in module.lists if made.item is it]
     body = "\n".join(parts)
     # traits are brought in where their methods are called
-    code = "FromView\n" * ("::from_view" in body) + "Noted NotedView\n" * has_notes(it)
+    code = "FromView\n" * ("::from_view" in body) + "FromPlainView\n" * ("::from_plain_view" in body) + "Noted NotedView\n" * has_notes(it)
     code += "\n".join(line for line in body.splitlines() if not line.lstrip().startswith("//"))
     return f"//! {it.name}. `asn1/generate` wrote this from `asn1/krb5.asn1`.\n\n{ghost_uses(module, it, code)}\n{uses(module, it, code)}\n{body}"
 

@@ -7,7 +7,7 @@ ghost use Rattle.krb_msg.specs.Types.{checksum_value, checksum_of, checksum_view
 ghost use Rattle.krb_msg.specs.inner.PrefixFree.{begins, type_is_prefix_free};
 ghost use Rattle.krb_msg.specs.inner.RoundTrips.{checksum-back};
 
-use crate::copying::FromView;
+use crate::copying::{FromPlainView, FromView};
 use crate::fields::{
     Borrowed, Encode, End, FieldOf, Owned, Required, Sequence, View, ViewSequence,
 };
@@ -109,7 +109,7 @@ impl<'a> FromView<'a> for Checksum {
 
     fn from_view(alloc: Global, seen: &ChecksumView<'a>) -> Result<Checksum, Memory> {
         Ok(Checksum {
-            cksumtype: Int32::from_view(alloc, &seen.cksumtype)?,
+            cksumtype: Int32::from_plain_view(&seen.cksumtype),
             checksum: Octets::from_view(alloc, &seen.checksum)?,
         })
     }

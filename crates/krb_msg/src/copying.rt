@@ -27,6 +27,27 @@ pub trait FromView<'a>: View<'a> + Drop {
         ensures { IfOk result (λ it. it ≡ copied seen.now) };
 }
 
+/// A type whose values own no memory, so that copying one out of a view of it cannot fail.
+pub(crate) trait FromPlainView<'a>: FromView<'a> {
+    /// Returns the value of the view.
+    fn from_plain_view(seen: &Self::Of) -> Self
+        requires fits { Fits Self.View.term (Self.View.value seen.now) }
+        requires lists { Self.View.IsValid seen.now }
+        ensures { result ≡ Self.FromView.copied seen.now };
+}
+
+/// Returns the value of a field that may be left out, and owns no memory, if it is there.
+pub(crate) fn copy_plain_option<'a, T: FromPlainView<'a>>(seen: &Option<T::Of>) -> Option<T>
+    requires fits { IfPresent (Fits T.View.term) (option_map T.View.value seen.now) }
+    requires lists { IfPresent T.View.IsValid seen.now }
+    ensures { result ≡ option_map T.FromView.copied seen.now }
+{
+    match seen {
+        Some(value) => Some(T::from_plain_view(value)),
+        None => None,
+    }
+}
+
 /// Returns the value of a field that may be left out, if it is there.
 pub(crate) fn copy_option<'a, T: FromView<'a>>(
     alloc: Global,

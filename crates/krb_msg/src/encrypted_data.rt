@@ -7,7 +7,7 @@ ghost use Rattle.krb_msg.specs.Types.{encrypted_data_value, encrypted_data_of, e
 ghost use Rattle.krb_msg.specs.inner.PrefixFree.{begins, type_is_prefix_free};
 ghost use Rattle.krb_msg.specs.inner.RoundTrips.{encrypted_data-back};
 
-use crate::copying::{FromView, copy_option};
+use crate::copying::{FromPlainView, FromView, copy_plain_option};
 use crate::fields::{
     Borrowed, Encode, End, FieldOf, Noted, NotedView, Optional, Owned, Required, Sequence, View,
     ViewSequence, optional_notes, optional_view_notes,
@@ -138,8 +138,8 @@ impl<'a> FromView<'a> for EncryptedData {
 
     fn from_view(alloc: Global, seen: &EncryptedDataView<'a>) -> Result<EncryptedData, Memory> {
         Ok(EncryptedData {
-            etype: Int32::from_view(alloc, &seen.etype)?,
-            kvno: copy_option(alloc, &seen.kvno)?,
+            etype: Int32::from_plain_view(&seen.etype),
+            kvno: copy_plain_option(&seen.kvno),
             cipher: Octets::from_view(alloc, &seen.cipher)?,
         })
     }

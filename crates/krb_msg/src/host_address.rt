@@ -7,7 +7,7 @@ ghost use Rattle.krb_msg.specs.Types.{host_address_value, host_address_of, host_
 ghost use Rattle.krb_msg.specs.inner.PrefixFree.{begins, type_is_prefix_free};
 ghost use Rattle.krb_msg.specs.inner.RoundTrips.{host_address-back};
 
-use crate::copying::FromView;
+use crate::copying::{FromPlainView, FromView};
 use crate::fields::{
     Borrowed, Encode, End, FieldOf, Owned, Required, Sequence, View, ViewSequence,
 };
@@ -106,7 +106,7 @@ impl<'a> FromView<'a> for HostAddress {
 
     fn from_view(alloc: Global, seen: &HostAddressView<'a>) -> Result<HostAddress, Memory> {
         Ok(HostAddress {
-            addr_type: Int32::from_view(alloc, &seen.addr_type)?,
+            addr_type: Int32::from_plain_view(&seen.addr_type),
             address: Octets::from_view(alloc, &seen.address)?,
         })
     }

@@ -7,7 +7,9 @@ ghost use Rattle.krb_msg.specs.Types.{kdc_req_body_value, kdc_req_body_of, kdc_r
 ghost use Rattle.krb_msg.specs.inner.PrefixFree.{begins, type_is_prefix_free};
 ghost use Rattle.krb_msg.specs.inner.RoundTrips.{kdc_req_body-back};
 
-use crate::copying::{FromView, copy_item_option, copy_items, copy_option};
+use crate::copying::{
+    FromPlainView, FromView, copy_item_option, copy_items, copy_option, copy_plain_option,
+};
 use crate::encrypted_data::{EncryptedData, EncryptedDataView};
 use crate::fields::{
     Borrowed, Cut, Encode, EncodeFields, End, FieldOf, Noted, NotedView, Optional, Owned, Required,
@@ -340,10 +342,10 @@ impl<'a> FromView<'a> for KdcReqBody {
 
     fn from_view(alloc: Global, seen: &KdcReqBodyView<'a>) -> Result<KdcReqBody, Memory> {
         Ok(KdcReqBody {
-            from: copy_option(alloc, &seen.from)?,
-            till: KerberosTime::from_view(alloc, &seen.till)?,
-            rtime: copy_option(alloc, &seen.rtime)?,
-            nonce: Wide32::from_view(alloc, &seen.nonce)?,
+            from: copy_plain_option(&seen.from),
+            till: KerberosTime::from_plain_view(&seen.till),
+            rtime: copy_plain_option(&seen.rtime),
+            nonce: Wide32::from_plain_view(&seen.nonce),
             kdc_options: Flags::from_view(alloc, &seen.kdc_options)?,
             cname: copy_option(alloc, &seen.cname)?,
             realm: KString::from_view(alloc, &seen.realm)?,

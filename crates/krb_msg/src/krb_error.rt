@@ -7,7 +7,7 @@ ghost use Rattle.krb_msg.specs.Types.{krb_error_value, krb_error_of, krb_error_v
 ghost use Rattle.krb_msg.specs.inner.PrefixFree.{begins, type_is_prefix_free};
 ghost use Rattle.krb_msg.specs.inner.RoundTrips.{krb_error-back};
 
-use crate::copying::{FromView, copy_option};
+use crate::copying::{FromPlainView, FromView, copy_option, copy_plain_option};
 use crate::fields::{
     Application, Borrowed, Cut, Encode, EncodeFields, End, FieldOf, Fixed, Noted, NotedView,
     Optional, Owned, Required, Sequence, View, ViewFields, ViewSequence, no_optional_notes,
@@ -319,11 +319,11 @@ impl<'a> FromView<'a> for KrbError {
 
     fn from_view(alloc: Global, seen: &KrbErrorView<'a>) -> Result<KrbError, Memory> {
         Ok(KrbError {
-            ctime: copy_option(alloc, &seen.ctime)?,
-            cusec: copy_option(alloc, &seen.cusec)?,
-            stime: KerberosTime::from_view(alloc, &seen.stime)?,
-            susec: Micros::from_view(alloc, &seen.susec)?,
-            error_code: Int32::from_view(alloc, &seen.error_code)?,
+            ctime: copy_plain_option(&seen.ctime),
+            cusec: copy_plain_option(&seen.cusec),
+            stime: KerberosTime::from_plain_view(&seen.stime),
+            susec: Micros::from_plain_view(&seen.susec),
+            error_code: Int32::from_plain_view(&seen.error_code),
             crealm: copy_option(alloc, &seen.crealm)?,
             cname: copy_option(alloc, &seen.cname)?,
             realm: KString::from_view(alloc, &seen.realm)?,

@@ -7,7 +7,7 @@ ghost use Rattle.krb_msg.specs.Types.{krb_safe_body_value, krb_safe_body_of, krb
 ghost use Rattle.krb_msg.specs.inner.PrefixFree.{begins, type_is_prefix_free};
 ghost use Rattle.krb_msg.specs.inner.RoundTrips.{krb_safe_body-back};
 
-use crate::copying::{FromView, copy_option};
+use crate::copying::{FromView, copy_option, copy_plain_option};
 use crate::fields::{
     Borrowed, Encode, End, FieldOf, Noted, NotedView, Optional, Owned, Required, Sequence, View,
     ViewSequence, no_optional_notes, no_optional_view_notes, optional_notes, optional_view_notes,
@@ -185,9 +185,9 @@ impl<'a> FromView<'a> for KrbSafeBody {
 
     fn from_view(alloc: Global, seen: &KrbSafeBodyView<'a>) -> Result<KrbSafeBody, Memory> {
         Ok(KrbSafeBody {
-            timestamp: copy_option(alloc, &seen.timestamp)?,
-            usec: copy_option(alloc, &seen.usec)?,
-            seq_number: copy_option(alloc, &seen.seq_number)?,
+            timestamp: copy_plain_option(&seen.timestamp),
+            usec: copy_plain_option(&seen.usec),
+            seq_number: copy_plain_option(&seen.seq_number),
             user_data: Octets::from_view(alloc, &seen.user_data)?,
             s_address: HostAddress::from_view(alloc, &seen.s_address)?,
             r_address: copy_option(alloc, &seen.r_address)?,

@@ -8,7 +8,7 @@ ghost use Rattle.krb_msg.specs.Viewed.{items_of};
 ghost use Rattle.krb_msg.specs.inner.PrefixFree.{begins, type_is_prefix_free};
 ghost use Rattle.krb_msg.specs.inner.RoundTrips.{pa_data-back};
 
-use crate::copying::{FromView, copy_items};
+use crate::copying::{FromPlainView, FromView, copy_items};
 use crate::fields::{
     Borrowed, Encode, End, FieldOf, Owned, Required, Sequence, View, ViewSequence,
 };
@@ -111,7 +111,7 @@ impl<'a> FromView<'a> for PaData {
 
     fn from_view(alloc: Global, seen: &PaDataView<'a>) -> Result<PaData, Memory> {
         Ok(PaData {
-            padata_type: Int32::from_view(alloc, &seen.padata_type)?,
+            padata_type: Int32::from_plain_view(&seen.padata_type),
             padata_value: Octets::from_view(alloc, &seen.padata_value)?,
         })
     }

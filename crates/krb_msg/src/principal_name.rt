@@ -7,7 +7,7 @@ ghost use Rattle.krb_msg.specs.Types.{principal_name_value, principal_name_of, p
 ghost use Rattle.krb_msg.specs.inner.PrefixFree.{begins, type_is_prefix_free};
 ghost use Rattle.krb_msg.specs.inner.RoundTrips.{principal_name-back};
 
-use crate::copying::{FromView, copy_items};
+use crate::copying::{FromPlainView, FromView, copy_items};
 use crate::fields::{
     Borrowed, Encode, End, FieldOf, Noted, NotedView, Owned, Required, Sequence, View, view_by_call,
 };
@@ -126,7 +126,7 @@ impl<'a> FromView<'a> for PrincipalName {
 
     fn from_view(alloc: Global, seen: &PrincipalNameView<'a>) -> Result<PrincipalName, Memory> {
         Ok(PrincipalName {
-            name_type: Int32::from_view(alloc, &seen.name_type)?,
+            name_type: Int32::from_plain_view(&seen.name_type),
             name: copy_items(alloc, seen.name)?,
         })
     }

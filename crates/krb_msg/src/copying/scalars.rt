@@ -2,7 +2,7 @@
 
 ghost use Rattle.krb_msg.specs.Basic.{micros_of, flags_of_view};
 
-use crate::copying::FromView;
+use crate::copying::{FromPlainView, FromView};
 use crate::view::scalars::FlagsView;
 use krb_der::{Flags, Int32, KString, KerberosTime, Memory, Micros, Octets, Wide32};
 use std::alloc::Global;
@@ -11,7 +11,13 @@ impl<'a> FromView<'a> for Int32 {
     ghost copied = { λ number. number };
 
     fn from_view(_alloc: Global, seen: &i64) -> Result<Int32, Memory> {
-        Ok(Int32::new(*seen as i32))
+        Ok(Int32::from_plain_view(seen))
+    }
+}
+
+impl<'a> FromPlainView<'a> for Int32 {
+    fn from_plain_view(seen: &i64) -> Int32 {
+        Int32::new(*seen as i32)
     }
 }
 
@@ -19,8 +25,14 @@ impl<'a> FromView<'a> for Wide32 {
     ghost copied = { λ number. number };
 
     fn from_view(_alloc: Global, seen: &i64) -> Result<Wide32, Memory> {
+        Ok(Wide32::from_plain_view(seen))
+    }
+}
+
+impl<'a> FromPlainView<'a> for Wide32 {
+    fn from_plain_view(seen: &i64) -> Wide32 {
         match Wide32::new(*seen) {
-            Some(wide) => Ok(wide),
+            Some(wide) => wide,
             None => unreachable!(),
         }
     }
@@ -30,8 +42,14 @@ impl<'a> FromView<'a> for Micros {
     ghost copied = { micros_of };
 
     fn from_view(_alloc: Global, seen: &i64) -> Result<Micros, Memory> {
+        Ok(Micros::from_plain_view(seen))
+    }
+}
+
+impl<'a> FromPlainView<'a> for Micros {
+    fn from_plain_view(seen: &i64) -> Micros {
         match Micros::new(*seen as u32) {
-            Some(micros) => Ok(micros),
+            Some(micros) => micros,
             None => unreachable!(),
         }
     }
@@ -57,11 +75,17 @@ impl<'a> FromView<'a> for KerberosTime {
     ghost copied = { λ octets. octets.now };
 
     fn from_view(_alloc: Global, seen: &&'a [u8]) -> Result<KerberosTime, Memory> {
+        Ok(KerberosTime::from_plain_view(seen))
+    }
+}
+
+impl<'a> FromPlainView<'a> for KerberosTime {
+    fn from_plain_view(seen: &&'a [u8]) -> KerberosTime {
         let Some((octets, _)) = seen.split_first_chunk::<15>() else {
             unreachable!()
         };
         match KerberosTime::new(*octets) {
-            Some(time) => Ok(time),
+            Some(time) => time,
             None => unreachable!(),
         }
     }

@@ -3,7 +3,7 @@ use Rattle.std.proofs.lemmas.Bool.{false≢true}
 use Rattle.std.proofs.lemmas.List.{take_all}
 use Rattle.krb_der.specs.Scalars.{IsTimeFrom}
 use Rattle.krb_der.proofs.Shapes.{length-time}
-use Rattle.krb_msg.proofs.copying.scalars.KerberosTimeFromView.from_view.Goals as goal
+use Rattle.krb_msg.proofs.copying.scalars.KerberosTimeFromPlainView.from_plain_view.Goals as goal
 
 pub unreachable-requires-in-None : goal.unreachable-requires-in-None
 unreachable-requires-in-None c =
