@@ -39,10 +39,11 @@ pub trait View<'a> {
         ensures { IfElse result (AreContents term contents.now (value seen.new) × IsValid seen.new) (AreNoContents term contents.now) };
 }
 
-/// A SEQUENCE, or a message that is one, by the fields that describe it: what a [`View`] of a type
-/// is made by. A proof of a call has all that is asked of each field in it, and so little is.
+/// A SEQUENCE, or a message that is one, as a list of its fields, by which the [`View`] of its type
+/// is made.
 pub trait ViewSequence<'a> {
-    /// The views of the fields.
+    /// The views of the fields. Nothing is asked of them, since what is asked of nested views is
+    /// written out at each level in a proof.
     type Of;
 
     /// The term.
@@ -70,7 +71,7 @@ pub trait ViewSequence<'a> {
 
 /// Fields, from one on, that are judged and viewed in place.
 pub trait ViewFields<'a> {
-    /// The views of them.
+    /// The views of them, of which nothing is asked, as of those of a [`ViewSequence`].
     type Of;
 
     /// The fields of the grammar.
