@@ -22,7 +22,7 @@ use krb_packet::Segment;
 use std::alloc::Global;
 use std::collections::BTreeMap;
 
-/// How many directions are kept, those that ended with them.
+/// How many directions are kept, including those that ended.
 const MOST_DIRECTIONS: usize = 65536;
 
 /// A direction that has not ended.
@@ -82,7 +82,7 @@ fn begins(segment: &Segment<'_>) -> bool
     !segment.rst && (segment.syn || segment.payload.size() > 0)
 }
 
-/// Returns a direction of which nothing came, or that ended and had this.
+/// Returns a direction with no octets yet, or one that ended and had this.
 fn direction_after(had: Option<Had>) -> Direction
     ensures { result.state ≡ state_after had }
 {

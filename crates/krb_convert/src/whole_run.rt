@@ -90,7 +90,7 @@ fn read_most<R: Read>(
     Ok(octets)
 }
 
-/// Returns the line of the message of a profile that octets are, or why it has none.
+/// Returns the line of a message, judged by a profile, or why there is none.
 fn decode_message(
     alloc: Global,
     profile: Profile,

@@ -22,9 +22,9 @@ pub struct Refusal {
 pub enum Verdict {
     /// Nothing is decided: more octets are needed.
     Open,
-    /// They are one whole message.
+    /// The octets are one whole message.
     Whole,
-    /// No message begins with them.
+    /// No message begins with the octets.
     Refused(Refusal),
 }
 

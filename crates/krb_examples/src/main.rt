@@ -57,7 +57,7 @@ fn octets_of(alloc: Global, message: &Message) -> Result<Vec<u8>, EncodeFault> {
     encode(alloc, message)
 }
 
-/// Returns the kind of the message that octets are.
+/// Returns the kind of a message.
 fn kind_of(alloc: Global, octets: &[u8]) -> Result<Kind, ParseFault> {
     let message = parse(alloc, octets)?;
     Ok(message.kind())

@@ -15,7 +15,7 @@ pub(crate) const LENGTH_OCTETS: usize = 4;
 /// How far the current frame has been read.
 #[derive(Clone, Copy)]
 enum Phase {
-    /// This many octets of its length, and not all four.
+    /// Fewer than four octets of its length: this many.
     Length(usize),
     /// Its length, which announces a number of octets, and a part of these.
     Contents(u32),
@@ -128,7 +128,7 @@ impl Decoder {
         Decoder::reserved_with_profile(alloc, limit, Profile::Lenient)
     }
 
-    /// As [`Decoder::reserved`], by a profile.
+    /// Creates a decoder as [`Decoder::reserved`] does, by a profile.
     pub fn reserved_with_profile(
         alloc: Global,
         limit: Limit,
@@ -205,7 +205,8 @@ impl Decoder {
         self.limit
     }
 
-    /// Uses octets of the length, as many as are missing and come, and judges it with its last one.
+    /// Uses octets of the length, as many as are missing and present, and judges the length once it
+    /// has all four.
     fn feed_length(&mut self, piece: &[u8]) -> usize
         ensures { FeedsLength (messages self.old.profile) self.old piece.now self.new result }
     {
@@ -262,8 +263,8 @@ impl Decoder {
         true
     }
 
-    /// Returns how many octets of the frame that is refused are still to come, if its length is
-    /// known, which it is not after `HighBit`.
+    /// Returns how many octets of the refused frame are still to come, if its length is known, which
+    /// it is not after `HighBit`.
     pub(crate) fn rest_to_come(&self) -> Option<u32>
         ensures { result ≡ rest_to_come (messages self.now.profile) self.now }
     {
@@ -335,7 +336,7 @@ impl Decoder {
 
     /// Returns what is refused of a stream that ends here: nothing between two frames, or if one is
     /// ready; what was refused; and else `Truncated`, at the number of octets of the frame that are
-    /// there, those of its length with them.
+    /// there, including those of its length.
     pub fn finish(&self) -> Result<(), Refusal>
         ensures { result ≡ finish_of (messages self.now.profile) self.now }
     {
@@ -347,8 +348,8 @@ impl Decoder {
         }
     }
 
-    /// Returns the number of octets of the current frame that were used, those of its length with
-    /// them.
+    /// Returns the number of octets of the current frame that were used, including those of its
+    /// length.
     pub fn looked(&self) -> u32
         ensures { result ≡ length self.now.octets }
     {
@@ -445,8 +446,8 @@ fn phase_after(size: u32, status: Status) -> Phase
     }
 }
 
-/// Puts octets of a piece after those of a length that are present, as many as are missing and
-/// come, and returns how many.
+/// Puts octets of a piece after those of a length that are there, as many as are missing and
+/// present, and returns how many.
 fn put_octets(length: &mut [u8; LENGTH_OCTETS], present: usize, piece: &[u8]) -> usize
     requires { present < 4 }
     ensures { IsPut length.old present piece.now length.new result }

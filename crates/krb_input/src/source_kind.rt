@@ -38,7 +38,7 @@ impl SourceKind {
     }
 }
 
-/// Returns what a source holds, by its first octets, of which no more than 16 are looked at.
+/// Returns what a source holds, by its first octets. It looks at no more than 16.
 pub fn kind_of(first: &[u8]) -> SourceKind
     ensures { result ≡ command_for first.now }
 {

@@ -183,8 +183,7 @@ fn begins_with_zero(slots: &[Slot], octets: &[u8]) -> bool
     }
 }
 
-/// Returns what the path has in the fields that octets are, of which the first is the one at an
-/// index.
+/// Returns what the path has in fields, the first of which is the one at an index.
 #[cycle(find)]
 fn find_in_fields(
     alloc: Global,

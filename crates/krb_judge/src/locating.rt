@@ -120,7 +120,7 @@ pub fn path(alloc: Global, profile: Profile, n: u32, front: &[u8]) -> Result<Opt
 }
 
 /// Returns the path of the field at fault in a Ticket of `n` octets, alone (RFC 4120, 5.3), by a
-/// profile, such as `Ticket.sname`, as [`path`] has it of a message.
+/// profile, such as `Ticket.sname`; see [`path`].
 pub fn ticket_path(alloc: Global, profile: Profile, n: u32, front: &[u8]) -> Result<String, Memory>
     requires short { n < 2 ^ 31 }
     requires present { length front.now ≤ n }

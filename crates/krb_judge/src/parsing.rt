@@ -1,4 +1,4 @@
-//! The message that octets are.
+//! Parsing messages, Tickets and METHOD-DATA.
 
 ghost use Rattle.std.specs.Prelude.{◌≡◌, ◌≢◌, ◌^◌, ◌<◌, ◌↔◌, ◌⊎◌, true, false, List, IfOk, IsErrOf, IsSome, MatchOption, Ok, Err, Some, None, length};
 ghost use Rattle.krb_msg.specs.Judgement.{term_judgement};
@@ -25,10 +25,10 @@ use std::alloc::{AllocError, Global};
 use std::error::Error;
 use std::fmt;
 
-/// Why octets gave no message, no Ticket and no METHOD-DATA.
+/// Why parsing a message, a Ticket or METHOD-DATA failed.
 #[derive(Clone, Copy, PartialEq, Eq, Debug)]
 pub enum ParseFault {
-    /// They are none.
+    /// The octets are refused.
     Refused(Refusal),
     /// Out of memory.
     Memory,
@@ -50,7 +50,7 @@ impl From<AllocError> for ParseFault {
     }
 }
 
-/// `refused at 12: Range`, or `out of memory`.
+/// Shows `refused at 12: Range`, or `out of memory`.
 impl fmt::Display for ParseFault {
     ghost output = { λ fault. Some (parse_fault_text fault) };
 
@@ -79,15 +79,15 @@ const MOST: usize = 2147483647;
 /// The node of a Ticket (RFC 4120, 5.3).
 const TICKET: u16 = Row::Ticket as u16;
 
-/// That of a Ticket of the strict profile.
+/// The node of a Ticket of the strict profile.
 const STRICT_TICKET: u16 = Row::Ticket as u16 + ROWS as u16;
 
 /// The node of METHOD-DATA (RFC 4120, 5.9.1).
 const METHOD_DATA: u16 = Row::MethodData as u16;
 
-/// Returns the message that octets are, or why they are none, by the lenient profile. A slice of
-/// more than 2147483647 octets is `TooLong` at 0, an empty one `Empty` at 0; else
-/// [`judge`](crate::judge) refuses it. A refusal is decided before memory is allocated.
+/// Parses a message by the lenient profile. A slice of more than 2147483647 octets is refused as
+/// `TooLong` at 0 and an empty one as `Empty` at 0, and any other as [`judge`](crate::judge) refuses
+/// it, before memory is allocated.
 pub fn parse(alloc: Global, octets: &[u8]) -> Result<Message, ParseFault>
     ensures message { IfOk result (AreOf Profile.Lenient octets.now) }
     ensures found { (m : Message) → AreOf Profile.Lenient octets.now m → (result ≡ Ok m) ⊎ (result ≡ Err fault.Memory) }
@@ -97,7 +97,7 @@ pub fn parse(alloc: Global, octets: &[u8]) -> Result<Message, ParseFault>
     parse_in(alloc, Profile::Lenient, octets)
 }
 
-/// Returns the message of a profile that octets are, or why they are none, as [`parse`] has it.
+/// Parses a message by a profile; see [`parse`].
 pub fn parse_in(alloc: Global, profile: Profile, octets: &[u8]) -> Result<Message, ParseFault>
     ensures message { IfOk result (AreOf profile octets.now) }
     ensures found { (m : Message) → AreOf profile octets.now m → (result ≡ Ok m) ⊎ (result ≡ Err fault.Memory) }
@@ -110,8 +110,7 @@ pub fn parse_in(alloc: Global, profile: Profile, octets: &[u8]) -> Result<Messag
     }
 }
 
-/// Returns the Ticket (RFC 4120, 5.3) that octets are, or why they are none, by the lenient
-/// profile, as [`parse`] has it of a message.
+/// Parses a Ticket (RFC 4120, 5.3) by the lenient profile; see [`parse`].
 pub fn parse_ticket(alloc: Global, octets: &[u8]) -> Result<Ticket, ParseFault>
     ensures ticket { IfOk result (AreOfTicket Profile.Lenient octets.now) }
     ensures found { (t : Ticket) → AreOfTicket Profile.Lenient octets.now t → (result ≡ Ok t) ⊎ (result ≡ Err fault.Memory) }
@@ -121,8 +120,7 @@ pub fn parse_ticket(alloc: Global, octets: &[u8]) -> Result<Ticket, ParseFault>
     parse_ticket_in(alloc, Profile::Lenient, octets)
 }
 
-/// Returns the Ticket of a profile that octets are, or why they are none, as [`parse`] has it of a
-/// message.
+/// Parses a Ticket by a profile; see [`parse`].
 pub fn parse_ticket_in(alloc: Global, profile: Profile, octets: &[u8]) -> Result<Ticket, ParseFault>
     ensures ticket { IfOk result (AreOfTicket profile octets.now) }
     ensures found { (t : Ticket) → AreOfTicket profile octets.now t → (result ≡ Ok t) ⊎ (result ≡ Err fault.Memory) }
@@ -146,8 +144,8 @@ pub(crate) fn ticket_node(profile: Profile) -> u16
     }
 }
 
-/// Returns a view of the Ticket that octets are, or why they are none, by the lenient
-/// profile. It allocates nothing.
+/// Returns a view of a Ticket, or why the octets are not one, by the lenient profile. It allocates
+/// nothing.
 pub fn read_ticket(octets: &[u8]) -> Result<TicketView<'_>, Refusal>
     ensures ticket { IfOk result (λ view. AreOfTicket Profile.Lenient octets.now (ticket_of_view view)) }
     ensures lists { IfOk result IsValidTicket }
@@ -156,8 +154,7 @@ pub fn read_ticket(octets: &[u8]) -> Result<TicketView<'_>, Refusal>
     read_ticket_in(Profile::Lenient, octets)
 }
 
-/// Returns a view of the Ticket of a profile that octets are, or why they are none. It allocates
-/// nothing.
+/// Returns a view of a Ticket, or why the octets are not one, by a profile. It allocates nothing.
 pub fn read_ticket_in(profile: Profile, octets: &[u8]) -> Result<TicketView<'_>, Refusal>
     ensures ticket { IfOk result (λ view. AreOfTicket profile octets.now (ticket_of_view view)) }
     ensures lists { IfOk result IsValidTicket }
@@ -166,8 +163,7 @@ pub fn read_ticket_in(profile: Profile, octets: &[u8]) -> Result<TicketView<'_>,
     read_item::<Ticket>(profile, ticket_node(profile), octets)
 }
 
-/// Returns the METHOD-DATA (RFC 4120, 5.9.1) that octets are, or why they are none, as [`parse`]
-/// has it of a message.
+/// Parses METHOD-DATA (RFC 4120, 5.9.1); see [`parse`].
 pub fn parse_method_data(alloc: Global, octets: &[u8]) -> Result<Vec<PaData>, ParseFault>
     ensures items { IfOk result (λ items. AreOfMethodData octets.now items.items) }
     ensures found { (items : List PaData) → AreOfMethodData octets.now items → IfOk result (λ those. those.items ≡ items) × (method_data_refusal octets.now ≡ None) }
@@ -180,8 +176,8 @@ pub fn parse_method_data(alloc: Global, octets: &[u8]) -> Result<Vec<PaData>, Pa
     }
 }
 
-/// Returns a view of the message that octets are, or why they are none, by the lenient profile, as
-/// [`parse`] has it. It allocates nothing.
+/// Returns a view of a message, or why the octets are not one, by the lenient profile; see
+/// [`parse`]. It allocates nothing.
 pub fn read_message(octets: &[u8]) -> Result<MessageView<'_>, Refusal>
     ensures message { IfOk result (IsMessageView octets.now) }
     ensures whole { IfOk result (λ _. refusal_in Profile.Lenient octets.now ≡ None) }
@@ -190,8 +186,7 @@ pub fn read_message(octets: &[u8]) -> Result<MessageView<'_>, Refusal>
     read_message_in(Profile::Lenient, octets)
 }
 
-/// Returns a view of the message of a profile that octets are, or why they are none. It allocates
-/// nothing.
+/// Returns a view of a message, or why the octets are not one, by a profile. It allocates nothing.
 pub fn read_message_in(profile: Profile, octets: &[u8]) -> Result<MessageView<'_>, Refusal>
     ensures message { IfOk result (IsMessageView octets.now) }
     ensures whole { IfOk result (λ _. refusal_in profile octets.now ≡ None) }
@@ -205,8 +200,8 @@ pub fn read_message_in(profile: Profile, octets: &[u8]) -> Result<MessageView<'_
     )
 }
 
-/// Returns the item of a node's term, which is that of a profile, that octets are, viewed,
-/// or why they are none.
+/// Returns a view of an item of a node's term, which is that of a profile, or why the octets are not
+/// one.
 fn read_item<'a, T: View<'a>>(
     profile: Profile,
     node: u16,
@@ -228,14 +223,14 @@ fn read_item<'a, T: View<'a>>(
     )
 }
 
-/// Returns a view of the message that octets are, if they are one in the lenient profile.
+/// Returns a view of a message, if the octets are one by the lenient profile.
 fn viewed_message(octets: &[u8]) -> Option<MessageView<'_>>
     ensures { MatchOption result (refusal_in Profile.Lenient octets.now ≢ None) (λ seen. IsMessageView octets.now seen × (refusal_in Profile.Lenient octets.now ≡ None)) }
 {
     view_message(octets)
 }
 
-/// Returns a view of the item that octets are, if they are one in the lenient profile.
+/// Returns a view of an item, if the octets are one by the lenient profile.
 fn viewed_item<'a, T: View<'a>>(octets: &'a [u8]) -> Option<T::Of>
     requires tags { has_octet_tags T.term ≡ true }
     requires unambiguous { is_unambiguous T.term ≡ true }

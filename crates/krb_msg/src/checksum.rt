@@ -18,18 +18,18 @@ use std::alloc::Global;
 /// A checksum (RFC 4120, 5.2.9). It is not verified.
 #[derive(PartialEq, Eq, Debug, Drop)]
 pub struct Checksum {
-    /// How it is made.
+    /// The checksum type (RFC 3961); any value is accepted.
     pub cksumtype: Int32,
-    /// Its octets.
+    /// The octets of the checksum.
     pub checksum: Octets,
 }
 
 /// A view of a Checksum: its strings and lists are borrowed from the octets.
 #[derive(Clone, Copy, Default)]
 pub struct ChecksumView<'a> {
-    /// How it is made.
+    /// The checksum type (RFC 3961); any value is accepted.
     pub cksumtype: i64,
-    /// Its octets.
+    /// The octets of the checksum.
     pub checksum: &'a [u8],
 }
 

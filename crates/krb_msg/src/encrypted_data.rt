@@ -17,12 +17,12 @@ use crate::notes::{Notes, any_of};
 use krb_der::{Der, Int32, Memory, Octets, Wide32};
 use std::alloc::Global;
 
-/// What is encrypted (RFC 4120, 5.2.9). Its cipher is never opened.
+/// Encrypted data (RFC 4120, 5.2.9), which is never decrypted.
 #[derive(PartialEq, Eq, Debug, Drop)]
 pub struct EncryptedData {
-    /// The encryption type (RFC 3961), of which none is refused.
+    /// The encryption type (RFC 3961); any value is accepted.
     pub etype: Int32,
-    /// The version of the key, if it is said.
+    /// The version number of the key, if known.
     pub kvno: Option<Wide32>,
     /// The encrypted octets.
     pub cipher: Octets,
@@ -31,9 +31,9 @@ pub struct EncryptedData {
 /// A view of an EncryptedData: its strings and lists are borrowed from the octets.
 #[derive(Clone, Copy, Default)]
 pub struct EncryptedDataView<'a> {
-    /// The encryption type (RFC 3961), of which none is refused.
+    /// The encryption type (RFC 3961); any value is accepted.
     pub etype: i64,
-    /// The version of the key, if it is said.
+    /// The version number of the key, if known.
     pub kvno: Option<i64>,
     /// The encrypted octets.
     pub cipher: &'a [u8],

@@ -15,10 +15,10 @@ use crate::item::Item;
 use krb_der::{Der, Int32, Memory, Octets};
 use std::alloc::Global;
 
-/// The address of a host (RFC 4120, 5.2.5). What it means is not looked into.
+/// The address of a host (RFC 4120, 5.2.5), which is not interpreted.
 #[derive(PartialEq, Eq, Debug, Drop)]
 pub struct HostAddress {
-    /// What kind of address it is (7.5.3).
+    /// The type of the address (7.5.3).
     pub addr_type: Int32,
     /// The address.
     pub address: Octets,
@@ -27,7 +27,7 @@ pub struct HostAddress {
 /// A view of a HostAddress: its strings and lists are borrowed from the octets.
 #[derive(Clone, Copy, Default)]
 pub struct HostAddressView<'a> {
-    /// What kind of address it is (7.5.3).
+    /// The type of the address (7.5.3).
     pub addr_type: i64,
     /// The address.
     pub address: &'a [u8],

@@ -30,13 +30,13 @@ use std::alloc::Global;
 /// their message type are fixed, and so not kept; so a KDC-REP has octets only as one or the other.
 #[derive(PartialEq, Eq, Debug, Drop)]
 pub struct KdcRep {
-    /// Pre-authentication data, if there is some.
+    /// Pre-authentication data.
     pub padata: Option<Many<PaData>>,
     /// The realm of the client.
     pub crealm: KString,
     /// The client.
     pub cname: PrincipalName,
-    /// The ticket that is issued.
+    /// The issued ticket.
     pub ticket: Ticket,
     /// The encrypted EncASRepPart or EncTGSRepPart.
     pub enc_part: EncryptedData,
@@ -45,13 +45,13 @@ pub struct KdcRep {
 /// A view of a KDC-REP: its strings and lists are borrowed from the octets.
 #[derive(Clone, Copy, Default)]
 pub struct KdcRepView<'a> {
-    /// Pre-authentication data, if there is some.
+    /// Pre-authentication data.
     pub padata: Option<ItemsView<'a>>,
     /// The realm of the client.
     pub crealm: &'a [u8],
     /// The client.
     pub cname: PrincipalNameView<'a>,
-    /// The ticket that is issued.
+    /// The issued ticket.
     pub ticket: TicketView<'a>,
     /// The encrypted EncASRepPart or EncTGSRepPart.
     pub enc_part: EncryptedDataView<'a>,
@@ -138,8 +138,8 @@ impl KdcRep {
         )
     }
 
-    /// Makes `seen` the view of the message of a number and a message type that octets are, and
-    /// returns whether they are one.
+    /// Makes `seen` the view of a message of a number and a message type, and returns whether the
+    /// octets are one.
     #[inline(always)]
     pub(crate) fn view_into<'a, const N: u8>(octets: &'a [u8], seen: &mut KdcRepView<'a>) -> bool
         requires short { length octets.now < 2 ^ 31 }

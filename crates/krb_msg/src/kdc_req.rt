@@ -29,18 +29,18 @@ use std::alloc::Global;
 /// or the other.
 #[derive(PartialEq, Eq, Debug, Drop)]
 pub struct KdcReq {
-    /// Pre-authentication data, if there is some.
+    /// Pre-authentication data.
     pub padata: Option<Many<PaData>>,
-    /// What is asked for.
+    /// The request itself.
     pub body: KdcReqBody,
 }
 
 /// A view of a KDC-REQ: its strings and lists are borrowed from the octets.
 #[derive(Clone, Copy, Default)]
 pub struct KdcReqView<'a> {
-    /// Pre-authentication data, if there is some.
+    /// Pre-authentication data.
     pub padata: Option<ItemsView<'a>>,
-    /// What is asked for.
+    /// The request itself.
     pub body: KdcReqBodyView<'a>,
 }
 
@@ -97,8 +97,8 @@ impl KdcReq {
         any_of!(optional_list_notes(&self.padata), self.body.notes())
     }
 
-    /// Makes `seen` the view of the message of a number and a message type that octets are, and
-    /// returns whether they are one.
+    /// Makes `seen` the view of a message of a number and a message type, and returns whether the
+    /// octets are one.
     #[inline(always)]
     pub(crate) fn view_into<'a, const N: u8>(octets: &'a [u8], seen: &mut KdcReqView<'a>) -> bool
         requires short { length octets.now < 2 ^ 31 }

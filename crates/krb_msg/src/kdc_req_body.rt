@@ -37,21 +37,21 @@ pub struct KdcReqBody {
     pub realm: KString,
     /// The server, which only a request with ENC-TKT-IN-SKEY may leave out.
     pub sname: Option<PrincipalName>,
-    /// From when on the ticket is to serve.
+    /// The requested start time.
     pub from: Option<KerberosTime>,
-    /// Until when it is to serve.
+    /// The requested end time.
     pub till: KerberosTime,
-    /// Until when it is to be renewable.
+    /// The requested renew-till time.
     pub rtime: Option<KerberosTime>,
-    /// A number that the reply has to repeat.
+    /// A random number that the reply has to repeat.
     pub nonce: Wide32,
-    /// The encryption types (RFC 3961) that the client accepts, the best first.
+    /// The encryption types (RFC 3961) that the client accepts, in order of preference.
     pub etype: Many<Int32>,
-    /// The addresses from which the ticket is to serve.
+    /// The addresses from which the ticket may be used.
     pub addresses: Option<Many<HostAddress>>,
     /// The encrypted AuthorizationData.
     pub enc_authorization_data: Option<EncryptedData>,
-    /// Further tickets, which some options ask for.
+    /// Additional tickets, which some options require.
     pub additional_tickets: Option<Many<Ticket>>,
 }
 
@@ -66,21 +66,21 @@ pub struct KdcReqBodyView<'a> {
     pub realm: &'a [u8],
     /// The server, which only a request with ENC-TKT-IN-SKEY may leave out.
     pub sname: Option<PrincipalNameView<'a>>,
-    /// From when on the ticket is to serve.
+    /// The requested start time.
     pub from: Option<&'a [u8]>,
-    /// Until when it is to serve.
+    /// The requested end time.
     pub till: &'a [u8],
-    /// Until when it is to be renewable.
+    /// The requested renew-till time.
     pub rtime: Option<&'a [u8]>,
-    /// A number that the reply has to repeat.
+    /// A random number that the reply has to repeat.
     pub nonce: i64,
-    /// The encryption types (RFC 3961) that the client accepts, the best first.
+    /// The encryption types (RFC 3961) that the client accepts, in order of preference.
     pub etype: ItemsView<'a>,
-    /// The addresses from which the ticket is to serve.
+    /// The addresses from which the ticket may be used.
     pub addresses: Option<ItemsView<'a>>,
     /// The encrypted AuthorizationData.
     pub enc_authorization_data: Option<EncryptedDataView<'a>>,
-    /// Further tickets, which some options ask for.
+    /// Additional tickets, which some options require.
     pub additional_tickets: Option<ItemsView<'a>>,
 }
 
@@ -232,17 +232,17 @@ impl Noted for KdcReqBody {
 /// A view of the second half of its fields.
 #[derive(Clone, Copy, Default)]
 pub struct RestView<'a> {
-    /// Until when it is to be renewable.
+    /// The requested renew-till time.
     rtime: Option<&'a [u8]>,
-    /// A number that the reply has to repeat.
+    /// A random number that the reply has to repeat.
     nonce: i64,
-    /// The encryption types (RFC 3961) that the client accepts, the best first.
+    /// The encryption types (RFC 3961) that the client accepts, in order of preference.
     etype: ItemsView<'a>,
-    /// The addresses from which the ticket is to serve.
+    /// The addresses from which the ticket may be used.
     addresses: Option<ItemsView<'a>>,
     /// The encrypted AuthorizationData.
     enc_authorization_data: Option<EncryptedDataView<'a>>,
-    /// Further tickets, which some options ask for.
+    /// Additional tickets, which some options require.
     additional_tickets: Option<ItemsView<'a>>,
 }
 

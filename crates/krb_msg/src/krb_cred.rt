@@ -20,8 +20,8 @@ use crate::view::items::ItemsView;
 use krb_der::{Der, Many, Memory};
 use std::alloc::Global;
 
-/// Tickets, handed on with what is encrypted of them (RFC 4120, 5.8.1). Its version and its message
-/// type are fixed, and so not kept.
+/// Forwarded credentials: tickets, with their session keys encrypted (RFC 4120, 5.8.1). Its version
+/// and its message type are fixed, and so not kept.
 #[derive(PartialEq, Eq, Debug, Drop)]
 pub struct KrbCred {
     /// The tickets.

@@ -19,8 +19,7 @@ use crate::principal_name::{PrincipalName, PrincipalNameView};
 use krb_der::{Der, Int32, KString, KerberosTime, Memory, Micros, Octets};
 use std::alloc::Global;
 
-/// The message of an error (RFC 4120, 5.9.1). Its version and its message type are fixed, and so
-/// not kept.
+/// An error message (RFC 4120, 5.9.1). Its version and its message type are fixed, and so not kept.
 #[derive(PartialEq, Eq, Debug, Drop)]
 pub struct KrbError {
     /// The time of the client.
@@ -31,7 +30,7 @@ pub struct KrbError {
     pub stime: KerberosTime,
     /// The microseconds of the time of the server.
     pub susec: Micros,
-    /// What went wrong (7.5.9).
+    /// The error code (7.5.9).
     pub error_code: Int32,
     /// The realm of the client.
     pub crealm: Option<KString>,
@@ -41,7 +40,7 @@ pub struct KrbError {
     pub realm: KString,
     /// The service.
     pub sname: PrincipalName,
-    /// A text for people.
+    /// A text that explains the error to people.
     pub e_text: Option<KString>,
     /// Data for programs: METHOD-DATA if the code is 25. It is not judged.
     pub e_data: Option<Octets>,
@@ -58,7 +57,7 @@ pub struct KrbErrorView<'a> {
     pub stime: &'a [u8],
     /// The microseconds of the time of the server.
     pub susec: i64,
-    /// What went wrong (7.5.9).
+    /// The error code (7.5.9).
     pub error_code: i64,
     /// The realm of the client.
     pub crealm: Option<&'a [u8]>,
@@ -68,7 +67,7 @@ pub struct KrbErrorView<'a> {
     pub realm: &'a [u8],
     /// The service.
     pub sname: PrincipalNameView<'a>,
-    /// A text for people.
+    /// A text that explains the error to people.
     pub e_text: Option<&'a [u8]>,
     /// Data for programs: METHOD-DATA if the code is 25. It is not judged.
     pub e_data: Option<&'a [u8]>,
@@ -224,7 +223,7 @@ pub struct RestView<'a> {
     realm: &'a [u8],
     /// The service.
     sname: PrincipalNameView<'a>,
-    /// A text for people.
+    /// A text that explains the error to people.
     e_text: Option<&'a [u8]>,
     /// Data for programs: METHOD-DATA if the code is 25. It is not judged.
     e_data: Option<&'a [u8]>,

@@ -18,8 +18,8 @@ use crate::notes::{Notes, any_of};
 use krb_der::{Der, Memory};
 use std::alloc::Global;
 
-/// A message that is encrypted (RFC 4120, 5.7.1). Its version and its message type are fixed, and
-/// so not kept.
+/// An encrypted message (RFC 4120, 5.7.1). Its version and its message type are fixed, and so not
+/// kept.
 #[derive(PartialEq, Eq, Debug, Drop)]
 pub struct KrbPriv {
     /// The encrypted EncKrbPrivPart.

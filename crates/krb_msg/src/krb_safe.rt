@@ -19,22 +19,22 @@ use crate::notes::{Notes, any_of};
 use krb_der::{Der, Memory};
 use std::alloc::Global;
 
-/// A message that is protected against changes (RFC 4120, 5.6.1). Its version and its message type
-/// are fixed, and so not kept.
+/// A message that is protected against modification (RFC 4120, 5.6.1). Its version and its message
+/// type are fixed, and so not kept.
 #[derive(PartialEq, Eq, Debug, Drop)]
 pub struct KrbSafe {
-    /// What is protected.
+    /// The protected body.
     pub body: KrbSafeBody,
-    /// The checksum that protects it.
+    /// The checksum of the body.
     pub cksum: Checksum,
 }
 
 /// A view of a KRB-SAFE: its strings and lists are borrowed from the octets.
 #[derive(Clone, Copy, Default)]
 pub struct KrbSafeView<'a> {
-    /// What is protected.
+    /// The protected body.
     pub body: KrbSafeBodyView<'a>,
-    /// The checksum that protects it.
+    /// The checksum of the body.
     pub cksum: ChecksumView<'a>,
 }
 

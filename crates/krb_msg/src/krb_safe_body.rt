@@ -18,16 +18,16 @@ use crate::notes::{Notes, any_of};
 use krb_der::{Der, KerberosTime, Memory, Micros, Octets, Wide32};
 use std::alloc::Global;
 
-/// What a KRB-SAFE protects (RFC 4120, 5.6.1).
+/// The body of a KRB-SAFE, which its checksum protects (RFC 4120, 5.6.1).
 #[derive(PartialEq, Eq, Debug, Drop)]
 pub struct KrbSafeBody {
-    /// What the sender has to say.
+    /// The data of the application.
     pub user_data: Octets,
-    /// When the sender said it.
+    /// The time at which the sender made the message.
     pub timestamp: Option<KerberosTime>,
-    /// The microseconds of this time.
+    /// The microseconds of that time.
     pub usec: Option<Micros>,
-    /// Its number among the messages of its sender.
+    /// The sequence number of the message.
     pub seq_number: Option<Wide32>,
     /// The sender's address.
     pub s_address: HostAddress,
@@ -38,13 +38,13 @@ pub struct KrbSafeBody {
 /// A view of a KRB-SAFE-BODY: its strings and lists are borrowed from the octets.
 #[derive(Clone, Copy, Default)]
 pub struct KrbSafeBodyView<'a> {
-    /// What the sender has to say.
+    /// The data of the application.
     pub user_data: &'a [u8],
-    /// When the sender said it.
+    /// The time at which the sender made the message.
     pub timestamp: Option<&'a [u8]>,
-    /// The microseconds of this time.
+    /// The microseconds of that time.
     pub usec: Option<i64>,
-    /// Its number among the messages of its sender.
+    /// The sequence number of the message.
     pub seq_number: Option<i64>,
     /// The sender's address.
     pub s_address: HostAddressView<'a>,

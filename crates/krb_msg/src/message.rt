@@ -22,25 +22,25 @@ use krb_der::Der;
 /// A message of any kind (RFC 4120, section 5).
 #[derive(PartialEq, Eq, Debug, Drop)]
 pub enum Message {
-    /// What a client sends a KDC for its first ticket (5.4.1).
+    /// A request for an initial ticket (5.4.1).
     AsReq(KdcReq),
-    /// The reply of a KDC to an AS-REQ (5.4.2).
+    /// The reply to an AS-REQ (5.4.2).
     AsRep(KdcRep),
-    /// What a client sends a KDC for a further ticket (5.4.1).
+    /// A request for a further ticket, with a ticket-granting ticket (5.4.1).
     TgsReq(KdcReq),
-    /// What a KDC answers a TGS-REQ (5.4.2).
+    /// The reply to a TGS-REQ (5.4.2).
     TgsRep(KdcRep),
-    /// What a client sends an application server (5.5.1).
+    /// A client's authentication to an application server (5.5.1).
     ApReq(ApReq),
-    /// The reply of an application server (5.5.2).
+    /// The reply to an AP-REQ (5.5.2).
     ApRep(ApRep),
-    /// What one sends the other, protected against changes (5.6.1).
+    /// Data protected against modification (5.6.1).
     KrbSafe(KrbSafe),
-    /// What one sends the other, encrypted (5.7.1).
+    /// Encrypted data of an application (5.7.1).
     KrbPriv(KrbPriv),
-    /// Tickets that one hands on to the other (5.8.1).
+    /// Forwarded tickets (5.8.1).
     KrbCred(KrbCred),
-    /// The reply of a KDC or a server that reports an error (5.9.1).
+    /// An error, reported by a KDC or a server (5.9.1).
     KrbError(KrbError),
 }
 

@@ -21,8 +21,8 @@ pub trait MessageKind<'a> {
     /// A view as that of a message of any kind.
     ghost as_message: { Self.View → MessageView };
 
-    /// Makes `seen` the view of the message of this kind that octets are, and returns whether they are
-    /// one: all of them, judged and viewed in one pass. It allocates nothing.
+    /// Makes `seen` the view of a message of this kind, and returns whether the octets are one: all of
+    /// them, judged and viewed in one pass. It allocates nothing.
     fn view_into(octets: &'a [u8], seen: &mut Self::View) -> bool
         requires { BeginAs kind octets.now }
         ensures { IfElse result (IsMessageView octets.now (as_message seen.new)) (IsNoMessage octets.now) };
@@ -37,7 +37,7 @@ pub trait MessageKind<'a> {
         ensures { result ≡ notes_of (message_of_view (as_message view.now)) };
 }
 
-/// Returns a view of the message of a kind that octets are, if they are one.
+/// Returns a view of a message of a kind, if the octets are one.
 #[inline(always)]
 pub(crate) fn view_of<'a, K: MessageKind<'a>>(octets: &'a [u8]) -> Option<MessageView<'a>>
     requires { BeginAs K.kind octets.now }

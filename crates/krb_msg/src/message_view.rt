@@ -31,25 +31,25 @@ use std::alloc::Global;
 /// from the octets.
 #[derive(Clone, Copy)]
 pub enum MessageView<'a> {
-    /// What a client sends a KDC for its first ticket (5.4.1).
+    /// A request for an initial ticket (5.4.1).
     AsReq(KdcReqView<'a>),
-    /// The reply of a KDC to an AS-REQ (5.4.2).
+    /// The reply to an AS-REQ (5.4.2).
     AsRep(KdcRepView<'a>),
-    /// What a client sends a KDC for a further ticket (5.4.1).
+    /// A request for a further ticket, with a ticket-granting ticket (5.4.1).
     TgsReq(KdcReqView<'a>),
-    /// What a KDC answers a TGS-REQ (5.4.2).
+    /// The reply to a TGS-REQ (5.4.2).
     TgsRep(KdcRepView<'a>),
-    /// What a client sends an application server (5.5.1).
+    /// A client's authentication to an application server (5.5.1).
     ApReq(ApReqView<'a>),
-    /// The reply of an application server (5.5.2).
+    /// The reply to an AP-REQ (5.5.2).
     ApRep(ApRepView<'a>),
-    /// What one sends the other, protected against changes (5.6.1).
+    /// Data protected against modification (5.6.1).
     KrbSafe(KrbSafeView<'a>),
-    /// What one sends the other, encrypted (5.7.1).
+    /// Encrypted data of an application (5.7.1).
     KrbPriv(KrbPrivView<'a>),
-    /// Tickets that one hands on to the other (5.8.1).
+    /// Forwarded tickets (5.8.1).
     KrbCred(KrbCredView<'a>),
-    /// The reply of a KDC or a server that reports an error (5.9.1).
+    /// An error, reported by a KDC or a server (5.9.1).
     KrbError(KrbErrorView<'a>),
 }
 
@@ -136,7 +136,7 @@ pub fn notes_of_view(view: &MessageView<'_>) -> Notes
     }
 }
 
-/// Returns a view of the message of a kind that octets are, if they are one.
+/// Returns a view of a message of a kind, if the octets are one.
 #[inline(always)]
 pub(crate) fn view_of_kind(kind: Kind, octets: &[u8]) -> Option<MessageView<'_>>
     requires { BeginAs kind octets.now }

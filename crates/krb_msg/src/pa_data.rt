@@ -17,10 +17,10 @@ use crate::view::items::ItemsView;
 use krb_der::{Der, Int32, Many, Memory, Octets};
 use std::alloc::Global;
 
-/// Pre-authentication data (RFC 4120, 5.2.7). What it means is not looked into.
+/// Pre-authentication data (RFC 4120, 5.2.7), which is not interpreted.
 #[derive(PartialEq, Eq, Debug, Drop)]
 pub struct PaData {
-    /// What kind of data it is (7.5.2).
+    /// The type of the data (7.5.2).
     pub padata_type: Int32,
     /// The data.
     pub padata_value: Octets,
@@ -29,7 +29,7 @@ pub struct PaData {
 /// A view of a PA-DATA: its strings and lists are borrowed from the octets.
 #[derive(Clone, Copy, Default)]
 pub struct PaDataView<'a> {
-    /// What kind of data it is (7.5.2).
+    /// The type of the data (7.5.2).
     pub padata_type: i64,
     /// The data.
     pub padata_value: &'a [u8],

@@ -20,7 +20,7 @@ use std::alloc::Global;
 /// The name of a principal within a realm (RFC 4120, 5.2.2).
 #[derive(PartialEq, Eq, Debug, Drop)]
 pub struct PrincipalName {
-    /// How the name is meant (6.2). Two names that differ in this alone name one principal.
+    /// The type of the name (6.2), a hint: names that differ in it alone name one principal.
     pub name_type: Int32,
     /// The components of the name, in order.
     pub name: Many<KString>,
@@ -29,7 +29,7 @@ pub struct PrincipalName {
 /// A view of a PrincipalName: its strings and lists are borrowed from the octets.
 #[derive(Clone, Copy, Default)]
 pub struct PrincipalNameView<'a> {
-    /// How the name is meant (6.2). Two names that differ in this alone name one principal.
+    /// The type of the name (6.2), a hint: names that differ in it alone name one principal.
     pub name_type: i64,
     /// The components of the name, in order.
     pub name: ItemsView<'a>,

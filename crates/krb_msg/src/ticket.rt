@@ -23,7 +23,7 @@ use std::alloc::Global;
 /// A ticket (RFC 4120, 5.3). Its version is fixed, and so not kept.
 #[derive(PartialEq, Eq, Debug, Drop)]
 pub struct Ticket {
-    /// The realm that issued it, and that of its server.
+    /// The realm that issued the ticket, which is also the realm of its server.
     pub realm: KString,
     /// The server.
     pub sname: PrincipalName,
@@ -34,7 +34,7 @@ pub struct Ticket {
 /// A view of a Ticket: its strings and lists are borrowed from the octets.
 #[derive(Clone, Copy, Default)]
 pub struct TicketView<'a> {
-    /// The realm that issued it, and that of its server.
+    /// The realm that issued the ticket, which is also the realm of its server.
     pub realm: &'a [u8],
     /// The server.
     pub sname: PrincipalNameView<'a>,

@@ -13,8 +13,8 @@ pub mod scalars;
 use crate::fields::{View, ViewSequence, view_item};
 use head::only_item;
 
-/// Returns a view of the item that octets are, if they are one: all of them, judged and viewed in
-/// one pass. It allocates nothing.
+/// Returns a view of an item, if the octets are one: all of them, judged and viewed in one pass. It
+/// allocates nothing.
 #[inline(always)]
 pub fn view_whole<'a, T: View<'a>>(octets: &'a [u8]) -> Option<T::Of>
     requires short { length octets.now < 2 ^ 31 }
@@ -26,8 +26,7 @@ pub fn view_whole<'a, T: View<'a>>(octets: &'a [u8]) -> Option<T::Of>
     view_item::<T>(contents)
 }
 
-/// Makes `seen` the view of the item that octets are, and returns whether they are one: the same as
-/// [`view_whole`].
+/// Makes `seen` the view of an item, and returns whether the octets are one, as [`view_whole`] does.
 #[inline(always)]
 pub(crate) fn view_whole_into<'a, T: View<'a>>(octets: &'a [u8], seen: &mut T::Of) -> bool
     requires short { length octets.now < 2 ^ 31 }
@@ -41,8 +40,7 @@ pub(crate) fn view_whole_into<'a, T: View<'a>>(octets: &'a [u8], seen: &mut T::O
     }
 }
 
-/// Makes `seen` the views of the fields of the message that octets are, and returns whether they are
-/// one.
+/// Makes `seen` the views of the fields of a message, and returns whether the octets are one.
 #[inline(always)]
 pub(crate) fn view_whole_sequence<'a, T: ViewSequence<'a>>(
     octets: &'a [u8],

@@ -14,8 +14,8 @@ use krb_der::Profile;
 /// The most octets of a message (RFC 4120, 7.2.2).
 const MOST: usize = 0x7FFF_FFFF;
 
-/// Returns a view of the message that octets are, if they are one in the lenient profile: all of
-/// them, judged and viewed in one pass. More than 2147483647 octets are none. It allocates nothing.
+/// Returns a view of a message, if the octets are one by the lenient profile: all of them, judged
+/// and viewed in one pass. More than 2147483647 octets are not. It allocates nothing.
 #[inline(always)]
 pub fn view_message(octets: &[u8]) -> Option<MessageView<'_>>
     ensures { MatchOption result (IsNoMessage octets.now) (λ m. IsMessageView octets.now m) }
@@ -26,8 +26,7 @@ pub fn view_message(octets: &[u8]) -> Option<MessageView<'_>>
     view_short_message(octets)
 }
 
-/// Returns a view of the message that octets are, if they are one: [`view_message`] of at most
-/// 2147483647 octets.
+/// Returns a view of a message of at most 2147483647 octets, as [`view_message`] does.
 fn view_short_message(octets: &[u8]) -> Option<MessageView<'_>>
     requires short { length octets.now < 2 ^ 31 }
     ensures { MatchOption result (IsNoMessage octets.now) (λ m. IsMessageView octets.now m) }
@@ -41,8 +40,7 @@ fn view_short_message(octets: &[u8]) -> Option<MessageView<'_>>
     view_of_kind(kind, octets)
 }
 
-/// Returns a view of the message of a profile that octets are, if they are one, as
-/// [`view_message`] has it.
+/// Returns a view of a message, if the octets are one by a profile; see [`view_message`].
 #[inline(always)]
 pub fn view_message_in(profile: Profile, octets: &[u8]) -> Option<MessageView<'_>>
     requires short { length octets.now < 2 ^ 31 }
@@ -54,8 +52,8 @@ pub fn view_message_in(profile: Profile, octets: &[u8]) -> Option<MessageView<'_
     }
 }
 
-/// Returns a view of the message of the strict profile that octets are, if they are one: a message
-/// of the lenient one in which no note holds.
+/// Returns a view of a message, if the octets are one by the strict profile: a message by the lenient
+/// one in which no note holds.
 fn view_strict(octets: &[u8]) -> Option<MessageView<'_>>
     requires short { length octets.now < 2 ^ 31 }
     ensures { MatchOption result (judgement Strict (length octets.now) octets.now ≡ Whole → ⊥) (λ m. IsMessageView octets.now m × (judgement Strict (length octets.now) octets.now ≡ Whole)) }

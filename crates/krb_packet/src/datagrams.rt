@@ -199,7 +199,7 @@ impl Datagrams {
         }
     }
 
-    /// Returns how many fragments came of which no whole datagram came, at most 2^64 - 1.
+    /// Returns the number of fragments that are part of no whole datagram, at most 2^64 - 1.
     #[tactic(auto, unfolding(crate::specs::Fragments::unread))]
     pub(crate) fn unread(&self) -> u64
         ensures { result ≡ unread (table_of self.now) }

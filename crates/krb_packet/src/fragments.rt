@@ -14,17 +14,17 @@ use std::net::IpAddr;
 /// The progress of a datagram. It is public for contracts alone.
 #[derive(Drop)]
 pub enum Progress {
-    /// These came.
+    /// Fragments came, and these are their octets.
     Open(Assembly),
     /// It is discarded for one of its fragments (RFC 5722), and will not be put together.
     Discarded,
 }
 
-/// A datagram of which a fragment came. It is public for contracts alone.
+/// A datagram with at least one fragment. It is public for contracts alone.
 #[derive(Drop)]
 pub struct Pending {
     pub(crate) original: Original,
-    /// How many fragments of it came.
+    /// The number of its fragments so far.
     pub(crate) count: u64,
     progress: Progress,
 }
@@ -64,7 +64,7 @@ ghost use Rattle.std.specs.Prelude.{◌≡◌, if◌then◌else◌, None, is_som
 ghost use Rattle.krb_packet.specs.Fragments.{no_fragments_of, plus, pending_with, whole_of, no_fragments, step, unread, contents_of_whole};
 
 impl Pending {
-    /// Returns a datagram of which no fragment came.
+    /// Returns a datagram with no fragments yet.
     pub(crate) fn new(alloc: Global, original: Original) -> Pending
         ensures { result ≡ no_fragments_of original }
     {
@@ -159,7 +159,7 @@ impl Fragments {
         self.datagrams.take(self.alloc, fragment)
     }
 
-    /// Returns how many fragments came of which no whole datagram came, at most 2^64 - 1.
+    /// Returns the number of fragments that are part of no whole datagram, at most 2^64 - 1.
     pub fn unread(&self) -> u64
         ensures { result ≡ unread self.now }
     {

@@ -16,9 +16,9 @@ use krb_msg::{End, ItemsView, Optional, Required, Sequence, View, ViewSequence, 
 pub struct EtypeInfo2Entry {
     /// The encryption type (RFC 3961).
     pub etype: Int32,
-    /// What the password is salted with.
+    /// The salt for the password.
     pub salt: Option<KString>,
-    /// The parameters of string-to-key, which the type explains.
+    /// The parameters of the string-to-key function, by encryption type.
     pub s2kparams: Option<Octets>,
 }
 
@@ -27,9 +27,9 @@ pub struct EtypeInfo2Entry {
 pub struct EtypeInfo2EntryView<'a> {
     /// The encryption type (RFC 3961).
     pub etype: i64,
-    /// What the password is salted with.
+    /// The salt for the password.
     pub salt: Option<&'a [u8]>,
-    /// The parameters of string-to-key, which the type explains.
+    /// The parameters of the string-to-key function, by encryption type.
     pub s2kparams: Option<&'a [u8]>,
 }
 

@@ -15,7 +15,7 @@ use krb_msg::{End, ItemsView, Optional, Required, Sequence, View, ViewSequence, 
 pub struct EtypeInfoEntry {
     /// The encryption type (RFC 3961).
     pub etype: Int32,
-    /// What the password is salted with.
+    /// The salt for the password.
     pub salt: Option<Octets>,
 }
 
@@ -24,7 +24,7 @@ pub struct EtypeInfoEntry {
 pub struct EtypeInfoEntryView<'a> {
     /// The encryption type (RFC 3961).
     pub etype: i64,
-    /// What the password is salted with.
+    /// The salt for the password.
     pub salt: Option<&'a [u8]>,
 }
 

@@ -8,10 +8,10 @@ ghost use Rattle.krb_padata.specs.Types.{krb_fast_armor_view_value, IsValidKrbFa
 use krb_der::{Int32, Octets};
 use krb_msg::{End, Required, Sequence, View, ViewSequence};
 
-/// What armors a request (RFC 6113, 5.4.1).
+/// The armor of a request (RFC 6113, 5.4.1).
 #[derive(Drop)]
 pub struct KrbFastArmor {
-    /// What kind of armor it is: 1 is an AP-REQ (RFC 6113, 5.4.1.1).
+    /// The type of the armor: 1 is an AP-REQ (RFC 6113, 5.4.1.1).
     pub armor_type: Int32,
     /// The armor.
     pub armor_value: Octets,
@@ -20,7 +20,7 @@ pub struct KrbFastArmor {
 /// A view of a KrbFastArmor: its strings and lists are borrowed from the octets.
 #[derive(Clone, Copy, Default)]
 pub struct KrbFastArmorView<'a> {
-    /// What kind of armor it is: 1 is an AP-REQ (RFC 6113, 5.4.1.1).
+    /// The type of the armor: 1 is an AP-REQ (RFC 6113, 5.4.1.1).
     pub armor_type: i64,
     /// The armor.
     pub armor_value: &'a [u8],

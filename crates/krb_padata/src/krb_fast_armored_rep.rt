@@ -9,7 +9,7 @@ use krb_msg::{
     EncryptedData, EncryptedDataView, End, Required, Sequence, Tagged, View, ViewSequence,
 };
 
-/// An armored reply (RFC 6113, 5.4.3). Its KrbFastResponse is never opened.
+/// An armored reply (RFC 6113, 5.4.3). Its KrbFastResponse is never decrypted.
 #[derive(Drop)]
 pub struct KrbFastArmoredRep {
     /// The encrypted KrbFastResponse.

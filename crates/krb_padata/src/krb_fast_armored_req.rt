@@ -11,7 +11,7 @@ use krb_msg::{
     Tagged, View, ViewSequence,
 };
 
-/// An armored request (RFC 6113, 5.4.2). Its KrbFastReq is never opened.
+/// An armored request (RFC 6113, 5.4.2). Its KrbFastReq is never decrypted.
 #[derive(Drop)]
 pub struct KrbFastArmoredReq {
     /// The armor, unless it is the ticket of a PA-TGS-REQ.

@@ -11,7 +11,7 @@ use krb_msg::{
     ViewSequence,
 };
 
-/// For whom a service asks for a ticket to itself (MS-SFU, 2.2.1).
+/// The user for whom a service requests a ticket to itself (MS-SFU, 2.2.1).
 #[derive(Drop)]
 pub struct PaForUser {
     /// The user.

@@ -8,7 +8,7 @@ ghost use Rattle.krb_padata.specs.Types.{pa_pac_options_view_value, IsValidPaPac
 use krb_der::Flags;
 use krb_msg::{End, FlagsView, Required, Sequence, View, ViewSequence};
 
-/// What a client asks of a KDC in its PAC (MS-KILE, 2.2.10).
+/// The options that a client requests of the PAC (MS-KILE, 2.2.10).
 #[derive(Drop)]
 pub struct PaPacOptions {
     /// PAC-OPTIONS-FLAGS.

@@ -43,7 +43,7 @@ fn put_each_character(object: &mut TextBuffer, text: &[u8]) -> Result<(), AllocE
     Ok(())
 }
 
-/// Appends a text of which no character is escaped as a string.
+/// Appends a text as a string that needs no escapes.
 #[inline(always)]
 fn put_bare_text(object: &mut TextBuffer, text: &[u8]) -> Result<(), AllocError>
     requires ascii { IsAscii text.now }
@@ -76,7 +76,7 @@ pub fn put_string(object: &mut TextBuffer, text: &[u8]) -> Result<(), AllocError
     }
 }
 
-/// Appends a text of which no character is escaped as a string.
+/// Appends a text as a string that needs no escapes.
 #[inline(never)]
 pub(crate) fn put_plain_string(object: &mut TextBuffer, text: &str) -> Result<(), AllocError>
     requires { flat_map json_character text.now ≡ text.now }
@@ -177,7 +177,7 @@ fn are_bare(octets: &[u8]) -> bool
     bare
 }
 
-/// Appends octets as a string, of which none is escaped there.
+/// Appends octets as a string that needs no escapes.
 fn put_bare_string(object: &mut TextBuffer, octets: &[u8]) -> Result<(), AllocError>
     requires { list_all is_bare octets.now ≡ true }
     ensures { OnOk result (object.new ≡ object.old ++ octets_string octets.now) }
@@ -185,8 +185,8 @@ fn put_bare_string(object: &mut TextBuffer, octets: &[u8]) -> Result<(), AllocEr
     object.push_between("\"", octets, "\"")
 }
 
-/// Appends octets as a string, in which they are as [`put_shown`] has them, one after another if one
-/// of them is escaped.
+/// Appends octets as a string, as [`put_shown`] shows them: one after another if one of them is
+/// escaped.
 #[inline(never)]
 fn put_shown_string(object: &mut TextBuffer, octets: &[u8]) -> Result<(), AllocError>
     ensures { OnOk result (object.new ≡ object.old ++ octets_string octets.now) }
@@ -199,7 +199,7 @@ fn put_shown_string(object: &mut TextBuffer, octets: &[u8]) -> Result<(), AllocE
     object.push_str("\"")
 }
 
-/// Appends octets of which none is escaped as a string.
+/// Appends octets as a string, none of which needs an escape.
 #[inline(always)]
 #[tactic(auto, using(crate::proofs::Escapes::ascii_plain))]
 fn put_bare_octets(object: &mut TextBuffer, octets: &[u8]) -> Result<(), AllocError>

@@ -1,4 +1,4 @@
-//! Registered numbers, alone and with what is beside them.
+//! Registered numbers, alone and with their names, versions and sizes.
 
 ghost use Rattle.std.specs.Prelude.{◌≡◌, ◌++◌, OnOk, codes, decimal};
 ghost use Rattle.std.specs.Fmt.{signed_decimal};

@@ -79,7 +79,7 @@ pub trait FileFormat {
 }
 
 /// Lists a file of a format, and returns how the run ended. All that the reader has is read first, by
-/// at most 2^40 reads of 64 KiB each, of which no more is kept than decides the listing. If a read
+/// at most 2^40 reads of 64 KiB each, and no more of it is kept than decides the listing. If a read
 /// fails or memory runs out, nothing is written.
 pub fn run_file<R: Read, W: Write, F: FileFormat>(
     alloc: Global,

@@ -215,7 +215,7 @@ pub fn list_records<L: RecordLines, W: Write>(
     write_before(writer, text, RunFault::Read(too_many_reads()))
 }
 
-/// Lists a file of which nothing but its refusal is listed, if this fault is one.
+/// Lists the refusal of a file and nothing else, if this fault is a refusal.
 pub fn list_refusal<W: Write>(
     alloc: Global,
     form: Form,

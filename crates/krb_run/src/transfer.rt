@@ -40,7 +40,7 @@ pub struct CountedReader<'a, R> {
 }
 
 impl<'a, R: Read> CountedReader<'a, R> {
-    /// Returns a reader of which nothing was read yet.
+    /// Creates a reader with no octets read yet.
     pub fn new(reader: &'a mut R) -> CountedReader<'a, R>
         ensures same_reader { result.reader.ghost_name ≡ reader.entry.ghost_name }
         ensures untouched { result.reader.now ≡ reader.old }

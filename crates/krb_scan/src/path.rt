@@ -95,7 +95,7 @@ fn sized_contents(node: u16, len: u32) -> Sized
 }
 
 impl Path {
-    /// Creates the path of an item of `size` octets, of which none is scanned, where this is expected.
+    /// Creates the path of an item of `size` octets, none of them scanned yet, where this is expected.
     #[inline(always)]
     pub(crate) fn new(expected: Expected, size: u32) -> Path
         requires known { IsKnown expected }

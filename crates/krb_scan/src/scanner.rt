@@ -88,8 +88,8 @@ impl Scanner {
         Ok(self.machine.step(octet))
     }
 
-    /// Scans octets as `run` and `step` would, one after another, until something is decided or
-    /// none is left. If out of memory, it stays as it was before the octet that was not scanned.
+    /// Scans octets one after another, as `run` and `step` do, until something is decided or none is
+    /// left. If out of memory, the scanner stays as it was before the octet that was not scanned.
     pub fn take(&mut self, octets: &[u8]) -> Scanned
         requires { verdict_of self.old ≡ Verdict.Open }
         ensures at { (profile : Profile) (n : ℕ) (before : List ℕ) → HasScanned profile self.old n before → HasScanned profile self.new n (before ++ take result.used octets.now) }
@@ -188,7 +188,7 @@ impl Scanner {
         self.marks.capacity()
     }
 
-    /// As a new scanner of a message of `n` octets; but the capacity for marks stays, and the
+    /// Resets the scanner for a message of `n` octets. The capacity for marks stays, and so does the
     /// ledger.
     pub fn clear(&mut self, n: u32)
         requires some { 0 < n }
@@ -202,7 +202,7 @@ impl Scanner {
         self.marks.clear();
     }
 
-    /// As [`Scanner::clear`], but the memory for marks is freed.
+    /// Resets the scanner as [`Scanner::clear`] does, and frees the memory for marks.
     pub fn restart(&mut self, alloc: Global, n: u32)
         requires some { 0 < n }
         requires short { n < 2 ^ 31 }

@@ -31,7 +31,7 @@ pub enum ClearType {
     EncryptedChallenge,
     /// PA-PAC-OPTIONS.
     PacOptions,
-    /// A type of which nothing is told.
+    /// A type that is not shown.
     Other,
 }
 

@@ -28,7 +28,7 @@ use std::alloc::AllocError;
 /// The code of an error that asks for pre-authentication (RFC 4120, 7.5.9).
 pub(crate) const PREAUTH_REQUIRED: i64 = 25;
 
-/// Returns a view of the METHOD-DATA that octets are, if they are that.
+/// Returns a view of METHOD-DATA, if the octets are that.
 pub(crate) fn method_data(octets: &[u8]) -> Option<ItemsView<'_>>
     requires { length octets.now < 2 ^ 31 }
     ensures { MatchOption result (judged method_data octets.now ≡ None) (λ items. AreViewed pa_data items.octets.now × (judged method_data octets.now ≡ Some (items_of pa_data items.octets.now))) }

@@ -34,7 +34,7 @@ pub(crate) trait Clear<'a>: View<'a> {
         ensures { OnOk result (text.new ≡ text.old ++ separator at.form (nat_lt 0 at.told) ++ part_text at.form (part seen.now)) };
 }
 
-/// Returns a view of the item that octets are all of, if they are judged to be one.
+/// Returns a view of an item, if all the octets are judged to be one.
 #[inline(always)]
 pub(crate) fn view_judged<'a, T: View<'a>>(octets: &'a [u8]) -> Option<T::Of>
     requires short { length octets.now < 2 ^ 31 }

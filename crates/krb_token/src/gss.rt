@@ -94,8 +94,8 @@ pub(crate) fn open_lone_spnego(neg: NegToken, part: Part<'_>) -> Opened<'_>
     open_spnego(&SPNEGO, &GSS_IN_SPNEGO, neg, part)
 }
 
-/// Returns what a token of SPNEGO is: what the token in it is. The layers are those with it, and
-/// those with a GSS-API token in it.
+/// Returns what a token of SPNEGO holds: what the token in it does. The layers are those including
+/// it, and those including a GSS-API token in it.
 fn open_spnego<'a>(
     layers: &'static [Layer],
     inside: &'static [Layer],
@@ -119,8 +119,8 @@ fn open_spnego<'a>(
     }
 }
 
-/// Returns what the token in a token of SPNEGO is: a GSS-API token of Kerberos, a message by itself
-/// as DCE has it, or a message of NTLM.
+/// Returns what the token in a token of SPNEGO is: a GSS-API token of Kerberos, a bare message, as in
+/// DCE, or a message of NTLM.
 fn open_token<'a>(
     layers: &'static [Layer],
     inside: &'static [Layer],

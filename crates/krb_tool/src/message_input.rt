@@ -291,7 +291,7 @@ impl MessageInput {
         self.put_unread(text, InputFault::Misspelled(fault.form), Some(fault.place))
     }
 
-    /// Appends the record of an input of which no octets are made.
+    /// Appends the record of an input that spells no octets.
     fn put_unread(
         &self,
         text: &mut TextBuffer,

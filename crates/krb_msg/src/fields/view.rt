@@ -71,7 +71,7 @@ pub trait ViewSequence<'a> {
 
 /// Fields, from one on, that are judged and viewed in place.
 pub trait ViewFields<'a> {
-    /// The views of them, of which nothing is asked, as of those of a [`ViewSequence`].
+    /// The views of the fields. Nothing is asked of them, as of those of a [`ViewSequence`].
     type Of;
 
     /// The fields of the grammar.
@@ -83,7 +83,7 @@ pub trait ViewFields<'a> {
     /// What is known of a view: lists are items, times are times, and so on.
     ghost IsValid: { Self.Of → Type 0 };
 
-    /// Makes `seen` the views of the fields that octets are, and returns whether they are those.
+    /// Makes `seen` the views of the fields, and returns whether the octets are such fields.
     fn view_fields(octets: &'a [u8], seen: &mut Self::Of) -> bool
         requires short { length octets.now < 2 ^ 31 }
         requires tags { have_octet_tags fields ≡ true }

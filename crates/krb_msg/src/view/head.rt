@@ -296,7 +296,7 @@ fn find_length(first: u8, octets: &[u8]) -> Option<(usize, &[u8])>
     Some((size as usize, rest))
 }
 
-/// Returns the contents of the item that octets are, if it has a tag.
+/// Returns the contents of an item of a tag, if the octets are one.
 #[inline(always)]
 pub(crate) fn only_item(tag: u8, octets: &[u8]) -> Option<&[u8]>
     requires { length octets.now < 2 ^ 31 }

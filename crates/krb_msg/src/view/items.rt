@@ -16,8 +16,8 @@ pub struct ItemsView<'a> {
     pub octets: &'a [u8],
 }
 
-/// Makes `seen` the view of the items that octets are, and returns whether they are items of a type,
-/// one after another.
+/// Makes `seen` the view of items of a type, and returns whether the octets are such items, one after
+/// another.
 #[inline(always)]
 pub fn view_items<'a, T: View<'a>>(octets: &'a [u8], seen: &mut ItemsView<'a>) -> bool
     requires short { length octets.now < 2 ^ 31 }
