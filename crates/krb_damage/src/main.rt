@@ -27,9 +27,9 @@
 //! after the word is how many more times all this is done with the same octets, which then are in
 //! the processor's cache, as those of a pipe are.
 //!
-//! With the word `memory` only the calls that allocate are made. With `answers` there is instead a line for
-//! each change of a message, by each profile: the place, the new octet, and the answer. With
-//! `marks` nothing is changed, and the octets need not be a message: the line of each has the
+//! With the word `memory` only the calls that allocate are made. With `answers` there is instead a
+//! line for each change of a message, by each profile: the place, the new octet, and the answer.
+//! With `marks` nothing is changed, and the octets need not be a message: the line of each has the
 //! answer, how many lengths are open, and the marks, each as the place of the contents, their
 //! number of octets, and the number.
 #![tactic(auto)]

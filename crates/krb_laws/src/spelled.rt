@@ -59,8 +59,8 @@ pub fn tickets_are_opened()
     ensures { TicketsAreOpened }
 {}
 
-/// Each token of GSS-API or of SPNEGO that is opened up to what is in it, in at most 2^32 - 1 octets, is
-/// spelled as a message is.
+/// Each token of GSS-API or of SPNEGO that is opened up to what is in it, in at most 2^32 - 1
+/// octets, is spelled as a message is.
 pub fn tokens_are_spelled()
     ensures { TokensAreSpelled }
 {}

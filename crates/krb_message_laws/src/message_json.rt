@@ -32,8 +32,8 @@ pub fn texts_differ()
     ensures { TextsDiffer }
 {}
 
-/// Messages that differ in nothing but what is not encrypted have the same path to it, and the same text
-/// if there is none.
+/// Messages that differ in nothing but what is not encrypted have the same path to it, and the same
+/// text if there is none.
 pub fn unencrypted_changes_nothing()
     ensures { UnencryptedChangesNothing }
 {}

@@ -10,10 +10,10 @@
 //! ([`view_message_in`] by a profile): a [`MessageView`] has the same fields as plain numbers,
 //! borrowed octets and lists ([`ItemsView`], walked by [`next_item`], and by [`next_type`] for the
 //! types of PA-DATA alone). [`MessageView::to_message`] copies it out as a `Message`. Code that is
-//! generic over the kind has a [`MessageKind`], one of [`message_kinds`], and views a message as the
-//! view of its kind, with no `MessageView` made. [`view_whole`] views an item of any type alone (the trait
-//! [`View`]), such as a [`Ticket`], and [`FromView`] copies it. [`first_item`] finds an item in
-//! octets that were judged.
+//! generic over the kind has a [`MessageKind`], one of [`message_kinds`], and views a message as
+//! the view of its kind, with no `MessageView` made. [`view_whole`] views an item of any type alone
+//! (the trait [`View`]), such as a [`Ticket`], and [`FromView`] copies it. [`first_item`] finds an
+//! item in octets that were judged.
 //!
 //! A crate above describes a type of its own, of which no message is made, as the types here are
 //! described: its fields as a type like `Sequence<Required<0, Int32, Optional<1, Octets, End>>>`.
@@ -21,8 +21,9 @@
 //! in a [`Tagged`], if a tag is round it, it has another, and a list of its items by [`view_items`].
 //!
 //! [`notes_of`], and [`notes_of_view`] of a view, return what is unusual in a message
-//! ([`notes_of_ticket`] in a Ticket alone), and [`is_strict`] whether it is in the strict profile, too. [`grammar`] is the table by which octets
-//! are judged, and [`law`] has the laws about all this.
+//! ([`notes_of_ticket`] in a Ticket alone), and [`is_strict`] whether it is in the strict profile,
+//! too. [`grammar`] is the table by which octets are judged, and [`law`] has the laws about all
+//! this.
 //!
 //! Nothing here says why octets are no message, nor where that shows: `krb_judge` does, and
 //! `krb_scan` of octets that come one after another. No cipher is opened, and what a field means is

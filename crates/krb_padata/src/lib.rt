@@ -8,8 +8,8 @@
 //! [`view_pac_request`] reads a PA-PAC-REQUEST.
 //!
 //! They are judged leniently, as messages are in the lenient profile, and nothing says why octets
-//! are none of a type. No encrypted part is opened, nothing is encoded or copied, and no call allocates;
-//! so values with fields of their own, as [`PaForUser`], are what contracts speak of.
+//! are none of a type. No encrypted part is opened, nothing is encoded or copied, and no call
+//! allocates; so values with fields of their own, as [`PaForUser`], are what contracts speak of.
 //!
 //! `specs/` has the types as terms (`Grammar`), the values of views (`Types`), and PA-PAC-REQUEST
 //! (`PacRequest`).

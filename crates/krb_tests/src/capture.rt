@@ -1,5 +1,5 @@
-//! Captures of packets. They are files of `tests/data/captures`, of which it says what they are and what
-//! has to be listed.
+//! Captures of packets. They are files of `tests/data/captures`, of which it says what they are and
+//! what has to be listed.
 
 use crate::examples::octets_of;
 use krb_capture::Capture;

@@ -86,8 +86,9 @@ struct Example(
 const FRAME: &[u8] =
     b"\x00\x00\x00\x1F\x6F\x1D\x30\x1B\xA0\x03\x02\x01\x05\xA1\x03\x02\x01\x0F\xA2\x0F\x30\x0D\xA0\x03\x02\x01\x12\xA2\x06\x04\x04\xDE\xAD\xBE\xEF";
 
-/// Two of these frames, a message in hexadecimal, two of them in lines, a keytab with an entry and a hole, a cache of
-/// u@A with no credential, and then the frames and the message decoded, and their lines encoded.
+/// Two of these frames, a message in hexadecimal, two of them in lines, a keytab with an entry and
+/// a hole, a cache of u@A with no credential, and then the frames and the message decoded, and
+/// their lines encoded.
 const EXAMPLES: [Example; 9] = [
     Example(
         Run::Stream,

@@ -2,11 +2,13 @@
 //!
 //! The main calls:
 //!
-//! - [`read_words`] returns the [`CommandLine`] of the words after the program's name, or what is wrong with
-//!   them. Words are octets, as the system has them: what is not UTF-8 names a file like any other.
-//! - [`CommandLine`] has what is to be listed ([`Command`]), in which form ([`Form`]), which records name their
-//!   file ([`Naming`]), and from which sources ([`Source`]). A [`Command`] may also be a text to print: a
-//!   help or the version. [`Command::listing`] is the one that lists a source of a kind.
+//! - [`read_words`] returns the [`CommandLine`] of the words after the program's name, or what is
+//!   wrong with them. Words are octets, as the system has them: what is not UTF-8 names a file like
+//!   any other.
+//! - [`CommandLine`] has what is to be listed ([`Command`]), in which form ([`Form`]), which
+//!   records name their file ([`Naming`]), and from which sources ([`Source`]). A [`Command`] may
+//!   also be a text to print: a help or the version. [`Command::listing`] is the one that lists a
+//!   source of a kind.
 //! - [`When`] is the time that credentials are compared with: the clock's, which the program reads,
 //!   or a number of seconds.
 //!
