@@ -13,8 +13,7 @@
 //! memory. A [`FieldPath`] shows which field of a file that is.
 //!
 //! Of these files it knows the names of their fields; `krb_keytab`, `krb_ccache` and `krb_packet`
-//! know the formats.
-//! Nothing opens a file: the caller passes a reader.
+//! know the formats. Nothing here opens a file: the caller passes a reader.
 //!
 //! `specs/Fields` says how fields are spelled, `specs/FieldReaders` what a reader returns, and
 //! `specs/Items` what a reader of items, one after another, returns.

@@ -48,8 +48,8 @@ pub enum Hint {
     Text,
 }
 
-/// Returns what may help where a command refused a source at once, by the source's first octets, of
-/// which no more than 16 are looked at. There is no hint to the command itself.
+/// Returns what may help where a command refused a source at once, by the source's first octets. It
+/// looks at no more than 16. There is no hint to the command itself.
 pub fn hint_of(used: SourceKind, first: &[u8]) -> Option<Hint>
     ensures { result ≡ hint_for used first.now }
 {

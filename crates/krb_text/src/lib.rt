@@ -5,8 +5,7 @@
 //!
 //! The main calls are [`put_message_in`] and [`message_line`] for messages, [`put_message_from`]
 //! for messages of an origin, [`put_captured_message`] for those of a capture, and [`put_ticket`] for
-//! Tickets.
-//! Each function appends to one text (`TextBuffer`), and its contract says what was appended.
+//! Tickets. Each function appends to one text (`TextBuffer`), and its contract says what was appended.
 //! Nothing here reads or writes a file.
 #![tactic(auto)]
 
