@@ -11,7 +11,7 @@ use krb_source::{Endpoint, Timestamp};
 const PASSWORD_PORT: u16 = 464;
 
 /// A flow of TCP: what one end of a connection sends to the other.
-#[derive(Clone, Copy, PartialEq, Eq, PartialOrd, Ord, Debug)]
+#[derive(Clone, Copy, PartialEq, Eq, PartialOrd, Ord)]
 pub(crate) struct Flow {
     /// The port of the source. The two ports come first, since they distinguish most flows, and
     /// flows are compared often.
@@ -37,7 +37,7 @@ impl Flow {
 }
 
 /// What a flow carries.
-#[derive(Clone, Copy, PartialEq, Eq, Debug)]
+#[derive(Clone, Copy)]
 pub(crate) enum Service {
     /// Messages of Kerberos.
     Kerberos,

@@ -13,7 +13,7 @@ use krb_record::{CaptureOrigin, Extent};
 const HEADER: usize = 6;
 
 /// A field of the header.
-#[derive(Clone, Copy, PartialEq, Eq, Debug)]
+#[derive(Clone, Copy)]
 enum Field {
     /// The length of all of the message.
     Length,

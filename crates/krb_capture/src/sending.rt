@@ -20,7 +20,7 @@ use std::alloc::Global;
 use std::marker::Model;
 
 /// What became of a direction by a segment.
-#[derive(Clone, Copy, PartialEq, Eq, Debug)]
+#[derive(Clone, Copy)]
 pub(crate) struct Step {
     /// It began with the segment, for the first time or anew.
     pub(crate) began: bool,

@@ -23,7 +23,7 @@ pub(crate) const SECTION_HEADER: u32 = 0x0A0D_0D0A;
 pub(crate) const LEAST_BLOCK: u32 = 12;
 
 /// What a block is. The blocks of the other types are passed over.
-#[derive(Clone, Copy, PartialEq, Eq, Debug)]
+#[derive(Clone, Copy)]
 pub enum BlockKind {
     /// A section header, which ends the section before.
     Section,
@@ -67,7 +67,7 @@ pub struct Section {
 }
 
 /// The fields before the body of a block.
-#[derive(Clone, Copy, PartialEq, Eq, Debug)]
+#[derive(Clone, Copy)]
 pub struct Head {
     /// The order of the octets of numbers.
     pub order: ByteOrder,

@@ -34,7 +34,7 @@ pub struct Clock {
 }
 
 /// The options of an interface that were read.
-#[derive(Clone, Copy, PartialEq, Eq, Debug)]
+#[derive(Clone, Copy)]
 pub struct Options {
     /// The octet of `if_tsresol`.
     pub resolution: Option<u8>,
@@ -43,7 +43,7 @@ pub struct Options {
 }
 
 /// An option of an interface.
-#[derive(Clone, Copy, PartialEq, Eq, Debug)]
+#[derive(Clone, Copy)]
 pub enum Setting {
     /// The octet of `if_tsresol`.
     Resolution(u8),

@@ -48,7 +48,7 @@ pub struct Header {
 pub(crate) const MOST_CAPTURED: u32 = 16_777_216;
 
 /// The magic of a capture file: its first four octets.
-#[derive(Clone, Copy, PartialEq, Eq, Debug)]
+#[derive(Clone, Copy)]
 pub enum Magic {
     /// A pcap.
     Pcap(Form),
@@ -161,7 +161,7 @@ fn captured_length<F: FieldReader>(order: ByteOrder, reader: &mut F) -> Result<u
 }
 
 /// The numbers before the octets of a packet.
-#[derive(Clone, Copy, PartialEq, Eq, Debug)]
+#[derive(Clone, Copy)]
 pub struct PacketHead {
     /// The seconds of its time.
     pub seconds: u32,

@@ -10,7 +10,7 @@ use crate::path::{TokenFault, TokenPath};
 use krb_der::Why;
 
 /// Octets of a token, and the place of the first of them.
-#[derive(Clone, Copy, PartialEq, Eq, Debug)]
+#[derive(Clone, Copy)]
 pub(crate) struct Part<'a> {
     pub place: u32,
     pub octets: &'a [u8],

@@ -10,7 +10,7 @@ use crate::path::{TokenFault, TokenPath};
 use krb_der::{Refusal, Why, last_or_zero};
 
 /// A type that holds no other.
-#[derive(Clone, Copy, PartialEq, Eq, Debug)]
+#[derive(Clone, Copy)]
 pub enum Simple {
     /// An OBJECT IDENTIFIER.
     Identifier,
