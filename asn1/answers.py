@@ -1,9 +1,10 @@
-"""krb_msg/proofs: the answers of functions that list a type or its fields, and of those by cases of a kind."""
+"""krb_msg/proofs and krb_codec/proofs: the answers of functions that list a type or its fields, and of those by cases of a kind."""
 
+from codec import copied, in_order_of_copying, noted_of_value, owns
 from kinds import file, messages_of
 from model import back, fixed_value, is_plain, mapped
 from module import Basic, Sequence
-from structs import copied, in_order_of_copying, is_call, may_have_notes, noted_in_view, noted_of_value, owns
+from structs import is_call, may_have_notes, noted_in_view
 from tables import count_of_rows
 from text import BY, brought, by, fill, pairs, path, record
 from values import known, parts_in, seen_value
@@ -100,15 +101,15 @@ def copy_answer(it):
         calls[name] = calls.get(name, 0) + 1
         call = ("c.in_ok-" if owns(field) else "c.") + name + (f"-{calls[name]}" if calls[name] > 1 else "")
         rows.append(f"{field.rust} = {copied_part(field, call)}")
-    function, given = (f"{it.rust}.copy", "g c") if it.is_parametric else (f"{it.rust}FromView.from_view", "c")
+    function, given = ("copy", "g c") if it.is_parametric else (f"{it.rust}FromView.from_view", "c")
     body = "\n".join(rows)
     homes = [
         ("Rattle.std.proofs.Common", ["refl", "◌∙◌"]),
         ("Rattle.std.proofs.lemmas.List", ["map-id"]),
         ("Rattle.krb_msg.specs.Types", [f"{part.term}_{word}" for part in parts_in(it) if isinstance(part, Sequence) for word in ("of", "view_value")]),
-        ("Rattle.krb_msg.proofs.Copies", ["option_seen"]),
+        ("Rattle.krb_codec.proofs.Copies", ["option_seen"]),
     ]
-    text = f"{brought(body, homes)}use Rattle.krb_msg.proofs.{it.term}.{function}.Goals as goal\n\npub returns : goal.returns\n"
+    text = f"{brought(body, homes)}use Rattle.krb_codec.proofs.{it.term}.{function}.Goals as goal\n\npub returns : goal.returns\n"
     return text + record(f"returns {given} = λ i.", rows).replace(". = record", ". record") + "\n"
 
 
@@ -122,39 +123,49 @@ def noted_part(field, seen, noted):
     return noted
 
 
-def notes_answer(it, impl, call, value):
+def notes_answer(it, crate, impl, call, value):
     """That the notes are those of the fields, each by a call."""
     fields = [field for field in it.kept if may_have_notes(field)]
     calls = [call(field, f"{value}.").partition("(")[0].partition("::")[0] for field in fields]
     names = ["or"] * len(calls) + ["notes" if name.startswith(("<", value)) else name for name in calls]
     numbered = [f"c.{name}-{names[:at].count(name) + 1}.ensures".replace("-1.", ".") for at, name in enumerate(names)]
+    ors, none = numbered[: len(calls)], "c.none.ensures"
+    if crate != "krb_msg":
+        # what a macro of another crate calls has its name before, and the last call is the value of the macro
+        ors = [name.replace("c.or", "c.any_of-or") for name in ors[:-1]] + ["c.any_of.ensures"]
+        none = "c.any_of-none.ensures"
     notes = [noted_part(field, value == "seen", noted) for field, noted in zip(fields, numbered[len(calls) :])]
-    body = f"returns c = rw ({', '.join([*reversed(numbered[: len(calls)]), 'c.none.ensures', *notes])}) refl\n"
+    body = f"returns c = rw ({', '.join([*reversed(ors), none, *notes])}) refl\n"
     homes = [
         ("Rattle.std.proofs.Common", ["refl", "◌∙◌"]),
         ("Rattle.krb_msg.specs.Grammar", sorted({field.part.term for field in fields if isinstance(field.part, Basic)})),
         ("Rattle.krb_msg.proofs.Noted", ["same_list", "same_option"]),
     ]
-    return f"{brought(body, homes)}use Rattle.krb_msg.proofs.{it.term}.{it.rust}{impl}.notes.Goals as goal\n\npub returns : goal.returns\n{body}"
+    return f"{brought(body, homes)}use Rattle.{crate}.proofs.{it.term}.{it.rust}{impl}.notes.Goals as goal\n\npub returns : goal.returns\n{body}"
 
 
-def type_answers(it):
-    """The answers of a type, by their paths below its name."""
-    names = {}
-    if it.is_parametric:
-        names = {f"{it.rust}/{name}": f"two_{name}" for name in ("put", "size")}
-    else:
-        names = {f"{it.rust}Der/size": "size"}
-        names[f"{it.rust}Der/put"] = "put" if it.application is None else "put_tagged"
-    made = {name: fill(f"answers/{template}.antt", type=it.term, Type=it.rust) for name, template in names.items()}
+def view_answers(it):
+    """The answers of a type in krb_msg, by their paths below its name."""
+    made = {}
     if it.is_parametric or not is_plain(it):
         made[f"{it.rust}/view_into" if it.is_parametric else f"{it.rust}ViewImpl/view_into"] = view_answer(it)
     if it.cut:
-        made[f"{it.rust}Noted/notes"] = notes_answer(it, "Noted", noted_of_value, "self")
-        made[f"{it.rust}NotedView/notes"] = notes_answer(it, "NotedView", noted_in_view, "seen")
+        made[f"{it.rust}NotedView/notes"] = notes_answer(it, "krb_msg", "NotedView", noted_in_view, "seen")
+    return made
+
+
+def value_answers(it):
+    """The answers of a type in krb_codec, by their paths below its name."""
+    if it.is_parametric:
+        names = {"put": "two_put", "size": "two_size"}
+    else:
+        names = {f"{it.rust}Item/size": "size", f"{it.rust}Item/put": "put" if it.application is None else "put_tagged"}
+    made = {name: fill(f"answers/{template}.antt", type=it.term, Type=it.rust) for name, template in names.items()}
+    if it.cut:
+        made[f"{it.rust}Noted/notes"] = notes_answer(it, "krb_codec", "Noted", noted_of_value, "self")
     if any(field.is_list for field in it.kept):
-        made[f"{it.rust}/copy" if it.is_parametric else f"{it.rust}FromView/from_view"] = copy_answer(it)
-    return {f"{it.term}/{name}": text for name, text in made.items()}
+        made["copy" if it.is_parametric else f"{it.rust}FromView/from_view"] = copy_answer(it)
+    return made
 
 
 def padata_answers(it):
@@ -170,25 +181,26 @@ def rows_answer(module):
     return fill("answers/rows.antt", proof="twenty (search rows) (" * twenties + "search rows" + ")" * twenties)
 
 
-# The functions by cases of a kind.
+# The functions by cases of a kind, with their templates.
 OF_KINDS = {
-    "message/octets_of": "octets_of",
-    "message/put": "message_put",
-    "message/notes_of": "notes_of",
-    "message_view/notes_of_view": "notes_of_view",
-    "message_view/MessageView/to_message": "to_message",
+    "krb_msg/proofs/message_view/notes_of_view": "notes_of_view",
+    "krb_codec/proofs/message/octets_of": "octets_of",
+    "krb_codec/proofs/message/put": "message_put",
+    "krb_codec/proofs/message/notes_of": "notes_of",
+    "krb_codec/proofs/message/copy_message": "copy_message",
 }
 
 
 def answers(module):
-    """All answers, by their paths in krb_msg/proofs."""
-    made = {name: text for it in module.types for name, text in type_answers(it).items()}
+    """All answers, by their paths in the crates."""
+    made = {f"krb_msg/proofs/{it.term}/{name}": text for it in module.types for name, text in view_answers(it).items()}
+    made |= {f"krb_codec/proofs/{it.term}/{name}": text for it in module.types for name, text in value_answers(it).items()}
     for words in messages_of(module):
         for name in ("view_into", "notes"):
-            made[f"message_kinds/{words['Kind']}KindMessageKind/{name}"] = fill(f"answers/kind_{name}.antt", **words)
+            made[f"krb_msg/proofs/message_kinds/{words['Kind']}KindMessageKind/{name}"] = fill(f"answers/kind_{name}.antt", **words)
     for list_of in module.lists:
         item = list_of.item
-        made[f"{item.term}/Many{item.rust}FromView/from_view"] = fill("answers/copy_list.antt", type=item.term, Type=item.rust)
+        made[f"krb_codec/proofs/{item.term}/Many{item.rust}FromView/from_view"] = fill("answers/copy_list.antt", type=item.term, Type=item.rust)
     made |= {name: file(f"answers/{template}.antt")(module) for name, template in OF_KINDS.items()}
-    made["grammar/rows"] = rows_answer(module)
-    return {f"krb_msg/proofs/{name}/Answers.antt": f"-- {BY}\n{text}" for name, text in made.items()}
+    made["krb_msg/proofs/grammar/rows"] = rows_answer(module)
+    return {f"{name}/Answers.antt": f"-- {BY}\n{text}" for name, text in made.items()}

@@ -10,7 +10,6 @@ def words_of(message, at):
     type, it = message.type, matched(message)
     two = f"::<{message.number}>" if type.is_parametric else ""
     realm = type.note("realm")
-    sized = f"c.size-in-{message.rust}.ensures" if at else "c.size.ensures"
     return {
         "Kind": message.rust,
         "kind": message.term,
@@ -23,15 +22,16 @@ def words_of(message, at):
         "argument": message.argument,
         "it": it,
         "index": at,
-        "turbofish": two,
+        "size": f"{type.term}::size{two}({it})" if two else f"{it}.size()",
+        "put": f"{type.term}::put{two}({it}, out)" if two else f"{it}.put(out)",
+        "noted": f"{type.term}::notes{two}({it})" if two else f"{it}.notes()",
         "view": f"{type.rust}::view_into{two}" if two else f"view_whole_into::<{type.rust}>",
         "call": "view_into" if two else "view_whole_into",
-        "copy": f"copy{two}" if two else "from_view",
+        "copy": f"{type.term}::copy{two}" if two else f"{type.rust}::from_view",
         "notes": f"view.notes{two}()" if two else f"{type.rust}::notes(view)",
         "realm": f"Some m.{realm}" if realm else "None",
         "realm_seen": f"(m) => Some(m.{realm})" if realm else "(_) => None",
         "in": f"-in-{message.rust}" * (at > 0),
-        "sized": sized if two else f"(record {{ octets = {sized}.octets; fits = {sized}.fits }})",
         "else": "else " * (at > 0),
         "open": "(" * (at > 0),
         "inr": "inr (" * at,
@@ -66,6 +66,8 @@ def file(template):
             types_of(module),
             count=len(module.messages),
             kinds=", ".join(message.term for message in module.messages),
+            uses="".join(f"use crate::{it.term};\n" for it in sorted(types, key=lambda it: it.term) if it.is_parametric),
+            message_types=", ".join(sorted({it.rust for it in types} | {"Message", "MessageView", "Notes"})),
             kind_types=", ".join(sorted(f"{message.rust}Kind" for message in module.messages)),
             definitions=", ".join(name for it in types for name in defined(it) if not name.endswith("Value")),
             of=", ".join(f"{it.term}_of" for it in types),

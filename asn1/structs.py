@@ -1,27 +1,30 @@
-"""krb_msg/src: a file for each type, with its struct, its view, the description of its fields, and its copy."""
+"""krb_msg/src: a file for each type, with its struct, its view and the description of its fields."""
 
 from model import option, owned, viewed
 from module import Basic, Sequence
 from text import an, brought, doc, fill, nested, pairs
 
-FIELDS = "Application Borrowed Cut Encode EncodeFields End FieldOf Fixed Noted NotedView Optional Owned Required Sequence View ViewFields ViewSequence no_optional_notes no_optional_view_notes optional_list_notes optional_list_view_notes optional_notes optional_view_notes view_by_call"
-BASIC = "Der Flags Int32 KString KerberosTime Many Memory Micros Octets Wide32"
+FIELDS = "Application Cut End Fixed NotedView Optional Required Sequence View ViewFields ViewSequence no_optional_view_notes optional_list_view_notes optional_view_notes view_by_call"
+BASIC = "Flags Int32 KString KerberosTime Many Memory Micros Octets Wide32"
 
 
 def uses(module, it, body):
     """The lines that bring in what the code of a type needs."""
     homes = [(f"crate::{type.term}", [type.rust, f"{type.rust}View"]) for type in module.types if type is not it]
     homes += [
-        ("crate::copying", ["FromPlainView", "FromView", "copy_item_option", "copy_items", "copy_option", "copy_plain_option"]),
         ("crate::fields", FIELDS.split()),
-        ("crate::item", ["Item"]),
-        ("crate::notes", ["Notes", "any_of"]),
+        ("crate", ["any_of"]),
+        ("crate::notes", ["Notes"]),
         ("crate::view::items", ["ItemsView"]),
         ("crate::view::scalars", ["FlagsView"]),
         ("crate::view", ["view_whole_sequence"]),
         ("krb_der", BASIC.split()),
-        ("std::alloc", ["Global"]),
     ]
+    return use_lines(body, homes)
+
+
+def use_lines(body, homes):
+    """The `use` items that a text needs, of these modules with their names."""
     lines = brought(body, homes).replace(".{", "::{").splitlines()
     lines = [line.replace("{", "").replace("}", "") if "," not in line else line for line in lines]
     return "".join(sorted(f"{line};\n" for line in lines))
@@ -32,11 +35,11 @@ def term_name(it):
     return it.term if "_" in it.term else f"{it.term}_term"
 
 
-def ghost_uses(module, it, body):
-    """The lines that bring in what the contracts of a type need."""
+def ghost_homes(module, it):
+    """The modules of definitions that the contracts of a type may need, with their names."""
     term = it.term if it.is_parametric or it.term == term_name(it) else f"{it.term} as {term_name(it)}"
     lists = [made.item.term for made in module.lists if made.item is it]
-    homes = [
+    return [
         ("Rattle.std.specs.Prelude", "◌≡◌ refl ◌+◌ ◌^◌ ◌<◌ ◌≤◌ ◌++◌ true IfOk length map MatchOption".split()),
         ("Rattle.std.specs.Vec", ["vec_len", "vec_capacity"]),
         ("Rattle.krb_der.specs.Puts", ["Puts"]),
@@ -46,11 +49,7 @@ def ghost_uses(module, it, body):
         ("Rattle.krb_msg.specs.Grammar", [term] + [name for name in lists if name != it.term]),
         ("Rattle.krb_msg.specs.Types", [f"{it.term}_{word}" for word in "value of view_value of_view".split()] + [f"IsValid{it.rust}"]),
         ("Rattle.krb_msg.specs.Viewed", ["AreContents", "AreNoContents", "IfElse", "IsNotWhole", "IsViewOf", "items_of"]),
-        ("Rattle.krb_msg.specs.inner.Fitting", ["IsSized"]),
-        ("Rattle.krb_msg.specs.inner.PrefixFree", ["begins", "type_is_prefix_free"]),
-        ("Rattle.krb_msg.specs.inner.RoundTrips", [f"{it.term}-back"]),
     ]
-    return brought(body, homes, "ghost ")
 
 
 def about(it):
@@ -84,12 +83,9 @@ def halves(it):
     return it.fields[: it.fields.index(first)], it.kept[it.cut :]
 
 
-def held(type):
-    """A field of a description by which values are encoded, too."""
-    return f"FieldOf<H, {owned(type)}>"
+def layout_type(fields, end, held=owned):
+    """The description of fields, each by what holds its value."""
 
-
-def layout_type(fields, end, held=held):
     def wrap(field, rest):
         if field.is_fixed:
             return f"Fixed<{field.index}, {field.type.values[0] if len(field.type.values) == 1 else 'N'}, {rest}>"
@@ -98,33 +94,18 @@ def layout_type(fields, end, held=held):
     return nested(fields, end, wrap)
 
 
-def layouts(it):
+def layouts(it, held=owned, whose="", lifetime=""):
+    """The descriptions of the fields of a type, with `lifetime` if values are borrowed."""
     before, after = halves(it)
-    inside = f"Sequence<{layout_type(before, 'Cut<Rest<H>>' if after else 'End')}>"
+    given = f"<{lifetime}>" if lifetime else ""
+    inside = f"Sequence<{layout_type(before, f'Cut<Rest{given}>' if after else 'End', held)}>"
     if it.is_parametric:
-        return f"/// Its fields, in a message whose number and whose message type are `N`.\ntype Layout<H, const N: u8> = Application<N, {inside}>;\n"
-    text = f"/// Its fields.\ntype Layout<H> = {inside if it.application is None else f'Application<{it.application}, {inside}>'};\n"
+        parameters = f"{lifetime}, const N: u8".removeprefix(", ")
+        return f"/// Its fields{whose}, in a message whose number and whose message type are `N`.\ntype Layout<{parameters}> = Application<N, {inside}>;\n"
+    text = f"/// Its fields{whose}.\ntype Layout{given} = {inside if it.application is None else f'Application<{it.application}, {inside}>'};\n"
     if after:
-        text += f"\n/// The second half of its fields.\ntype Rest<H> = {layout_type(after, 'End')};\n"
+        text += f"\n/// The second half of its fields.\ntype Rest{given} = {layout_type(after, 'End', held)};\n"
     return text
-
-
-def layout_value(fields, end):
-    def wrap(field, rest):
-        if field.is_fixed:
-            return f"Fixed({rest})"
-        return f"{slot(field)}({f'self.{field.rust}.as_ref()' if field.optional else f'&self.{field.rust}'}, {rest})"
-
-    return nested(fields, end, wrap)
-
-
-def layout_function(it):
-    before, after = halves(it)
-    rest = f"let rest = {layout_value(after, 'End')};\n" if after else ""
-    value = f"Sequence({layout_value(before, 'Cut(rest)' if after else 'End')})"
-    value = value if it.application is None and not it.is_parametric else f"Application({value})"
-    number, argument, numbers = ("<const N: u8>", " N", ", N") if it.is_parametric else ("", "", "")
-    return fill("layout.rt", type=it.term, number=number, argument=argument, numbers=numbers, value=rest + value)
 
 
 def cut_views(it):
@@ -178,20 +159,15 @@ def in_one_step(it):
 
 
 def view_impls(it):
-    """The impls of the view: how it is made, noted and copied."""
-    impls = [view_impl(it, "Layout<Owned>", *in_one_step(it))]
+    """The impls of the view: how it is made and noted."""
+    impls = [view_impl(it, "Layout", *in_one_step(it))]
     impls += [fill("noted_view.rt", type=it.term, Type=it.rust, noted=noted(it, noted_in_view, "seen"))] if has_notes(it) else []
-    return "\n".join([*impls, fill("view_uses.rt", type=it.term, Type=it.rust, copy=copy(it))])
+    return "\n".join(impls)
 
 
 def noting(field, notes):
     """The call that returns the notes on a field that may be left out."""
     return f"optional_list_{notes}" if field.is_list else f"optional_{notes}" if has_notes(field.part) else f"no_optional_{notes}"
-
-
-def noted_of_value(field, value):
-    """The notes on a field of a value."""
-    return f"{noting(field, 'notes')}(&{value})" if field.optional else f"{value}.notes()"
 
 
 def noted_in_view(field, value):
@@ -209,47 +185,18 @@ def noted(it, call, value):
     return f"any_of!({', '.join(call(field, f'{value}.{field.rust}') for field in it.kept if may_have_notes(field))})"
 
 
-def copied(field):
-    if field.is_list:
-        return f"{'copy_item_option' if field.optional else 'copy_items'}(alloc, seen.{field.rust})?"
-    if not owns(field):
-        return f"{'copy_plain_option' if field.optional else f'{field.type.rust}::from_plain_view'}(&seen.{field.rust})"
-    return f"{'copy_option' if field.optional else f'{field.type.rust}::from_view'}(alloc, &seen.{field.rust})?"
-
-
-def owns(field):
-    """Whether a value of the field has memory of its own."""
-    return field.is_list or isinstance(field.type, Sequence) or field.type.form in ("text", "octets", "flags")
-
-
-def in_order_of_copying(it):
-    """The fields of a type as they are copied: what owns memory comes last, since each step that fails drops what was copied before it."""
-    return sorted(it.kept, key=owns)
-
-
-def copy(it):
-    return f"Ok({it.rust} {{ {', '.join(f'{field.rust}: {copied(field)}' for field in in_order_of_copying(it))} }})"
-
-
 def struct_file(module, it):
     parts = [structs(it), layouts(it)]
     if it.is_parametric:
         seen, made = in_one_step(it)
-        parts.append(fill("two.rt", type=it.term, Type=it.rust, layout=layout_function(it), noted=noted(it, noted_of_value, "self"), seen=seen, made=made, copy=copy(it)))
+        parts.append(fill("two.rt", type=it.term, Type=it.rust, seen=seen, made=made))
         parts.append(fill("two_view.rt", type=it.term, Type=it.rust, noted=noted(it, noted_in_view, "self")))
-    else:
-        parts.append(f"impl {it.rust} {{\n{layout_function(it)}}}\n")
-    parts += [fill("cut.rt")] if it.cut else []
-    parts += [] if it.is_parametric else [fill("der.rt", type=it.term, Type=it.rust, term=term_name(it))]
-    parts += [] if it.is_parametric or not has_notes(it) else [fill("noted.rt", type=it.term, Type=it.rust, noted=noted(it, noted_of_value, "self"))]
     parts += [cut_views(it)] if it.cut else []
     parts += [] if it.is_parametric else [view_impls(it)]
-    parts += [fill("list_copy.rt", about=doc(made.about), type=it.term, Type=it.rust, term=term_name(it)) for made in module.lists if made.item is it]
     body = "\n".join(parts)
     # traits are brought in where their methods are called
-    code = "FromView\n" * ("::from_view" in body) + "FromPlainView\n" * ("::from_plain_view" in body) + "Noted NotedView\n" * has_notes(it)
-    code += "\n".join(line for line in body.splitlines() if not line.lstrip().startswith("//"))
-    return f"//! {it.name}. `asn1/generate` wrote this from `asn1/krb5.asn1`.\n\n{ghost_uses(module, it, code)}\n{uses(module, it, code)}\n{body}"
+    code = "NotedView\n" * has_notes(it) + "\n".join(line for line in body.splitlines() if not line.lstrip().startswith("//"))
+    return f"//! {it.name}. `asn1/generate` wrote this from `asn1/krb5.asn1`.\n\n{brought(code, ghost_homes(module, it), 'ghost ')}\n{uses(module, it, code)}\n{body}"
 
 
 def lists_of_items(module):
@@ -259,9 +206,10 @@ def lists_of_items(module):
     return sorted(items.values(), key=lambda item: item.rust)
 
 
-def uses_of_items(items):
-    """The lines that bring these in, and lists of them."""
-    crate = "".join(f"use crate::{item.term}::{item.rust};\n" for item in items if isinstance(item, Sequence))
+def uses_of_items(items, home=None):
+    """The lines that bring these in, and lists of them: from another crate, if `home` is one."""
+    types = [item for item in items if isinstance(item, Sequence)]
+    crate = f"use {home}::{{{', '.join(item.rust for item in types)}, Notes}};\n" if home else "".join(f"use crate::{item.term}::{item.rust};\n" for item in types)
     basics = ", ".join([item.rust for item in items if isinstance(item, Basic)] + ["Many"])
     return f"{crate}use krb_der::{{{basics}}};\n"
 
@@ -281,13 +229,17 @@ def has_notes(type):
 
 
 def noted_lists_file(module):
-    """krb_msg/src/notes/lists.rt: the notes on the lists of the grammar."""
+    """krb_msg/src/notes/lists.rt: the notes on the lists of the grammar that are viewed."""
     items = lists_of_items(module)
-    optional = {field.part.rust for it in module.types for field in it.kept if field.is_list and field.optional}
     noted = []
     for item in items:
         no = "" if has_notes(item) else "no_"
         in_view = "notes_of_strings_in_view(seen)" if item.rust == "KString" else f"{no}notes_of_items_in_view::<{owned(item)}>({'seen' if no else '*seen'})"
-        noted.append(fill("list_notes.rt", Type=owned(item), no=no, in_view=in_view))
-        noted += [fill("optional_list_notes.rt", Type=owned(item))] if item.rust in optional else []
-    return fill("noted_lists.rt", uses=uses_of_items(items), noted="\n".join(noted))
+        noted.append(fill("list_view_notes.rt", Type=owned(item), in_view=in_view))
+        noted += [fill("optional_list_view_notes.rt", Type=owned(item))] if item.rust in optional_items(module) else []
+    return fill("noted_view_lists.rt", uses=uses_of_items(items), noted="\n".join(noted))
+
+
+def optional_items(module):
+    """What lists are of that may be left out."""
+    return {field.part.rust for it in module.types for field in it.kept if field.is_list and field.optional}

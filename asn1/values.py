@@ -248,7 +248,7 @@ def round_trips(module):
     text = f"-- The values of each type come back from those of its term: each field does. {BY}\n"
     text += brought(body, [("Rattle.std.specs.Prelude", PRELUDE), ("Rattle.krb_msg.specs.Basic", ["micros_of"])])
     text += brought(body, [("Rattle.krb_msg.specs.Types", [f"{it.term}_{word}" for it in module.types for word in ("value", "of")])])
-    text += brought(body, [("Rattle.krb_msg.specs.inner.PrefixFree", ["map-back", "option-back", "list-back"])])
+    text += brought(body, [("Rattle.krb_msg.specs.inner.Backs", ["map-back", "option-back", "list-back"])])
     text += "".join(f"use Rattle.krb_msg.specs.declared.{it.term}.{it.rust}.{{{it.rust}}}\n" for it in module.types)
     return f"{text}\n{body}"
 

@@ -1,21 +1,17 @@
 -- A fault is at a place of the file or at its end, and without a field limit none is TooLong.
-use Rattle.std.proofs.Common.{◌≡◌, ℕ, zero, suc, ◌==◌, ◌≤◌, inl, inr, Bool, true, false, None, Result, Ok, Err, List, [], ◌∷◌, length, refl, arith}
+use Rattle.std.proofs.Common.{◌≡◌, ℕ, zero, suc, ◌==◌, Bool, true, false, Ok, Err, List, [], ◌∷◌}
 use Rattle.std.specs.Int.{w8, w16, w32}
 use Rattle.krb_der.specs.Octets.{when}
-use Rattle.krb_file.specs.Fields.{Source, source_of, Fault, Bounds, limited, Reader, and_then, ◌>>=◌, succeed, called, in_part, number_at, signed_at, counted_at, times, names_at, within, is_at_end, version_at}
-use Rattle.krb_source.specs.declared.file_why.FileWhy.TheVariants as why
+use Rattle.krb_file.specs.Fields.{Source, Fault, Bounds, Reader, ◌>>=◌, succeed, called, in_part, number_at, signed_at, counted_at, times, names_at, within, is_at_end, version_at}
 use Rattle.krb_file.specs.declared.field_name.FieldName.{FieldName}
 use Rattle.krb_file.specs.declared.field_name.FieldName.TheVariants as field
 use Rattle.krb_file.specs.declared.field_name.FilePart.{FilePart}
 use Rattle.krb_file.specs.declared.field_name.FilePart.TheVariants as parts
-use Rattle.krb_file.proofs.Fields.{done, failed, and_then-err}
-use Rattle.krb_file.proofs.Steps.{IsFault, IsFault-then, Moved, Steps, Steps-then, Steps-succeed, Steps-called, Steps-in_part, Steps-one_part, Steps-number, Steps-signed, Steps-counted, Steps-times, Steps-names, Steps-within, Steps-version}
+use Rattle.krb_file.proofs.Steps.{IsFault, Moved, Steps, Steps-then, Steps-succeed, Steps-called, Steps-in_part, Steps-one_part, Steps-number, Steps-signed, Steps-counted, Steps-times, Steps-names, Steps-within, Steps-version}
 use Rattle.krb_ccache.specs.declared.value.Credential.{Credential}
 use Rattle.krb_ccache.specs.declared.value.FilePrincipal.{FilePrincipal}
-use Rattle.krb_ccache.specs.declared.reading.Start.{Start}
 use Rattle.krb_ccache.specs.Spelling.{no_header}
-use Rattle.krb_ccache.specs.Reading.{principal_at, principal_in, typed_at, typed_list_at, credential_from, again_at, credential_fields_at, credential_at, header_field_at, header_fields_at, header_at, header_in, start_at, started, CacheItems, items_after, all_items, credentials_after, read_in}
-use Rattle.krb_ccache.proofs.Items.{items_after-fault}
+use Rattle.krb_ccache.specs.Reading.{principal_at, principal_in, typed_at, typed_list_at, credential_from, again_at, credential_fields_at, credential_at, header_field_at, header_fields_at, header_at, header_in, start_at}
 
 pub Steps-principal : Steps principal_at
 Steps-principal = Steps-then (called field.NameType (signed_at w32)) _ (Steps-called field.NameType (signed_at w32) (Steps-signed w32)) (λ name_type. Steps-then (names_at w32) _ (Steps-names w32) (λ names. Steps-succeed (record { name_type = name_type; realm = names.realm; components = names.components })))
@@ -104,54 +100,3 @@ Steps-start versions =
     Steps-then (version_at versions) _ (Steps-version versions) (λ version.
     Steps-then (header_in version) _ (Steps-header_in version) (λ header.
     Steps-then (principal_in parts.Principal) _ (Steps-principal_in parts.Principal) (λ principal. Steps-succeed (record { version = version; header = header; principal = principal }))))
-
--- ---- whole files
-all_items-err : {A : Type 0} (found : CacheItems A) (f : Fault) → all_items found ≡ Err f → found.end ≡ Err f
-all_items-err {A} found f e =
-    elim (and_then-err found.end (λ k. done found.items) f e) [
-      | inl a ↦ a
-      | inr a ↦ absurd (no a.2)
-    ]
-  where
-    no : done found.items ≡ failed (List A) f → ⊥
-    no e = cc
-
-module _ {A : Type 0} (kept : Credential → ℕ → A) (version : ℕ) where
-  credentials-fault : (s : Source) (f : Fault) → credentials_after kept version s ≡ Err f → IsFault (limited None) s f
-  credentials-fault s f e = items_after-fault (credential_at kept version) (Steps-credential kept version) None s f (all_items-err (items_after (credential_at kept version) None s) f e)
-
-  abbrev pair : Start → List A → Start × List A
-  pair start credentials = (start, credentials)
-
-  pub file-fault : (file : List ℕ) (f : Fault) → read_in kept version file ≡ Err f → (f.place ≤ length file) × ((size : ℕ) → f.why ≡ why.TooLong size → ⊥)
-  file-fault file f e =
-      elim (and_then-err (started version file) (λ start. and_then (credentials_after kept version start.1) (λ credentials. done (pair start.0 credentials))) f e) [
-        | inl a ↦ is_fault ((Steps-start (version ∷ [])).faults (limited None) (source_of file) f a)
-        | inr a ↦
-            is_fault (IsFault-then (limited None) (source_of file) a.0.1 f ((Steps-start (version ∷ [])).moves (limited None) (source_of file) a.0.0 a.0.1 a.1)
-            (credentials-fault a.0.1 f (only a.0 a.2)))
-      ]
-    where
-      is_fault : IsFault (limited None) (source_of file) f → (f.place ≤ length file) × ((size : ℕ) → f.why ≡ why.TooLong size → ⊥)
-      is_fault p = (omega (arith, p.upto), p.limited refl)
-
-      only : (start : Start × Source) → and_then (credentials_after kept version start.1) (λ credentials. done (pair start.0 credentials)) ≡ failed (Start × List A) f → credentials_after kept version start.1 ≡ Err f
-      only start e =
-          elim (and_then-err (credentials_after kept version start.1) (λ credentials. done (pair start.0 credentials)) f e) [
-            | inl a ↦ a
-            | inr a ↦ absurd (no (pair start.0 a.0) a.2)
-          ]
-        where
-          no : (v : Start × List A) → done v ≡ failed (Start × List A) f → ⊥
-          no v e = cc
-
--- a cache made of the contents of a file has a fault if the file has one
-pub made-fault : {A B : Type 0} (read : Result A Fault) (make : A → B) (f : Fault) → and_then read (λ x. Ok (make x)) ≡ Err f → read ≡ Err f
-made-fault {A} {B} read make f e =
-    elim (and_then-err read (λ x. done (make x)) f e) [
-      | inl a ↦ a
-      | inr a ↦ absurd (no (make a.0) a.2)
-    ]
-  where
-    no : (v : B) → done v ≡ failed B f → ⊥
-    no v e = cc

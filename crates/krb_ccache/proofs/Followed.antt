@@ -1,6 +1,6 @@
 -- The items of a cache that readers of fields read, one after another.
 use Rattle.std.proofs.Common.{◌≡◌, ℕ, ◌+◌, ◌-◌, ◌<◌, ◌≤◌, Some, Result, Ok, Err, List, [], ◌∷◌, ◌++◌, length, refl, sym, ◌∙◌, ap, subst, arith}
-use Rattle.krb_file.specs.Fields.{Source, Fault, Bounds, Reader, and_then, ◌>>=◌, in_part, with_part, fails_at, fails_begun, within, Fails}
+use Rattle.krb_file.specs.Fields.{Source, Fault, Bounds, Reader, and_then, ◌>>=◌, in_part, with_part, fails_at, fails_begun, within}
 use Rattle.krb_file.specs.FieldReaders.{Cursor, MayRemain, source_at, HasRead, FailsBy, Follows, bounded}
 use Rattle.krb_file.specs.declared.fault.FileFault.{FileFault}
 use Rattle.krb_file.specs.declared.fault.FileFault.TheVariants as faults
@@ -9,10 +9,8 @@ use Rattle.krb_file.specs.declared.field_name.FilePart.TheVariants as parts
 use Rattle.krb_file.proofs.FieldReaders.{SomeRest, some_rest, follows_in_part}
 use Rattle.krb_file.proofs.Loops.{with_prefix}
 use Rattle.krb_ccache.proofs.Loops.{field-goes_on, field-few, field-less, field-fails, fields-done}
-use Rattle.krb_ccache.specs.declared.reading.Start.{Start}
-use Rattle.krb_ccache.specs.Reading.{header_field_at, header_fields_at, started, credentials_after, read_in}
+use Rattle.krb_ccache.specs.Reading.{header_field_at, header_fields_at}
 use Rattle.krb_ccache.specs.declared.value.HeaderField.{HeaderField}
-use Rattle.krb_ccache.specs.declared.value.Credential.{Credential}
 
 -- ---- what was read of a part, which begins at a place
 pub follows_part : {A B : Type 0} (part : FilePart) (reader : Reader A) (view : B → A) (read result : Result B FileFault) (begin : ℕ) (MayFail : Type 0) (old new : Cursor) → begin ≡ old.place → result ≡ fails_begun begin (fails_at (with_part part) read)
@@ -110,21 +108,3 @@ module _ (size : ℕ) (h : Cursor) where
         let a = before.from rest there in
         (a.0, a.1, fields-done h.bounds.limit size header_end prefix (source_at t.place rest) (header_fields_at size 0 inside.bounds (source_at inside.place a.0)) le a.2);
   }
-
--- ---- a whole file
-module _ {A : Type 0} (kept : Credential → ℕ → A) (version : ℕ) where
-  abbrev pair : Start → List A → Start × List A
-  pair start credentials = (start, credentials)
-
-  abbrev credentials_of : Result (Start × Source) Fault → Result (Start × List A) Fault
-  credentials_of start = and_then start (λ found. and_then (credentials_after kept version found.1) (λ credentials. Ok (pair found.0 credentials)))
-
-  pub whole-is : (file : List ℕ) (start : Start) (s : Source) (credentials : List A) → started version file ≡ Ok (start, s) → credentials_after kept version s ≡ Ok credentials → read_in kept version file ≡ Ok (start, credentials)
-  whole-is file start s credentials begins then =
-      ap credentials_of begins ∙ ap (λ (r : Result (List A) Fault). and_then r (λ found. Ok (pair start found))) then
-
-  pub whole-fails : (e : FileFault) (file : List ℕ) (start : Start) (s : Source) → started version file ≡ Ok (start, s) → Fails e (credentials_after kept version s) → Fails e (read_in kept version file)
-  whole-fails faults.Memory file start s begins fails = tt
-  whole-fails faults.Read file start s begins fails = absurd fails
-  whole-fails (faults.Refused fault) file start s begins fails =
-      ap credentials_of begins ∙ ap (λ (r : Result (List A) Fault). and_then r (λ found. Ok (pair start found))) fails

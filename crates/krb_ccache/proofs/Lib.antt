@@ -6,10 +6,8 @@ pub mod Faults
 pub mod Stepwise
 pub mod Ccaches
 pub mod Loops
-pub mod Results
 pub mod Followed
 pub mod Offsets
-pub mod Layouts
 pub mod Tickets
 pub mod Streams
 pub mod Reaching

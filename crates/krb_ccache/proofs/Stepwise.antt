@@ -73,15 +73,6 @@ after_read item_at limit (Ok (None, t)) = no_items (Ok t.place)
 after_read item_at limit (Ok (Some x, t)) = with_first x (items_after item_at limit t)
 
 module _ {A : Type 0} (item_at : Reader A) (shortens : Shortens item_at) where
-  pub next-shorter : (bounds : Bounds) (place : ℕ) (octets : List ℕ) (x : A) (t : Source) → next_of item_at bounds (at place octets) ≡ Ok (Some x, t) → length t.octets < length octets
-  next-shorter bounds place [] x t e =
-      let same : ◌≡◌ {A = Option A} None (Some x) = ap (λ (p : Option A × Source). p.0) (ok_is (None, at place []) (Some x, t) e) in
-      absurd cc
-  next-shorter bounds place (octet ∷ octets) x t e =
-      let s = at place (octet ∷ octets) in
-      let a = and_then-ok (item_at bounds s) (λ p. Ok (Some p.0, p.1)) (Some x, t) e in
-      subst (λ (u : Source). length u.octets < length s.octets) (ap (λ (p : Option A × Source). p.1) (ok_is (Some a.0.0, a.0.1) (Some x, t) a.2)) (shortens.shorter bounds s a.0.0 a.0.1 a.1)
-
   module _ (limit : Option ℕ) where
     abbrev one_step : Source → (Source → CacheItems A) → CacheItems A
     one_step s others = when (is_empty s.octets) (λ _. no_items (Ok s.place)) (λ _. item_and (item_at (limited limit) s) others)

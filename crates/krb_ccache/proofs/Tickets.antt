@@ -1,6 +1,5 @@
--- The contents of a ticket field, by parsing it.
-use Rattle.std.proofs.Common.{◌≡◌, ◌≢◌, ◌↔◌, ℕ, ◌^◌, ◌<◌, false, Option, Some, None, Result, Err, List, [], ◌∷◌, length, refl, sym, ◌∙◌, ap, subst, arith}
-use Rattle.std.specs.Prelude.{IsErrOf}
+-- The contents of a ticket field, by judging it.
+use Rattle.std.proofs.Common.{◌≡◌, ◌≢◌, ℕ, ◌^◌, ◌<◌, false, Option, Some, None, List, [], ◌∷◌, length, refl, sym, ◌∙◌, ap, arith}
 use Rattle.krb_der.specs.declared.profile.Profile.TheVariants as profiles
 use Rattle.krb_der.specs.Octets.{when}
 use Rattle.krb_der.specs.declared.verdict.Refusal.{Refusal}
@@ -9,28 +8,12 @@ use Rattle.krb_msg.specs.ValueOfDer.{value_of_der}
 use Rattle.krb_msg.specs.Types.{ticket_of, ticket_value}
 use Rattle.krb_msg.specs.declared.ticket.Ticket.{Ticket}
 use Rattle.krb_msg.proofs.ValueOfDer.{value_of_der_is_value}
-use Rattle.krb_judge.specs.declared.parsing.ParseFault.{ParseFault}
-use Rattle.krb_judge.specs.declared.parsing.ParseFault.TheVariants as faults
 use Rattle.krb_judge.specs.Parses.{ticket_refusal, AreOfTicket}
 use Rattle.krb_judge.proofs.Values.{ticket_not_refused}
 use Rattle.krb_ccache.specs.declared.value.Credential.{Credential}
 use Rattle.krb_ccache.specs.declared.ticket.TicketState.TheVariants as states
 use Rattle.krb_ccache.specs.Spelling.{is_config}
-use Rattle.krb_ccache.specs.Tickets.{ticket_read, judged_state, field_state, state_of, IsTicket}
-
--- the clause `refused` of `parse_ticket`
-abbrev Refuses : List ℕ → Result Ticket ParseFault → Type 0
-Refuses octets parsed = (r : Refusal) → IsErrOf parsed (faults.Refused r) ↔ (ticket_refusal profiles.Lenient octets ≡ Some r)
-
-pub refused-by : (octets : List ℕ) (r : Refusal) → Refuses octets (Err (faults.Refused r)) → ticket_refusal profiles.Lenient octets ≡ Some r
-refused-by octets r refuses = (refuses r).0 refl
-
-pub whole-by : (octets : List ℕ) → Refuses octets (Err faults.Memory) → ticket_refusal profiles.Lenient octets ≡ None
-whole-by octets refuses = go (ticket_refusal profiles.Lenient octets) refl
-  where
-    go : (found : Option Refusal) → ticket_refusal profiles.Lenient octets ≡ found → ticket_refusal profiles.Lenient octets ≡ None
-    go None e = e
-    go (Some r) e = let no : ◌≡◌ {A = Result Ticket ParseFault} (Err faults.Memory) (Err (faults.Refused r)) = (refuses r).1 e in absurd cc
+use Rattle.krb_ccache.specs.Tickets.{ticket_read, judged_state, field_state, state_of}
 
 -- ---- a Ticket is read from its DER
 small : (octets form : List ℕ) → form ≡ octets → length octets < 2 ^ 31 → length form < 2 ^ 32
@@ -57,6 +40,3 @@ state-ticket c t no_config some are =
 
 pub state-refused : (c : Credential) (r : Refusal) → is_config c ≡ false → c.ticket ≢ [] → ticket_refusal profiles.Lenient c.ticket ≡ Some r → states.Refused r ≡ state_of c
 state-refused c r no_config some e = sym (state-judged c (Some r) no_config some e)
-
-pub state-whole : (c : Credential) → is_config c ≡ false → c.ticket ≢ [] → ticket_refusal profiles.Lenient c.ticket ≡ None → IsTicket (state_of c)
-state-whole c no_config some e = subst IsTicket (sym (state-judged c None no_config some e)) tt

@@ -19,7 +19,6 @@ use Rattle.krb_ccache.specs.Spelling.{ccache, cache3, upgraded, offset, is_confi
 use Rattle.krb_ccache.specs.Reading.{read, read3}
 use Rattle.krb_ccache.specs.Streaming.{file_start}
 use Rattle.krb_ccache.specs.Laws.{IsUpToKey}
-use Rattle.krb_ccache.specs.Writing.{is_too_long}
 
 -- ---- a cache of u@A: an offset of 0, a configuration entry and a credential for h@A
 abbrev user_octets : List ℕ
@@ -90,7 +89,7 @@ credential = record {
   second_ticket = [];
 }
 
-abbrev cache : Ccache
+abbrev pub cache : Ccache
 cache = record { header = header; principal = user; credentials = config ∷ credential ∷ [] }
 
 cache_read : read cache_octets ≡ Ok cache
@@ -98,9 +97,6 @@ cache_read = refl
 
 cache_written : ccache cache ≡ cache_octets
 cache_written = refl
-
-cache_can_be_written : is_too_long cache ≡ false
-cache_can_be_written = refl
 
 header_offset : offset header ≡ Some (pos 0, pos 0)
 header_offset = refl

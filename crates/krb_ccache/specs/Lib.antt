@@ -1,6 +1,5 @@
 pub mod Spelling
 pub mod Reading
-pub mod Writing
 pub mod Tickets
 pub mod Streaming
 pub mod Laws

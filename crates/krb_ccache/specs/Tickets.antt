@@ -7,7 +7,7 @@ use Rattle.krb_msg.specs.Grammar.{ticket}
 use Rattle.krb_msg.specs.ValueOfDer.{value_of_der}
 use Rattle.krb_msg.specs.Types.{IsValidTicket, ticket_of_view, ticket_of}
 use Rattle.krb_msg.specs.declared.ticket.Ticket.{Ticket}
-use Rattle.krb_judge.specs.Parses.{ticket_refusal, AreOfTicket}
+use Rattle.krb_judge.specs.Parses.{ticket_refusal}
 use Rattle.krb_ccache.specs.declared.value.Credential.{Credential}
 use Rattle.krb_ccache.specs.declared.ticket.TicketState.{TicketState}
 use Rattle.krb_ccache.specs.declared.ticket.TicketState.TheVariants as states
@@ -45,17 +45,3 @@ StateLists views.Absent = Unit {0}
 StateLists views.Config = Unit {0}
 StateLists (views.Ticket view) = IsValidTicket view
 StateLists (views.Refused refusal) = Unit {0}
-
--- if the contents are a Ticket, the octets are its DER
-abbrev pub IsOfDer : List ℕ → TicketState → Type 0
-IsOfDer octets states.Absent = Unit {0}
-IsOfDer octets states.Config = Unit {0}
-IsOfDer octets (states.Ticket t) = AreOfTicket profiles.Lenient octets t
-IsOfDer octets (states.Refused refusal) = Unit {0}
-
--- whether the contents are a Ticket, for which alone memory is allocated
-abbrev pub IsTicket : TicketState → Type 0
-IsTicket states.Absent = ⊥
-IsTicket states.Config = ⊥
-IsTicket (states.Ticket t) = Unit {0}
-IsTicket (states.Refused refusal) = ⊥

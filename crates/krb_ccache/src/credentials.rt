@@ -7,7 +7,7 @@ ghost use Rattle.krb_file.specs.Fields.{IsStreamFaultIn};
 ghost use Rattle.krb_file.specs.FieldReaders.{Stays};
 ghost use Rattle.krb_ccache.specs.Streaming.{Reads, FailsStart, ReturnsNext};
 
-use crate::reading::{Start, beginning, next};
+use crate::reading::{OneEnctype, Start, read_credential, read_start};
 use crate::value::{Credential, FilePrincipal, Header};
 use krb_file::{FileFault, Limit, Progress, StreamReader};
 use std::alloc::Global;
@@ -36,7 +36,7 @@ impl<R: Read + Drop> Credentials<R> {
         ensures refused { IfErr result (λ fault. (file : List ℕ) → R.remaining reader ≡ Some file → IsStreamFaultIn file fault) }
     {
         let mut reader = StreamReader::new(reader, limit);
-        let start = beginning(alloc, &[3, 4], &mut reader)?;
+        let start = read_start(alloc, &[3, 4], &mut reader)?;
         Ok(Credentials {
             reader,
             start,
@@ -66,10 +66,10 @@ impl<R: Read + Drop> Credentials<R> {
     }
 
     /// Reads the next credential; returns `None` at the end of the file. A cache is refused as
-    /// [`read`](crate::read) or [`read3`](crate::read3) refuses it, except that a field of octets
-    /// is TooLong if it is longer than the limit; this is checked after Overrun and before
-    /// Truncated. After a fault each call returns this fault, and after the end each call returns
-    /// `None`; neither reads any more.
+    /// `read` or `read3` of `krb_files` refuses it, except that a field of octets is TooLong if it
+    /// is longer than the limit; this is checked after Overrun and before Truncated. After a fault
+    /// each call returns this fault, and after the end each call returns `None`; neither reads any
+    /// more.
     pub fn next_credential(&mut self, alloc: Global) -> Result<Option<Credential>, FileFault>
         // The credentials of the file that is read, one after another, and then the end or the
         // fault.
@@ -124,7 +124,7 @@ impl<R: Read + Drop> Credentials<R> {
         ensures ends { result ≡ Ok None → self.new.state ≡ states.Done (tt {0}) }
         ensures fails { IfErr result (λ fault. self.new.state ≡ states.Failed fault) }
     {
-        match next(alloc, self.start.version, &mut self.reader) {
+        match read_credential::<OneEnctype, _>(alloc, self.start.version, &mut self.reader) {
             Ok(Some(credential)) => Ok(Some(credential)),
             Ok(None) => {
                 self.state = Progress::Done(());

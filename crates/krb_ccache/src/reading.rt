@@ -1,23 +1,16 @@
-//! Reading caches.
+//! Reading the parts of caches: what is before the credentials, and the next credential.
 
-ghost use Rattle.std.specs.Prelude.{◌≡◌, ℕ, None, Ok, IfOk, IfErr, OnOk};
-ghost use Rattle.krb_file.specs.Fields.{Agrees, IsFaultIn, Reader, in_part, within, times};
+ghost use Rattle.std.specs.Prelude.{◌≡◌, ℕ, OnOk};
+ghost use Rattle.krb_file.specs.Fields.{Reader, in_part, within, times};
 ghost use Rattle.krb_file.specs.declared.field_name.FieldName.TheVariants as field;
 ghost use Rattle.krb_file.specs.declared.field_name.FilePart.TheVariants as parts;
-ghost use Rattle.krb_file.specs.FieldReaders.{Follows, Stays, Keeps, Slice, source_at};
-ghost use Rattle.krb_ccache.specs.declared.value.Cache3.{Cache3 as Cache3Value};
-ghost use Rattle.krb_ccache.specs.declared.value.Ccache.{Ccache as CcacheValue};
+ghost use Rattle.krb_file.specs.FieldReaders.{Follows, Stays, Keeps};
 ghost use Rattle.krb_ccache.specs.declared.value.Credential.{Credential as CredentialValue};
-ghost use Rattle.krb_ccache.specs.Spelling.{CcacheSpells, Spells3};
-ghost use Rattle.krb_ccache.specs.Reading.{principal_at, principal_in, typed_at, typed_list_at, validity_at, contents_at, credential_from, again_at, credential_fields_at, credential_at, one_enctype, both_enctypes, header_field_at, header_fields_at, header_at, header_in, start_at, next_at, credentials_after, read_in, read, read3};
+ghost use Rattle.krb_ccache.specs.Reading.{principal_at, principal_in, typed_at, typed_list_at, validity_at, contents_at, credential_from, again_at, credential_fields_at, credential_at, one_enctype, header_field_at, header_fields_at, header_at, header_in, start_at, next_at};
 
-use crate::value::{
-    Cache3, Ccache, Credential, Credential3, FilePrincipal, Header, HeaderField, Typed,
-};
+use crate::value::{Credential, FilePrincipal, Header, HeaderField, Typed};
 use krb_der::{KString, Many, Octets};
-use krb_file::{
-    Field, FieldName, FieldReader, FileFault, FilePart, SliceReader, in_part, read_many,
-};
+use krb_file::{Field, FieldName, FieldReader, FileFault, FilePart, in_part, read_many};
 use std::alloc::Global;
 
 /// Reads the fields of a principal.
@@ -223,28 +216,28 @@ fn credential_from<F: FieldReader>(
 }
 
 /// What a credential that is read is kept as.
-pub(crate) trait Kept: Drop {
+pub trait Kept {
+    /// The type of what is kept.
+    type Value: Drop;
+
     /// The value that is kept of a credential and its second encryption type.
-    ghost kept: { CredentialValue → ℕ → Self };
+    ghost kept: { CredentialValue → ℕ → Self.Value };
 
     /// Returns the value that is kept of a credential and its second encryption type, `again`.
-    fn keep(credential: Credential, again: u16) -> Self
+    fn keep(credential: Credential, again: u16) -> Self::Value
         ensures { result ≡ kept credential again };
 }
 
-impl Kept for Credential {
+/// A credential is kept without its second encryption type.
+pub struct OneEnctype;
+
+impl Kept for OneEnctype {
+    type Value = Credential;
+
     ghost kept = { one_enctype };
 
     fn keep(credential: Credential, _again: u16) -> Credential {
         credential
-    }
-}
-
-impl Kept for Credential3 {
-    ghost kept = { both_enctypes };
-
-    fn keep(credential: Credential, again: u16) -> Credential3 {
-        Credential3 { credential, again }
     }
 }
 
@@ -265,7 +258,7 @@ fn credential_fields<K: Kept, F: FieldReader>(
     alloc: Global,
     version: u8,
     reader: &mut F,
-) -> Result<K, FileFault>
+) -> Result<K::Value, FileFault>
     ensures read { Follows (λ item. item) result (credential_fields_at K.kept version) F.MayFail (F.cursor reader.old) (F.cursor reader.new) }
     ensures stays { OnOk result (Stays (F.cursor reader.old) (F.cursor reader.new)) }
 {
@@ -283,12 +276,12 @@ fn credential<K: Kept, F: FieldReader>(
     alloc: Global,
     version: u8,
     reader: &mut F,
-) -> Result<K, FileFault>
+) -> Result<K::Value, FileFault>
     ensures read { Follows (λ item. item) result (credential_at K.kept version) F.MayFail (F.cursor reader.old) (F.cursor reader.new) }
     ensures stays { OnOk result (Stays (F.cursor reader.old) (F.cursor reader.new)) }
 {
     let begin = reader.place();
-    match credential_fields(alloc, version, reader) {
+    match credential_fields::<K, _>(alloc, version, reader) {
         Ok(item) => Ok(item),
         Err(fault) => Err(fault.begun_at(begin)),
     }
@@ -298,11 +291,11 @@ fn credential<K: Kept, F: FieldReader>(
 const LEAST_CREDENTIAL: u64 = 67;
 
 /// Reads the next credential of a version; returns `None` at the end of the file.
-pub(crate) fn next<K: Kept, F: FieldReader>(
+pub fn read_credential<K: Kept, F: FieldReader>(
     alloc: Global,
     version: u8,
     reader: &mut F,
-) -> Result<Option<K>, FileFault>
+) -> Result<Option<K::Value>, FileFault>
     ensures read { Follows (λ next. next) result (next_at K.kept version) F.MayFail (F.cursor reader.old) (F.cursor reader.new) }
     ensures stays { OnOk result (Stays (F.cursor reader.old) (F.cursor reader.new)) }
 {
@@ -310,7 +303,7 @@ pub(crate) fn next<K: Kept, F: FieldReader>(
     if reader.is_empty()? {
         return Ok(None);
     }
-    let item = credential(alloc, version, reader)?;
+    let item = credential::<K, _>(alloc, version, reader)?;
     Ok(Some(item))
 }
 
@@ -392,7 +385,7 @@ fn header_in<F: FieldReader>(
     header(alloc, reader)
 }
 
-/// The part of a cache before its credentials. It is public for contracts alone.
+/// The part of a cache before its credentials.
 #[derive(Drop)]
 pub struct Start {
     /// The version of the format.
@@ -405,7 +398,7 @@ pub struct Start {
 
 /// Reads what is before the credentials of a file of one of these versions, from its first octet
 /// on.
-pub(crate) fn beginning<F: FieldReader>(
+pub fn read_start<F: FieldReader>(
     alloc: Global,
     versions: &[u8],
     reader: &mut F,
@@ -421,88 +414,4 @@ pub(crate) fn beginning<F: FieldReader>(
         header,
         principal,
     })
-}
-
-/// Reads the credentials up to the end of the file.
-fn credentials<K: Kept>(
-    alloc: Global,
-    version: u8,
-    reader: &mut SliceReader<'_>,
-) -> Result<Many<K>, FileFault>
-    requires { reader.old.end ≡ None }
-    ensures { Agrees (λ credentials. credentials) result (credentials_after K.kept version (source_at reader.old.place reader.old.octets)) }
-{
-    let mut credentials = Vec::new(alloc);
-    'credentials: while let Some(item) = next(alloc, version, reader)? {
-        credentials.push(item)?;
-    }
-    Ok(Many::new(credentials))
-}
-
-/// Reads a file of a version: what is before the credentials, and the credentials.
-fn file<K: Kept>(alloc: Global, version: u8, octets: &[u8]) -> Result<(Start, Many<K>), FileFault>
-    ensures { Agrees (λ found. found) result (read_in K.kept version octets.now) }
-{
-    let mut reader = SliceReader::new(octets);
-    let start = beginning(alloc, &[version], &mut reader)?;
-    let credentials = credentials(alloc, version, &mut reader)?;
-    Ok((start, credentials))
-}
-
-/// Reads a cache of version 4.
-fn whole(alloc: Global, octets: &[u8]) -> Result<Ccache, FileFault>
-    ensures { Agrees (λ ccache. ccache) result (read octets.now) }
-{
-    let (start, credentials) = file(alloc, 4, octets)?;
-    let Start {
-        header,
-        principal,
-        ..
-    } = start;
-    Ok(Ccache {
-        header,
-        principal,
-        credentials,
-    })
-}
-
-/// Reads a cache of version 3.
-fn whole3(alloc: Global, octets: &[u8]) -> Result<Cache3, FileFault>
-    ensures { Agrees (λ cache. cache) result (read3 octets.now) }
-{
-    let (start, credentials) = file(alloc, 3, octets)?;
-    Ok(Cache3 {
-        principal: start.principal,
-        credentials,
-    })
-}
-
-/// Reads a cache of version 4 from all the octets of a file. A file that is not one is refused at
-/// the first field at fault: Magic at 0, Version at 1, Overrun for a field that passes the end of
-/// the header that it is in, else Truncated for one that passes the end of the file. It allocates
-/// for octets that are there, and never for a number of addresses that only announces them.
-pub fn read(alloc: Global, octets: &[u8]) -> Result<Ccache, FileFault>
-    // What is read is spelled by the octets.
-    ensures found { IfOk result (λ ccache. CcacheSpells ccache octets.now) }
-    // What octets spell is read, unless memory ran out.
-    ensures only { (ccache : CcacheValue) → CcacheSpells ccache octets.now → Agrees (λ ccache. ccache) result (Ok ccache) }
-    // Which fault it is.
-    ensures exact { Agrees (λ ccache. ccache) result (read octets.now) }
-    ensures refused { IfErr result (IsFaultIn octets.now) }
-{
-    whole(alloc, octets)
-}
-
-/// Reads a cache of version 3 from all the octets of a file. A file that is not one is refused as
-/// [`read`] refuses it, except that there is no header.
-pub fn read3(alloc: Global, octets: &[u8]) -> Result<Cache3, FileFault>
-    // What is read is spelled by the octets.
-    ensures found { IfOk result (λ cache. Spells3 cache octets.now) }
-    // What octets spell is read, unless memory ran out.
-    ensures only { (cache : Cache3Value) → Spells3 cache octets.now → Agrees (λ cache. cache) result (Ok cache) }
-    // Which fault it is.
-    ensures exact { Agrees (λ cache. cache) result (read3 octets.now) }
-    ensures refused { IfErr result (IsFaultIn octets.now) }
-{
-    whole3(alloc, octets)
 }

@@ -1,13 +1,12 @@
 //! Ticket fields of credentials.
 
-ghost use Rattle.std.specs.Prelude.{◌≡◌, IfOk, IfErr};
-ghost use Rattle.krb_ccache.specs.Tickets.{IsOfDer, IsTicket, StateLists, state_of, state_viewed};
+ghost use Rattle.std.specs.Prelude.{◌≡◌};
+ghost use Rattle.krb_ccache.specs.Tickets.{StateLists, state_of, state_viewed};
 
 use crate::value::Credential;
-use krb_der::{Memory, Refusal};
-use krb_judge::{ParseFault, parse_ticket, read_ticket};
+use krb_der::Refusal;
+use krb_judge::read_ticket;
 use krb_msg::{Ticket, TicketView};
-use std::alloc::Global;
 
 /// The contents of the ticket field of a credential.
 #[derive(Drop)]
@@ -33,8 +32,9 @@ pub enum TicketStateView<'a> {
     Refused(Refusal),
 }
 
-/// Returns the contents of the ticket field of a credential, as [`ticket_of`] does, but borrowed.
-/// It allocates nothing.
+/// Returns the contents of the ticket field of a credential, borrowed. A configuration entry is
+/// recognized first, then an empty field, and other octets are judged as a Ticket (RFC 4120, 5.3). It
+/// allocates nothing.
 #[tactic(auto, unfolding(crate::specs::Tickets::state_of))]
 pub fn ticket_view_of(credential: &Credential) -> TicketStateView<'_>
     ensures state { state_viewed result ≡ state_of credential.now }
@@ -50,28 +50,5 @@ pub fn ticket_view_of(credential: &Credential) -> TicketStateView<'_>
     match read_ticket(octets) {
         Ok(ticket) => TicketStateView::Ticket(ticket),
         Err(refusal) => TicketStateView::Refused(refusal),
-    }
-}
-
-/// Returns the contents of the ticket field of a credential. A configuration entry is recognized
-/// first, then an empty field, and other octets are judged as a Ticket (RFC 4120, 5.3). It
-/// allocates only for a Ticket.
-#[tactic(auto, unfolding(crate::specs::Tickets::state_of))]
-pub fn ticket_of(alloc: Global, credential: &Credential) -> Result<TicketState, Memory>
-    ensures state { IfOk result (λ state. state ≡ state_of credential.now) }
-    ensures der { IfOk result (IsOfDer credential.now.ticket) }
-    ensures memory { IfErr result (λ _. IsTicket (state_of credential.now)) }
-{
-    if credential.is_config() {
-        return Ok(TicketState::Config);
-    }
-    let octets = credential.ticket.as_slice();
-    if octets.is_empty() {
-        return Ok(TicketState::Absent);
-    }
-    match parse_ticket(alloc, octets) {
-        Ok(ticket) => Ok(TicketState::Ticket(ticket)),
-        Err(ParseFault::Refused(refusal)) => Ok(TicketState::Refused(refusal)),
-        Err(ParseFault::Memory) => Err(Memory),
     }
 }

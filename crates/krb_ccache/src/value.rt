@@ -89,7 +89,7 @@ pub struct Credential {
     /// The authorization data that were requested.
     pub authdata: Many<Typed>,
     /// The ticket as DER, or the value of a configuration entry: see
-    /// [`ticket_of`](crate::ticket_of).
+    /// [`ticket_view_of`](crate::ticket_view_of).
     pub ticket: Octets,
     /// A second ticket, for user-to-user authentication.
     pub second_ticket: Octets,

@@ -1,10 +1,11 @@
 //! What is done with the frames of a stream, whose messages must come again.
 
 use crate::judging::{Judging, is_whole};
+use krb_codec::encode;
 use krb_der::Profile;
-use krb_judge::parse;
-use krb_msg::{Message, encode};
+use krb_msg::Message;
 use krb_scan::Machine;
+use krb_values::parse;
 use std::alloc::Global;
 use std::io;
 use std::io::Read;

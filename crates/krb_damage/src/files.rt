@@ -1,9 +1,10 @@
 //! Files that are cut or in which an octet is changed, read whole and one record after another.
 
 use crate::fakes::Slow;
-use krb_ccache::{Ccache, Credential, Credentials, FilePrincipal, Header, read3, upgrade};
+use krb_ccache::{Ccache, Credential, Credentials, FilePrincipal, Header};
 use krb_der::Many;
 use krb_file::{FileFault, FileRefusal, FileWhy, Limit};
+use krb_files::ccache::{read3, upgrade};
 use krb_keytab::{Hole, Keytab, Next, Record, Records, Stop};
 use std::alloc::Global;
 use std::io::Read;
@@ -30,7 +31,7 @@ fn written_keytab(alloc: Global, records: Vec<Record>, stop: Stop) -> Option<Vec
         }
     }
     let records = Many::new(records);
-    let mut octets = krb_keytab::write(alloc, &Keytab { records, stop }).ok()?;
+    let mut octets = krb_files::keytab::write(alloc, &Keytab { records, stop }).ok()?;
     octets.extend_from_slice(holes.as_slice()).ok()?;
     Some(octets)
 }
@@ -52,7 +53,7 @@ fn keytab_of<R: Read + Drop>(alloc: Global, reader: R, most: usize) -> Option<Wr
 /// Reads a cache, as one of version 4.
 fn cache(alloc: Global, octets: &[u8]) -> Result<Ccache, FileFault> {
     if octets.get(1) != Some(&3) {
-        return krb_ccache::read(alloc, octets);
+        return krb_files::ccache::read(alloc, octets);
     }
     match upgrade(alloc, read3(alloc, octets)?) {
         Ok(ccache) => Ok(ccache),
@@ -130,7 +131,7 @@ fn cache_of<R: Read + Drop>(alloc: Global, reader: R, octets: &[u8]) -> Option<W
         principal,
         credentials,
     };
-    Some(Ok(krb_ccache::write(alloc, &ccache).ok()?))
+    Some(Ok(krb_files::ccache::write(alloc, &ccache).ok()?))
 }
 
 /// Returns whether reading octets in two ways returns the same, except that a field may be too long
@@ -168,14 +169,14 @@ impl Format {
     /// Returns what is written of the file that is read whole.
     fn whole(self, alloc: Global, octets: &[u8]) -> Option<Written> {
         let written = match self {
-            Format::Keytab => match krb_keytab::read(alloc, octets) {
+            Format::Keytab => match krb_files::keytab::read(alloc, octets) {
                 Ok((Keytab { records, stop }, _)) => {
                     written_keytab(alloc, records.into_vec(), stop)?
                 }
                 Err(fault) => return Some(Err(fault)),
             },
             Format::Ccache => match cache(alloc, octets) {
-                Ok(ccache) => krb_ccache::write(alloc, &ccache).ok()?,
+                Ok(ccache) => krb_files::ccache::write(alloc, &ccache).ok()?,
                 Err(fault) => return Some(Err(fault)),
             },
         };

@@ -10,8 +10,8 @@ mod readers;
 
 use calls::{CALLS, Given};
 use krb_frame::{Decoder, Limit};
-use krb_judge::parse;
 use krb_msg::Message;
+use krb_values::parse;
 use octets::{AP_REP, CACHE, KEYTAB, KRB_ERROR, message_of};
 use std::io;
 
@@ -56,8 +56,8 @@ fn report_with<R: Print + AllocGlobal>(rt: &R, message: &Message) -> io::Result<
     let alloc = rt.alloc();
     let mut decoder = Decoder::new(alloc, Limit::DEFAULT);
     let _ = decoder.feed(AP_REP);
-    let keytab = krb_keytab::read(alloc, KEYTAB);
-    let cache = krb_ccache::read(alloc, CACHE);
+    let keytab = krb_files::keytab::read(alloc, KEYTAB);
+    let cache = krb_files::ccache::read(alloc, CACHE);
     match (decoder.ready(), &keytab, &cache) {
         (Some(frame), Ok((keytab, _)), Ok(cache)) => {
             let given = Given {

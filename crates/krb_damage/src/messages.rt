@@ -5,10 +5,12 @@ ghost use Rattle.std.specs.Prelude.{◌^◌, ◌<◌, length};
 use crate::Counts;
 use crate::ends::Run;
 use crate::scanning::scanned;
+use krb_codec::encode;
 use krb_der::{Profile, Refusal, Verdict, Why};
 use krb_frame::{Decoder, Limit, Status};
-use krb_judge::{ParseFault, judge_in, parse_in};
-use krb_msg::{Message, encode};
+use krb_judge::judge_in;
+use krb_msg::Message;
+use krb_values::{ParseFault, parse_in};
 use std::alloc::Global;
 
 /// The number of octets of a frame before its message.

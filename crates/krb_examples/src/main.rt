@@ -8,17 +8,19 @@
 
 use anyhow::Result;
 use krb_capture::Capture;
-use krb_ccache::{Ccache, Credentials, TicketStateView, read3, ticket_view_of, upgrade};
+use krb_ccache::{Ccache, Credentials, TicketStateView, ticket_view_of};
+use krb_codec::{EncodeFault, copy_message, encode};
 use krb_convert::{DecodeEnd, EncodeEnd, run_decode, run_encode};
 use krb_der::{Int32, KString, Many, Memory, Octets, Profile, Refusal, Verdict};
 use krb_file::{Field, FieldReader, FileFault, SliceReader, String16};
 use krb_file_run::run_keytab;
-use krb_frame::{Decoder, Limit, SkippingDecoder, Status, frame};
+use krb_files::ccache::{read3, upgrade};
+use krb_frame::{Decoder, Limit, SkippingDecoder, Status};
 use krb_json::{LineFault, Scratch, put_text, read_line, unencrypted_path};
-use krb_judge::{ParseFault, judge, parse, read_ticket};
+use krb_judge::{judge, read_ticket};
 use krb_keytab::{Next, Record, Records};
 use krb_msg::{
-    ApRep, EncodeFault, EncryptedData, Kind, Message, PrincipalName, encode, next_item, view_whole,
+    ApRep, EncryptedData, Kind, Message, PrincipalName, next_item, view_message, view_whole,
 };
 use krb_packet::{Packet, Packets};
 use krb_padata::{EtypeInfo2, EtypeInfo2Entry, view_pac_request};
@@ -26,7 +28,8 @@ use krb_record::{Form, TextBuffer, principal_text};
 use krb_registry::{Registry, name_of};
 use krb_run::status;
 use krb_scan::Scanner;
-use krb_text::message_line;
+use krb_text::put_message_in;
+use krb_values::{ParseFault, frame, message_line, parse};
 use krb_words::{Command, WordsFault, read_words};
 use std::alloc::{AllocError, Global};
 use std::io::Read;
@@ -55,6 +58,20 @@ fn ap_rep(alloc: Global, encrypted: &[u8]) -> Result<Message, AllocError> {
 /// Returns the octets of a message.
 fn octets_of(alloc: Global, message: &Message) -> Result<Vec<u8>, EncodeFault> {
     encode(alloc, message)
+}
+
+/// Returns the kind of the message that octets are, which are not copied, if they are one.
+fn viewed_kind(octets: &[u8]) -> Option<Kind> {
+    let view = view_message(octets)?;
+    Some(view.kind())
+}
+
+/// Returns the message that octets are, copied out of a view of them, if they are one.
+fn copied(alloc: Global, octets: &[u8]) -> Result<Option<Message>, Memory> {
+    match view_message(octets) {
+        Some(view) => Ok(Some(copy_message(alloc, &view)?)),
+        None => Ok(None),
+    }
 }
 
 /// Returns the kind of a message.
@@ -219,6 +236,14 @@ fn line_of(alloc: Global, message: &Message) -> Result<String, Memory> {
     message_line(alloc, Form::Lines, message)
 }
 
+/// Returns the line of the message that octets are, with names and a line feed, and no text if they
+/// are none. No message is made of them.
+fn named_line(alloc: Global, octets: &[u8]) -> Result<TextBuffer, Memory> {
+    let mut text = TextBuffer::new(alloc);
+    put_message_in(&mut text, Form::NamedLines, Profile::Lenient, octets)?;
+    Ok(text)
+}
+
 /// Returns the text of a user's name in a realm.
 fn user_text(alloc: Global, name: &str, realm: &str) -> Result<String, Memory> {
     let user = user(alloc, name)?;
@@ -351,6 +376,18 @@ const CACHE3: &[u8] = b"\x05\x03\x00\x00\x00\x01\x00\x00\x00\x01\x00\x00\x00\x01
 const CAPTURE: &[u8] =
     b"\xD4\xC3\xB2\xA1\x02\x00\x04\x00\x00\x00\x00\x00\x00\x00\x00\x00\xFF\xFF\x00\x00\x65\x00\x00\x00\x81\x43\x6D\x38\x05\x00\x00\x00\x3B\x00\x00\x00\x3B\x00\x00\x00\x45\x00\x00\x3B\x00\x01\x00\x00\x40\x11\x00\x00\x7F\x00\x00\x01\x7F\x00\x00\x01\x9C\x40\x00\x58\x00\x27\x00\x00\x6F\x1D\x30\x1B\xA0\x03\x02\x01\x05\xA1\x03\x02\x01\x0F\xA2\x0F\x30\x0D\xA0\x03\x02\x01\x12\xA2\x06\x04\x04\xDE\xAD\xBE\xEF";
 
+/// Returns whether octets are copied as a message.
+fn is_copied(alloc: Global, octets: &[u8]) -> bool {
+    match copied(alloc, octets) {
+        Ok(copy) => {
+            let is_there = copy.is_some();
+            drop(copy);
+            is_there
+        }
+        Err(_) => false,
+    }
+}
+
 /// Shows what is done with messages.
 fn show_messages(rt: &HostRuntime) -> Result<()> {
     let alloc = rt.alloc();
@@ -361,12 +398,17 @@ fn show_messages(rt: &HostRuntime) -> Result<()> {
     let octets = octets?;
     let kind = kind_of(alloc, octets.as_slice())?;
     println!(rt; "{} octets of an {}", octets.len(), kind.name())?;
+    let same_kind = viewed_kind(octets.as_slice()) == Some(kind);
+    println!(rt; "the same kind, viewed: {same_kind}")?;
+    println!(rt; "copied: {}", is_copied(alloc, octets.as_slice()))?;
     println!(rt; "may go on: {}", may_go_on(&octets[..octets.len() / 2]))?;
     println!(rt; "items: {}", items_in(alloc, 31, octets.as_slice())?)?;
     if let Err(refusal) = ticket_etype(octets.as_slice()) {
         println!(rt; "no Ticket: {refusal}")?;
     }
     println!(rt; "{}", line?)?;
+    let named = named_line(alloc, octets.as_slice())?;
+    print!(rt; "{}", str::from_utf8(named.octets())?)?;
     let json = json_of(alloc, octets.as_slice())?;
     println!(rt; "{}", str::from_utf8(json.as_slice())?)?;
     if let Err(fault) = spelled(alloc, "{\"AP-REP\":{\"pvno\":4}}") {

@@ -3,6 +3,5 @@ pub mod Fields
 pub mod Names
 pub mod FieldReaders
 pub mod Items
-pub mod Parts
 pub mod Limits
 pub mod inner

@@ -1,5 +1,5 @@
-//! What keytabs, credential caches and captures share: how the fields of files are read and
-//! written, and why a file is refused.
+//! What keytabs, credential caches and captures share: how the fields of files are read, and why a
+//! file is refused.
 //!
 //! The main calls:
 //!
@@ -7,7 +7,6 @@
 //!   can be read, as it comes. Both are a [`FieldReader`], which reads numbers, and octets after
 //!   their number, up to an end and under a limit ([`Limit`]).
 //! - [`read_many`] reads fields of a kind ([`Field`]) one after another.
-//! - [`Part::put`] appends the octets of a part of a file, and [`Part::size`] returns their number.
 //!
 //! A [`FileFault`] is a refusal at the first octet of a field, a read that failed, or out of
 //! memory. A [`FieldPath`] shows which field of a file that is.
@@ -24,7 +23,6 @@ mod fault;
 mod field_name;
 mod field_path;
 mod field_reader;
-mod part;
 mod progress;
 mod slice_reader;
 mod stream_reader;
@@ -35,10 +33,6 @@ pub use field_path::{FieldPath, FileItem};
 pub use field_reader::{Field, FieldReader, String16, String32, read_many};
 pub use krb_der::Limit;
 pub use krb_source::{FileWhy, file_why_length, file_why_number, file_why_text};
-pub use part::{
-    Count16, Count32, Counted16, Counted32, Each, GREATEST_FILE, Listed, Measured, Part, Plain,
-    Strings16, Then,
-};
 pub use progress::Progress;
 pub use slice_reader::SliceReader;
 pub use stream_reader::StreamReader;

@@ -9,8 +9,8 @@ use krb_scan::Machine;
 use std::alloc::Global;
 use std::marker::Model;
 
-/// The number of octets of a frame's length.
-pub(crate) const LENGTH_OCTETS: usize = 4;
+/// The number of octets of a frame's length (RFC 4120, 7.2.2).
+pub const LENGTH_OCTETS: usize = 4;
 
 /// How far the current frame has been read.
 #[derive(Clone, Copy)]

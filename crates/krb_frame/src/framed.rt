@@ -1,8 +1,7 @@
 //! A frame that is ready, borrowed from its decoder.
 
-use krb_der::{Memory, Profile};
-use krb_msg::{Kind, Message, MessageView, view_message, whole_kind};
-use std::alloc::Global;
+use krb_der::Profile;
+use krb_msg::{Kind, MessageView, view_message, whole_kind};
 use std::marker::Model;
 
 /// The frame that a decoder has ready. Contracts see the octets of its message.
@@ -24,11 +23,11 @@ impl<'a> Model for Framed<'a> {
     ghost invariant = { λ framed. (length framed.octets.now < 2 ^ 31) × (judgement Lenient (length framed.octets.now) framed.octets.now ≡ Whole) };
 }
 
-ghost use Rattle.std.specs.Prelude.{◌≡◌, ◌<◌, ◌^◌, IfOk, length};
+ghost use Rattle.std.specs.Prelude.{◌≡◌, ◌<◌, ◌^◌, length};
 ghost use Rattle.std.specs.Option.{option_map};
 ghost use Rattle.krb_msg.specs.Realm.{AreOfRealm};
 ghost use Rattle.krb_msg.specs.ViewValues.{IsMessageView};
-ghost use Rattle.krb_msg.specs.Views.{AreOfKind, message_der};
+ghost use Rattle.krb_msg.specs.Views.{AreOfKind};
 ghost use Rattle.krb_der.specs.declared.verdict.Verdict.TheVariants.{Whole};
 ghost use Rattle.krb_msg.specs.Judgement.{judgement};
 
@@ -73,12 +72,5 @@ impl<'a> Framed<'a> {
         ensures { AreOfRealm Profile.Lenient self.now (option_map (λ realm. realm.now) result) }
     {
         self.view().realm()
-    }
-
-    /// Returns the message, copied out of the view.
-    pub fn message(&self, alloc: Global) -> Result<Message, Memory>
-        ensures { IfOk result (λ m. message_der m ≡ self.now) }
-    {
-        self.view().to_message(alloc)
     }
 }

@@ -9,8 +9,8 @@
 //!   [`SkippingDecoder`] has the calls above, too.
 //! - [`SkippingDecoder::deliver`] delivers the frames of a piece to a [`Receiver`], one after
 //!   another, with or without going on after a refusal, and copies none that lies in the piece.
-//! - [`frame`] returns a message as a frame; [`length_fault`] says why a length is refused, and
-//!   [`first_frame`] returns the frame with which octets begin, whatever its contents are.
+//! - [`length_fault`] says why a length is refused, and [`first_frame`] returns the frame with which
+//!   octets begin, whatever its contents are. `krb_values` returns a message as a frame.
 //!
 //! Nothing here reads or writes: the caller has the pieces. A decoder keeps at most the octets of
 //! one frame, and no frame may be longer than its [`Limit`]. Why octets of a message are refused is
@@ -25,17 +25,15 @@ mod contents;
 mod decoder;
 mod delivery;
 mod framed;
-mod framing;
 pub mod law;
 mod length;
 mod receiver;
 mod skipping;
 mod whole;
 
-pub use decoder::{Decoder, Fed, Partial, Status};
+pub use decoder::{Decoder, Fed, LENGTH_OCTETS, Partial, Status};
 pub use delivery::Delivered;
 pub use framed::Framed;
-pub use framing::frame;
 pub use krb_der::Limit;
 pub use length::{HIGH_BIT, length_fault};
 pub use receiver::Receiver;

@@ -1,5 +1,5 @@
 -- Messages that fill a slice.
-use Rattle.std.proofs.Common.{◌≡◌, ◌≢◌, ℕ, ◌^◌, ◌<◌, ◌↔◌, Bool, true, false, List, [], ◌∷◌, ◌++◌, length, Option, Some, None, refl, sym, ap, ◌∙◌, subst, arith}
+use Rattle.std.proofs.Common.{◌≡◌, ◌≢◌, ℕ, ◌^◌, ◌<◌, Bool, true, false, List, [], ◌∷◌, ◌++◌, length, Option, Some, None, refl, sym, ap, ◌∙◌, subst, arith}
 use Rattle.std.specs.Prelude.{nat_lt, ◌==◌, if◌then◌else◌, IsSome, MatchOption}
 use Rattle.std.proofs.lemmas.Bool.Decides.{nat_tests}
 use Rattle.krb_der.specs.Octets.{AreOctets}
@@ -11,10 +11,9 @@ use Rattle.krb_der.specs.declared.verdict.Verdict.TheVariants as verdict
 use Rattle.krb_msg.specs.declared.message.Message.{Message}
 use Rattle.krb_msg.specs.Term.{Term, Value, Fits, der}
 use Rattle.krb_msg.specs.Shape.{is_unambiguous}
-use Rattle.krb_msg.specs.Views.{message_der, IsInProfile}
 use Rattle.krb_msg.specs.Judgement.{judgement, term_judgement}
 use Rattle.krb_msg.specs.Laws.{AreMessage}
-use Rattle.krb_msg.proofs.Judged.{whole_is_message, message_is_whole, whole_is_value, value_is_whole, value_is_decided, der_is_prefix_free, lenient_whole}
+use Rattle.krb_msg.proofs.Judged.{whole_is_message, message_is_whole, whole_is_value, value_is_whole, value_is_decided, lenient_whole}
 use Rattle.krb_msg.proofs.Grammars.{all_is_decided}
 use Rattle.krb_msg.specs.Grammar.{messages}
 use Rattle.krb_msg.specs.inner.Values.{der_begins, same_from_der}
@@ -24,14 +23,7 @@ use Rattle.krb_msg.specs.declared.message_view.MessageView.{MessageView}
 use Rattle.krb_msg.specs.ViewValues.{IsMessageView, IsNoMessage}
 use Rattle.krb_msg.specs.Viewed.{IsNotWhole}
 use Rattle.krb_msg.proofs.ProfileValues.{lenient_der}
-use Rattle.krb_judge.specs.Parses.{refused, refusal_by, refusal_of, AreOf, AreOfValue, HasNoMessage}
-
--- ---- the message
-pub same_message : {octets : List ℕ} (m other : Message) → message_der m ≡ octets → message_der other ≡ octets → m ≡ other
-same_message m other e f = (der_is_prefix_free m other [] [] (ap (λ l. l ++ []) (e ∙ sym f))).0
-
-pub are_of : {octets : List ℕ} (profile : Profile) (m : Message) → AreMessage profile (length octets) octets → message_der m ≡ octets → AreOf profile octets m
-are_of profile m w e = record { in_profile = subst (IsInProfile profile) (same_message w.message m w.form e) w.in_profile; form = e }
+use Rattle.krb_judge.specs.Parses.{refused, refusal_by, refusal_of, AreOf, AreOfValue}
 
 -- ---- no refusal
 chosen_none : (long empty : Bool) (first second : Refusal) (v : Verdict) → (if long then Some first else if empty then Some second else refused v) ≡ None → (long ≡ false) × (empty ≡ false) × (refused v ≡ None)
@@ -66,9 +58,6 @@ whole_slice judge octets decided e =
 none_refused : (judge : ℕ → List ℕ → Verdict) (octets : List ℕ) → judge (length octets) octets ≡ verdict.Whole → 0 < length octets → length octets < 2 ^ 31 → refusal_by judge octets ≡ None
 none_refused judge octets whole some short = none_chosen (nat_lt 2147483647 (length octets)) (length octets == 0) _ _ (judge (length octets) octets) (grind (arith, nat_tests, short)) (grind (arith, nat_tests, some)) whole
 
-pub too_long : (judge : ℕ → List ℕ → Verdict) (octets : List ℕ) → 2147483647 < length octets → refusal_by judge octets ≢ None
-too_long judge octets long e = let p = chosen_none (nat_lt 2147483647 (length octets)) (length octets == 0) _ _ (judge (length octets) octets) e in absurd (grind (arith, nat_tests, long, p.0))
-
 -- ---- views
 pub viewed_some : {A Q : Type 0} (P : Type 0) (Seen : A → Type 0) (seen : Option A) → ((a : A) → Seen a → Q) → MatchOption seen P Seen → IsSome seen → Q
 viewed_some P Seen None g m some = absurd cc
@@ -98,9 +87,6 @@ message_not_refused {octets = octets} profile m a =
 
 pub view_not_refused : (octets : List ℕ) (seen : MessageView) → IsMessageView octets seen → refusal_of profiles.Lenient octets ≡ None
 view_not_refused octets seen v = whole_not_refused profiles.Lenient octets (omega (arith, ap length v.form, v.in_profile.short)) v.whole
-
-pub no_message : (profile : Profile) (octets : List ℕ) → AreOctets octets → HasNoMessage profile octets ↔ (refusal_of profile octets ≢ None)
-no_message profile octets a = (λ no e. let w = message_in profile octets a e in no w.message (record { in_profile = w.in_profile; form = w.form }), λ some m f. some (message_not_refused profile m f))
 
 -- what some profile does not refuse, the lenient one does not
 pub lenient_message : (profile : Profile) (octets : List ℕ) → AreOctets octets → refusal_of profile octets ≡ None → refusal_of profiles.Lenient octets ≡ None
@@ -134,19 +120,5 @@ module _ {A : Type 0} (term : Term) (unambiguous : is_unambiguous term ≡ true)
       let same : f.value ≡ value_of a = (same_from_der term unambiguous f.value (value_of a) [] [] (ap (λ l. l ++ []) (sym f.form ∙ sym e))).0 in
       record { fits = subst (Fits term) same f.fits; short = short; form = e }
 
-  pub same_of_value : {octets : List ℕ} (a b : A) → der term (value_of a) ≡ octets → der term (value_of b) ≡ octets → a ≡ b
-  same_of_value a b e f =
-      let same : value_of a ≡ value_of b = (same_from_der term unambiguous (value_of a) (value_of b) [] [] (ap (λ l. l ++ []) (e ∙ sym f))).0 in
-      sym (back a) ∙ ap of_value same ∙ back b
-
   pub value_not_refused : {octets : List ℕ} (a : A) → AreOfValue term value_of octets a → refusal_by (term_judgement term) octets ≡ None
   value_not_refused {octets = octets} a f = der_not_refused term octets unambiguous (record { value = value_of a; fits = f.fits; form = sym f.form }) f.short
-
-  pub no_value : (octets : List ℕ) → AreOctets octets → ((a : A) → AreOfValue term value_of octets a → ⊥) ↔ (refusal_by (term_judgement term) octets ≢ None)
-  no_value octets a = (
-    λ no e.
-        let w = whole_value term octets a e in
-        let same = onto w.0.value w.0.fits in
-        no (of_value w.0.value) (record { fits = subst (Fits term) (sym same) w.0.fits; short = w.1; form = ap (der term) same ∙ sym w.0.form }),
-    λ some v f. some (value_not_refused v f),
-  )

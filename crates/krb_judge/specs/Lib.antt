@@ -1,5 +1,4 @@
 pub mod Parses
-pub mod Faults
 pub mod Named
 pub mod FieldTables
 pub mod FieldNames

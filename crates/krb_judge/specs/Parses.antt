@@ -16,8 +16,8 @@ use Rattle.krb_msg.specs.Table.{IsNode}
 use Rattle.krb_msg.specs.Types.{ticket_value, pa_data_value}
 use Rattle.krb_msg.specs.Views.{message_der, IsInProfile}
 use Rattle.krb_msg.specs.Judgement.{judgement, term_judgement}
-use Rattle.krb_judge.specs.declared.parsing.Expected.{Expected}
-use Rattle.krb_judge.specs.declared.parsing.Expected.TheVariants as expected
+use Rattle.krb_judge.specs.declared.reading.Expected.{Expected}
+use Rattle.krb_judge.specs.declared.reading.Expected.TheVariants as expected
 
 -- the refusal of a verdict, if it is one
 abbrev pub refused : Verdict → Option Refusal
@@ -55,10 +55,6 @@ IsKnown (expected.Node node) = IsNode node
 pub record AreOf (profile : Profile) (octets : List ℕ) (m : Message) : Type 0 where
   pub in_profile : IsInProfile profile m
   pub form : message_der m ≡ octets
-
--- no message of a profile has these octets
-abbrev pub HasNoMessage : Profile → List ℕ → Type 0
-HasNoMessage profile octets = (m : Message) → AreOf profile octets m → ⊥
 
 -- the octets, fewer than 2147483648, are those of a value of a type
 pub record AreOfValue {A : Type 0} (term : Term) (value_of : A → Value term) (octets : List ℕ) (a : A) : Type 0 where

@@ -1,7 +1,7 @@
 -- The field at fault of a message that is refused or cut: its path, by the names of RFC 4120.
 -- `TGS-REQ.req-body.additional-tickets[0].sname` is a message, fields of SEQUENCEs, and an item of a SEQUENCE OF.
 -- The octets are those of the message up to and with the refused one, or all that are present of a message that is cut. A room is the number of octets that a container has left.
-use Rattle.std.specs.Prelude.{ℕ, zero, suc, ◌+◌, ◌-◌, Bool, true, false, ◌&&◌, ◌==◌, nat_lt, List, [], ◌∷◌, ◌++◌, length, take, drop, Option, None, codes}
+use Rattle.std.specs.Prelude.{ℕ, zero, suc, ◌+◌, ◌-◌, Bool, true, false, ◌&&◌, nat_lt, List, [], ◌∷◌, ◌++◌, length, take, drop, Option, None, codes}
 use Rattle.std.specs.Fmt.{decimal}
 use Rattle.std.specs.Option.{option_map}
 use Rattle.krb_der.specs.Octets.{when, begins_with}

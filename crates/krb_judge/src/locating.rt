@@ -24,7 +24,7 @@ ghost use Rattle.krb_judge.specs.inner.Descent.{IsItem, IsInside, IsPresent, IsP
 use crate::locating::head::{Head, part, read_head};
 use crate::locating::kind_index::index_of;
 use crate::locating::names::Names;
-use crate::parsing::ticket_node;
+use crate::reading::ticket_node;
 use itoa::Buffer;
 use krb_der::{Memory, Profile, Verdict};
 use krb_msg::Kind;

@@ -3,10 +3,6 @@ pub mod RecordSpellings
 pub mod Keytabs
 pub mod Faults
 pub mod Stepwise
-pub mod Written
-pub mod Sizes
-pub mod Layouts
-pub mod Results
 pub mod HoleRead
 pub mod Streams
 pub mod Bounded

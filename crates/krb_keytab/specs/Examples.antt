@@ -11,30 +11,22 @@ use Rattle.krb_keytab.specs.declared.value.Keytab.{Keytab}
 use Rattle.krb_keytab.specs.declared.value.Entry.{Entry}
 use Rattle.krb_keytab.specs.declared.value.Record.TheVariants as records
 use Rattle.krb_keytab.specs.declared.value.Stop.TheVariants as stops
-use Rattle.krb_keytab.specs.declared.writing.KeytabFault.TheVariants as faults
 use Rattle.krb_keytab.specs.Spelling.{kvno, masked}
 use Rattle.krb_keytab.specs.Reading.{items, read}
 use Rattle.krb_keytab.specs.Laws.{IsUpToKey}
-use Rattle.krb_keytab.specs.Writing.{written, write_fault}
 
 -- ---- an entry of h@A, a hole of eight octets, and a record of length 0, with two octets after it
-abbrev keytab_octets : List ℕ
+abbrev pub keytab_octets : List ℕ
 keytab_octets = hex (codes "0502 0000001B 0001 000141 000168 00000001 386D4380 02 0012 0002ABCD 00000102 FFFFFFF8 0000000000000000 00000000 DEAD")
 
-abbrev entry : Entry
+abbrev pub entry : Entry
 entry = record { realm = codes "A"; components = codes "h" ∷ []; name_type = pos 1; time = 946684800; vno8 = 2; enctype = 18; key = hex (codes "ABCD"); rest = hex (codes "00000102") }
 
-abbrev keytab : Keytab
+abbrev pub keytab : Keytab
 keytab = record { records = records.Entry entry ∷ records.Hole (record { size = 8; clean = true }) ∷ []; stop = stops.Zero }
 
 keytab_read : read keytab_octets ≡ Ok (keytab, 49)
 keytab_read = refl
-
-keytab_written : written keytab ≡ take 49 keytab_octets
-keytab_written = refl
-
-keytab_can_be_written : write_fault keytab ≡ None
-keytab_can_be_written = refl
 
 -- the key version
 wide_version : kvno entry ≡ 258
@@ -71,10 +63,6 @@ hole_clean = refl
 
 no_record : read (hex (codes "0502")) ≡ Ok (record { records = []; stop = stops.File }, 2)
 no_record = refl
-
--- a keytab with a hole that is not clean cannot be written
-hole_dirty : write_fault (record { records = records.Entry entry ∷ records.Hole (record { size = 2; clean = false }) ∷ []; stop = stops.File }) ≡ Some faults.Dirty
-hole_dirty = refl
 
 -- ---- faults
 -- in a part that begins at the first number

@@ -1,7 +1,6 @@
 pub mod Holes
 pub mod Spelling
 pub mod Reading
-pub mod Writing
 pub mod Laws
 pub mod Streaming
 pub mod Examples

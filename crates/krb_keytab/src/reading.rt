@@ -1,15 +1,13 @@
-//! Reading keytabs.
+//! Reading the records of keytabs.
 
-ghost use Rattle.std.specs.Prelude.{◌≡◌, ℕ, ◌+◌, None, Some, Ok, IfOk, IfErr, OnOk, OnErr};
-ghost use Rattle.krb_file.specs.Fields.{Agrees, IsFaultIn, within};
-ghost use Rattle.krb_file.specs.FieldReaders.{Follows, FetchesTo, Stays, Keeps, FetchesToAnnounced, source_at};
-ghost use Rattle.krb_keytab.specs.Spelling.{ReadAs};
-ghost use Rattle.krb_keytab.specs.declared.value.Keytab.{Keytab as KeytabValue};
-ghost use Rattle.krb_keytab.specs.Reading.{entry_at, content_size, announced, record_of, next_record_at, items_after, keytab_of_items, read};
+ghost use Rattle.std.specs.Prelude.{◌+◌, OnOk, OnErr};
+ghost use Rattle.krb_file.specs.Fields.{within};
+ghost use Rattle.krb_file.specs.FieldReaders.{Follows, FetchesTo, Stays, Keeps, FetchesToAnnounced};
+ghost use Rattle.krb_keytab.specs.Reading.{entry_at, content_size, announced, record_of, next_record_at};
 
-use crate::value::{Entry, Hole, Keytab, Record, Stop};
+use crate::value::{Entry, Hole, Record, Stop};
 use krb_der::{KString, Many, Octets};
-use krb_file::{FieldName, FieldReader, FileFault, SliceReader};
+use krb_file::{FieldName, FieldReader, FileFault};
 use std::alloc::Global;
 
 /// The next record of a keytab, or how its records end.
@@ -94,8 +92,9 @@ fn record_after<F: FieldReader>(
 /// The number of octets of a record's length.
 const LENGTH_OCTETS: u64 = 4;
 
-/// Reads the next record, or how the records end. A fault does not tell where the record begins.
-pub(crate) fn record<F: FieldReader>(alloc: Global, reader: &mut F) -> Result<Next, FileFault>
+/// Reads the next record after the version of a keytab, or how the records end. A fault does not
+/// tell where the record begins.
+pub fn read_record<F: FieldReader>(alloc: Global, reader: &mut F) -> Result<Next, FileFault>
     ensures read { Follows (λ next. next) result next_record_at F.MayFail (F.cursor reader.old) (F.cursor reader.new) }
     ensures stays { OnOk result (Stays (F.cursor reader.old) (F.cursor reader.new)) }
     ensures keeps { OnErr result (FetchesToAnnounced announced (F.cursor reader.old) (F.cursor reader.new)) }
@@ -106,48 +105,4 @@ pub(crate) fn record<F: FieldReader>(alloc: Global, reader: &mut F) -> Result<Ne
     }
     let length = reader.signed_field32(FieldName::Length)?;
     record_after(alloc, length, reader)
-}
-
-/// Reads the records, and returns the keytab and the place after it.
-fn keytab(alloc: Global, reader: &mut SliceReader<'_>) -> Result<(Keytab, usize), FileFault>
-    requires { reader.old.end ≡ None }
-    ensures { Agrees (λ taken. taken) result (keytab_of_items (items_after None (source_at reader.old.place reader.old.octets))) }
-{
-    let mut records = Vec::new(alloc);
-    loop {
-        let begin = reader.place();
-        match record(alloc, reader) {
-            Ok(Next::Item(record)) => records.push(record)?,
-            Ok(Next::Done(stop)) => {
-                let records = Many::new(records);
-                return Ok((Keytab { records, stop }, reader.place() as usize));
-            }
-            Err(fault) => return Err(fault.begun_at(begin)),
-        }
-    }
-}
-
-/// Reads a keytab, and returns it and how many octets it has.
-fn whole(alloc: Global, octets: &[u8]) -> Result<(Keytab, usize), FileFault>
-    ensures { Agrees (λ taken. taken) result (read octets.now) }
-{
-    let mut reader = SliceReader::new(octets);
-    reader.version(&[2])?;
-    keytab(alloc, &mut reader)
-}
-
-/// Reads a keytab from the first octets of a file, and returns it and how many octets it has: all
-/// of them, unless a record of length 0 ends it earlier. A file that is not a keytab is refused at
-/// the first field at fault: Magic at 0, Version at 1, Overrun for a field that passes the end of
-/// its entry, else Truncated for one that passes the end of the file.
-pub fn read(alloc: Global, octets: &[u8]) -> Result<(Keytab, usize), FileFault>
-    // What is read is spelled by those octets.
-    ensures found { IfOk result (λ taken. ReadAs octets.now taken.0 taken.1) }
-    // What octets spell is read, unless memory ran out.
-    ensures only { (keytab : KeytabValue) (size : ℕ) → ReadAs octets.now keytab size → Agrees (λ taken. taken) result (Ok (keytab, size)) }
-    // Which fault it is.
-    ensures exact { Agrees (λ taken. taken) result (read octets.now) }
-    ensures refused { IfErr result (IsFaultIn octets.now) }
-{
-    whole(alloc, octets)
 }

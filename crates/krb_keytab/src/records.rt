@@ -10,7 +10,7 @@ ghost use Rattle.krb_file.specs.declared.fault.FileFault.{FileFault as FaultValu
 ghost use Rattle.krb_file.specs.declared.progress.Progress.TheVariants as states;
 ghost use Rattle.krb_keytab.specs.Streaming.{Reads, ReturnsNext, announced_in};
 
-use crate::reading::{Next, record};
+use crate::reading::{Next, read_record};
 use crate::value::{Entry, Record, Stop};
 use krb_file::{FieldReader, FileFault, Limit, Progress, StreamReader};
 use std::alloc::Global;
@@ -41,7 +41,7 @@ impl<R: Read> Records<R> {
         }
     }
 
-    /// Reads the next record, or how the records end. A keytab is refused as [`read`](crate::read)
+    /// Reads the next record, or how the records end. A keytab is refused as `read` of `krb_files`
     /// refuses it, except that a realm, a component, a key or the octets after a key are TooLong if
     /// they are longer than the limit; this is checked after Overrun and before Truncated. After a
     /// fault each call returns this fault, and after the end each call returns the end; neither
@@ -104,7 +104,7 @@ impl<R: Read> Records<R> {
         ensures fails { IfErr result (λ fault. self.new.state ≡ states.Failed fault) }
     {
         let begin = self.reader.place();
-        match record(alloc, &mut self.reader) {
+        match read_record(alloc, &mut self.reader) {
             Ok(Next::Item(item)) => {
                 self.state = Progress::Open(true);
                 Ok(Next::Item(item))

@@ -4,12 +4,11 @@ ghost use Rattle.std.specs.Prelude.{◌≡◌, ◌++◌, [], ◌∷◌, IfOk, On
 ghost use Rattle.std.specs.Fmt.{signed_decimal};
 ghost use Rattle.krb_registry.specs.declared.registry.Registry.TheVariants.{NameTypes};
 ghost use Rattle.krb_ccache.specs.Spelling.{offset};
-ghost use Rattle.krb_list.specs.Ccaches.{file_principal, offset_value, cache_record, credential_lines, cache_end, ccache_lines};
+ghost use Rattle.krb_list.specs.Ccaches.{file_principal, offset_value, cache_record, cache_end};
 ghost use Rattle.krb_record.specs.Forms.{fields_text, offset_object, record_line, record_text};
 ghost use Rattle.krb_record.specs.Values.{Named, count, if_there, the};
 
-use crate::credential::put_credential;
-use krb_ccache::{Ccache, Credential, FilePrincipal, Header};
+use krb_ccache::{FilePrincipal, Header};
 use krb_der::Memory;
 use krb_record::{
     Form, Numbered, Principal, Shown, Strings, TextBuffer, put_begin, put_closing, put_field,
@@ -149,20 +148,6 @@ pub fn cache_line(
     Ok(line.into_string())
 }
 
-fn put_credentials(
-    text: &mut TextBuffer,
-    form: Form,
-    now: Option<u32>,
-    credentials: &[Credential],
-) -> Result<(), AllocError>
-    ensures { OnOk result (text.new ≡ text.old ++ credential_lines form now credentials.now) }
-{
-    for credential in credentials {
-        put_credential(text, form, credential, now)?;
-    }
-    Ok(())
-}
-
 /// Appends the line of the end of a cache without its line feed.
 #[tactic(auto, unfolding(krb_record::specs::Forms::record_text, crate::specs::Ccaches::cache_end))]
 fn put_end_text(text: &mut TextBuffer, form: Form, credentials: u64) -> Result<(), AllocError>
@@ -188,36 +173,4 @@ pub fn cache_end_line(alloc: Global, form: Form, credentials: u64) -> Result<Str
     let mut line = TextBuffer::new(alloc);
     put_end_text(&mut line, form, credentials)?;
     Ok(line.into_string())
-}
-
-/// Appends the lines of a cache, those of [`ccache_lines`].
-#[tactic(auto, unfolding(crate::specs::Ccaches::ccache_lines))]
-pub fn put_ccache(
-    text: &mut TextBuffer,
-    form: Form,
-    ccache: &Ccache,
-    now: Option<u32>,
-) -> Result<(), AllocError>
-    ensures { OnOk result (text.new ≡ text.old ++ ccache_lines form now ccache.now) }
-{
-    let credentials = ccache.credentials.as_slice();
-    put_cache(text, form, &ccache.header, &ccache.principal)?;
-    put_credentials(text, form, now, credentials)?;
-    put_cache_end(text, form, credentials.len() as u64)
-}
-
-/// Returns the lines of a cache: [`cache_line`], [`credential_line`](crate::credential_line) of
-/// each credential, in order, and [`cache_end_line`], each with a line feed after it. They show no
-/// octet of a key, which is a law: `session_keys_are_not_shown` of `krb_text_laws`.
-pub fn ccache_lines(
-    alloc: Global,
-    form: Form,
-    ccache: &Ccache,
-    now: Option<u32>,
-) -> Result<String, Memory>
-    ensures { IfOk result (λ text. string_bytes text ≡ ccache_lines form now ccache.now) }
-{
-    let mut text = TextBuffer::new(alloc);
-    put_ccache(&mut text, form, ccache, now)?;
-    Ok(text.into_string())
 }

@@ -1,16 +1,15 @@
 //! What is printed of keytabs.
 
 ghost use Rattle.std.specs.Prelude.{◌≡◌, ◌++◌, [], ◌∷◌, IfOk, OnOk, codes, pos, string_bytes};
-ghost use Rattle.std.specs.List.{flat_map};
 ghost use Rattle.krb_keytab.specs.Spelling.{kvno};
 ghost use Rattle.krb_registry.specs.declared.registry.Registry.TheVariants.{EncryptionTypes, NameTypes};
 ghost use Rattle.krb_record.specs.Forms.{fields_text, record_line, record_text};
-ghost use Rattle.krb_list.specs.Keytabs.{entry_fields, hole_fields, is_zero, keytab_end, keytab_lines, printed_record};
+ghost use Rattle.krb_list.specs.Keytabs.{entry_fields, hole_fields, is_zero, keytab_end, printed_record};
 ghost use Rattle.krb_record.specs.Time.{file_time};
 ghost use Rattle.krb_record.specs.Values.{Named, Number, Principal as IsPrincipal, YesNo, count, printed, the};
 
 use krb_der::Memory;
-use krb_keytab::{Entry, Hole, Keytab, Record, Stop};
+use krb_keytab::{Entry, Hole, Record, Stop};
 use krb_record::{
     FileTime, Form, Numbered, Principal, Strings, TextBuffer, put_closing, put_field, put_opening,
 };
@@ -193,33 +192,4 @@ pub fn keytab_end_line(
     let mut line = TextBuffer::new(alloc);
     put_end_text(&mut line, form, records, stop)?;
     Ok(line.into_string())
-}
-
-fn put_records(text: &mut TextBuffer, form: Form, records: &[Record]) -> Result<(), AllocError>
-    ensures { OnOk result (text.new ≡ text.old ++ flat_map (λ r. record_line form (printed_record r)) records.now) }
-{
-    for record in records {
-        put_record(text, form, record)?;
-    }
-    Ok(())
-}
-
-/// Appends the lines of a keytab, which are [`keytab_lines`]'s.
-pub fn put_keytab(text: &mut TextBuffer, form: Form, keytab: &Keytab) -> Result<(), AllocError>
-    ensures { OnOk result (text.new ≡ text.old ++ keytab_lines form keytab.now) }
-{
-    let records = keytab.records.as_slice();
-    put_records(text, form, records)?;
-    put_keytab_end(text, form, records.len() as u64, &keytab.stop)
-}
-
-/// Returns the lines of a keytab: [`record_line`] of each record, in order, and
-/// [`keytab_end_line`], each with a line feed after it. They show no octet of a key, which is a
-/// law: `keys_are_not_shown` of `krb_text_laws`.
-pub fn keytab_lines(alloc: Global, form: Form, keytab: &Keytab) -> Result<String, Memory>
-    ensures { IfOk result (λ text. string_bytes text ≡ keytab_lines form keytab.now) }
-{
-    let mut text = TextBuffer::new(alloc);
-    put_keytab(&mut text, form, keytab)?;
-    Ok(text.into_string())
 }

@@ -29,7 +29,6 @@ pub mod Strictness
 pub mod StrictViews
 pub mod ValueOfDer
 pub mod MessageOfDer
-pub mod Puts
 pub mod EachOctet
 pub mod Reasons
 pub mod Lengths
@@ -38,5 +37,3 @@ pub mod ItemViews
 pub mod WholeViews
 pub mod ShapeViews
 pub mod MessageViews
-pub mod Copies
-pub mod ViewValuesFit

@@ -3,8 +3,8 @@ use Rattle.std.proofs.Common.{◌≡◌, Bool, false, ◌||◌, Option, None, So
 use Rattle.std.proofs.lemmas.List.{map-id}
 use Rattle.std.specs.List.{list_any}
 use Rattle.std.specs.Option.{option_map}
-use Rattle.krb_msg.specs.Notes.{Note, HighOctet, FewFlags, Negative, EmptyList, list_has, is_list_that_has, has, option_any, notes_by, either}
-use Rattle.krb_msg.specs.inner.Notes.{empty_list_note, HasNoNotes, is_list}
+use Rattle.krb_msg.specs.Notes.{Note, HighOctet, FewFlags, Negative, EmptyList, list_has, is_list_that_has, has, option_any, notes_by, either, empty_list_note}
+use Rattle.krb_msg.specs.inner.Notes.{HasNoNotes, is_list}
 use Rattle.krb_msg.specs.Term.{Term, SequenceOf, Tagged, Value}
 
 -- The notes by two tests are the same if the tests are.

@@ -99,3 +99,7 @@ notes_have notes number =
     else if number == 3 then notes.negative
     else if number == 4 then notes.empty_list
     else false
+
+-- the note on an empty list alone, if there is one
+abbrev pub empty_list_note : Bool → Notes
+empty_list_note empty = record { high_octet = false; few_flags = false; negative = false; empty_list = empty }

@@ -1,9 +1,7 @@
 pub mod Values
-pub mod PrefixFree
+pub mod Backs
 pub mod MessagePrefixFree
 pub mod RoundTrips
 pub mod Kinds
-pub mod Fitting
-pub mod Copies
 pub mod Fields
 pub mod Notes

@@ -1,24 +1,17 @@
 //! AP-REQ. `asn1/generate` wrote this from `asn1/krb5.asn1`.
 
-ghost use Rattle.std.specs.Prelude.{◌≡◌, refl, true};
-ghost use Rattle.krb_msg.specs.Term.{der, Fits, tag_of};
+ghost use Rattle.std.specs.Prelude.{◌≡◌, true};
+ghost use Rattle.krb_msg.specs.Term.{tag_of};
 ghost use Rattle.krb_msg.specs.Grammar.{ap_req};
-ghost use Rattle.krb_msg.specs.Types.{ap_req_value, ap_req_of, ap_req_view_value, ap_req_of_view, IsValidApReq};
-ghost use Rattle.krb_msg.specs.inner.PrefixFree.{begins, type_is_prefix_free};
-ghost use Rattle.krb_msg.specs.inner.RoundTrips.{ap_req-back};
+ghost use Rattle.krb_msg.specs.Types.{ap_req_view_value, IsValidApReq};
 
-use crate::copying::FromView;
+use crate::any_of;
 use crate::encrypted_data::{EncryptedData, EncryptedDataView};
-use crate::fields::{
-    Application, Borrowed, Encode, End, FieldOf, Fixed, Noted, NotedView, Owned, Required,
-    Sequence, View, ViewSequence,
-};
-use crate::item::Item;
-use crate::notes::{Notes, any_of};
+use crate::fields::{Application, End, Fixed, NotedView, Required, Sequence, View, ViewSequence};
+use crate::notes::Notes;
 use crate::ticket::{Ticket, TicketView};
 use crate::view::scalars::FlagsView;
-use krb_der::{Der, Flags, Memory};
-use std::alloc::Global;
+use krb_der::Flags;
 
 /// What a client sends an application server (RFC 4120, 5.5.1). Its version and its message type
 /// are fixed, and so not kept.
@@ -44,74 +37,16 @@ pub struct ApReqView<'a> {
 }
 
 /// Its fields.
-type Layout<H> = Application<
+type Layout = Application<
     14,
     Sequence<
         Fixed<
             0,
             5,
-            Fixed<
-                1,
-                14,
-                Required<
-                    2,
-                    FieldOf<H, Flags>,
-                    Required<3, FieldOf<H, Ticket>, Required<4, FieldOf<H, EncryptedData>, End>>,
-                >,
-            >,
+            Fixed<1, 14, Required<2, Flags, Required<3, Ticket, Required<4, EncryptedData, End>>>>,
         >,
     >,
 >;
-
-impl ApReq {
-    /// Returns the fields, borrowed.
-    fn layout(&self) -> Layout<Borrowed<'_>>
-        ensures { ⟦<Layout<Borrowed<'static>> as Encode>⟧.value result ≡ ap_req_value self.now }
-    {
-        Application(Sequence(Fixed(Fixed(Required(
-            &self.ap_options,
-            Required(&self.ticket, Required(&self.authenticator, End)),
-        )))))
-    }
-}
-
-impl Der for ApReq {
-    ghost der = { λ it. der ap_req (ap_req_value it) };
-
-    ghost Fits = { λ it. Fits ap_req (ap_req_value it) };
-
-    fn size(&self) -> u64 {
-        self.layout().size()
-    }
-
-    fn put(&self, out: &mut Vec<u8>) {
-        self.layout().put(out);
-    }
-
-    ghost begins = { begins ap_req ap_req_value };
-
-    ghost prefix_free = { type_is_prefix_free ap_req refl ap_req_value ap_req_of ap_req-back };
-}
-
-impl Item for ApReq {
-    ghost term = { ap_req };
-
-    ghost value = { ap_req_value };
-
-    ghost form = { λ it. refl };
-
-    ghost fits = { λ it fits. fits };
-}
-
-impl Noted for ApReq {
-    fn notes(&self) -> Notes {
-        any_of!(
-            self.ap_options.notes(),
-            self.ticket.notes(),
-            self.authenticator.notes()
-        )
-    }
-}
 
 impl<'a> View<'a> for ApReq {
     type Of = ApReqView<'a>;
@@ -132,7 +67,7 @@ impl<'a> View<'a> for ApReq {
     #[inline(always)]
     fn view_into(contents: &'a [u8], seen: &mut ApReqView<'a>) -> bool {
         let mut fields = Default::default();
-        if !<Layout<Owned> as ViewSequence<'_>>::view_into(contents, &mut fields) {
+        if !<Layout as ViewSequence<'_>>::view_into(contents, &mut fields) {
             return false;
         }
         let (ap_options, (ticket, (authenticator, ()))) = fields;
@@ -153,17 +88,5 @@ impl<'a> NotedView<'a> for ApReq {
             <Ticket as NotedView<'_>>::notes(&seen.ticket),
             <EncryptedData as NotedView<'_>>::notes(&seen.authenticator)
         )
-    }
-}
-
-impl<'a> FromView<'a> for ApReq {
-    ghost copied = { ap_req_of_view };
-
-    fn from_view(alloc: Global, seen: &ApReqView<'a>) -> Result<ApReq, Memory> {
-        Ok(ApReq {
-            ap_options: Flags::from_view(alloc, &seen.ap_options)?,
-            ticket: Ticket::from_view(alloc, &seen.ticket)?,
-            authenticator: EncryptedData::from_view(alloc, &seen.authenticator)?,
-        })
     }
 }

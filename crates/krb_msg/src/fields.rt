@@ -1,19 +1,16 @@
 //! The fields of a type, said once as a type like
-//! `Sequence<Required<0, Int32, Optional<1, Wide32, End>>>`, by which its values are encoded
-//! and viewed (X.690, 8.9 and 8.14); and the notes on them, field by field.
+//! `Sequence<Required<0, Int32, Optional<1, Wide32, End>>>`, by which octets are viewed (X.690, 8.9
+//! and 8.14); and the notes on them, field by field. `krb_codec` encodes values by such a type of
+//! borrowed ones.
 
-mod encode;
-mod notes;
 mod view;
 mod view_notes;
 
-pub use encode::{Encode, EncodeFields};
-pub use notes::{Noted, NotedList, no_optional_notes, optional_list_notes, optional_notes};
-use std::marker::PhantomData;
 pub(crate) use view::{view_by_call, view_field, view_item};
 pub use view::{View, ViewFields, ViewSequence};
-pub use view_notes::{
-    NotedListView, NotedView, no_optional_view_notes, optional_list_view_notes, optional_view_notes,
+pub use view_notes::{NotedListView, NotedView};
+pub(crate) use view_notes::{
+    no_optional_view_notes, optional_list_view_notes, optional_view_notes,
 };
 
 /// The end of a list of fields.
@@ -48,26 +45,3 @@ pub struct Tagged<const INDEX: u8, E>(pub E);
 /// An item in `[APPLICATION NUMBER]`.
 #[derive(Drop)]
 pub struct Application<const NUMBER: u8, E>(pub E);
-
-/// How a list of fields holds their values: as [`Owned`] or [`Borrowed`] does.
-pub trait FieldHolder<T> {
-    /// What holds a value.
-    type Of;
-}
-
-/// What holds a value of `T` in a list of fields.
-pub type FieldOf<H, T> = <H as FieldHolder<T>>::Of;
-
-/// Each value itself. A list of fields is viewed by the types of its values, and holds none.
-pub struct Owned;
-
-/// Each value borrowed, as a list of fields is encoded.
-pub struct Borrowed<'a>(PhantomData<&'a u8>);
-
-impl<T> FieldHolder<T> for Owned {
-    type Of = T;
-}
-
-impl<'a, T: 'a> FieldHolder<T> for Borrowed<'a> {
-    type Of = &'a T;
-}

@@ -1,23 +1,16 @@
 //! Messages. `asn1/generate` wrote this from `asn1/krb5.asn1`.
 
-ghost use Rattle.std.specs.Prelude.{◌≡◌, ◌+◌, ◌≤◌, length};
-ghost use Rattle.std.specs.Vec.{vec_len, vec_capacity};
-ghost use Rattle.krb_der.specs.Puts.{Puts};
-ghost use Rattle.krb_msg.specs.Notes.{notes_of};
-ghost use Rattle.krb_msg.specs.Views.{kind_of, kind_number, kind_tag, kind_name, kind_with_tag, kind_term, message_value, message_der};
-ghost use Rattle.krb_msg.specs.inner.Fitting.{IsSized};
+ghost use Rattle.std.specs.Prelude.{◌≡◌};
+ghost use Rattle.krb_msg.specs.Views.{kind_of, kind_number, kind_tag, kind_name, kind_with_tag};
 
 use crate::ap_rep::ApRep;
 use crate::ap_req::ApReq;
-use crate::fields::Noted;
 use crate::kdc_rep::KdcRep;
 use crate::kdc_req::KdcReq;
 use crate::krb_cred::KrbCred;
 use crate::krb_error::KrbError;
 use crate::krb_priv::KrbPriv;
 use crate::krb_safe::KrbSafe;
-use crate::notes::Notes;
-use krb_der::Der;
 
 /// A message of any kind (RFC 4120, section 5).
 #[derive(PartialEq, Eq, Debug, Drop)]
@@ -151,63 +144,5 @@ impl Kind {
             0x7E => Some(Kind::KrbError),
             _ => None,
         }
-    }
-}
-
-/// Returns the number of DER octets of a message; 2147483648 if there are more. Its value fits its
-/// term.
-pub(crate) fn octets_of(message: &Message) -> u64
-    ensures { IsSized (kind_term (kind_of message.now)) (message_value message.now) result }
-{
-    match message {
-        Message::AsReq(req) => req.size::<10>(),
-        Message::AsRep(rep) => rep.size::<11>(),
-        Message::TgsReq(req) => req.size::<12>(),
-        Message::TgsRep(rep) => rep.size::<13>(),
-        Message::ApReq(req) => req.size(),
-        Message::ApRep(rep) => rep.size(),
-        Message::KrbSafe(safe) => safe.size(),
-        Message::KrbPriv(private) => private.size(),
-        Message::KrbCred(cred) => cred.size(),
-        Message::KrbError(error) => error.size(),
-    }
-}
-
-/// Appends the DER octets of a message, at most 2147483647 of them, within the vector's capacity.
-/// It allocates nothing.
-pub fn put(message: &Message, out: &mut Vec<u8>)
-    requires short { length (message_der message.now) ≤ 2147483647 }
-    requires capacity { vec_len out.old + length (message_der message.now) ≤ vec_capacity out.old }
-    ensures { Puts (message_der message.now) out.old out.new }
-{
-    match message {
-        Message::AsReq(req) => req.put::<10>(out),
-        Message::AsRep(rep) => rep.put::<11>(out),
-        Message::TgsReq(req) => req.put::<12>(out),
-        Message::TgsRep(rep) => rep.put::<13>(out),
-        Message::ApReq(req) => req.put(out),
-        Message::ApRep(rep) => rep.put(out),
-        Message::KrbSafe(safe) => safe.put(out),
-        Message::KrbPriv(private) => private.put(out),
-        Message::KrbCred(cred) => cred.put(out),
-        Message::KrbError(error) => error.put(out),
-    }
-}
-
-/// Returns the notes that hold in a message. It allocates nothing.
-pub fn notes_of(message: &Message) -> Notes
-    ensures { result ≡ notes_of message.now }
-{
-    match message {
-        Message::AsReq(req) => req.notes::<10>(),
-        Message::AsRep(rep) => rep.notes::<11>(),
-        Message::TgsReq(req) => req.notes::<12>(),
-        Message::TgsRep(rep) => rep.notes::<13>(),
-        Message::ApReq(req) => req.notes(),
-        Message::ApRep(rep) => rep.notes(),
-        Message::KrbSafe(safe) => safe.notes(),
-        Message::KrbPriv(private) => private.notes(),
-        Message::KrbCred(cred) => cred.notes(),
-        Message::KrbError(error) => error.notes(),
     }
 }

@@ -1,31 +1,27 @@
 //! Messages viewed in place. `asn1/generate` wrote this from `asn1/krb5.asn1`.
 
-ghost use Rattle.std.specs.Prelude.{◌≡◌, IfOk, MatchOption};
+ghost use Rattle.std.specs.Prelude.{◌≡◌, MatchOption};
 ghost use Rattle.std.specs.Option.{option_map};
-ghost use Rattle.krb_der.specs.declared.profile.Profile.TheVariants.{Lenient};
 ghost use Rattle.krb_msg.specs.Notes.{notes_of};
 ghost use Rattle.krb_msg.specs.Realm.{realm_of};
-ghost use Rattle.krb_msg.specs.Views.{IsInProfile, kind_of};
+ghost use Rattle.krb_msg.specs.Views.{kind_of};
 ghost use Rattle.krb_msg.specs.ViewValues.{BeginAs, IsMessageView, IsNoMessage, IsValidMessage, message_of_view};
 
-use crate::ap_rep::{ApRep, ApRepView};
-use crate::ap_req::{ApReq, ApReqView};
-use crate::copying::FromView;
-use crate::kdc_rep::{KdcRep, KdcRepView};
-use crate::kdc_req::{KdcReq, KdcReqView};
-use crate::krb_cred::{KrbCred, KrbCredView};
-use crate::krb_error::{KrbError, KrbErrorView};
-use crate::krb_priv::{KrbPriv, KrbPrivView};
-use crate::krb_safe::{KrbSafe, KrbSafeView};
-use crate::message::{Kind, Message};
+use crate::ap_rep::ApRepView;
+use crate::ap_req::ApReqView;
+use crate::kdc_rep::KdcRepView;
+use crate::kdc_req::KdcReqView;
+use crate::krb_cred::KrbCredView;
+use crate::krb_error::KrbErrorView;
+use crate::krb_priv::KrbPrivView;
+use crate::krb_safe::KrbSafeView;
+use crate::message::Kind;
 use crate::message_kind::{MessageKind, view_of};
 use crate::message_kinds::{
     ApRepKind, ApReqKind, AsRepKind, AsReqKind, KrbCredKind, KrbErrorKind, KrbPrivKind,
     KrbSafeKind, TgsRepKind, TgsReqKind,
 };
 use crate::notes::Notes;
-use krb_der::Memory;
-use std::alloc::Global;
 
 /// A view of a message of any kind (RFC 4120, section 5): its strings and lists are borrowed
 /// from the octets.
@@ -89,35 +85,9 @@ impl<'a> MessageView<'a> {
             MessageView::KrbError(m) => Some(m.realm),
         }
     }
-
-    /// Returns the message of the view. Nothing is judged again, and each string of octets is
-    /// copied once.
-    pub fn to_message(&self, alloc: Global) -> Result<Message, Memory>
-        requires lists { IsValidMessage self.now }
-        requires in_profile { IsInProfile Lenient (message_of_view self.now) }
-        ensures { IfOk result (λ message. message ≡ message_of_view self.now) }
-    {
-        match self {
-            MessageView::AsReq(req) => Ok(Message::AsReq(KdcReq::copy::<10>(alloc, req)?)),
-            MessageView::AsRep(rep) => Ok(Message::AsRep(KdcRep::copy::<11>(alloc, rep)?)),
-            MessageView::TgsReq(req) => Ok(Message::TgsReq(KdcReq::copy::<12>(alloc, req)?)),
-            MessageView::TgsRep(rep) => Ok(Message::TgsRep(KdcRep::copy::<13>(alloc, rep)?)),
-            MessageView::ApReq(req) => Ok(Message::ApReq(ApReq::from_view(alloc, req)?)),
-            MessageView::ApRep(rep) => Ok(Message::ApRep(ApRep::from_view(alloc, rep)?)),
-            MessageView::KrbSafe(safe) => Ok(Message::KrbSafe(KrbSafe::from_view(alloc, safe)?)),
-            MessageView::KrbPriv(private) => Ok(Message::KrbPriv(KrbPriv::from_view(
-                alloc, private,
-            )?)),
-            MessageView::KrbCred(cred) => Ok(Message::KrbCred(KrbCred::from_view(alloc, cred)?)),
-            MessageView::KrbError(error) => Ok(Message::KrbError(KrbError::from_view(
-                alloc, error,
-            )?)),
-        }
-    }
 }
 
-/// Returns the notes that hold in a message that is viewed in place, which are
-/// [`notes_of`](crate::notes_of)'s. It allocates nothing.
+/// Returns the notes that hold in a message that is viewed in place. It allocates nothing.
 pub fn notes_of_view(view: &MessageView<'_>) -> Notes
     requires { IsValidMessage view.now }
     ensures { result ≡ notes_of (message_of_view view.now) }

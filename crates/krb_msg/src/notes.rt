@@ -1,7 +1,7 @@
 //! What of a message deserves a note.
 
 ghost use Rattle.std.specs.Prelude.{◌≡◌, false};
-ghost use Rattle.krb_msg.specs.Notes.{are_none, is_strict, notes_by, notes_have, notes_of_ticket, either};
+ghost use Rattle.krb_msg.specs.Notes.{are_none, empty_list_note, is_strict, notes_by, notes_have, notes_of_ticket, either};
 ghost use Rattle.krb_msg.specs.Types.{IsValidTicket, ticket_of_view};
 ghost use Rattle.krb_msg.specs.ViewValues.{IsValidMessage, message_of_view};
 
@@ -10,7 +10,6 @@ mod lists;
 mod scalars;
 
 use crate::fields::NotedView;
-use crate::message::{Message, notes_of};
 use crate::message_view::{MessageView, notes_of_view};
 use crate::ticket::{Ticket, TicketView};
 
@@ -45,7 +44,7 @@ impl Notes {
 
     /// Returns no notes.
     #[inline(always)]
-    pub(crate) fn none() -> Notes
+    pub fn none() -> Notes
         ensures { result ≡ notes_by (λ note. false) }
     {
         Notes {
@@ -56,8 +55,19 @@ impl Notes {
         }
     }
 
+    /// Returns the note on a list that may be left out, if it is there and has no items.
+    #[inline(always)]
+    pub fn of_empty_list(empty_list: bool) -> Notes
+        ensures { result ≡ empty_list_note empty_list }
+    {
+        Notes {
+            empty_list,
+            ..Notes::none()
+        }
+    }
+
     /// Returns whether none of them holds.
-    fn are_none(&self) -> bool
+    pub fn are_none(&self) -> bool
         ensures { result ≡ are_none self.now }
     {
         !(self.high_octet || self.few_flags || self.negative || self.empty_list)
@@ -65,7 +75,7 @@ impl Notes {
 
     /// Returns the notes that hold in one or the other. No branch decides it.
     #[inline(always)]
-    pub(crate) fn or(self, other: Notes) -> Notes
+    pub fn or(self, other: Notes) -> Notes
         ensures { result ≡ either self other }
     {
         Notes {
@@ -78,27 +88,18 @@ impl Notes {
 }
 
 /// The notes that hold in one of several.
+#[macro_export]
 macro_rules! any_of {
     () => {
-        $crate::notes::Notes::none()
+        $crate::Notes::none()
     };
     ($first:expr $(, $others:expr)* $(,)?) => {
         $first.or(any_of!($($others),*))
     };
 }
 
-pub(crate) use any_of;
-
-/// Returns whether a message keeps the strict rules (`Profile::Strict`): none of the notes 1 to 4
-/// holds in it. It allocates nothing.
-pub fn is_strict(message: &Message) -> bool
-    ensures { result ≡ is_strict message.now }
-{
-    notes_of(message).are_none()
-}
-
-/// Returns whether a message that is viewed in place keeps the strict rules
-/// ([`is_strict`](crate::is_strict)). It allocates nothing.
+/// Returns whether a message that is viewed in place keeps the strict rules (`Profile::Strict`): none
+/// of the notes 1 to 4 holds in it. It allocates nothing.
 pub fn is_strict_view(view: &MessageView<'_>) -> bool
     requires { IsValidMessage view.now }
     ensures { result ≡ is_strict (message_of_view view.now) }

@@ -9,7 +9,6 @@
 //!   each item whose length is complete: its row in the grammar, where its contents begin, how many
 //!   octets they are, and the number of an INTEGER.
 //! - [`judge_item`] judges an item of a row alone, as a Ticket.
-//! - [`build`] returns the message of the octets that a scanner took whole.
 //!
 //! Neither keeps the octets. Both know the length of their message beforehand, and find no frames:
 //! `krb_frame` does. A scanner allocates for the marks alone.
@@ -23,7 +22,6 @@
 //! parts of the code.
 #![tactic(auto)]
 
-mod building;
 mod closing;
 mod event;
 mod expected;
@@ -39,7 +37,6 @@ mod scanned;
 mod scanner;
 mod tip;
 
-pub use building::build;
 pub use judging::judge_item;
 pub use krb_der::{Memory, Refusal, Verdict, Why};
 pub use machine::Machine;

@@ -2,12 +2,11 @@
 //! files are refused.
 
 use crate::examples::{CACHE, CACHE3, TICKET_FIELDS, octets_of};
-use krb_ccache::{
-    Cache3, Ccache, CcacheFault, Credential, HeaderField, TicketState, Typed, read, read3,
-    ticket_of, upgrade, write,
-};
+use krb_ccache::{Cache3, Ccache, Credential, HeaderField, TicketState, Typed};
 use krb_der::{Many, Octets, Refusal, Why};
 use krb_file::{FieldName, FileFault, FileField, FileRefusal, FileWhy};
+use krb_files::ccache::{CcacheFault, read, read3, upgrade, write};
+use krb_values::ticket_of;
 use std::alloc::Global;
 use std::test::Fail;
 

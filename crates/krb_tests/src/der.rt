@@ -1,13 +1,13 @@
 //! Values and their octets, worked out by hand from X.690 and RFC 4120, and the texts of faults.
 
-use krb_ccache::CcacheFault;
+use krb_codec::EncodeFault;
 use krb_der::{
     Der, Flags, Int32, KString, KerberosTime, Memory, Micros, Octets, Refusal, Why, Wide32,
 };
 use krb_file::{FileFault, FileWhy, Limit};
-use krb_judge::ParseFault;
-use krb_keytab::KeytabFault;
-use krb_msg::EncodeFault;
+use krb_files::ccache::CcacheFault;
+use krb_files::keytab::KeytabFault;
+use krb_values::ParseFault;
 use std::alloc::Global;
 use std::error::Error;
 use std::test::Fail;

@@ -5,9 +5,11 @@ use crate::examples::{
     AP_REP, AP_REQ, AS_REP, AS_REQ, KRB_CRED, KRB_ERROR, KRB_ERROR_OF_CLIENT, KRB_PRIV, KRB_SAFE,
     TGS_REP, TGS_REQ, TWO_AP_REPS, octets_of,
 };
+use krb_codec::{EncodeFault, encode, size};
 use krb_der::{Refusal, Why};
-use krb_frame::{Decoder, Fed, Framed, Limit, Status, frame};
-use krb_msg::{EncodeFault, Kind, Message, encode, size};
+use krb_frame::{Decoder, Fed, Framed, Limit, Status};
+use krb_msg::{Kind, Message};
+use krb_values::{frame, message_in};
 use std::alloc::Global;
 use std::test::Fail;
 
@@ -374,7 +376,7 @@ fn is_framed(alloc: Global, message: &Message, octets: &[u8], count: u32) -> boo
 
 /// Returns whether the message of a frame has the octets of the frame again.
 fn comes_again(alloc: Global, framed: &Framed<'_>, octets: &[u8], count: u32) -> bool {
-    match framed.message(alloc) {
+    match message_in(alloc, framed) {
         Ok(message) => {
             let same = is_framed(alloc, &message, octets, count);
             drop(message);

@@ -2,7 +2,8 @@
 
 use crate::examples::{KEYTAB, octets_of};
 use krb_der::{KString, Many, Octets};
-use krb_keytab::{Entry, Hole, Keytab, KeytabFault, Record, Stop, read, write};
+use krb_files::keytab::{KeytabFault, read, write};
+use krb_keytab::{Entry, Hole, Keytab, Record, Stop};
 use std::alloc::Global;
 use std::test::Fail;
 

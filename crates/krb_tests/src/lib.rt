@@ -64,4 +64,6 @@ mod text;
 #[cfg(test)]
 mod token;
 #[cfg(test)]
+mod values;
+#[cfg(test)]
 mod words;

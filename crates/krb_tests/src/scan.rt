@@ -7,9 +7,10 @@ use crate::examples::{
     AP_REP, AP_REQ, AS_REP, AS_REQ, KRB_CRED, KRB_ERROR, KRB_PRIV, KRB_SAFE, TGS_REP, TGS_REQ,
     contents,
 };
+use krb_codec::encode;
 use krb_der::{Memory, Profile};
-use krb_msg::encode;
-use krb_scan::{Machine, Refusal, Scanner, Verdict, Why, build};
+use krb_scan::{Machine, Refusal, Scanner, Verdict, Why};
+use krb_values::build;
 use std::alloc::Global;
 use std::test::Fail;
 

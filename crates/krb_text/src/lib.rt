@@ -3,10 +3,10 @@
 //! The record of a message may have parts, records of what is in the clear inside of it, which lines
 //! without names leave out.
 //!
-//! The main calls are [`put_message_in`] and [`message_line`] for messages, [`put_message_from`]
-//! for messages of an origin, [`put_captured_message`] for those of a capture, and [`put_ticket`] for
-//! Tickets. Each function appends to one text (`TextBuffer`), and its contract says what was appended.
-//! Nothing here reads or writes a file.
+//! The main calls are [`put_message_in`] for messages, [`put_message_from`] for messages of an
+//! origin, [`put_captured_message`] for those of a capture, and [`put_ticket`] for Tickets. Each
+//! function appends to one text (`TextBuffer`), and its contract says what was appended. Nothing here
+//! reads or writes a file.
 #![tactic(auto)]
 
 mod clear;
@@ -23,8 +23,6 @@ mod ticket;
 mod viewed;
 
 pub use clear_type::ClearType;
-pub use record::{
-    message_line, put_captured_message, put_message, put_message_from, put_message_in,
-};
+pub use record::{put_captured_message, put_message_from, put_message_in, put_message_text};
 pub use ticket::put_ticket;
 pub use viewed::{ViewedStrings, encrypted_of};

@@ -1,7 +1,7 @@
 //! Records of messages: octets are viewed as a message of their kind, and its record is
 //! appended.
 
-ghost use Rattle.std.specs.Prelude.{◌≡◌, ◌++◌, IfOk, List, MatchOption, OnOk, Option, string_bytes};
+ghost use Rattle.std.specs.Prelude.{◌≡◌, ◌++◌, IfOk, List, MatchOption, OnOk, Option};
 ghost use Rattle.krb_msg.specs.ViewValues.{BeginAs, IsNoMessage};
 ghost use Rattle.krb_record.specs.Forms.{ending, fields_text, heading};
 ghost use Rattle.krb_record.specs.Origins.{message_origin};
@@ -15,12 +15,12 @@ use krb_msg::message_kinds::{
     ApRepKind, ApReqKind, AsRepKind, AsReqKind, KrbCredKind, KrbErrorKind, KrbPrivKind,
     KrbSafeKind, TgsRepKind, TgsReqKind,
 };
-use krb_msg::{Kind, Message, MessageKind, Notes, encode};
+use krb_msg::{Kind, MessageKind, Notes};
 use krb_record::{
     CaptureOrigin, Form, MessageOrigin, TextBuffer, put_captured_opening, put_field,
     put_message_opening, put_opening,
 };
-use std::alloc::{AllocError, Global};
+use std::alloc::AllocError;
 
 /// The most octets of a message (RFC 4120, 7.2.2).
 const MOST: usize = 0x7FFF_FFFF;
@@ -180,8 +180,21 @@ pub(crate) fn put_record_of(
     Ok(true)
 }
 
+/// Appends a message, as a line or an object without its line feed, if octets are one of a profile,
+/// and returns whether they are. More than 2147483647 octets are none.
+pub fn put_message_text(
+    text: &mut TextBuffer,
+    form: Form,
+    profile: Profile,
+    octets: &[u8],
+) -> Result<bool, Memory>
+    ensures { IfOk result (PutsMessage profile octets.now (message_text form) text.old text.new) }
+{
+    Ok(put_text(text, form, Heading::Alone, profile, octets)?)
+}
+
 /// Appends a message, as a line or an object with its line feed, if octets are one of a profile, and
-/// returns whether they are. More than 2147483647 octets are none. No `Message` is made.
+/// returns whether they are. More than 2147483647 octets are none.
 pub fn put_message_in(
     text: &mut TextBuffer,
     form: Form,
@@ -219,45 +232,4 @@ pub fn put_captured_message(
     ensures { IfOk result (PutsMessage profile octets.now (captured_message_line form origin.now) text.old text.new) }
 {
     put_record_of(text, form, Heading::Captured(origin), profile, octets)
-}
-
-/// Appends a message without its line feed, by its DER octets.
-fn put_text_of(text: &mut TextBuffer, form: Form, message: &Message) -> Result<(), Memory>
-    ensures { OnOk result (text.new ≡ text.old ++ message_text form message.now) }
-{
-    let Ok(octets) = encode(text.allocator(), message) else {
-        return Err(Memory);
-    };
-    if put_text(
-        text,
-        form,
-        Heading::Alone,
-        Profile::Lenient,
-        octets.as_slice(),
-    )? {
-        Ok(())
-    } else {
-        unreachable!()
-    }
-}
-
-/// Appends a message as a line or an object with its line feed. It allocates the DER octets,
-/// too, and answers `Memory` if these are more than a message may have, 2147483647.
-#[tactic(auto, unfolding(crate::specs::Messages::message_line))]
-pub fn put_message(text: &mut TextBuffer, form: Form, message: &Message) -> Result<(), Memory>
-    ensures { OnOk result (text.new ≡ text.old ++ message_line form message.now) }
-{
-    put_text_of(text, form, message)?;
-    text.push_sign("\n")?;
-    Ok(())
-}
-
-/// Returns a message as a line or an object, without a line feed: its name, its fields and its
-/// notes. It allocates as [`put_message`] does.
-pub fn message_line(alloc: Global, form: Form, message: &Message) -> Result<String, Memory>
-    ensures { IfOk result (λ text. string_bytes text ≡ message_text form message.now) }
-{
-    let mut text = TextBuffer::new(alloc);
-    put_text_of(&mut text, form, message)?;
-    Ok(text.into_string())
 }

@@ -14,7 +14,7 @@ use krb_message_laws::message_json::{
 use krb_text_laws::list::{keys_are_not_shown, session_keys_are_not_shown};
 
 /// A cache of version 3 that is listed without a refusal has the listing of what
-/// [`write`](krb_ccache::write) returns of its [`upgrade`](krb_ccache::upgrade).
+/// `krb_files::ccache::write` returns of its `upgrade`.
 pub fn upgrade_is_listed_alike()
     ensures { UpgradeIsListedAlike }
 {

@@ -7,21 +7,22 @@ use super::decoders::{fed_twice, reserved_answers, reserved_feeds, reserves, ste
 use super::lines::lists_lines;
 use super::octets::{AP_REP, CACHE, KEYTAB, KRB_ERROR, METHOD_DATA, TICKET, message_of};
 use super::readers::{credentials, records, upgrades};
-use krb_ccache::{Ccache, CcacheFault, TicketState, ticket_of};
+use krb_ccache::{Ccache, TicketState};
+use krb_codec::{EncodeFault, encode};
 use krb_der::{Memory, Profile, Refusal, Why};
 use krb_file::FileFault;
-use krb_frame::{Decoder, Framed, Limit, Status, frame};
+use krb_files::ccache::{CcacheFault, ccache_lines};
+use krb_files::keytab::{KeytabFault, keytab_lines};
+use krb_frame::{Decoder, Framed, Limit, Status};
 use krb_input::{Hint, InputFault, SourceKind, read_input};
-use krb_judge::{ParseFault, parse, parse_method_data, parse_ticket};
-use krb_keytab::{Keytab, KeytabFault, Record, Stop};
-use krb_list::{
-    cache_end_line, cache_line, ccache_lines, credential_line, keytab_end_line, keytab_lines,
-    record_line,
-};
-use krb_msg::{EncodeFault, Message, encode};
+use krb_keytab::{Keytab, Record, Stop};
+use krb_list::{cache_end_line, cache_line, credential_line, keytab_end_line, record_line};
+use krb_msg::Message;
 use krb_record::{Form, principal_text, time_text};
 use krb_scan::Scanner;
-use krb_text::message_line;
+use krb_values::{
+    ParseFault, frame, message_in, message_line, parse, parse_method_data, parse_ticket, ticket_of,
+};
 use std::alloc::Global;
 
 /// The arguments of the calls.
@@ -138,7 +139,7 @@ pub(super) const CALLS: [(&str, Call); 63] = [
     ),
     ("step", Call::Step),
     ("reserve", Call::Reserve),
-    ("Framed::message", Call::Read(Reading::Framed)),
+    ("message_in", Call::Read(Reading::Framed)),
     ("parse", Call::Read(Reading::Message)),
     ("parse_ticket", Call::Read(Reading::Ticket)),
     ("parse_method_data", Call::Read(Reading::MethodData)),
@@ -205,8 +206,8 @@ pub(super) const CALLS: [(&str, Call); 63] = [
             "this is PEM, which holds certificates or keys and no Kerberos",
         ),
     ),
-    ("krb_keytab::read", Call::Read(Reading::Keytab)),
-    ("krb_keytab::write", Call::Encode(Encoding::Keytab)),
+    ("krb_files::keytab::read", Call::Read(Reading::Keytab)),
+    ("krb_files::keytab::write", Call::Encode(Encoding::Keytab)),
     (
         "keytab_lines",
         Call::Text(
@@ -227,8 +228,8 @@ pub(super) const CALLS: [(&str, Call); 63] = [
     ),
     ("principal_text", Call::Text(Text::Principal, "h@A")),
     ("time_text", Call::Text(Text::Time, "2000-01-01T00:00:00Z")),
-    ("krb_ccache::read", Call::Read(Reading::Cache)),
-    ("krb_ccache::write", Call::Encode(Encoding::Cache)),
+    ("krb_files::ccache::read", Call::Read(Reading::Cache)),
+    ("krb_files::ccache::write", Call::Encode(Encoding::Cache)),
     (
         "ccache_lines",
         Call::Text(
@@ -344,8 +345,14 @@ impl Encoding {
                 frame(alloc, given.message, Limit::DEFAULT),
                 EncodeFault::Memory,
             ),
-            Encoding::Keytab => tried(krb_keytab::write(alloc, given.keytab), KeytabFault::Memory),
-            Encoding::Cache => tried(krb_ccache::write(alloc, given.cache), CcacheFault::Memory),
+            Encoding::Keytab => tried(
+                krb_files::keytab::write(alloc, given.keytab),
+                KeytabFault::Memory,
+            ),
+            Encoding::Cache => tried(
+                krb_files::ccache::write(alloc, given.cache),
+                CcacheFault::Memory,
+            ),
         }
     }
 }
@@ -362,7 +369,7 @@ impl Reading {
     /// Returns whether the call returns a value.
     fn make(self, alloc: Global, given: Given<'_>) -> Result<bool, Memory> {
         match self {
-            Reading::Framed => is_returned(given.frame.message(alloc), Memory),
+            Reading::Framed => is_returned(message_in(alloc, given.frame), Memory),
             Reading::Message => {
                 is_returned(parse(alloc, message_of(KRB_ERROR)), ParseFault::Memory)
             }
@@ -370,8 +377,10 @@ impl Reading {
             Reading::MethodData => {
                 is_returned(parse_method_data(alloc, METHOD_DATA), ParseFault::Memory)
             }
-            Reading::Keytab => is_returned(krb_keytab::read(alloc, KEYTAB), FileFault::Memory),
-            Reading::Cache => is_returned(krb_ccache::read(alloc, CACHE), FileFault::Memory),
+            Reading::Keytab => {
+                is_returned(krb_files::keytab::read(alloc, KEYTAB), FileFault::Memory)
+            }
+            Reading::Cache => is_returned(krb_files::ccache::read(alloc, CACHE), FileFault::Memory),
             Reading::TicketState => is_refused(alloc, given.cache),
             Reading::Input(input) => is_returned(read_input(alloc, input), InputFault::Memory),
             Reading::Line(line) => {

@@ -3,8 +3,9 @@
 use super::Outcome;
 use super::octets::{CACHE, CACHE3, KEYTAB};
 use crate::files::next_of;
-use krb_ccache::{Cache3, Credentials, read3, upgrade};
+use krb_ccache::{Cache3, Credentials};
 use krb_file::{FileFault, Limit};
+use krb_files::ccache::{read3, upgrade};
 use krb_keytab::{Next, Records, Stop};
 use std::alloc::Global;
 

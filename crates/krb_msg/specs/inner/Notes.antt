@@ -2,7 +2,6 @@
 use Rattle.std.specs.Prelude.{◌≡◌, Bool, false, true}
 use Rattle.krb_msg.specs.Term.{Term, SequenceOf, Tagged, Value}
 use Rattle.krb_msg.specs.Notes.{Note, has}
-use Rattle.krb_msg.specs.declared.notes.Notes.{Notes}
 
 -- no note holds of any value of a term
 abbrev pub HasNoNotes : Term → Type 0
@@ -13,7 +12,3 @@ abbrev pub is_list : Term → Bool
 is_list (SequenceOf empty term) = true
 is_list (Tagged index term) = is_list term
 is_list other = false
-
--- the note on an empty list alone, if there is one
-abbrev pub empty_list_note : Bool → Notes
-empty_list_note empty = record { high_octet = false; few_flags = false; negative = false; empty_list = empty }

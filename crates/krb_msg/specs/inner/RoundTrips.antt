@@ -2,7 +2,7 @@
 use Rattle.std.specs.Prelude.{ℕ, pos, ◌≡◌, refl}
 use Rattle.krb_msg.specs.Basic.{micros_of}
 use Rattle.krb_msg.specs.Types.{principal_name_value, principal_name_of, host_address_value, host_address_of, pa_data_value, pa_data_of, encrypted_data_value, encrypted_data_of, checksum_value, checksum_of, ticket_value, ticket_of, kdc_req_body_value, kdc_req_body_of, kdc_req_value, kdc_req_of, kdc_rep_value, kdc_rep_of, ap_req_value, ap_req_of, ap_rep_value, ap_rep_of, krb_safe_body_value, krb_safe_body_of, krb_safe_value, krb_safe_of, krb_priv_value, krb_priv_of, krb_cred_value, krb_cred_of, krb_error_value, krb_error_of}
-use Rattle.krb_msg.specs.inner.PrefixFree.{map-back, option-back, list-back}
+use Rattle.krb_msg.specs.inner.Backs.{map-back, option-back, list-back}
 use Rattle.krb_msg.specs.declared.principal_name.PrincipalName.{PrincipalName}
 use Rattle.krb_msg.specs.declared.host_address.HostAddress.{HostAddress}
 use Rattle.krb_msg.specs.declared.pa_data.PaData.{PaData}

@@ -8,7 +8,6 @@ ghost use Rattle.krb_msg.specs.inner.Notes.{HasNoNotes, is_list};
 
 use crate::fields::View;
 use crate::notes::Notes;
-use crate::notes::items::note_of_empty_list;
 
 /// A type in whose views notes may hold.
 pub trait NotedView<'a>: View<'a> {
@@ -28,19 +27,19 @@ pub trait NotedListView<'a>: NotedView<'a> {
 
 /// Returns the notes on a list that may be left out, if it is there.
 #[inline(always)]
-pub fn optional_list_view_notes<'a, T: NotedListView<'a>>(field: &Option<T::Of>) -> Notes
+pub(crate) fn optional_list_view_notes<'a, T: NotedListView<'a>>(field: &Option<T::Of>) -> Notes
     requires { IfPresent T.View.IsValid field.now }
     ensures { result ≡ notes_by (λ note. option_any (λ value. is_list_that_has note T.View.term value || has note T.View.term value) (option_map T.View.value field.now)) }
 {
     match field {
-        Some(seen) => note_of_empty_list(T::is_empty_list(seen)).or(T::notes(seen)),
+        Some(seen) => Notes::of_empty_list(T::is_empty_list(seen)).or(T::notes(seen)),
         None => Notes::none(),
     }
 }
 
 /// Returns the notes on a field that may be left out, but is no list, if it is there.
 #[inline(always)]
-pub fn optional_view_notes<'a, T: NotedView<'a>>(field: &Option<T::Of>) -> Notes
+pub(crate) fn optional_view_notes<'a, T: NotedView<'a>>(field: &Option<T::Of>) -> Notes
     requires no_list { is_list T.View.term ≡ false }
     requires valid { IfPresent T.View.IsValid field.now }
     ensures { result ≡ notes_by (λ note. option_any (λ value. is_list_that_has note T.View.term value || has note T.View.term value) (option_map T.View.value field.now)) }
@@ -53,7 +52,7 @@ pub fn optional_view_notes<'a, T: NotedView<'a>>(field: &Option<T::Of>) -> Notes
 
 /// Returns the notes on a field that may be left out, in whose views none can hold.
 #[inline(always)]
-pub fn no_optional_view_notes<'a, T: View<'a>>(_field: &Option<T::Of>) -> Notes
+pub(crate) fn no_optional_view_notes<'a, T: View<'a>>(_field: &Option<T::Of>) -> Notes
     requires no_list { is_list T.View.term ≡ false }
     requires none { HasNoNotes T.View.term }
     ensures { result ≡ notes_by (λ note. option_any (λ value. is_list_that_has note T.View.term value || has note T.View.term value) (option_map T.View.value _field.now)) }

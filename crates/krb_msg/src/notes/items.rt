@@ -1,58 +1,18 @@
-//! The notes on lists, as values and as views.
+//! The notes on lists that are viewed.
 
-ghost use Rattle.std.specs.Prelude.{◌≡◌, true, map};
+ghost use Rattle.std.specs.Prelude.{◌≡◌, true};
 ghost use Rattle.std.specs.List.{list_any};
 ghost use Rattle.krb_msg.specs.Grammar.{kerberos_string};
 ghost use Rattle.krb_msg.specs.Shape.{has_octet_tags, is_unambiguous};
 ghost use Rattle.krb_msg.specs.Viewed.{AreViewed, items_of};
 ghost use Rattle.krb_msg.specs.Notes.{EmptyList, has, list_has, notes_by};
-ghost use Rattle.krb_msg.specs.inner.Notes.{HasNoNotes, empty_list_note};
+ghost use Rattle.krb_msg.specs.inner.Notes.{HasNoNotes};
 
-use crate::fields::{Noted, NotedView, View};
-use crate::item::Item;
+use crate::fields::{NotedView, View};
 use crate::notes::Notes;
 use crate::notes::scalars::has_high_octet;
 use crate::view::items::{ItemsView, next_item};
-use krb_der::{KString, Many};
-
-/// Returns the note on a list that may be left out, if it is there and has no items.
-#[inline(always)]
-pub fn note_of_empty_list(empty_list: bool) -> Notes
-    ensures { result ≡ empty_list_note empty_list }
-{
-    Notes {
-        empty_list,
-        ..Notes::none()
-    }
-}
-
-/// Returns whether a list has no items.
-#[inline(always)]
-pub fn has_no_items<T: Item>(values: &Many<T>) -> bool
-    ensures { result ≡ list_has EmptyList (map T.Item.value values.now) }
-{
-    values.as_slice().is_empty()
-}
-
-/// Returns the notes that hold in some of the items of a list.
-pub fn notes_of_items<T: Noted>(values: &Many<T>) -> Notes
-    ensures { result ≡ notes_by (λ note. list_any (has note T.Item.term) (map T.Item.value values.now)) }
-{
-    let mut notes = Notes::none();
-    for value in values.as_slice() {
-        notes = notes.or(value.notes());
-    }
-    notes
-}
-
-/// Returns the notes on a list in whose items none can hold.
-#[inline(always)]
-pub fn no_notes_of_items<T: Item>(_values: &Many<T>) -> Notes
-    requires { HasNoNotes T.Item.term }
-    ensures { result ≡ notes_by (λ note. list_any (has note T.Item.term) (map T.Item.value _values.now)) }
-{
-    Notes::none()
-}
+use krb_der::KString;
 
 /// Returns whether a list that is viewed has no items.
 #[inline(always)]

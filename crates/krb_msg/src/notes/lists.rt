@@ -1,35 +1,22 @@
-//! The notes on the lists of the grammar. `asn1/generate` wrote this from `asn1/krb5.asn1`.
+//! The notes on the lists of the grammar that are viewed. `asn1/generate` wrote this from
+//! `asn1/krb5.asn1`.
 
-use crate::fields::{Noted, NotedList, NotedListView, NotedView};
+use crate::fields::{NotedListView, NotedView};
 use crate::host_address::HostAddress;
 use crate::notes::Notes;
 use crate::notes::items::{
-    has_no_items, has_no_items_in_view, no_notes_of_items, no_notes_of_items_in_view,
-    notes_of_items, notes_of_items_in_view, notes_of_strings_in_view,
+    has_no_items_in_view, no_notes_of_items_in_view, notes_of_items_in_view,
+    notes_of_strings_in_view,
 };
 use crate::pa_data::PaData;
 use crate::ticket::Ticket;
 use crate::view::items::ItemsView;
 use krb_der::{Int32, KString, Many};
 
-impl Noted for Many<HostAddress> {
-    #[inline(always)]
-    fn notes(&self) -> Notes {
-        no_notes_of_items(self)
-    }
-}
-
 impl<'a> NotedView<'a> for Many<HostAddress> {
     #[inline(always)]
     fn notes(seen: &ItemsView<'a>) -> Notes {
         no_notes_of_items_in_view::<HostAddress>(seen)
-    }
-}
-
-impl NotedList for Many<HostAddress> {
-    #[inline(always)]
-    fn is_empty_list(&self) -> bool {
-        has_no_items(self)
     }
 }
 
@@ -40,24 +27,10 @@ impl<'a> NotedListView<'a> for Many<HostAddress> {
     }
 }
 
-impl Noted for Many<Int32> {
-    #[inline(always)]
-    fn notes(&self) -> Notes {
-        no_notes_of_items(self)
-    }
-}
-
 impl<'a> NotedView<'a> for Many<Int32> {
     #[inline(always)]
     fn notes(seen: &ItemsView<'a>) -> Notes {
         no_notes_of_items_in_view::<Int32>(seen)
-    }
-}
-
-impl Noted for Many<KString> {
-    #[inline(always)]
-    fn notes(&self) -> Notes {
-        notes_of_items(self)
     }
 }
 
@@ -68,24 +41,10 @@ impl<'a> NotedView<'a> for Many<KString> {
     }
 }
 
-impl Noted for Many<PaData> {
-    #[inline(always)]
-    fn notes(&self) -> Notes {
-        no_notes_of_items(self)
-    }
-}
-
 impl<'a> NotedView<'a> for Many<PaData> {
     #[inline(always)]
     fn notes(seen: &ItemsView<'a>) -> Notes {
         no_notes_of_items_in_view::<PaData>(seen)
-    }
-}
-
-impl NotedList for Many<PaData> {
-    #[inline(always)]
-    fn is_empty_list(&self) -> bool {
-        has_no_items(self)
     }
 }
 
@@ -96,24 +55,10 @@ impl<'a> NotedListView<'a> for Many<PaData> {
     }
 }
 
-impl Noted for Many<Ticket> {
-    #[inline(always)]
-    fn notes(&self) -> Notes {
-        notes_of_items(self)
-    }
-}
-
 impl<'a> NotedView<'a> for Many<Ticket> {
     #[inline(always)]
     fn notes(seen: &ItemsView<'a>) -> Notes {
         notes_of_items_in_view::<Ticket>(*seen)
-    }
-}
-
-impl NotedList for Many<Ticket> {
-    #[inline(always)]
-    fn is_empty_list(&self) -> bool {
-        has_no_items(self)
     }
 }
 

@@ -1,9 +1,9 @@
-//! The notes on scalars (RFC 4120, 5.2), as values and as views. None can hold in one of another type.
+//! The notes on scalars (RFC 4120, 5.2) that are viewed. None can hold in one of another type.
 
 ghost use Rattle.std.specs.Prelude.{◌≡◌, ◌+◌, ◌≤◌, length, nat_lt};
 ghost use Rattle.std.specs.List.{list_any};
 
-use crate::fields::{Noted, NotedView};
+use crate::fields::NotedView;
 use crate::notes::Notes;
 use crate::view::scalars::FlagsView;
 use krb_der::{Flags, KString, Wide32};
@@ -58,30 +58,11 @@ pub(crate) fn has_high_octet(octets: &[u8]) -> bool
     }
 }
 
-impl Noted for KString {
-    fn notes(&self) -> Notes {
-        Notes {
-            high_octet: has_high_octet(self.octets()),
-            ..Notes::none()
-        }
-    }
-}
-
 impl<'a> NotedView<'a> for KString {
     #[inline(always)]
     fn notes(seen: &&'a [u8]) -> Notes {
         Notes {
             high_octet: has_high_octet(seen),
-            ..Notes::none()
-        }
-    }
-}
-
-impl Noted for Flags {
-    #[inline(always)]
-    fn notes(&self) -> Notes {
-        Notes {
-            few_flags: self.bits() < 32,
             ..Notes::none()
         }
     }
@@ -99,16 +80,6 @@ impl<'a> NotedView<'a> for Flags {
 }
 
 /// A number of the type of kvno, nonce and seq-number.
-impl Noted for Wide32 {
-    #[inline(always)]
-    fn notes(&self) -> Notes {
-        Notes {
-            negative: self.get() < 0,
-            ..Notes::none()
-        }
-    }
-}
-
 impl<'a> NotedView<'a> for Wide32 {
     #[inline(always)]
     fn notes(seen: &i64) -> Notes {

@@ -5,7 +5,7 @@ use Rattle.krb_ccache.proofs.credentials.Credentials.start.Goals as goal
 
 pub returns-clause-begins : goal.returns-clause-begins
 returns-clause-begins g c =
-    λ file known. starts (Some c.args.limit) file (g.R.Read.remaining c.args.reader) c.in_ok-start.start c.beginning.new.reader known (rw c.new-reader.ensures at c.in_ok-start.ensures.read)
+    λ file known. starts (Some c.args.limit) file (g.R.Read.remaining c.args.reader) c.in_ok-start.start c.read_start.new.reader known (rw c.new-reader.ensures at c.in_ok-start.ensures.read)
 
 pub returns-in_err-start-clause-refused : goal.returns-in_err-start-clause-refused
 returns-in_err-start-clause-refused g c =

@@ -6,11 +6,11 @@ use Rattle.krb_keytab.proofs.records.Records.read_next.Goals as goal
 
 pub returns-in-Ok-Item-clause-next : goal.returns-in-Ok-Item-clause-next
 returns-in-Ok-Item-clause-next g c = λ file limit count reads.
-    record_given (Some limit) file count c.args.self.now.reader reads c.in-Ok-Item.item c.record.new.reader (part_read next_record_at (rw c.in-Ok-Item.field-0-is at c.in-Ok-Item.ensures.read))
+    record_given (Some limit) file count c.args.self.now.reader reads c.in-Ok-Item.item c.read_record.new.reader (part_read next_record_at (rw c.in-Ok-Item.field-0-is at c.in-Ok-Item.ensures.read))
 
 pub returns-in-Ok-Done-clause-next : goal.returns-in-Ok-Done-clause-next
 returns-in-Ok-Done-clause-next g c = λ file limit count reads.
-    stop_given (Some limit) file count c.args.self.now.reader reads c.in-Ok-Done.stop c.record.new.reader (part_read next_record_at (rw c.in-Ok-Done.field-0-is at c.in-Ok-Done.ensures.read))
+    stop_given (Some limit) file count c.args.self.now.reader reads c.in-Ok-Done.stop c.read_record.new.reader (part_read next_record_at (rw c.in-Ok-Done.field-0-is at c.in-Ok-Done.ensures.read))
 
 pub returns-in-Err-clause-next : goal.returns-in-Err-clause-next
 returns-in-Err-clause-next g c = λ file limit count reads.

@@ -1,0 +1,4 @@
+pub mod Puts
+pub mod Fitting
+pub mod Copies
+pub mod ViewValuesFit

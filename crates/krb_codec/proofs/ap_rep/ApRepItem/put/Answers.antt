@@ -1,0 +1,11 @@
+-- asn1/generate wrote this from asn1/krb5.asn1
+use Rattle.std.proofs.Common.{refl, arith}
+use Rattle.krb_msg.specs.Grammar.{ap_rep}
+use Rattle.krb_codec.proofs.Puts.{has_capacity, is_put}
+use Rattle.krb_codec.proofs.ap_rep.ApRepItem.put.Goals as goal
+
+pub put-requires : goal.put-requires
+put-requires c = (omega arith, (refl, has_capacity ap_rep c.args.out.now c.layout.ensures c.requires.short c.requires.capacity))
+
+pub returns : goal.returns
+returns c = is_put ap_rep c.layout.ensures c.put.ensures

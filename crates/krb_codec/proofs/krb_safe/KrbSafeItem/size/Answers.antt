@@ -1,0 +1,7 @@
+-- asn1/generate wrote this from asn1/krb5.asn1
+use Rattle.krb_msg.specs.Grammar.{krb_safe}
+use Rattle.krb_codec.proofs.Puts.{sized}
+use Rattle.krb_codec.proofs.krb_safe.KrbSafeItem.size.Goals as goal
+
+pub returns : goal.returns
+returns c = sized krb_safe c.layout.ensures c.size.ensures

@@ -1,0 +1,2 @@
+pub mod PrefixFree
+pub mod Copies

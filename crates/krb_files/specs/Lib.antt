@@ -1,0 +1,4 @@
+pub mod Parts
+pub mod KeytabWriting
+pub mod CcacheWriting
+pub mod Examples

@@ -1,7 +1,0 @@
-use Rattle.std.proofs.Common.{ap, ◌∙◌}
-use Rattle.std.proofs.lemmas.Result.{IfOk-weaker}
-use Rattle.krb_msg.specs.Views.{message_der}
-use Rattle.krb_frame.proofs.framed.Framed.message.Goals as goal
-
-pub returns : goal.returns
-returns c = IfOk-weaker c.to_message.result _ _ (λ m e. ap message_der e ∙ c.view.ensures.form) c.to_message.ensures

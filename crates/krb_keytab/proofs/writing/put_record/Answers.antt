@@ -1,6 +1,0 @@
-use Rattle.std.proofs.Common.{arith}
-use Rattle.krb_keytab.proofs.Sizes.{size-hole}
-use Rattle.krb_keytab.proofs.writing.put_record.Goals as goal
-
-pub put_hole-requires : goal.put_hole-requires
-put_hole-requires c = omega (arith, size-hole c.args.record.now c.in-Hole.hole c.in-Hole.is, c.requires.spare_capacity)
