@@ -11,7 +11,7 @@ from values import known, parts_in, seen_value
 
 
 def valid(it, those, fits):
-    """What is known of a view, of what is known of its fields in pairs."""
+    """What is known of a view, of what is known of its fields in pairs; or nothing, if nothing is known of them."""
     facts = {}
     for at, field in enumerate(it.kept):
         if known(field, ""):
@@ -20,7 +20,7 @@ def valid(it, those, fits):
                 facts[field.rust] = f"subst (λ number. pos 0 ≤ℤ number) {fits[field.rust]} {facts[field.rust]}"
     if len(facts) > 2:
         return f"record {{ {'; '.join(f'{name} = {fact}' for name, fact in facts.items())} }}"
-    return ", ".join(facts.values())
+    return ", ".join(facts.values()) or "tt"
 
 
 def again(field, seen, lets):

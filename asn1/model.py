@@ -56,9 +56,13 @@ def term_of(type):
     return f"(sequence_of {term_of(type.item)})" if isinstance(type, ListOf) else type.term
 
 
+# How many fields a view is made of at most in one step.
+MOST_IN_ONE_STEP = 4
+
+
 def is_plain(it):
     """Whether the type has so few fields that a view of it is made in one step."""
-    return it.application is None and not it.fixed and len(it.kept) <= 4
+    return it.application is None and not it.fixed and len(it.kept) <= MOST_IN_ONE_STEP
 
 
 def item_row(type):

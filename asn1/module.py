@@ -1,9 +1,18 @@
-"""Reads an ASN.1 module, as far as those here need it, into the types that are written from it."""
+"""Reads an ASN.1 module, as far as those here need it, into the types that are written from it.
+
+It reads types that are one of the basic types below, a SEQUENCE, a SEQUENCE OF, a CHOICE of one SEQUENCE in a tag, or a
+type of the module or one that it imports, in a tag [APPLICATION n] or in none; and the CHOICE of all messages. Components
+have explicit tags of one octet, and may be OPTIONAL; INTEGER stands for numbers that are fixed. All else, and what nothing
+would be written of, is refused with its line.
+"""
 
 import pathlib
 import re
 from dataclasses import dataclass, field
 from typing import NamedTuple
+
+# The greatest number of a tag of one octet (X.690, 8.1.2.4).
+GREATEST_TAG = 30
 
 TOKEN = re.compile(r"--!(?P<note>.*)|--(?P<comment>.*?)(?:--|$)|(?P<word>[A-Za-z][\w-]*|\d+|::=|\.\.|[\[\](){}|,;])|\s+", re.M)
 
@@ -144,6 +153,7 @@ class Message:
 @dataclass
 class Module:
     name: str
+    path: str
     home: Home
     types: list
     lists: list  # those with a name that are part of no type
@@ -151,6 +161,11 @@ class Module:
     messages: list
     sections: dict  # the heading with which a section begins, by the name of its first type
     named: dict  # each type, by its name
+    lines: dict  # the line in which each type begins, by its name
+
+    def refuse(self, name, what):
+        """Refuses a type of the module."""
+        raise Refused(f"{self.path}:{self.lines[name]}: {name} {what}")
 
 
 def words(name):
@@ -168,7 +183,7 @@ def camel(name):
 class Reader:
     def __init__(self, path, text, home, others):
         self.path, self.home, self.others, self.at = path, home, others, 0
-        self.named, self.parts, self.imported = {}, set(), set()
+        self.named, self.parts, self.imported, self.lines = {}, set(), set(), {}
         self.tokens = list(self.split(text))
 
     def split(self, text):
@@ -207,6 +222,13 @@ class Reader:
     def take_number(self):
         text = self.take()
         return int(text) if text.isdigit() else self.refuse(f"{text} and not a number")
+
+    def take_tag(self):
+        """Takes the number of a tag, which has to be one of one octet."""
+        number = self.take_number()
+        if number > GREATEST_TAG:
+            self.refuse(f"the tag {number} has more than one octet, which is that of a number up to {GREATEST_TAG}")
+        return number
 
     def comments(self):
         """Takes comments and notes: the paragraph of comments that ends here, and the notes."""
@@ -255,8 +277,9 @@ class Reader:
             if self.takes("END"):
                 own = {name: made for name, made in self.named.items() if name not in self.imported}
                 lists = [made for name, made in own.items() if isinstance(made, ListOf) and name not in self.parts]
-                return Module(module_name, self.home, types, lists, tagged, messages, sections, own)
+                return Module(module_name, self.path, self.home, types, lists, tagged, messages, sections, own, self.lines)
             name = self.take()
+            self.lines[name] = self.tokens[self.at - 1].line
             if name in self.named or name in BASICS:
                 self.refuse(f"there is a type {name} already")
             if heading:
@@ -277,28 +300,38 @@ class Reader:
         application = None
         if self.takes("["):
             self.take("APPLICATION")
-            application = self.take_number()
+            application = self.take_tag()
             self.take("]")
         if self.takes("SEQUENCE"):
             if self.takes("OF"):
-                return ListOf(self.type(), name, about)
+                return self.untagged(application, ListOf(self.type(), name, about))
+            if not name:
+                self.refuse("a SEQUENCE without a name of its own")
             return Sequence(name, section, about, list(notes), self.home, application, self.fields())
         if self.takes("INTEGER"):
-            return self.number()
+            return self.untagged(application, self.number())
         word = self.take()
         if word == "OCTET":
             self.take("STRING")
             word = "OCTET STRING"
         if word == "OCTET STRING" or word in BASICS and (word in self.imported or not self.others):
-            return BASICS[word]
+            return self.untagged(application, BASICS[word])
         if word not in self.named:
             self.refuse(f"there is no type {word}")
         made = self.named[word]
         self.parts.add(word)
+        if application is not None and not (name and isinstance(made, Sequence)):
+            self.untagged(application, made)
         if application is not None:
             message = Message(name, made, application, section)
             made.messages.append(message)
             return message
+        return made
+
+    def untagged(self, application, made):
+        """A type, which is not in a tag of its own."""
+        if application is not None:
+            self.refuse(f"the tag [APPLICATION {application}] of what is no SEQUENCE with a name")
         return made
 
     def number(self):
@@ -325,7 +358,7 @@ class Reader:
         name = self.take()
         if not self.takes("["):
             self.refuse(f"{name} has no tag")
-        index, _ = self.take_number(), self.take("]")
+        index, _ = self.take_tag(), self.take("]")
         if any(it.index == index or it.name == name for it in before):
             self.refuse(f"there is a component {name} or a tag [{index}] before")
         made = Field(name, index, self.type(), self.takes("OPTIONAL"))

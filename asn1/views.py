@@ -1,7 +1,7 @@
 """krb_padata/src: a file for each type, with its struct, its view and the description of its fields, and what is of it."""
 
-from model import is_plain, owned
-from module import Refused, Sequence
+from model import owned
+from module import Sequence
 from structs import BASIC, halves, in_one_step, layout_type, structs, term_name, view_impl
 from text import brought, doc, fill
 
@@ -50,8 +50,6 @@ def of_type(module, it):
 
 
 def view_file(module, it):
-    if not is_plain(it):
-        raise Refused(f"{module.home.path}: {it.name} has more fields, or others, than a view here is made of")
     parts = [structs(it, "Drop"), layout(it), view_impl(it, "Layout", *in_one_step(it)), *of_type(module, it)]
     body = "\n".join(parts)
     code = "\n".join(line for line in body.splitlines() if not line.lstrip().startswith("//"))

@@ -19,6 +19,11 @@
 #include <stdint.h>
 
 #define KRBLS_VERSION "1.0.0"
+/* The same as one number: 65536 times the first of its numbers, 256 times the second, and the third. */
+#define KRBLS_VERSION_NUMBER 0x010000
+
+/* The arguments of all calls come in one order: the form, the profile, how many octets a message has or a frame may have,
+ * what else is chosen; the octets and their number; and what is written. */
 
 #ifdef __cplusplus
 extern "C" {
@@ -58,26 +63,34 @@ enum krbls_answer {
 /* What a listing returns: the status of its command. krbls_path returns 0 if there is a path, and 1 if there is none. */
 enum krbls_status { KRBLS_CLEAN = 0, KRBLS_REFUSED = 1, KRBLS_OUT_OF_MEMORY = 3 };
 
+/* An enumeration is passed and returned as a number of 32 bits. A compiler that has shorter ones (-fshort-enums) stops here. */
+typedef char krbls_enumerations_have_32_bits[sizeof(enum krbls_answer) == 4 && sizeof(enum krbls_form) == 4 ? 1 : -1];
+
 /* The name of a reason, as listings have it: "HighBit" of 1 to "Charset" of 17. It is "Ok" of 0, "More" of 255, and ""
  * of any other number. */
-static inline const char *krbls_reason_name(uint32_t answer) {
+static inline const char *krbls_reason_name(enum krbls_answer answer) {
     static const char *const names[] = {
         "Ok", "HighBit", "TooLong", "Empty", "Tag", "Overrun", "Indefinite", "LengthWide", "LengthNotMinimal", "Loose",
         "Size", "IntegerNotMinimal", "Range", "Time", "Bits", "Missing", "Truncated", "Charset"};
-    return answer < sizeof names / sizeof *names ? names[answer] : answer == KRBLS_MORE ? "More" : "";
+    return (size_t)answer < sizeof names / sizeof *names ? names[answer] : answer == KRBLS_MORE ? "More" : "";
 }
+
+/* The version of the library that is called. KRBLS_VERSION_NUMBER is that of this header, so a program that is run with
+ * another libkrbls.so than it was compiled for can tell. */
+uint32_t krbls_version(void);
 
 /* ---- Judgements. Each returns a krbls_answer. If it is a reason, *place is the octet at fault, counted from 0, and else
  * *place stays as it is. */
 
 /* Judges octets as one message: KRBLS_OK or a reason. No octets are KRBLS_EMPTY at 0, and more than 2147483647 are
  * KRBLS_TOO_LONG at 0. */
-uint32_t krbls_judge(uint32_t profile, const uint8_t *octets, size_t octets_size, uint32_t *place);
+enum krbls_answer krbls_judge(enum krbls_profile profile, const uint8_t *octets, size_t octets_size, uint32_t *place);
 
 /* Judges the first octets of a message of n octets: KRBLS_OK if they are the whole message, KRBLS_MORE if nothing is
  * decided yet, or the reason for which no message of n octets begins with them. Octets after the first n are not looked
  * at. An n of 0 is KRBLS_EMPTY, and one above 2147483647 KRBLS_TOO_LONG. */
-uint32_t krbls_front(uint32_t profile, size_t n, const uint8_t *octets, size_t octets_size, uint32_t *place);
+enum krbls_answer krbls_front(enum krbls_profile profile, size_t n, const uint8_t *octets, size_t octets_size,
+                              uint32_t *place);
 
 /* Judges the frame with which a stream begins (RFC 4120, 7.2.2: four octets of length, the highest first, and a message):
  * KRBLS_OK if it is there and holds a message, KRBLS_MORE if nothing is decided yet, or a reason; *place counts from the
@@ -85,8 +98,8 @@ uint32_t krbls_front(uint32_t profile, size_t n, const uint8_t *octets, size_t o
  * next one begins there, also after a refusal. It is 4 if fewer octets than these are there, and 0 if the frame is
  * refused for the high bit of its length, which has no meaning yet. A frame may announce at most `limit` octets, 1 to
  * 2147483647; a limit that is none, as 0, is 16777216. Each call looks at the frame from its first octet on. */
-uint32_t krbls_frame(uint32_t profile, uint32_t limit, const uint8_t *stream, size_t stream_size, uint32_t *size,
-                     uint32_t *place);
+enum krbls_answer krbls_frame(enum krbls_profile profile, uint32_t limit, const uint8_t *stream, size_t stream_size,
+                              uint32_t *size, uint32_t *place);
 
 /* ---- Texts. Each call writes as many octets of its text as there is room for into `text`, and how many the whole text
  * has into *size; so one with a room of 0 says how much is needed. No NUL ends the text. If memory runs out, it returns
@@ -97,32 +110,33 @@ uint32_t krbls_frame(uint32_t profile, uint32_t limit, const uint8_t *stream, si
  * innermost that is open. Returns 0, or 1 if there is none, and then *size is 0: if they are a message, or the tag of
  * none, or if n is above 2147483647. n is the octets_size that was passed to krbls_judge, the n of krbls_front, and of a
  * frame the *size of krbls_frame less 4, with the octets after those of its length. */
-uint32_t krbls_path(uint32_t profile, size_t n, const uint8_t *octets, size_t octets_size, uint8_t *text, size_t room,
-                    size_t *size);
+enum krbls_status krbls_path(enum krbls_profile profile, size_t n, const uint8_t *octets, size_t octets_size,
+                             uint8_t *text, size_t room, size_t *size);
 
 /* Listings, each what the command of its name prints of these octets, with its status: 0 if all is well, or 1 if
  * something is refused or, of a capture, lost or unread. Lines are of ASCII, and each ends with a line feed. */
 
 /* One message, or a Ticket, by itself, after four octets of its length, or in a token of GSS-API or SPNEGO: its line, or
  * that of the refusal. The octets are never read as text, though the command reads text. */
-uint32_t krbls_message(uint32_t form, uint32_t profile, const uint8_t *octets, size_t octets_size, uint8_t *text,
-                       size_t room, size_t *size);
+enum krbls_status krbls_message(enum krbls_form form, enum krbls_profile profile, const uint8_t *octets,
+                                size_t octets_size, uint8_t *text, size_t room, size_t *size);
 
 /* Framed messages, up to their end or the first refusal, or, unless going_on is 0, also after refusals, as with
  * `--keep-going`. The limit is that of krbls_frame. */
-uint32_t krbls_stream(uint32_t form, uint32_t profile, uint32_t limit, uint32_t going_on, const uint8_t *octets,
-                      size_t octets_size, uint8_t *text, size_t room, size_t *size);
+enum krbls_status krbls_stream(enum krbls_form form, enum krbls_profile profile, uint32_t limit, uint32_t going_on,
+                               const uint8_t *octets, size_t octets_size, uint8_t *text, size_t room, size_t *size);
 
 /* A keytab. */
-uint32_t krbls_keytab(uint32_t form, const uint8_t *octets, size_t octets_size, uint8_t *text, size_t room, size_t *size);
+enum krbls_status krbls_keytab(enum krbls_form form, const uint8_t *octets, size_t octets_size, uint8_t *text,
+                               size_t room, size_t *size);
 
 /* A credential cache. Unless now is 0, it is a time in seconds since 1970-01-01, and each ticket has a state then. */
-uint32_t krbls_ccache(uint32_t form, uint32_t now, const uint8_t *octets, size_t octets_size, uint8_t *text, size_t room,
-                      size_t *size);
+enum krbls_status krbls_ccache(enum krbls_form form, uint32_t now, const uint8_t *octets, size_t octets_size,
+                               uint8_t *text, size_t room, size_t *size);
 
 /* A capture, a pcap or a pcapng. The limit is that of krbls_frame, and the port that of KDCs, of which 0 is 88. */
-uint32_t krbls_capture(uint32_t form, uint32_t limit, uint16_t port, const uint8_t *octets, size_t octets_size,
-                       uint8_t *text, size_t room, size_t *size);
+enum krbls_status krbls_capture(enum krbls_form form, uint32_t limit, uint16_t port, const uint8_t *octets,
+                                size_t octets_size, uint8_t *text, size_t room, size_t *size);
 
 #ifdef __cplusplus
 }

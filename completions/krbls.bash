@@ -1,10 +1,15 @@
 # bash completion for krbls
 _krbls() {
     local word=${COMP_WORDS[COMP_CWORD]} before=${COMP_WORDS[COMP_CWORD-1]} command=${COMP_WORDS[1]}
+    local commands="list stream message keytab ccache capture decode encode"
     if [ "$COMP_CWORD" -eq 1 ]; then
-        compopt -o filenames
-        mapfile -t COMPREPLY < <(compgen -W "list stream message keytab ccache capture decode encode help --help --version" -- "$word"; compgen -f -- "$word")
-        return
+        case $word in
+            -*) command=list ;;
+            *)
+                compopt -o filenames
+                mapfile -t COMPREPLY < <(compgen -W "$commands help --help --version" -- "$word"; compgen -f -- "$word")
+                return ;;
+        esac
     fi
     case $before in
         --limit|--now|--port) return ;;
@@ -13,6 +18,10 @@ _krbls() {
             mapfile -t COMPREPLY < <(compgen -f -- "$word")
             return ;;
     esac
+    if [ "$command" = help ]; then
+        [ "$COMP_CWORD" -ne 2 ] || COMPREPLY=($(compgen -W "$commands" -- "$word"))
+        return
+    fi
     case $word in
         -*)
             local options="--file --help" forms="--names --json --with-filename"
@@ -20,10 +29,12 @@ _krbls() {
                 stream) options="--limit --keep-going --strict $forms $options" ;;
                 message) options="--lines --strict $forms $options" ;;
                 keytab) options="$forms $options" ;;
-                list|ccache) options="--now $forms $options" ;;
-                capture) options="--limit --port $forms $options" ;;
+                capture) options="--limit --port --strict $forms $options" ;;
                 decode|encode) options="--limit --strict --unframed $options" ;;
+                # without a command the words are those of list
+                *) options="--now $forms $options" ;;
             esac
+            [ "$COMP_CWORD" -ne 1 ] || options="$options --version"
             COMPREPLY=($(compgen -W "$options" -- "$word")) ;;
         *)
             compopt -o filenames

@@ -7,7 +7,8 @@ int main(void) {
     static uint8_t stream[1 << 20];
     size_t present = 0;
     for (;;) {
-        uint32_t size, place, answer = krbls_frame(KRBLS_LENIENT, sizeof stream - 4, stream, present, &size, &place);
+        uint32_t size, place;
+        enum krbls_answer answer = krbls_frame(KRBLS_LENIENT, sizeof stream - 4, stream, present, &size, &place);
         if (answer == KRBLS_MORE) {
             size_t got = fread(stream + present, 1, size - present, stdin);
             if (got == 0) return present != 0;

@@ -76,7 +76,8 @@ int LLVMFuzzerTestOneInput(const uint8_t *data, size_t size) {
     const uint8_t *octets = size ? data : none;
     const char *kind;
     int taken = accepts(octets, size, &kind);
-    uint32_t place = 0, reason = krbls_judge(KRBLS_LENIENT, octets, size, &place);
+    uint32_t place = 0;
+    enum krbls_answer reason = krbls_judge(KRBLS_LENIENT, octets, size, &place);
     if (!kind || taken == (reason == KRBLS_OK)) return 0;
     char path[256] = "-", text[512];
     size_t needed = 0;

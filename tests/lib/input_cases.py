@@ -2,6 +2,7 @@
 
 import itertools
 import json
+import os
 import pathlib
 import shutil
 from typing import NamedTuple
@@ -12,6 +13,26 @@ DATA = pathlib.Path(__file__).resolve().parents[1] / "data"
 
 # A name that is not UTF-8, and what the file has, which is copied from another one.
 ODD_NAME = b"b\xe4r.keytab"
+
+# Names that are commands of a shell, or more than one word, or none, if they are not quoted; each is a keytab, or gzip.
+HOSTILE_NAMES = [
+    "x;reboot",
+    "a b",
+    "$(reboot)",
+    "it's",
+    "''",
+    "a\\b",
+    "a@b",
+    "C:x",
+    "~",
+    "*",
+    b"\x1b]0;x\x07",
+    b"a\nb",
+    b"it's\\\n",
+    "caf\u00e9",
+    "-H",
+    "plain-1.0_a+b/x.gz",
+]
 
 # A time that some credential is compared with, in three ways.
 TIMES = ("2026-11-22T12:00:00Z", "1795348800", "now")
@@ -44,6 +65,13 @@ WORDS = [
     ["ccache", "DIR:nowhere", "cc/tkt1"],
     ["ccache", "DIR:cc/tkt1"],
     ["ccache", "DIR::cc/none"],
+    ["ccache", "DIR:shared"],
+    ["ccache", "--json", "DIR:nowhere", "cc/tkt1"],
+    ["DIR:shared", "a.keytab"],
+    ["ccache", "--json", "DIR:shared"],
+    ["ccache", "DIR::shared/tkt4"],
+    ["ccache", "DIR:shared/tkt5", "DIR:empty", "cc/tkt1"],
+    ["--json", "DIR:empty"],
     ["DIR:cc"],
     ["DIR::cc/tkt1", "FILE:a.keytab", "WRFILE:x.kirbi"],
     ["./FILE:a.keytab"],
@@ -65,10 +93,26 @@ WORDS = [
             "2026-11-22T23:59:60Z",
             "1970-01-01T00:00:00Z",
             "2106-02-07T06:28:15Z",
+            "2106-02-07T06:28:16Z",
+            "9999-12-31T23:59:59Z",
+            "10000-01-01T00:00:00Z",
+            "4294967295",
+            "4294967296",
+            "253402300799",
+            "253402300800",
+            "99999999999999999999",
             "then",
             "",
         )
     ),
+    ["ccache", "KCM:", "KCM:1000", "cc/tkt1"],
+    ["KEYRING:persistent:0"],
+    ["API:x", "MEMORY:"],
+    ["--json", "MEMORY:\x1b[2J"],
+    ["keytab", "MEMORY:x"],
+    ["stream", "KCM:0"],
+    ["stream", "--", *HOSTILE_NAMES],
+    ["ccache", "--json", "--", *HOSTILE_NAMES],
     ["message", "--lines", "m.hex", "x.kirbi"],
     ["message", "--lines", "-H", "m.hex", "x.kirbi"],
     ["message", "--lines", "--json", "m.hex", "x.kirbi"],
@@ -91,6 +135,7 @@ BEGINNINGS = [
             "0000001f60 0000001f62 0000001fa0 0000001f 00 6f1d 60 6e00 6e7e 7f454c46 a000 a1 a2 efbbbf36 efbbbf fffe3600 ff"
         ).split(),
     ),
+    *(bytes.fromhex(f"0502{name_type:08x}00000001") for name_type in (0, 1, 12, 13, 256, 0x1000001)),
     b"-----BEGIN",
     b"-----BEGI",
     b"SQLite",
@@ -104,6 +149,17 @@ BEGINNINGS = [
     b"0123456789abcdef\xff",
     b"0123456789abcde\xff",
     b"NTLMSSP\x00\x01",
+    b"GET / HTTP/1.1\r\n\r\n",
+    b"GET",
+    b"GETX",
+    b"HEAD / HTTP/1.0\r\n",
+    b"POST /KdcProxy HTTP/1.1\r\n",
+    b"PUT /",
+    b"DELETE /",
+    b"CONNECT x:88",
+    b"OPTIONS *",
+    b"HTTP/1.1 401 Unauthorized\r\n",
+    b"http/1.1",
     b"",
 ]
 COMMANDS = ("list", "stream", "message", "message --lines", "keytab", "ccache", "capture")
@@ -128,19 +184,41 @@ def kept_cases(path):
 
 
 def files_in(folder):
-    """The files of a folder, by their names in it."""
+    """The files of a folder, by their names in it, as the reference takes them."""
     found = {}
     for path in folder.rglob("*"):
+        name = bytes(path.relative_to(folder))
         if path.is_file():
-            found[bytes(path.relative_to(folder))] = path.read_bytes()
+            found[name] = path.read_bytes()
+        elif not path.is_dir():
+            found[name] = None
+        elif not any(path.iterdir()):
+            found[name + b"/"] = None
     return found
 
 
 def sources(folder):
-    """Copies the sources into a folder, with one of an odd name, and one whose name looks like a prefix."""
+    """Copies the sources into a folder, with one of an odd name, and one whose name looks like a prefix.
+
+    A directory to which anyone may write has caches, and names that are not UTF-8, a pipe that nobody writes to, a folder
+    and links among them; another one has no cache.
+    """
     shutil.copytree(DATA / "sources", folder, dirs_exist_ok=True)
     for name in (ODD_NAME, b"FILE:a.keytab"):
         shutil.copy(folder / "a.keytab", bytes(folder) + b"/" + name)
+    for name in HOSTILE_NAMES:
+        path = bytes(folder) + b"/" + (name if isinstance(name, bytes) else name.encode())
+        os.makedirs(os.path.dirname(path), exist_ok=True)
+        shutil.copy(folder / ("x.gz" if path.endswith(b".gz") else "a.keytab"), path)
+    shared = bytes(folder) + b"/shared"
+    for name in (shared, shared + b"/tkt5", bytes(folder) + b"/empty"):
+        os.mkdir(name)
+    for name in (b"tkt1", b"tkt2\xff", b"tkt3", b"a\xff", b"\xff", b"Tkt6"):
+        shutil.copy(folder / "cc/tkt1", shared + b"/" + name)
+    os.mkfifo(shared + b"/tkt4")
+    os.mkfifo(shared + b"/pipe")
+    os.symlink(b"tkt1", shared + b"/tkt7")
+    os.symlink(b"tkt4", shared + b"/tkt8")
 
 
 def cases_of_beginnings():

@@ -7,10 +7,11 @@ import itertools
 from typing import NamedTuple
 
 import made_up
+from made_envelopes import TAGS, EnvelopeMaker
 from made_up import OFTEN, changed
 from reference.capture_files import packets
-from reference.datagrams import MOST_DATAGRAMS
 from reference.directions import MOST_AHEAD, MOST_DIRECTIONS
+from reference.fragments import MOST_DATAGRAMS
 from reference.judging import Refused
 
 TCP, UDP = 6, 17
@@ -292,12 +293,12 @@ class ConnectionMaker:
 
     def noise(self):
         """What is not of Kerberos."""
-        ends = self.packets.ends(self.dice.choice([53, 80]))
+        ends = self.packets.ends(self.dice.choice([53, 80, 4789, 4500]))
         return self.dice.choice(
             [
                 self.packets.datagram(ends, b"?"),
                 self.packets.segment(ends, 1, Piece(0, ACK, b"GET")),
-                self.packets.ip(ends, self.dice.choice([1, 58, 132, FRAGMENT]), self.dice.randbytes(20)),
+                self.packets.ip(ends, self.dice.choice([1, 58, 132, 50, FRAGMENT]), self.dice.randbytes(20)),
                 [self.dice.randbytes(self.dice.choice([0, 1, 30]))] if self.maybe(0.2) else [],
             ]
         )
@@ -305,7 +306,8 @@ class ConnectionMaker:
     def sent(self):
         """The packets of some exchanges, mixed."""
         makers = [self.datagrams, self.connection, self.connection, self.noise]
-        return merged(self.dice, [self.dice.choice(makers)() for _ in range(self.dice.choice([1, 1, 2, 4]))])
+        sent = merged(self.dice, [self.dice.choice(makers)() for _ in range(self.dice.choice([1, 1, 2, 4]))])
+        return EnvelopeMaker(self.packets).wrapped(sent) if self.maybe(0.3) else sent
 
 
 def merged(dice, lists):
@@ -326,17 +328,28 @@ def ether_type(dice, octets):
 
 
 def family(dice, octets):
-    return dice.choice([24, 28, 30]) if version(octets) == 6 else dice.choice([2] * 20 + [7])
+    return dice.choice([10, 23, 24, 28, 30]) if version(octets) == 6 else dice.choice([2] * 20 + [7])
 
 
 def vlan_tag(dice):
-    return dice.choice([b"\x81\0", b"\x88\xa8", b"\x91\0"]) + dice.randbytes(2)
+    return number(dice.choice(TAGS), 2) + dice.randbytes(2)
 
 
 def ethernet(dice, octets):
     tags = [vlan_tag(dice) for _ in range(dice.choice([0, 0, 1, 2]))]
     padding = dice.randbytes(dice.choice([0, 0, 7, max(46 - len(octets), 0)]))
-    return dice.randbytes(12) + b"".join(tags) + ether_type(dice, octets) + octets + padding
+    following = ether_type(dice, octets) + octets
+    if octets and dice.random() < 0.1:
+        return EnvelopeMaker(PacketMaker(dice, dice.choice(FAULTS))).frame(octets) + padding
+    if dice.random() < 0.05:
+        organization = dice.choice([b"\0\0\0", b"\0\0\xf8", b"\0\x80\xc2", b"\0\0\x0c"])
+        following = number(dice.randrange(1501), 2) + b"\xaa\xaa\x03" + organization + following
+    return dice.randbytes(12) + b"".join(tags) + following + padding
+
+
+def hardware(dice):
+    """The type of hardware in Linux cooked: Ethernet, loopback, netlink, and two with a header of their own."""
+    return number(dice.choice([1] * 10 + [772, 824, 770, 803]), 2)
 
 
 # What is put before an IP packet, by link type.
@@ -347,10 +360,10 @@ LINKS = {
     14: lambda dice, octets: octets,
     RAW_IP: lambda dice, octets: octets,
     108: lambda dice, octets: number(family(dice, octets), 4) + octets,
-    113: lambda dice, octets: dice.randbytes(14) + ether_type(dice, octets) + octets,
+    113: lambda dice, octets: dice.randbytes(2) + hardware(dice) + dice.randbytes(10) + ether_type(dice, octets) + octets,
     228: lambda dice, octets: octets,
     229: lambda dice, octets: octets,
-    276: lambda dice, octets: ether_type(dice, octets) + dice.randbytes(18) + octets,
+    276: lambda dice, octets: ether_type(dice, octets) + dice.randbytes(6) + hardware(dice) + dice.randbytes(10) + octets,
 }
 
 
@@ -398,7 +411,7 @@ class FileMaker:
         """All packets have the link type of the first."""
         magic, units = self.dice.choice([(0xA1B2C3D4, 10**6), (0xA1B23C4D, 10**9)])
         link = packets[0].link if packets else 1
-        upper = self.dice.choice([0, 0, 0x1, 0xF]) << 28
+        upper = self.dice.choice([0, 0, 0x1, 0x3F]) << 26
         header = self.numbers(2, 2, 4) + self.numbers(4, 0, 0, 2**18, link + upper)
         records = [self.pcap_packet(packet, units) for packet in packets]
         return b"".join([number(magic, 4, self.order), header, *records])
@@ -525,7 +538,7 @@ def capture(dice, streams, captures):
 
 def options(dice):
     """What is said of a capture beside the file."""
-    return dice.choice(["", "", "", " --limit 300", " --port 750"])
+    return dice.choice(["", "", "", " --limit 300", " --port 750", " --strict"])
 
 
 def raw_pcap(dice, sent):

@@ -207,7 +207,8 @@ def c_array(dice, octets):
     """An array of C, as xxd -i and Wireshark write it, with comments."""
     lines = [", ".join(f"0x{octet:02x}" for octet in line) for line in grouped(octets, 8)]
     if dice.random() < 0.4:
-        lines = [f"{line}, /* {column(octets[:4]).replace('/', ' ')} */" for line in lines]
+        beside = [column(line).replace("/", " ") for line in grouped(octets, 8)]
+        lines = [f"{line}, /* {shown} */" for line, shown in zip(lines, beside)]
         return "static const unsigned char packet[] = {\n" + "\n".join(lines) + "\n};"
     if dice.random() < 0.3:
         return 'char s[] = { "' + "".join(f"\\x{octet:02x}" for octet in octets) + '" };'
@@ -232,7 +233,7 @@ def base64_text(dice, octets):
 def header(dice, octets):
     """The header of HTTP, as a browser or curl -v shows it."""
     name = dice.choice(["", "", "Authorization:", "Proxy-Authorization:", "WWW-Authenticate:", "Proxy-Authenticate:", "X-Auth:"])
-    before = dice.choice(["", "", "", "> ", "< ", "* "])
+    before = dice.choice(["", "", "", "> ", "< ", "* ", "  ", "\t", "<  ", " >\t "])
     between = dice.choice(["", " ", " ", "\t", "  "])
     scheme = dice.choice(["Negotiate", "Negotiate", "Kerberos", "Basic"])
     blank = dice.choice([" ", " ", "\t", "", "\n"])

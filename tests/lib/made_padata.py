@@ -1,23 +1,27 @@
-"""Streams of messages whose pre-authentication data are made up, of other types, or damaged.
+"""Streams of messages whose pre-authentication data and data of errors are made up, of other types, or damaged.
 
 What is made follows the rules or nearly does, and all of it follows from the dice.
 """
+
+import struct
 
 from made_up import FAULTS, Maker, changed
 from reference.der import contents, der, length_octets
 from reference.grammar import INT32, MESSAGES, METHOD_DATA, OCTETS, PA_DATA
 from reference.inside import (
     ARMOR_AP_REQUEST,
+    ERROR_DATA,
+    EXTENDED,
     INSIDE,
     OF_OTHERS,
     OF_REQUESTS,
     PA_TGS_REQ,
-    PREAUTH_FAILED,
     PREAUTH_REQUIRED,
     SALT,
     value_of,
 )
 from reference.judging import whole
+from reference.registries import STATUSES
 
 # The types of the values of PA-DATA, with their numbers; that of FAST is another one in requests than in others.
 VALUES = [(number, item) for rows in (OF_REQUESTS, OF_OTHERS) for number, (item, _) in rows.items()]
@@ -43,17 +47,30 @@ class PaDataMaker(Maker):
         if self.dice.random() < 0.15:
             number = self.dice.choice(NUMBERS)
         if self.dice.random() < 0.1:
-            number, value = SALT, self.string()
+            number, value = SALT, self.dice.choice([self.string, self.extended_error])()
         for _ in range(self.dice.choice([0, 0, 0, 0, 0, 1])):
             value = changed(self.dice, value)
         return contents(PA_DATA, {"padata-type": number, "padata-value": value})
 
+    def extended_error(self):
+        """The octets of an extended error, or nearly."""
+        status = self.dice.choice([*STATUSES, self.dice.randint(0, 2**32 - 1)])
+        reserved = self.dice.choice([0, 0, 0, 1, 2**24])
+        octets = struct.pack("<3I", status, reserved, self.dice.choice([0, 1, 3]))
+        return octets[: self.dice.choice([12, 12, 12, 12, 11])]
+
     def has(self, field):
-        return self.dice.random() < (0.9 if field.name in ("padata", "e-data") else 0.5)
+        return self.dice.random() < (0.9 if field.name in ("padata", "e-data", "data-value") else 0.5)
 
     def field(self, field):
-        if field.name == "error-code" and self.dice.random() < 0.7:
-            return self.wrapped(field.item.tag, der(INT32, self.dice.choice([PREAUTH_FAILED, PREAUTH_REQUIRED])))
+        if field.name == "error-code" and self.dice.random() < 0.5:
+            return self.wrapped(field.item.tag, der(INT32, PREAUTH_REQUIRED))
+        if field.name == "e-data" and self.dice.random() < 0.9:
+            return self.wrapped(field.item.tag, self.wrapped(OCTETS.tag, self.item(self.dice.choice(ERROR_DATA)[0])))
+        if field.name == "data-type" and self.dice.random() < 0.6:
+            return self.wrapped(field.item.tag, der(INT32, EXTENDED))
+        if field.name == "data-value" and self.dice.random() < 0.8:
+            return self.wrapped(field.item.tag, self.wrapped(OCTETS.tag, self.extended_error()))
         if field.name == "padata" and self.dice.random() < 0.7:
             return self.wrapped(field.item.tag, self.item(METHOD_DATA))
         if field.name == "armor-type" and self.dice.random() < 0.8:

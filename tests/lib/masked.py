@@ -2,8 +2,8 @@
 has to stay as it is."""
 
 from reference.der import der
-from reference.grammar import CHECKSUM, ENCRYPTED_DATA, MESSAGES, METHOD_DATA, PA_DATA, ListOf, Sequence, Tagged
-from reference.inside import ARMOR_AP_REQUEST, FAST_ARMOR, OF_OTHERS, OF_REQUESTS, PA_TGS_REQ, SALT, value_of
+from reference.grammar import CHECKSUM, ENCRYPTED_DATA, MESSAGES, PA_DATA, ListOf, Sequence, Tagged
+from reference.inside import ARMOR_AP_REQUEST, ERROR_DATA, FAST_ARMOR, OF_OTHERS, OF_REQUESTS, PA_TGS_REQ, SALT, value_of
 
 REQUESTS = ("AS-REQ", "TGS-REQ")
 
@@ -54,6 +54,14 @@ def masked(item, value, rows):
             return value
 
 
+def masked_data(octets, rows):
+    """The data of an error: of METHOD-DATA the values are masked, and what is of no type is zeros."""
+    for item, _ in ERROR_DATA:
+        if value_of(item, octets) is not None:
+            return masked_octets(item, octets, rows)
+    return zeros(octets)
+
+
 def masked_message(kind, value):
     """The octets of a message of a kind, masked."""
     rows = OF_REQUESTS if kind in REQUESTS else OF_OTHERS
@@ -61,5 +69,5 @@ def masked_message(kind, value):
     if kind == "KRB-SAFE":
         found["safe-body"]["user-data"] = zeros(found["safe-body"]["user-data"])
     if "e-data" in value:
-        found["e-data"] = masked_octets(METHOD_DATA, value["e-data"], rows)
+        found["e-data"] = masked_data(value["e-data"], rows)
     return der(MESSAGES[kind], found)

@@ -4,13 +4,13 @@ A table is one of the kinds that the heading before it names, or has the kind of
 Each of its rows has fields and their values, and a kind may have several tables: the end of a stream and that of
 a keytab have other fields. The table of the heading Origin has the fields that come before those of its kind in a
 record of a capture, and that of the heading What a message is in those of an input of `message`, if they are there.
-The kinds of the heading What is inside are those of records inside of others, and of these alone.
+The kinds of the headings What is inside and What is inside of errors are those of records inside of others, and of these alone.
 """
 
 import pathlib
 import re
 
-INSIDE = "What is inside"
+INSIDE = ("What is inside", "What is inside of errors")
 LISTING = pathlib.Path(__file__).resolve().parents[2] / "docs/LISTING.md"
 QUOTED = re.compile(r"`([^`]+)`")
 LINK = re.compile(r"\[([^]]*)\]\([^)]*\)")
@@ -64,6 +64,7 @@ SHAPES = {
     "count": is_number,
     "named number": is_number,
     "code": is_number,
+    "status": spelled("[0-9a-f]{8}"),
     "reason": is_number,
     "list": list_of(is_number),
     "string": is_text,
@@ -95,6 +96,7 @@ SHAPES = {
 SECOND_MEMBERS = {
     "named number": ("_name", is_name),
     "code": ("_name", is_name),
+    "status": ("_name", is_name),
     "reason": ("_name", is_name),
     "list": ("_names", list_of(is_name)),
 }
@@ -133,7 +135,7 @@ def kinds_of_records(is_inside):
     """The kinds of records inside of others, or of all else, each with the lists of fields that its records may have."""
     found, now = {}, []
     for heading, kinds, fields in tables():
-        if (heading == INSIDE) != is_inside:
+        if (heading in INSIDE) != is_inside:
             continue
         if kinds:
             now = []

@@ -1,6 +1,7 @@
 -- The listings that C is given: those of the commands.
 use Rattle.std.specs.Prelude.{ℕ, ◌≡◌, Bool, List, [], Option, Some}
 use Rattle.krb_der.specs.declared.profile.Profile.{Profile}
+use Rattle.krb_der.specs.declared.profile.Profile.TheVariants.{Lenient}
 use Rattle.krb_record.specs.declared.form.Form.{Form}
 use Rattle.krb_capture_run.specs.Captures.{capture_listing}
 use Rattle.krb_run.specs.Records.{RecordListing, text_of}
@@ -33,4 +34,4 @@ abbrev pub IsCcacheListing : Form → Option ℕ → List ℕ → List ℕ → R
 IsCcacheListing form now octets = IsRecords (ccache_listing form now octets)
 
 abbrev pub IsCaptureListing : Form → (limit port : ℕ) → List ℕ → List ℕ → RunEnd → Type 0
-IsCaptureListing form limit port octets = IsRecords (capture_listing (record { form = form; limit = limit; port = port }) octets)
+IsCaptureListing form limit port octets = IsRecords (capture_listing (record { form = form; profile = Lenient; limit = limit; port = port }) octets)

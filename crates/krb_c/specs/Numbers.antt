@@ -1,5 +1,5 @@
--- What the numbers mean with which C chooses. Each number is a choice.
-use Rattle.std.specs.Prelude.{ℕ, Bool, not, ◌==◌, ◌&&◌, nat_lt, if◌then◌else◌, ◌^◌, Option, Some, None}
+-- What the numbers mean with which C chooses, each of which is a choice, and the version that it is told.
+use Rattle.std.specs.Prelude.{ℕ, Bool, not, ◌+◌, ◌*◌, ◌==◌, ◌&&◌, nat_lt, if◌then◌else◌, ◌^◌, Option, Some, None}
 use Rattle.krb_der.specs.declared.profile.Profile.{Profile}
 use Rattle.krb_der.specs.declared.profile.Profile.TheVariants as profiles
 use Rattle.krb_record.specs.declared.form.Form.{Form}
@@ -28,3 +28,7 @@ now_of seconds = if seconds == 0 then None else Some seconds
 -- the port of KDCs; 0 is 88
 abbrev pub port_of : ℕ → ℕ
 port_of number = if number == 0 then 88 else number
+
+-- the version 1.0.0 as one number
+abbrev pub version : ℕ
+version = 65536 * 1 + 256 * 0 + 0

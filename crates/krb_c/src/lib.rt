@@ -11,4 +11,5 @@ mod judging;
 mod listing;
 mod numbers;
 mod paths;
+mod version;
 mod writing;

@@ -82,7 +82,15 @@ fn capture_listing(
 {
     let mut reader = octets;
     let mut text = Vec::new(alloc);
-    let end = run_capture(alloc, form, &mut reader, &mut text, limit, port)?;
+    let end = run_capture(
+        alloc,
+        form,
+        Profile::Lenient,
+        &mut reader,
+        &mut text,
+        limit,
+        port,
+    )?;
     Ok(Listing { text, end })
 }
 

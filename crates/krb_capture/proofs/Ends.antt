@@ -1,6 +1,7 @@
 -- What is listed at the end of a stream.
 use Rattle.std.proofs.Common.{◌≡◌, ℕ, Bool, true, false, List, [], Some, None, refl, sym, ◌∙◌, ap, ap₂, subst, append-nil}
 use Rattle.std.specs.Prelude.{Option, if◌then◌else◌}
+use Rattle.krb_der.specs.declared.profile.Profile.{Profile}
 use Rattle.krb_der.specs.declared.verdict.Refusal.{Refusal}
 use Rattle.krb_flow.specs.declared.stream.End.{End}
 use Rattle.krb_record.specs.declared.extent.Extent.{Extent}
@@ -20,11 +21,11 @@ use Rattle.krb_capture.proofs.PasswordEnds.{keeps-of}
 -- of a stream of which nothing more is passed over
 took-framed : (taker : Frames) (limit : ℕ) (stream : List ℕ) → Took taker limit stream → over_in taker ≡ false → (found : List Found) × (framed (service_of taker) limit stream ≡ before_frames found (no_frames (offset_in taker) (kept_in taker)))
 took-framed (frames.Messages taker) limit stream t e =
-    let w : WaitsWith taker stream = waits-of taker limit stream t e in
-    (entries_found 0 w.waits.before, framed-waiting limit taker.decoder stream w.waits t.limit_is ∙ ap (λ n. before_frames (entries_found 0 w.waits.before) (no_frames n taker.decoder.current.octets)) (sym w.offset))
+    let w : WaitsWith taker.decoder.current.profile taker stream = waits-of taker.decoder.current.profile taker limit stream t e in
+    (entries_found taker.decoder.current.profile 0 w.waits.before, framed-waiting taker.decoder.current.profile limit taker.decoder stream w.waits t.limit_is ∙ ap (λ n. before_frames (entries_found taker.decoder.current.profile 0 w.waits.before) (no_frames n taker.decoder.current.octets)) (sym w.offset))
 took-framed (frames.Passwords taker) limit stream t e =
-    let k : Keeps taker stream = keeps-of taker limit stream t e in
-    (k.before, ap (λ n. passwords n stream) (sym t.limit_is) ∙ keeps-framed taker stream k)
+    let k : Keeps taker stream = keeps-of taker.profile taker limit stream t e in
+    (k.before, ap (λ n. passwords taker.profile n stream) (sym t.limit_is) ∙ keeps-framed taker stream k)
 
 -- the octets of the frame that is not whole
 kept-is : (taker : Frames) (limit : ℕ) (stream : List ℕ) → Took taker limit stream → over_in taker ≡ false → kept_in taker ≡ (framed (service_of taker) limit stream).partial
@@ -36,8 +37,8 @@ offset-in-is taker limit stream t e = ap (λ (f : Framed). f.offset) (sym (took-
 
 -- whether all that follows is passed over
 took-over : (taker : Frames) (limit : ℕ) (stream : List ℕ) → Took taker limit stream → over_in taker ≡ true → IsOver (service_of taker) limit stream
-took-over (frames.Messages taker) limit stream t e = subst (λ b. WaitsUnless b taker limit stream) e t.state
-took-over (frames.Passwords taker) limit stream t e = subst (λ n. IsOver services.Passwords n stream) t.limit_is (subst (λ b. KeepsUnless b taker stream) e t.state)
+took-over (frames.Messages taker) limit stream t e = subst (λ b. WaitsUnless b taker.decoder.current.profile taker limit stream) e t.state
+took-over (frames.Passwords taker) limit stream t e = subst (λ n. IsOver (services.Passwords taker.profile) n stream) t.limit_is (subst (λ b. KeepsUnless b taker stream) e t.state)
 
 over-is : (taker : Frames) (limit : ℕ) (stream : List ℕ) → Took taker limit stream → over_in taker ≡ (framed (service_of taker) limit stream).over
 over-is taker limit stream t = by (over_in taker) refl
@@ -68,21 +69,21 @@ ListsCut taker origin before after = (limit : ℕ) (stream : List ℕ) → Took 
 
 -- why it is refused, if it is
 abbrev pub IsCut : PasswordFrames → Option Refusal → Type 0
-IsCut inner found = (limit : ℕ) (stream : List ℕ) → TookPasswords inner limit stream → inner.is_over ≡ false → found ≡ cut_refusal inner.octets.items
+IsCut inner found = (profile : Profile) (limit : ℕ) (stream : List ℕ) → TookPasswords profile inner limit stream → inner.is_over ≡ false → found ≡ cut_refusal inner.octets.items
 
 pub no_cut-listed : (taker : Frames) (inner : PasswordFrames) (found : Option Refusal) (origin : CaptureOrigin) (w : Written) → taker ≡ frames.Passwords inner → ((refusal : Refusal) → found ≡ Some refusal → ⊥) → IsCut inner found → ListsCut taker origin w w
 no_cut-listed taker inner found origin w e never f =
     subst (λ t. ListsCut t origin w w) (sym e)
-    (λ limit stream t o. ap (λ x. with_all origin (refusal_found services.Passwords inner.offset inner.octets.items x) w) (sym (none found never) ∙ f limit stream t o))
+    (λ limit stream t o. ap (λ x. with_all origin (refusal_found (services.Passwords inner.profile) inner.offset inner.octets.items x) w) (sym (none found never) ∙ f inner.profile limit stream t o))
   where
     none : (o : Option Refusal) → ((refusal : Refusal) → o ≡ Some refusal → ⊥) → o ≡ None
     none None never = refl
     none (Some refusal) never = absurd (never refusal refl)
 
-pub cut-listed : (taker : Frames) (inner : PasswordFrames) (found : Option Refusal) (refusal : Refusal) (path : Option (List ℕ)) (extent : Extent) (origin : CaptureOrigin) (before after : Written) → taker ≡ frames.Passwords inner → found ≡ Some refusal → path ≡ open_path services.Passwords inner.octets.items → extent ≡ extent_at inner.offset inner.octets.items → IsCut inner found → after ≡ with_found origin (Faulty refusal path extent) before → ListsCut taker origin before after
+pub cut-listed : (taker : Frames) (inner : PasswordFrames) (found : Option Refusal) (refusal : Refusal) (path : Option (List ℕ)) (extent : Extent) (origin : CaptureOrigin) (before after : Written) → taker ≡ frames.Passwords inner → found ≡ Some refusal → path ≡ open_path (services.Passwords inner.profile) inner.octets.items → extent ≡ extent_at inner.offset inner.octets.items → IsCut inner found → after ≡ with_found origin (Faulty refusal path extent) before → ListsCut taker origin before after
 cut-listed taker inner found refusal path extent origin before after e n p x f l =
     subst (λ t. ListsCut t origin before after) (sym e)
     (λ limit stream t o.
     l
     ∙ ap₂ (λ q k. with_found origin (Faulty refusal q k) before) p x
-    ∙ ap (λ y. with_all origin (refusal_found services.Passwords inner.offset inner.octets.items y) before) (sym n ∙ f limit stream t o))
+    ∙ ap (λ y. with_all origin (refusal_found (services.Passwords inner.profile) inner.offset inner.octets.items y) before) (sym n ∙ f inner.profile limit stream t o))

@@ -1,5 +1,5 @@
 -- What a capture keeps after what is found is listed.
-use Rattle.std.proofs.Common.{◌≡◌, ◌⊎◌, inl, inr, ℕ, List, [], ◌∷◌, ◌++◌, Option, Some, None, Box, refl, sym, ◌∙◌, ap, subst, append_assoc, append-nil}
+use Rattle.std.proofs.Common.{◌≡◌, ◌⊎◌, inl, inr, ℕ, List, [], ◌∷◌, ◌++◌, Option, Some, None, Box, refl, sym, ◌∙◌, ap, ap₂, subst, append_assoc, append-nil}
 use Rattle.std.specs.declared.alloc.Global.{Global}
 use Rattle.krb_packet.specs.Fragments.{unread}
 use Rattle.krb_packet.specs.declared.contents.Contents.{Contents}
@@ -12,7 +12,7 @@ use Rattle.krb_record.specs.declared.form.Form.{Form}
 use Rattle.krb_record.specs.declared.capture_origin.CaptureOrigin.{CaptureOrigin}
 use Rattle.krb_record.specs.declared.flow.Transport.TheVariants as transports
 use Rattle.krb_capture.specs.Captures.{Finding, HasEnded, HasFollowed, Progress, Settings, Taken, all_counts, and_counted, contents_taken, nothing_in, whole_taken, counted_each, datagram_taken, end_taken, lines_of, over_tcp, over_udp, segment_taken, unread_taken, with_each}
-use Rattle.krb_capture.specs.Datagrams.{datagram_found}
+use Rattle.krb_capture.specs.Datagrams.{all_found}
 use Rattle.krb_capture.specs.Directions.{HoldsTable, followed, last_of}
 use Rattle.krb_capture.specs.Flows.{origin_of, service_of}
 use Rattle.krb_capture.specs.Found.{IsFullIf, Written, counted, totals, with_all}
@@ -56,7 +56,7 @@ lists-whole new settings taken before after h e = record {
   left = [];
   parts = sym (append-nil taken.found);
   text = e;
-  followed = record { port = h.port; form = h.form; fragments = h.fragments; table = (h.table, refl); last = h.last; counts = h.counts };
+  followed = record { profile = h.profile; port = h.port; form = h.form; fragments = h.fragments; table = (h.table, refl); last = h.last; counts = h.counts };
   full = tt;
 }
 
@@ -65,8 +65,8 @@ counted-append [] ys counts = refl
 counted-append (x ∷ xs) ys counts = counted-append xs ys (counted x.1 counts)
 
 -- findings are listed, and others are left
-pub lists-found : (old new : Capture) (settings : Settings) (progress : Progress) (rest : Option (Box Rest Global)) (found : List Finding) (before after : List ℕ) (name : ℕ) (written : Written) → Follows new.directions settings.limit progress.table progress.last rest found (lent old before name) written → IsBack new written after → old.listing.form ≡ settings.form → counted_each found old.listing.counts ≡ progress.counts → new.port ≡ settings.port → new.fragments ≡ progress.fragments → new.last ≡ progress.last → Lists new settings (record { found = found; progress = progress }) rest before after
-lists-found old new settings progress rest found before after name written f b o c p g l =
+pub lists-found : (old new : Capture) (settings : Settings) (progress : Progress) (rest : Option (Box Rest Global)) (found : List Finding) (before after : List ℕ) (name : ℕ) (written : Written) → Follows new.directions settings.limit progress.table progress.last rest found (lent old before name) written → IsBack new written after → old.listing.form ≡ settings.form → counted_each found old.listing.counts ≡ progress.counts → new.profile ≡ settings.profile → new.port ≡ settings.port → new.fragments ≡ progress.fragments → new.last ≡ progress.last → Lists new settings (record { found = found; progress = progress }) rest before after
+lists-found old new settings progress rest found before after name written f b o c q p g l =
     let s = steps old new f.listed before after name written f.written b in
     record {
       listed = f.listed;
@@ -75,6 +75,7 @@ lists-found old new settings progress rest found before after name written f b o
       text = s.text ∙ ap (λ x. before ++ lines_of x f.listed) o;
       full = subst (λ t. IsFullIf rest t) (sym b.is) f.full;
       followed = record {
+        profile = q;
         port = p;
         form = s.form ∙ o;
         fragments = g;
@@ -89,19 +90,19 @@ lists-found old new settings progress rest found before after name written f b o
     }
 
 -- with a datagram
-pub datagram-lists : (old new : Capture) (settings : Settings) (progress : Progress) (service : Service) (datagram : Datagram) (origin : CaptureOrigin) (before after : List ℕ) (name : ℕ) (written : Written) → HasFollowed old settings progress → service_of old.port datagram.source datagram.target ≡ Some service → origin ≡ origin_of old.last transports.Udp datagram.source datagram.target → written ≡ with_all origin (datagram_found service datagram.payload) (lent old before name) → IsBack new written after → new.port ≡ old.port → new.fragments ≡ old.fragments → new.directions ≡ old.directions → new.last ≡ old.last → Lists new settings (and_counted (datagram_taken (service_of settings.port datagram.source datagram.target) datagram progress)) None before after
-datagram-lists old new settings progress service datagram origin before after name written h s o e b p g d l =
-    let found = over_udp progress.last datagram (datagram_found service datagram.payload) in
+pub datagram-lists : (old new : Capture) (settings : Settings) (progress : Progress) (service : Service) (datagram : Datagram) (origin : CaptureOrigin) (before after : List ℕ) (name : ℕ) (written : Written) → HasFollowed old settings progress → service_of old.profile old.port datagram.source datagram.target ≡ Some service → origin ≡ origin_of old.last transports.Udp datagram.source datagram.target → written ≡ with_all origin (all_found service datagram) (lent old before name) → IsBack new written after → new.profile ≡ old.profile → new.port ≡ old.port → new.fragments ≡ old.fragments → new.directions ≡ old.directions → new.last ≡ old.last → Lists new settings (and_counted (datagram_taken (service_of settings.profile settings.port datagram.source datagram.target) datagram progress)) None before after
+datagram-lists old new settings progress service datagram origin before after name written h s o e b q p g d l =
+    let found = over_udp progress.last datagram (all_found service datagram) in
     let follows : Follows new.directions settings.limit progress.table progress.last None found (lent old before name) written = record {
       listed = found;
       left = [];
       parts = sym (append-nil found);
-      written = e ∙ ap (λ x. with_all x (datagram_found service datagram.payload) (lent old before name)) (o ∙ ap (λ x. origin_of x transports.Udp datagram.source datagram.target) h.last) ∙ sym (with_each-datagram progress.last datagram (datagram_found service datagram.payload) (lent old before name));
+      written = e ∙ ap (λ x. with_all x (all_found service datagram) (lent old before name)) (o ∙ ap (λ x. origin_of x transports.Udp datagram.source datagram.target) h.last) ∙ sym (with_each-datagram progress.last datagram (all_found service datagram) (lent old before name));
       holds = (subst (λ x. HoldsTable x settings.limit progress.table) (sym d) h.table, refl);
       full = tt;
     } in
-    subst (λ x. Lists new settings (and_counted (datagram_taken x datagram progress)) None before after) (sym (ap (λ n. service_of n datagram.source datagram.target) (sym h.port) ∙ s))
-    (lists-found old new settings (record progress { counts = counted_each found progress.counts }) None found before after name written follows b h.form (ap (λ x. counted_each found x) h.counts) (p ∙ h.port) (g ∙ h.fragments) (l ∙ h.last))
+    subst (λ x. Lists new settings (and_counted (datagram_taken x datagram progress)) None before after) (sym (ap₂ (λ m n. service_of m n datagram.source datagram.target) (sym h.profile) (sym h.port) ∙ s))
+    (lists-found old new settings (record progress { counts = counted_each found progress.counts }) None found before after name written follows b h.form (ap (λ x. counted_each found x) h.counts) (q ∙ h.profile) (p ∙ h.port) (g ∙ h.fragments) (l ∙ h.last))
 
 -- what is all there, or nothing that can be listed
 pub contents-whole : (settings : Settings) (contents : Contents) (progress : Progress) → ((fragment : Fragment) → contents ≡ kinds.Fragment fragment → ⊥) → contents_taken settings contents progress ≡ whole_taken settings contents progress
@@ -117,17 +118,17 @@ passed-over settings contents progress (inl e) = ap (λ x. whole_taken settings 
 passed-over settings contents progress (inr e) = ap (λ x. whole_taken settings x progress) e
 
 -- what is found with a segment
-pub segment-lists : (old new : Capture) (settings : Settings) (progress : Progress) (service : Service) (segment : Segment) (rest : Option (Box Rest Global)) (before after : List ℕ) (name : ℕ) (written : Written) → HasFollowed old settings progress → service_of old.port segment.source segment.target ≡ Some service → Follows new.directions settings.limit (followed settings.limit old.last.packet service segment progress.table).table old.last rest (over_tcp old.last (followed settings.limit old.last.packet service segment progress.table).found) (lent old before name) written → IsBack new written after → new.port ≡ old.port → new.fragments ≡ old.fragments → new.last ≡ old.last → Lists new settings (and_counted (segment_taken settings.limit (service_of settings.port segment.source segment.target) segment progress)) rest before after
-segment-lists old new settings progress service segment rest before after name written h s f b p g l =
+pub segment-lists : (old new : Capture) (settings : Settings) (progress : Progress) (service : Service) (segment : Segment) (rest : Option (Box Rest Global)) (before after : List ℕ) (name : ℕ) (written : Written) → HasFollowed old settings progress → service_of old.profile old.port segment.source segment.target ≡ Some service → Follows new.directions settings.limit (followed settings.limit old.last.packet service segment progress.table).table old.last rest (over_tcp old.last (followed settings.limit old.last.packet service segment progress.table).found) (lent old before name) written → IsBack new written after → new.profile ≡ old.profile → new.port ≡ old.port → new.fragments ≡ old.fragments → new.last ≡ old.last → Lists new settings (and_counted (segment_taken settings.limit (service_of settings.profile settings.port segment.source segment.target) segment progress)) rest before after
+segment-lists old new settings progress service segment rest before after name written h s f b q p g l =
     let found = over_tcp progress.last (followed settings.limit progress.last.packet service segment progress.table).found in
     let follows = subst (λ x. Follows new.directions settings.limit (followed settings.limit x.packet service segment progress.table).table x rest (over_tcp x (followed settings.limit x.packet service segment progress.table).found) (lent old before name) written) h.last f in
-    subst (λ x. Lists new settings (and_counted (segment_taken settings.limit x segment progress)) rest before after) (sym (ap (λ n. service_of n segment.source segment.target) (sym h.port) ∙ s))
-    (lists-found old new settings (record progress { table = (followed settings.limit progress.last.packet service segment progress.table).table; counts = counted_each found progress.counts }) rest found before after name written follows b h.form (ap (λ x. counted_each found x) h.counts) (p ∙ h.port) (g ∙ h.fragments) (l ∙ h.last))
+    subst (λ x. Lists new settings (and_counted (segment_taken settings.limit x segment progress)) rest before after) (sym (ap₂ (λ m n. service_of m n segment.source segment.target) (sym h.profile) (sym h.port) ∙ s))
+    (lists-found old new settings (record progress { table = (followed settings.limit progress.last.packet service segment progress.table).table; counts = counted_each found progress.counts }) rest found before after name written follows b h.form (ap (λ x. counted_each found x) h.counts) (q ∙ h.profile) (p ∙ h.port) (g ∙ h.fragments) (l ∙ h.last))
 
 -- others of those that are left were listed
-pub lists-rest : (old new : Capture) (settings : Settings) (progress : Progress) (rest : Box Rest Global) (next : Option (Box Rest Global)) (left : List Finding) (before after : List ℕ) (name : ℕ) (written : Written) → HasFollowedBut old settings progress (Some rest) left → Follows new.directions settings.limit progress.table old.last next left (lent old before name) written → IsBack new written after → new.port ≡ old.port → new.fragments ≡ old.fragments → new.last ≡ old.last → Lists new settings (record { found = left; progress = progress }) next before after
-lists-rest old new settings progress rest next left before after name written h f b p g l =
-    lists-found old new settings progress next left before after name written (subst (λ x. Follows new.directions settings.limit progress.table x next left (lent old before name) written) h.last f) b h.form h.counts (p ∙ h.port) (g ∙ h.fragments) (l ∙ h.last)
+pub lists-rest : (old new : Capture) (settings : Settings) (progress : Progress) (rest : Box Rest Global) (next : Option (Box Rest Global)) (left : List Finding) (before after : List ℕ) (name : ℕ) (written : Written) → HasFollowedBut old settings progress (Some rest) left → Follows new.directions settings.limit progress.table old.last next left (lent old before name) written → IsBack new written after → new.profile ≡ old.profile → new.port ≡ old.port → new.fragments ≡ old.fragments → new.last ≡ old.last → Lists new settings (record { found = left; progress = progress }) next before after
+lists-rest old new settings progress rest next left before after name written h f b q p g l =
+    lists-found old new settings progress next left before after name written (subst (λ x. Follows new.directions settings.limit progress.table x next left (lent old before name) written) h.last f) b h.form h.counts (q ∙ h.profile) (p ∙ h.port) (g ∙ h.fragments) (l ∙ h.last)
 
 -- a header that is not read lists nothing
 pub unread-listed : (service : Option Service) (form : Form) (progress : Progress) (text : List ℕ) → text ≡ text ++ lines_of form (unread_taken service progress).found

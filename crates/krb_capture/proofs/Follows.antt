@@ -1,17 +1,19 @@
 -- Directions of which one has a segment that is not listed to its end.
-use Rattle.std.proofs.Common.{◌≡◌, ℕ, Bool, true, false, List, [], ◌++◌, Option, Some, None, Box, Result, Ok, Err, IfOk, refl, sym, ◌∙◌, ap, subst, append_assoc}
+use Rattle.std.proofs.Common.{◌≡◌, ℕ, Bool, true, false, List, [], ◌++◌, Option, Some, None, Box, Result, Ok, Err, IfOk, refl, sym, ◌∙◌, ap, subst, append_assoc, append-nil}
 use Rattle.std.specs.declared.alloc.Global.{Global}
 use Rattle.std.specs.BTreeMap.{insert_entry, is_at}
 use Rattle.std.specs.Prelude.{if◌then◌else◌, is_some}
 use Rattle.std.specs.Map.{lookup}
 use Rattle.std.proofs.lemmas.List.{map-append}
+use Rattle.krb_packet.specs.declared.contents.Segment.{Segment}
+use Rattle.krb_flow.specs.Unread.{of_reset}
 use Rattle.krb_record.specs.declared.flow.Transport.TheVariants as transports
 use Rattle.krb_capture.specs.Captures.{Finding, over_tcp, with_each}
-use Rattle.krb_capture.specs.Directions.{Followed, HoldsMaps, IsKnown, Table, active_with, after_found, ended_with, flow_cmp, in_flow, kept, nothing_found}
+use Rattle.krb_capture.specs.Directions.{Followed, HoldsMaps, IsKnown, Table, active_with, after_found, ended_with, flow_cmp, flow_of, in_flow, kept, nothing_found, passed_over}
 use Rattle.krb_capture.specs.Flows.{origin_of}
-use Rattle.krb_capture.specs.Found.{Found, IsFullIf, Written}
+use Rattle.krb_capture.specs.Found.{Found, IsFullIf, Written, with_all}
 use Rattle.krb_capture.specs.Rests.{Follows, HoldsSome, RepresentsBut, Sends, TookSome}
-use Rattle.krb_capture.specs.Sending.{Sent, Represents}
+use Rattle.krb_capture.specs.Sending.{Sent, Represents, unread_found}
 use Rattle.krb_capture.specs.Unlisted.{Unlisted}
 use Rattle.krb_capture.specs.declared.directions.Directions.{Directions}
 use Rattle.krb_capture.specs.declared.directions.Last.{Last}
@@ -21,7 +23,7 @@ use Rattle.krb_capture.specs.declared.flow.Flow.{Flow}
 use Rattle.krb_capture.specs.declared.sending.Sending.{Sending}
 use Rattle.krb_capture.specs.declared.sending.Step.{Step}
 use Rattle.krb_capture.proofs.Tables.{holds-none}
-use Rattle.krb_capture.proofs.Written.{flow-found, over_tcp-append, with_each-append}
+use Rattle.krb_capture.proofs.Written.{flow-found, over_tcp-append, with_each-append, with_each-flow}
 
 -- ---- a direction that is kept
 pub kept-same : (d : Directions) (limit : ℕ) (due : Due) (rest : Option (Box Rest Global)) (left : List Finding) (flow flow' : Flow) (number number' : ℕ) (step step' : Step) (sent : Sent) (table : Table) → flow ≡ flow' → number ≡ number' → step ≡ step' → HoldsSome d limit (kept flow number step sent table) due rest left → HoldsSome d limit (kept flow' number' step' sent table) due rest left
@@ -76,6 +78,19 @@ pub follows-none : (d : Directions) (limit : ℕ) (due : Due) (followed : Follow
 follows-none d limit due followed table written e n h =
     subst (λ f. Follows d limit f.table due None (over_tcp due f.found) written written) (sym e)
     (record { listed = []; left = []; parts = refl; written = refl; holds = (holds-none d limit table n h, refl); full = tt })
+
+-- or the octets of a segment that begins nothing
+pub follows-passed : (d : Directions) (limit : ℕ) (due : Due) (followed : Followed) (segment : Segment) (table : Table) (before after : Written) → followed ≡ passed_over segment table → d.last ≡ None → HoldsMaps d limit table → after ≡ with_all (origin_of due transports.Tcp segment.source segment.target) (unread_found (of_reset segment)) before → Follows d limit followed.table due None (over_tcp due followed.found) before after
+follows-passed d limit due followed segment table before after e n h w =
+    subst (λ f. Follows d limit f.table due None (over_tcp due f.found) before after) (sym e)
+    (record {
+      listed = over_tcp due (in_flow (flow_of segment) (unread_found (of_reset segment)));
+      left = [];
+      parts = sym (append-nil (over_tcp due (in_flow (flow_of segment) (unread_found (of_reset segment)))));
+      written = w ∙ sym (with_each-flow due (flow_of segment) (unread_found (of_reset segment)) before);
+      holds = (holds-none d limit table n h, refl);
+      full = tt;
+    })
 
 -- ---- after what was found before
 pub follows-after : (d : Directions) (limit : ℕ) (due : Due) (rest : Option (Box Rest Global)) (room : List (Flow × Found)) (begun : Followed) (l0 l1 l2 : Written) → l1 ≡ with_each (over_tcp due room) l0 → Follows d limit begun.table due rest (over_tcp due begun.found) l1 l2 → Follows d limit (after_found room begun).table due rest (over_tcp due (after_found room begun).found) l0 l2

@@ -4,7 +4,7 @@ use Rattle.std.specs.Prelude.{Option, pos, codes, nat_lt, ◌==◌, if◌then◌
 use Rattle.std.proofs.lemmas.Bool.{cases_lt, lt-ltb}
 use Rattle.krb_der.specs.Octets.{number}
 use Rattle.krb_der.specs.Reasons.{reason_number, reason_name}
-use Rattle.krb_der.specs.declared.profile.Profile.TheVariants.{Lenient}
+use Rattle.krb_der.specs.declared.profile.Profile.{Profile}
 use Rattle.krb_der.specs.declared.verdict.Refusal.{Refusal}
 use Rattle.krb_der.specs.declared.verdict.Verdict.{Verdict}
 use Rattle.krb_der.specs.declared.verdict.Verdict.TheVariants as verdict
@@ -46,14 +46,14 @@ chosen_few false false first second v r f s few e = refused_few v r (few refl) e
 no_true : true ≡ false → ⊥
 no_true e = cc
 
-pub place_few : (octets : List ℕ) (r : Refusal) → refusal_of Lenient octets ≡ Some r → r.place < 2 ^ 31
-place_few octets r e =
-    chosen_few (nat_lt 2147483647 (length octets)) (length octets == 0) (record { place = 0; why = why.TooLong }) (record { place = 0; why = why.Empty }) (judgement Lenient (length octets) octets) r refl refl few e
+pub place_few : (profile : Profile) (octets : List ℕ) (r : Refusal) → refusal_of profile octets ≡ Some r → r.place < 2 ^ 31
+place_few profile octets r e =
+    chosen_few (nat_lt 2147483647 (length octets)) (length octets == 0) (record { place = 0; why = why.TooLong }) (record { place = 0; why = why.Empty }) (judgement profile (length octets) octets) r refl refl few e
   where
-    few : nat_lt 2147483647 (length octets) ≡ false → (p : Refusal) → judgement Lenient (length octets) octets ≡ verdict.Refused p → p.place < 2 ^ 31
+    few : nat_lt 2147483647 (length octets) ≡ false → (p : Refusal) → judgement profile (length octets) octets ≡ verdict.Refused p → p.place < 2 ^ 31
     few s p j = elim (cases_lt 2147483647 (length octets)) [
       | inl h ↦ absurd (no_true (sym (lt-ltb 2147483647 (length octets) h) ∙ s))
-      | inr h ↦ omega (arith, h, (refusal_is_final (messages Lenient) (length octets) octets p.place p.why (omega arith) j).within)
+      | inr h ↦ omega (arith, h, (refusal_is_final (messages profile) (length octets) octets p.place p.why (omega arith) j).within)
     ]
 
 -- ---- paths
@@ -62,9 +62,9 @@ none_either : (b : Bool) → ◌≡◌ {A = Option (List ℕ)} (if b then None e
 none_either true = refl
 none_either false = refl
 
-pub no_path : (octets : List ℕ) → drop 4 octets ≡ [] → frame_path octets ≡ None
+pub no_path : (profile : Profile) (octets : List ℕ) → drop 4 octets ≡ [] → frame_path profile octets ≡ None
 unfolding path_of
-no_path octets e = ap (λ l. if nat_lt most_octets (number (take 4 octets)) then None else message_path Lenient (number (take 4 octets)) l) e ∙ none_either (nat_lt most_octets (number (take 4 octets)))
+no_path profile octets e = ap (λ l. if nat_lt most_octets (number (take 4 octets)) then None else message_path profile (number (take 4 octets)) l) e ∙ none_either (nat_lt most_octets (number (take 4 octets)))
 
 -- paths that a form shows as the same
 pub same_path : (origin : CaptureOrigin) (refusal : Refusal) (p q : Option (List ℕ)) (extent : Extent) (w : Written) → path_in w.form p ≡ path_in w.form q → with_found origin (Faulty refusal p extent) w ≡ with_found origin (Faulty refusal q extent) w
@@ -72,8 +72,8 @@ same_path origin refusal p q extent w e =
     ap
     (λ (fields : List Field). record w { text = w.text ++ captured_line w.form origin (printed (codes "refused") (the (codes "place") (Number (pos refusal.place)) ∷ the (codes "why") (Reason (reason_number refusal.why) (reason_name refusal.why)) ∷ (fields ++ extent_in w.form extent))); counts = counted (Faulty refusal p extent) w.counts }) e
 
-pub refused_listed : (origin : CaptureOrigin) (refusal : Refusal) (offset : ℕ) (octets : List ℕ) (form : Form) (shown path : Option (List ℕ)) (extent : Extent) (before after : Written) → form ≡ before.form → path_in form shown ≡ path_in form (frame_path octets) → path ≡ shown → extent ≡ extent_at offset octets → after ≡ with_found origin (Faulty refusal path extent) before → after ≡ with_found origin (entry_found offset (Fault refusal.place refusal.why octets)) before
-refused_listed origin refusal offset octets form shown path extent before after f e p x l =
+pub refused_listed : (profile : Profile) (origin : CaptureOrigin) (refusal : Refusal) (offset : ℕ) (octets : List ℕ) (form : Form) (shown path : Option (List ℕ)) (extent : Extent) (before after : Written) → form ≡ before.form → path_in form shown ≡ path_in form (frame_path profile octets) → path ≡ shown → extent ≡ extent_at offset octets → after ≡ with_found origin (Faulty refusal path extent) before → after ≡ with_found origin (entry_found profile offset (Fault refusal.place refusal.why octets)) before
+refused_listed profile origin refusal offset octets form shown path extent before after f e p x l =
     l
     ∙ ap₂ (λ q k. with_found origin (Faulty refusal q k) before) p x
-    ∙ same_path origin refusal shown (frame_path octets) (extent_at offset octets) before (ap (λ n. path_in n shown) (sym f) ∙ e ∙ ap (λ n. path_in n (frame_path octets)) f)
+    ∙ same_path origin refusal shown (frame_path profile octets) (extent_at offset octets) before (ap (λ n. path_in n shown) (sym f) ∙ e ∙ ap (λ n. path_in n (frame_path profile octets)) f)

@@ -13,6 +13,7 @@ mod Parts
 mod Passed
 mod PasswordEnds
 pub mod Prefixes
+pub mod Read
 mod Rests
 mod Sendings
 pub mod Tables

@@ -17,13 +17,15 @@ use Rattle.krb_capture.specs.declared.message_frames.FrameLister.{FrameLister}
 pub record ListsEntries (old : FrameLister) (frames : List Entry) (new : FrameLister) : Type 0 where
   pub same : new.listing.ghost_name ≡ old.listing.ghost_name
   pub origin : new.origin ≡ old.origin
+  pub profile : new.profile ≡ old.profile
   pub offset : new.offset ≡ after_entries old.offset frames
-  pub listed : new.listing.now ≡ with_all old.origin.now (entries_found old.offset frames) old.listing.now
+  pub listed : new.listing.now ≡ with_all old.origin.now (entries_found old.profile old.offset frames) old.listing.now
 
 pub lists-entries : (old : FrameLister) (frames : List Entry) (new : FrameLister) → Received ListsEntry old frames new → ListsEntries old frames new
 lists-entries old [] new e = record {
   same = ap (λ (l : FrameLister). l.listing.ghost_name) e;
   origin = ap (λ (l : FrameLister). l.origin) e;
+  profile = ap (λ (l : FrameLister). l.profile) e;
   offset = ap (λ (l : FrameLister). l.offset) e;
   listed = ap (λ (l : FrameLister). l.listing.now) e;
 }
@@ -32,8 +34,9 @@ lists-entries old (x ∷ xs) new (between, first, others) =
     record {
       same = l.same ∙ first.same;
       origin = l.origin ∙ first.origin;
+      profile = l.profile ∙ first.profile;
       offset = l.offset ∙ ap (λ n. after_entries n xs) first.offset;
-      listed = l.listed ∙ (λ i. with_all (first.origin i).now (entries_found (first.offset i) xs) (first.listed i));
+      listed = l.listed ∙ (λ i. with_all (first.origin i).now (entries_found (first.profile i) (first.offset i) xs) (first.listed i));
     }
 
 pub piece-same : (IsFull : FrameLister → Type 0) (old new : Skipping) (octets : List ℕ) (start end : FrameLister) (d : Delivered) → DeliversPiece ListsEntry IsFull true old octets new start end d → end.listing.ghost_name ≡ start.listing.ghost_name

@@ -1,7 +1,7 @@
 -- What the frames of messages answer at the end.
 use Rattle.std.proofs.Common.{◌≡◌, ℕ, false, List, [], ◌∷◌, Some, refl, sym, ◌∙◌, ap, subst}
 use Rattle.std.specs.Result.{result_err}
-use Rattle.krb_der.specs.declared.profile.Profile.TheVariants.{Lenient}
+use Rattle.krb_der.specs.declared.profile.Profile.{Profile}
 use Rattle.krb_der.specs.declared.why.Why.TheVariants as why
 use Rattle.krb_msg.specs.Grammar.{messages}
 use Rattle.krb_msg.specs.Stream.{Frames, End, Boundary, Within, Refused, ends, frames}
@@ -15,25 +15,25 @@ use Rattle.krb_capture.specs.Taken.{TookMessages, Waits, WaitsUnless, WaitsWith}
 use Rattle.krb_capture.specs.declared.message_frames.MessageFrames.{MessageFrames}
 
 -- of a direction of which nothing came
-pub took-new : (decoder : Decoding) (s : Skipping) (limit looks : ℕ) (room : ℕ) → decoder ≡ record { profile = Lenient; limit = limit; octets = []; looks = looks; capacity = room } → s ≡ record { current = decoder; skipped = 0 } → (decoder.octets ≡ [] → GoesOn (messages decoder.profile) s [] []) → TookMessages (record { decoder = s; offset = 0; is_over = false }) limit []
-took-new decoder s limit looks room e f g =
+pub took-new : (profile : Profile) (decoder : Decoding) (s : Skipping) (limit looks : ℕ) (room : ℕ) → decoder ≡ record { profile = profile; limit = limit; octets = []; looks = looks; capacity = room } → s ≡ record { current = decoder; skipped = 0 } → (decoder.octets ≡ [] → GoesOn (messages decoder.profile) s [] []) → TookMessages profile (record { decoder = s; offset = 0; is_over = false }) limit []
+took-new profile decoder s limit looks room e f g =
     let same : s.current ≡ decoder = ap (λ (t : Skipping). t.current) f in
     record {
-      profile = ap (λ (d : Decoding). d.profile) (same ∙ e);
+      profile_is = ap (λ (d : Decoding). d.profile) (same ∙ e);
       limit_is = ap (λ (d : Decoding). d.limit) (same ∙ e);
       state = record {
         waits = record {
           before = [];
           done = tt;
           goes_on = subst (λ p. GoesOn (messages p) s [] []) (ap (λ (d : Decoding). d.profile) e) (g (ap (λ (d : Decoding). d.octets) e));
-          waits = ap (λ d. status_of (messages Lenient) d) (same ∙ e) ∙ more-nothing (messages Lenient) Lenient limit looks room;
+          waits = ap (λ d. status_of (messages profile) d) (same ∙ e) ∙ more-nothing (messages profile) profile limit looks room;
         };
         offset = refl;
       };
     }
 
-pub waits-of : (taker : MessageFrames) (limit : ℕ) (stream : List ℕ) → TookMessages taker limit stream → taker.is_over ≡ false → WaitsWith taker stream
-waits-of taker limit stream t e = subst (λ b. WaitsUnless b taker limit stream) e t.state
+pub waits-of : (profile : Profile) (taker : MessageFrames) (limit : ℕ) (stream : List ℕ) → TookMessages profile taker limit stream → taker.is_over ≡ false → WaitsWith profile taker stream
+waits-of profile taker limit stream t e = subst (λ b. WaitsUnless b profile taker limit stream) e t.state
 
 -- why it is refused
 cut_at : (octets : List ℕ) (f : Frames) → (octets ≡ [] → f ≡ ends Boundary) → AreOfOne octets f.contents f.end → status_at f.contents f.end ≡ status.More → result_err (finish_at f.end) ≡ cut_refusal octets
@@ -49,11 +49,11 @@ cut_at octets f nil one e = by octets f.contents f.end (λ z. ap (λ (g : Frames
     by (octet ∷ octets) [] (Within present) nil one e = ap (λ n. Some (record { place = n; why = why.Truncated })) (sym one)
     by octets [] (Refused place reason) nil one e = absurd cc
 
-pub cut-is : (s : Skipping) (stream : List ℕ) → Waits s stream → result_err (finish_of (messages Lenient) s.current) ≡ cut_refusal s.current.octets
+pub cut-is : (profile : Profile) (s : Skipping) (stream : List ℕ) → Waits profile s stream → result_err (finish_of (messages profile) s.current) ≡ cut_refusal s.current.octets
 unfolding found
-cut-is s stream w = cut_at s.current.octets (frames (messages Lenient) s.current.limit s.current.octets) (λ z. ap (frames (messages Lenient) s.current.limit) z ∙ frames-nil (messages Lenient) s.current.limit) w.goes_on.one w.waits
+cut-is profile s stream w = cut_at s.current.octets (frames (messages profile) s.current.limit s.current.octets) (λ z. ap (frames (messages profile) s.current.limit) z ∙ frames-nil (messages profile) s.current.limit) w.goes_on.one w.waits
 
-pub finish-is : (taker : MessageFrames) (limit : ℕ) (stream : List ℕ) → TookMessages taker limit stream → taker.is_over ≡ false → result_err (finish_of (messages taker.decoder.current.profile) taker.decoder.current) ≡ cut_refusal taker.decoder.current.octets
-finish-is taker limit stream t e =
-    ap (λ p. result_err (finish_of (messages p) taker.decoder.current)) t.profile
-    ∙ cut-is taker.decoder stream (waits-of taker limit stream t e).waits
+pub finish-is : (profile : Profile) (taker : MessageFrames) (limit : ℕ) (stream : List ℕ) → TookMessages profile taker limit stream → taker.is_over ≡ false → result_err (finish_of (messages taker.decoder.current.profile) taker.decoder.current) ≡ cut_refusal taker.decoder.current.octets
+finish-is profile taker limit stream t e =
+    ap (λ p. result_err (finish_of (messages p) taker.decoder.current)) t.profile_is
+    ∙ cut-is profile taker.decoder stream (waits-of profile taker limit stream t e).waits

@@ -1,10 +1,11 @@
 -- What is listed with a segment of a direction.
 use Rattle.std.proofs.Common.{◌≡◌, ℕ, List, ◌++◌, Option, sym, ◌∙◌, ap, append_assoc}
 use Rattle.krb_flow.specs.Directions.{Outcome}
+use Rattle.krb_flow.specs.declared.unread.Unread.{Unread as Octets}
 use Rattle.krb_record.specs.declared.capture_origin.CaptureOrigin.{CaptureOrigin}
 use Rattle.krb_capture.specs.Found.{Found, Written, with_all}
 use Rattle.krb_capture.specs.Rests.{Takes, TookSome, unlisted_found}
-use Rattle.krb_capture.specs.Sending.{beginning_found, end_if, outcome_found, stream_at}
+use Rattle.krb_capture.specs.Sending.{beginning_found, end_if, outcome_found, stream_at, unread_found}
 use Rattle.krb_capture.specs.Unlisted.{Unlisted}
 use Rattle.krb_capture.specs.declared.flow.Service.{Service}
 use Rattle.krb_capture.specs.declared.frames.Frames.{Frames}
@@ -16,32 +17,35 @@ abbrev pub octets_of : Outcome → Unlisted
 octets_of outcome = record { octets = outcome.octets; end = outcome.end }
 
 -- of what is found with a segment, the first findings were listed
-pub record ListsOutcome (new : Frames) (service : Service) (limit : ℕ) (stream : List ℕ) (outcome : Outcome) (rest : Option Unlisted) (origin : CaptureOrigin) (before after : Written) : Type 0 where
+pub record ListsOutcome (new : Frames) (service : Service) (limit : ℕ) (stream : List ℕ) (unread : Option Octets) (outcome : Outcome) (rest : Option Unlisted) (origin : CaptureOrigin) (before after : Written) : Type 0 where
   pub listed : List Found
   pub left : List Found
-  pub parts : outcome_found service limit stream outcome ≡ listed ++ left
+  pub parts : outcome_found service limit stream unread outcome ≡ listed ++ left
   pub written : after ≡ with_all origin listed before
   pub took : TookSome new limit (stream_at outcome.begins stream ++ outcome.octets) rest left
 
-pub outcome-listed : (origin : CaptureOrigin) (service : Service) (limit : ℕ) (stream : List ℕ) (outcome : Outcome) (rest : Option Unlisted) (f0 f1 f2 : Frames) (l0 l1 l2 l3 : Written)
+pub outcome-listed : (origin : CaptureOrigin) (service : Service) (limit : ℕ) (stream : List ℕ) (unread : Option Octets) (outcome : Outcome) (rest : Option Unlisted) (f0 f1 f2 : Frames) (l0 l1 l2 l3 l4 : Written)
     → service_of f0 ≡ service → service_of f1 ≡ service
     → l1 ≡ with_all origin (end_if (service_of f0) limit stream outcome.before) l0
     → l2 ≡ with_all origin (beginning_found outcome.begins) l1
-    → Takes f1 f2 limit (stream_at outcome.begins stream) (octets_of outcome) rest origin l2 l3
-    → ListsOutcome f2 service limit stream outcome rest origin l0 l3
-outcome-listed origin service limit stream outcome rest f0 f1 f2 l0 l1 l2 l3 s0 s1 h1 h2 t = record {
-  listed = before ++ (begun ++ t.listed);
+    → l3 ≡ with_all origin (unread_found unread) l2
+    → Takes f1 f2 limit (stream_at outcome.begins stream) (octets_of outcome) rest origin l3 l4
+    → ListsOutcome f2 service limit stream unread outcome rest origin l0 l4
+outcome-listed origin service limit stream unread outcome rest f0 f1 f2 l0 l1 l2 l3 l4 s0 s1 h1 h2 h3 t = record {
+  listed = before ++ (begun ++ (told ++ t.listed));
   left = t.left;
   parts =
-      ap (λ s. before ++ (begun ++ unlisted_found s limit (stream_at outcome.begins stream) (octets_of outcome))) (sym s1)
-      ∙ ap (λ z. before ++ (begun ++ z)) t.parts
-      ∙ ap (λ z. before ++ z) (sym (append_assoc begun t.listed t.left))
-      ∙ sym (append_assoc before (begun ++ t.listed) t.left);
+      ap (λ s. before ++ (begun ++ (told ++ unlisted_found s limit (stream_at outcome.begins stream) (octets_of outcome)))) (sym s1)
+      ∙ ap (λ z. before ++ (begun ++ (told ++ z))) t.parts
+      ∙ ap (λ z. before ++ (begun ++ z)) (sym (append_assoc told t.listed t.left))
+      ∙ ap (λ z. before ++ z) (sym (append_assoc begun (told ++ t.listed) t.left))
+      ∙ sym (append_assoc before (begun ++ (told ++ t.listed)) t.left);
   written =
       t.written
-      ∙ ap (λ l. with_all origin t.listed l) (h2 ∙ ap (λ l. with_all origin begun l) (h1 ∙ ap (λ s. with_all origin (end_if s limit stream outcome.before) l0) s0))
-      ∙ sym (with_all-append origin begun t.listed (with_all origin before l0))
-      ∙ sym (with_all-append origin before (begun ++ t.listed) l0);
+      ∙ ap (λ l. with_all origin t.listed l) (h3 ∙ ap (λ l. with_all origin told l) (h2 ∙ ap (λ l. with_all origin begun l) (h1 ∙ ap (λ s. with_all origin (end_if s limit stream outcome.before) l0) s0)))
+      ∙ sym (with_all-append origin told t.listed (with_all origin begun (with_all origin before l0)))
+      ∙ sym (with_all-append origin begun (told ++ t.listed) (with_all origin before l0))
+      ∙ sym (with_all-append origin before (begun ++ (told ++ t.listed)) l0);
   took = t.took;
 }
   where
@@ -50,3 +54,6 @@ outcome-listed origin service limit stream outcome rest f0 f1 f2 l0 l1 l2 l3 s0 
 
     begun : List Found
     begun = beginning_found outcome.begins
+
+    told : List Found
+    told = unread_found unread

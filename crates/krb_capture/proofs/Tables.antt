@@ -9,8 +9,11 @@ use Rattle.std.proofs.lemmas.Cmp.{nat_cmp_total, tied_itself}
 use Rattle.krb_capture.specs.contracts.flow.FlowOrd.TheImpl.Laws as flow_laws
 use Rattle.std.specs.Map.{lookup, remove_entry}
 use Rattle.std.specs.BTreeMap.{insert_entry, is_at}
-use Rattle.krb_capture.specs.Directions.{AllRepresented, HoldsMaps, HoldsTable, HoldsWith, IsAmong, IsKnown, Table, after_found, begins, begun, by_number, flow_cmp, flow_of, followed, forgotten, active_with, ended_with, gone_on, in_flow, kept, last_of, nothing_found, of_ended, of_known, with_one_less, with_room, without, Followed}
-use Rattle.krb_capture.specs.Sending.{Sent, Represents, last_found, sent_from, step_of}
+use Rattle.krb_capture.specs.Directions.{AllRepresented, HoldsMaps, HoldsTable, HoldsWith, IsAmong, IsKnown, Table, after_found, begins, begun, by_number, flow_cmp, flow_of, followed, forgotten, active_with, ended_with, gone_on, in_flow, kept, last_of, nothing_found, of_ended, of_known, passed_over, with_one_less, with_room, without, Followed}
+use Rattle.krb_capture.specs.Sending.{Sent, Represents, last_found, sent_from, step_of, unread_found}
+use Rattle.krb_der.specs.Octets.{when}
+use Rattle.krb_source.specs.declared.unread_why.UnreadWhy.TheVariants as why
+use Rattle.krb_flow.specs.Unread.{if_any}
 use Rattle.krb_flow.specs.declared.direction.State.{State}
 use Rattle.krb_flow.specs.declared.direction.State.TheVariants as states
 use Rattle.krb_flow.specs.declared.had.Had.{Had}
@@ -191,6 +194,17 @@ has-first limit table ks first others a e = by table.active refl (subst (λ l. A
 pub room-first : (limit : ℕ) (table : Table) (s : ℕ × Sent) (ss : List (ℕ × Sent)) → nat_lt (length table.numbers) 65536 ≡ false → table.ended ≡ [] → table.active ≡ s ∷ ss → with_room limit table ≡ record { found = in_flow s.1.flow (last_found limit s.1); table = forgotten s.1.flow (record table { active = ss }) }
 room-first limit table s ss n d a = rw (n, d, a) refl
 
+-- ---- a segment that begins nothing
+not_rst : (r s : Bool) → (not r && s) ≡ true → r ≡ false
+not_rst true s e = absurd (no-true e)
+not_rst false s e = refl
+
+-- one that might begin a direction has no RST
+pub passes-none : (segment : Segment) (table : Table) → begins segment ≡ true → passed_over segment table ≡ nothing_found table
+passes-none segment table b =
+    ap (λ (r : Bool). record { found = in_flow (flow_of segment) (unread_found (when r (λ _. if_any None (length segment.payload.octets) why.Reset) (λ _. None))); table = table })
+    (not_rst segment.rst (segment.syn || nat_lt 0 segment.payload.size) b)
+
 -- ---- what is found with a segment, by what is known of its flow
 module _ (limit packet : ℕ) (service : Service) (segment : Segment) (table : Table) where
   pub followed-known : (number : ℕ) → lookup (is_at (flow_cmp (flow_of segment))) table.numbers ≡ Some number → followed limit packet service segment table ≡ of_known limit packet number (lookup (is_at (nat_cmp number)) table.active) service segment table
@@ -199,7 +213,7 @@ module _ (limit packet : ℕ) (service : Service) (segment : Segment) (table : T
 
   pub followed-begins : lookup (is_at (flow_cmp (flow_of segment))) table.numbers ≡ None → begins segment ≡ true → followed limit packet service segment table ≡ after_found (with_room limit table).found (begun limit packet service states.Fresh segment (with_room limit table).table)
   unfolding followed
-  followed-begins e b = ap (λ o. by_number limit packet o service segment table) e ∙ ap (λ x. if x then after_found (with_room limit table).found (begun limit packet service states.Fresh segment (with_room limit table).table) else nothing_found table) b
+  followed-begins e b = ap (λ o. by_number limit packet o service segment table) e ∙ ap (λ x. if x then after_found (with_room limit table).found (begun limit packet service states.Fresh segment (with_room limit table).table) else passed_over segment table) b
 
   -- there is room for it
   pub followed-room : lookup (is_at (flow_cmp (flow_of segment))) table.numbers ≡ None → begins segment ≡ true → nat_lt (length table.numbers) 65536 ≡ true → followed limit packet service segment table ≡ begun limit packet service states.Fresh segment table
@@ -207,22 +221,22 @@ module _ (limit packet : ℕ) (service : Service) (segment : Segment) (table : T
       followed-begins e b
       ∙ ap (λ room. after_found room.found (begun limit packet service states.Fresh segment room.table)) (ap (λ x. if x then nothing_found table else with_one_less limit table.ended table.active table) n)
 
-  pub followed-passed : lookup (is_at (flow_cmp (flow_of segment))) table.numbers ≡ None → begins segment ≡ false → followed limit packet service segment table ≡ nothing_found table
+  pub followed-passed : lookup (is_at (flow_cmp (flow_of segment))) table.numbers ≡ None → begins segment ≡ false → followed limit packet service segment table ≡ passed_over segment table
   unfolding followed
-  followed-passed e b = ap (λ o. by_number limit packet o service segment table) e ∙ ap (λ x. if x then after_found (with_room limit table).found (begun limit packet service states.Fresh segment (with_room limit table).table) else nothing_found table) b
+  followed-passed e b = ap (λ o. by_number limit packet o service segment table) e ∙ ap (λ x. if x then after_found (with_room limit table).found (begun limit packet service states.Fresh segment (with_room limit table).table) else passed_over segment table) b
 
   abbrev begun_again : ℕ → Had → Followed
   begun_again number had = begun limit packet service (states.Ended had) segment (record table { ended = remove_entry (is_at (nat_cmp number)) table.ended })
 
   -- one that ended, by what is kept of it
   pub ended-begins : (number : ℕ) (gone : Gone) → (step_of (states.Ended gone.had) segment).began ≡ true → of_ended limit packet number (Some gone) service segment table ≡ begun_again number gone.had
-  ended-begins number gone b = ap (λ x. if x then begun_again number gone.had else nothing_found table) b
+  ended-begins number gone b = ap (λ x. if x then begun_again number gone.had else passed_over segment table) b
 
   -- neither a SYN nor data
-  pub ended-stays : (number : ℕ) (gone : Gone) → (step_of (states.Ended gone.had) segment).began ≡ false → of_ended limit packet number (Some gone) service segment table ≡ nothing_found table
-  ended-stays number gone b = ap (λ x. if x then begun_again number gone.had else nothing_found table) b
+  pub ended-stays : (number : ℕ) (gone : Gone) → (step_of (states.Ended gone.had) segment).began ≡ false → of_ended limit packet number (Some gone) service segment table ≡ passed_over segment table
+  ended-stays number gone b = ap (λ x. if x then begun_again number gone.had else passed_over segment table) b
 
-  pub ended-passed : (number : ℕ) (found : Option Gone) → begins segment ≡ false → of_ended limit packet number found service segment table ≡ nothing_found table
+  pub ended-passed : (number : ℕ) (found : Option Gone) → begins segment ≡ false → of_ended limit packet number found service segment table ≡ passed_over segment table
   ended-passed number None b = refl
   ended-passed number (Some gone) b = ended-stays number gone (not-begun gone.had segment b)
 

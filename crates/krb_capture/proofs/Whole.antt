@@ -55,9 +55,9 @@ module _ (old new : PasswordFrames) (n : ℕ) (origin : CaptureOrigin) (before a
   pub extent_is : extent_at old.offset octets ≡ frame_of old.offset (number (take 4 octets))
   extent_is = let size : number (take 4 octets) ≡ n = length_is octets n e in λ i. record { at = old.offset; length = (e ∙ ap Some (sym size)) i }
 
-  pub whole-high : (reason : Why) → reason ≡ why.HighBit → length_fault old.limit n ≡ Some reason → new.limit ≡ old.limit → new.is_over ≡ true → after ≡ with_found origin (length_found (extent_at old.offset octets) reason) before → ListsNext old new octets stream h origin before after
-  whole-high reason is fault l o w =
-      next-stopped old octets stream h origin before new (length_found (frame_of old.offset (number (take 4 octets))) why.HighBit) after l o (λ more. next-high old.limit old.offset octets four more (fault_is why.HighBit (fault ∙ ap Some is)))
+  pub whole-high : (reason : Why) → reason ≡ why.HighBit → length_fault old.limit n ≡ Some reason → new.profile ≡ old.profile → new.limit ≡ old.limit → new.is_over ≡ true → after ≡ with_found origin (length_found (extent_at old.offset octets) reason) before → ListsNext old new octets stream h origin before after
+  whole-high reason is fault q l o w =
+      next-stopped old octets stream h origin before new (length_found (frame_of old.offset (number (take 4 octets))) why.HighBit) after q l o (λ more. next-high old.profile old.limit old.offset octets four more (fault_is why.HighBit (fault ∙ ap Some is)))
       (w ∙ ap₂ (λ x r. with_found origin (length_found x r) before) extent_is is)
 
   -- and where the next one is
@@ -67,9 +67,9 @@ module _ (old new : PasswordFrames) (n : ℕ) (origin : CaptureOrigin) (before a
   pub whole-refused : (reason : Why) → (reason ≡ why.HighBit → ⊥) → length_fault old.limit n ≡ Some reason → PassesOver old n n new → after ≡ with_found origin (length_found (extent_at old.offset octets) reason) before → ListsNext old new octets stream h origin before after
   whole-refused reason never fault p w =
       let size : number (take 4 octets) ≡ n = length_is octets n e in
-      let none : length octets ≡ 4 = alone (λ a. let same : Some reason ≡ None = sym fault ∙ allowed-no_fault old.limit n a in absurd cc) in
-      next-passed old octets stream h origin before new (length_found (frame_of old.offset (number (take 4 octets))) reason ∷ []) (number (take 4 octets)) after p.limit (p.is_over ∙ h.goes) (p.skipped ∙ sym size) p.octets
-      (λ more. next-refused old.limit old.offset octets four more reason never (fault_is reason fault) none ∙ ap (λ k. before_frames (length_found (frame_of old.offset (number (take 4 octets))) reason ∷ []) (passwords_framed old.limit k (drop (number (take 4 octets)) more))) (sym (next_is n p)))
+      let none : length octets ≡ 4 = alone (λ a. let same : Some reason ≡ None = sym fault ∙ allowed-no_fault old.profile old.limit n a in absurd cc) in
+      next-passed old octets stream h origin before new (length_found (frame_of old.offset (number (take 4 octets))) reason ∷ []) (number (take 4 octets)) after p.profile p.limit (p.is_over ∙ h.goes) (p.skipped ∙ sym size) p.octets
+      (λ more. next-refused old.profile old.limit old.offset octets four more reason never (fault_is reason fault) none ∙ ap (λ k. before_frames (length_found (frame_of old.offset (number (take 4 octets))) reason ∷ []) (passwords_framed old.profile old.limit k (drop (number (take 4 octets)) more))) (sym (next_is n p)))
       (w ∙ ap (λ x. with_found origin (length_found x reason) before) extent_is)
 
   pub whole-contents : IsAllowed old.limit n → ListsContents old n new origin before after → ListsNext old new octets stream h origin before after
@@ -92,9 +92,9 @@ module _ (old new : PasswordFrames) (n : ℕ) (origin : CaptureOrigin) (before a
           subst (λ w. ListsNext old new octets stream h origin before w) (sym l.1) (subst (λ t. ListsNext old t octets stream h origin before before) (sym l.0) kept)
       by false t l =
           let all : length octets ≡ 4 + number (take 4 octets) = omega (arith, ltb-false (length octets) (4 + n) t, most h.one, size) in
-          next-passed old octets stream h origin before new (password_found (frame_of old.offset (number (take 4 octets))) 4 (drop 4 octets)) 0 after l.passes.limit (l.passes.is_over ∙ h.goes) l.passes.skipped l.passes.octets
-          (λ more. next-whole old.limit old.offset octets four more allowed all ∙ ap (λ k. before_frames (password_found (frame_of old.offset (number (take 4 octets))) 4 (drop 4 octets)) (passwords_framed old.limit k more)) (sym (next_is 0 l.passes)))
-          (l.listed ∙ ap (λ k. with_all origin (password_found (frame_of old.offset k) 4 (drop 4 octets)) before) (sym size))
+          next-passed old octets stream h origin before new (password_found old.profile (frame_of old.offset (number (take 4 octets))) 4 (drop 4 octets)) 0 after l.passes.profile l.passes.limit (l.passes.is_over ∙ h.goes) l.passes.skipped l.passes.octets
+          (λ more. next-whole old.profile old.limit old.offset octets four more allowed all ∙ ap (λ k. before_frames (password_found old.profile (frame_of old.offset (number (take 4 octets))) 4 (drop 4 octets)) (passwords_framed old.profile old.limit k more)) (sym (next_is 0 l.passes)))
+          (l.listed ∙ ap (λ k. with_all origin (password_found old.profile (frame_of old.offset k) 4 (drop 4 octets)) before) (sym size))
 
 -- none of it came
 pub whole-none : (old : PasswordFrames) (origin : CaptureOrigin) (w : Written) → frame_length old.octets.items ≡ None → (stream : List ℕ) (h : Holds old old.octets.items stream) → ListsNext old old old.octets.items stream h origin w w

@@ -1,5 +1,5 @@
 -- What is written of several findings.
-use Rattle.std.proofs.Common.{◌≡◌, Result, Ok, Err, OnOk, List, [], ◌∷◌, ◌++◌, refl, sym, ◌∙◌, ap, append-nil, append_assoc}
+use Rattle.std.proofs.Common.{◌≡◌, Result, Ok, Err, IfOk, OnOk, List, [], ◌∷◌, ◌++◌, refl, sym, ◌∙◌, ap, append-nil, append_assoc}
 use Rattle.krb_record.specs.declared.capture_origin.CaptureOrigin.{CaptureOrigin}
 use Rattle.krb_record.specs.declared.flow.Transport.TheVariants as transports
 use Rattle.krb_capture.specs.Captures.{Finding, counted_each, lines_of, over_tcp, over_udp, with_each}
@@ -56,3 +56,8 @@ flow-found due flow flow' xs l l0 e f = e ∙ ap (λ x. with_all (origin_of due 
 pub on_ok-map : {T E P Q : Type 0} (result : Result T E) → (P → Q) → OnOk result P → OnOk result Q
 on_ok-map (Ok x) f p = f p
 on_ok-map (Err e) f p = tt
+
+-- what two facts have, if there is a value
+pub if_both : {T E : Type 0} (result : Result T E) (P : T → Type 0) (Q : Type 0) (R : T → Type 0) → IfOk result P → OnOk result Q → ((value : T) → P value → Q → R value) → IfOk result R
+if_both (Ok x) P Q R p q f = f x p q
+if_both (Err e) P Q R p q f = tt

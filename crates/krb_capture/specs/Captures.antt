@@ -1,12 +1,13 @@
 -- What is found in the packets of a capture, one after another.
 use Rattle.std.specs.Prelude.{ℕ, ◌≡◌, ◌==◌, ◌&&◌, Bool, List, [], ◌∷◌, ◌++◌, length, map, max, Option, Some, None}
+use Rattle.krb_der.specs.declared.profile.Profile.{Profile}
 use Rattle.krb_packet.specs.Contents.{contents_of}
 use Rattle.krb_packet.specs.declared.contents.Contents.{Contents}
 use Rattle.krb_packet.specs.declared.contents.Contents.TheVariants as contents
 use Rattle.krb_packet.specs.declared.contents.Datagram.{Datagram}
 use Rattle.krb_packet.specs.declared.contents.Fragment.{Fragment}
 use Rattle.krb_packet.specs.declared.fragments.Reassembled.{Reassembled}
-use Rattle.krb_packet.specs.Fragments.{contents_of_whole, no_fragments, step, unread}
+use Rattle.krb_packet.specs.Fragments.{contents_of_whole, nested_step, no_fragments, unread}
 use Rattle.krb_packet.specs.Table.{Table as Fragments}
 use Rattle.krb_packet.specs.declared.contents.Segment.{Segment}
 use Rattle.krb_packet.specs.declared.packet.Packet.{Packet}
@@ -17,7 +18,7 @@ use Rattle.krb_record.specs.declared.extent.Extent.{Extent}
 use Rattle.krb_record.specs.declared.form.Form.{Form}
 use Rattle.krb_record.specs.declared.capture_origin.CaptureOrigin.{CaptureOrigin}
 use Rattle.krb_record.specs.declared.flow.Transport.TheVariants as transports
-use Rattle.krb_capture.specs.Datagrams.{datagram_found}
+use Rattle.krb_capture.specs.Datagrams.{all_found}
 use Rattle.krb_capture.specs.Directions.{Followed, HoldsTable, Table, followed, last_of, no_directions}
 use Rattle.krb_capture.specs.Flows.{due_with, origin_of, service_of}
 use Rattle.krb_capture.specs.Found.{Found, Written, and_more, counted, found_line, totals, with_found}
@@ -26,9 +27,10 @@ use Rattle.krb_capture.specs.declared.flow.Due.{Due}
 use Rattle.krb_capture.specs.declared.flow.Flow.{Flow}
 use Rattle.krb_capture.specs.declared.flow.Service.{Service}
 
--- how a capture is listed: the form, the greatest length of a frame, and the port of KDCs
+-- how a capture is listed: the form, the profile by which messages are judged, the greatest length of a frame, and the port of KDCs
 pub record Settings : Type 0 where
   pub form : Form
+  pub profile : Profile
   pub limit : ℕ
   pub port : ℕ
 
@@ -78,7 +80,7 @@ nothing_in progress = record { found = []; progress = progress }
 
 abbrev pub datagram_taken : Option Service → Datagram → Progress → Taken
 datagram_taken None datagram progress = nothing_in progress
-datagram_taken (Some service) datagram progress = record { found = over_udp progress.last datagram (datagram_found service datagram.payload); progress = progress }
+datagram_taken (Some service) datagram progress = record { found = over_udp progress.last datagram (all_found service datagram); progress = progress }
 
 abbrev pub with_followed : Followed → Progress → Taken
 with_followed followed progress = record { found = over_tcp progress.last followed.found; progress = record progress { table = followed.table } }
@@ -98,21 +100,21 @@ unread_taken (Some service) progress = nothing_in (with_unread progress)
 
 -- what is all there
 abbrev pub whole_taken : Settings → Contents → Progress → Taken
-whole_taken settings (contents.Datagram datagram) progress = datagram_taken (service_of settings.port datagram.source datagram.target) datagram progress
-whole_taken settings (contents.Segment segment) progress = segment_taken settings.limit (service_of settings.port segment.source segment.target) segment progress
+whole_taken settings (contents.Datagram datagram) progress = datagram_taken (service_of settings.profile settings.port datagram.source datagram.target) datagram progress
+whole_taken settings (contents.Segment segment) progress = segment_taken settings.limit (service_of settings.profile settings.port segment.source segment.target) segment progress
 whole_taken settings (contents.Fragment fragment) progress = nothing_in progress
 whole_taken settings contents.Other progress = nothing_in progress
-whole_taken settings (contents.UnreadBetween ends) progress = unread_taken (service_of settings.port ends.source ends.target) progress
+whole_taken settings (contents.UnreadBetween ends) progress = unread_taken (service_of settings.profile settings.port ends.source ends.target) progress
 whole_taken settings contents.Unread progress = nothing_in (with_unread progress)
 
 abbrev pub completed : Settings → Option Reassembled → Progress → Taken
 completed settings None progress = nothing_in progress
-completed settings (Some whole) progress = whole_taken settings (contents_of_whole whole) progress
+completed settings (Some whole) progress = whole_taken settings (contents_of_whole settings.port whole) progress
 
--- a fragment, which may complete a datagram
+-- a fragment, which may complete a datagram, in which another one may be
 abbrev pub fragment_taken : Settings → Fragment → Progress → Taken
 fragment_taken settings fragment progress =
-    let stepped = step progress.fragments fragment in completed settings stepped.0 (record progress { fragments = stepped.1 })
+    let stepped = nested_step settings.port progress.fragments fragment in completed settings stepped.0 (record progress { fragments = stepped.1 })
 
 abbrev pub contents_taken : Settings → Contents → Progress → Taken
 contents_taken settings (contents.Datagram datagram) progress = whole_taken settings (contents.Datagram datagram) progress
@@ -130,11 +132,11 @@ with_packet packet progress = record progress { last = due_with packet; counts =
 abbrev pub and_counted : Taken → Taken
 and_counted taken = record { found = taken.found; progress = record taken.progress { counts = counted_each taken.found taken.progress.counts } }
 
-abbrev pub contents_in : Packet → Contents
-contents_in packet = contents_of packet.link (record { octets = packet.octets; size = max packet.size (length packet.octets) })
+abbrev pub contents_in : ℕ → Packet → Contents
+contents_in port packet = contents_of port packet.link (record { octets = packet.octets; size = max packet.size (length packet.octets) })
 
 unfoldable pub packet_taken : Settings → Packet → Progress → Taken
-packet_taken settings packet progress = and_counted (contents_taken settings (contents_in packet) (with_packet packet progress))
+packet_taken settings packet progress = and_counted (contents_taken settings (contents_in settings.port packet) (with_packet packet progress))
 
 -- ---- at the end of the file: how the directions end that are open, and the totals
 abbrev pub end_taken : Settings → Progress → Taken
@@ -158,6 +160,7 @@ is_clean counts = (counts.refused == 0 && counts.lost == 0) && counts.unread == 
 -- ---- what a capture keeps represents its progress
 pub record HasFollowed (capture : Capture) (settings : Settings) (progress : Progress) : Type 0 where
   pub port : capture.port ≡ settings.port
+  pub profile : capture.profile ≡ settings.profile
   pub form : capture.listing.form ≡ settings.form
   pub fragments : capture.fragments ≡ progress.fragments
   pub table : HoldsTable capture.directions settings.limit progress.table

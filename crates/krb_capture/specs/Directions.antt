@@ -9,10 +9,11 @@ use Rattle.krb_packet.specs.declared.contents.Segment.{Segment}
 use Rattle.krb_flow.specs.declared.direction.State.{State}
 use Rattle.krb_flow.specs.declared.direction.State.TheVariants as states
 use Rattle.krb_flow.specs.declared.had.Had.{Had}
+use Rattle.krb_flow.specs.Unread.{of_reset}
 use Rattle.krb_capture.specs.contracts.flow.FlowOrd.TheImpl as flow_order
 use Rattle.krb_capture.specs.Flows.{flow_between}
 use Rattle.krb_capture.specs.Found.{Found}
-use Rattle.krb_capture.specs.Sending.{Sent, Represents, after_segment, last_found, segment_found, sent_from, step_of}
+use Rattle.krb_capture.specs.Sending.{Sent, Represents, after_segment, last_found, segment_found, sent_from, step_of, unread_found}
 use Rattle.krb_capture.specs.declared.directions.Directions.{Directions}
 use Rattle.krb_capture.specs.declared.directions.Gone.{Gone}
 use Rattle.krb_capture.specs.declared.directions.Last.{Last}
@@ -110,20 +111,24 @@ begins segment = not segment.rst && (segment.syn || nat_lt 0 segment.payload.siz
 abbrev pub after_found : List (Flow × Found) → Followed → Followed
 after_found found followed = record followed { found = found ++ followed.found }
 
+-- one that begins nothing: octets that it has are not taken
+abbrev pub passed_over : Segment → Table → Followed
+passed_over segment table = record { found = in_flow (flow_of segment) (unread_found (of_reset segment)); table = table }
+
 -- of a flow with no segments yet
 abbrev pub of_new : ℕ → ℕ → Service → Segment → Table → Followed
 of_new limit packet service segment table =
     if begins segment
     then (let room = with_room limit table in after_found room.found (begun limit packet service states.Fresh segment room.table))
-    else nothing_found table
+    else passed_over segment table
 
 -- of one whose direction ended: a SYN begins it anew, and so do data, unless they are copies
 abbrev pub of_ended : ℕ → ℕ → ℕ → Option Gone → Service → Segment → Table → Followed
-of_ended limit packet number None service segment table = nothing_found table
+of_ended limit packet number None service segment table = passed_over segment table
 of_ended limit packet number (Some gone) service segment table =
     if (step_of (states.Ended gone.had) segment).began
     then begun limit packet service (states.Ended gone.had) segment (record table { ended = remove_entry (is_at (nat_cmp number)) table.ended })
-    else nothing_found table
+    else passed_over segment table
 
 abbrev pub of_known : ℕ → ℕ → ℕ → Option Sent → Service → Segment → Table → Followed
 of_known limit packet number (Some sent) service segment table = gone_on limit packet number sent segment table

@@ -10,11 +10,12 @@ use Rattle.krb_capture.specs.declared.message_frames.FrameLister.{FrameLister}
 
 -- A message was listed, if octets are one of a profile, and else nothing: the place of a frame does not matter for it.
 abbrev pub IsListed : Profile → List ℕ → CaptureOrigin → Written → Written → Bool → Type 0
-IsListed profile octets origin = IsReceived (λ old entry new. new ≡ with_found origin (entry_found 0 entry) old) profile octets
+IsListed profile octets origin = IsReceived (λ old entry new. new ≡ with_found origin (entry_found profile 0 entry) old) profile octets
 
 -- the next frame was listed
 pub record ListsEntry (old : FrameLister) (entry : Entry) (new : FrameLister) : Type 0 where
   pub same : new.listing.ghost_name ≡ old.listing.ghost_name
   pub origin : new.origin ≡ old.origin
+  pub profile : new.profile ≡ old.profile
   pub offset : new.offset ≡ after_entry old.offset entry
-  pub listed : new.listing.now ≡ with_found old.origin.now (entry_found old.offset entry) old.listing.now
+  pub listed : new.listing.now ≡ with_found old.origin.now (entry_found old.profile old.offset entry) old.listing.now

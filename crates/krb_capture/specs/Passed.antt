@@ -1,6 +1,7 @@
 -- What is listed of the frames of messages that change passwords, as their octets come.
 use Rattle.std.specs.Prelude.{ℕ, ◌≡◌, ◌⊎◌, ◌+◌, ◌≤◌, nat_lt, if◌then◌else◌, Bool, true, false, List, [], ◌++◌, length, take, drop, Option, Some, None}
 use Rattle.krb_der.specs.Octets.{number}
+use Rattle.krb_der.specs.declared.profile.Profile.{Profile}
 use Rattle.krb_record.specs.declared.capture_origin.CaptureOrigin.{CaptureOrigin}
 use Rattle.krb_capture.specs.Found.{Found, Written, with_all}
 use Rattle.krb_capture.specs.Passwords.{password_found}
@@ -11,8 +12,9 @@ use Rattle.krb_capture.specs.declared.password_frames.PasswordFrames.{PasswordFr
 
 -- octets were taken, and the frames that are whole with them or refused were listed
 pub record TakesPasswords (old new : PasswordFrames) (octets : List ℕ) (origin : CaptureOrigin) (before after : Written) : Type 0 where
-  pub took : (limit : ℕ) (stream : List ℕ) → TookPasswords old limit stream → TookPasswords new limit (stream ++ octets)
-  pub listed : (limit : ℕ) (stream : List ℕ) → TookPasswords old limit stream → after ≡ with_all origin (found_with services.Passwords limit stream octets) before
+  pub took : (profile : Profile) (limit : ℕ) (stream : List ℕ) → TookPasswords profile old limit stream → TookPasswords profile new limit (stream ++ octets)
+  pub listed : (profile : Profile) (limit : ℕ) (stream : List ℕ) → TookPasswords profile old limit stream → after ≡ with_all origin (found_with (services.Passwords profile) limit stream octets) before
+  pub same_profile : new.profile ≡ old.profile
 
 -- octets of a frame: at most those of its length, or at most all of it
 abbrev pub AreOfOne : ℕ → List ℕ → Type 0
@@ -23,14 +25,15 @@ pub record Holds (taker : PasswordFrames) (octets stream : List ℕ) : Type 0 wh
   pub goes : taker.is_over ≡ false
   pub none_skipped : taker.skipped ≡ 0
   pub before : List Found
-  pub goes_on : (more : List ℕ) → passwords taker.limit (stream ++ more) ≡ before_frames before (passwords_framed taker.limit taker.offset (octets ++ more))
+  pub goes_on : (more : List ℕ) → passwords taker.profile taker.limit (stream ++ more) ≡ before_frames before (passwords_framed taker.profile taker.limit taker.offset (octets ++ more))
   pub one : AreOfOne taker.limit octets
 
 -- that frame was listed if it is whole or refused
 pub record ListsNext (old new : PasswordFrames) (octets stream : List ℕ) (h : Holds old octets stream) (origin : CaptureOrigin) (before after : Written) : Type 0 where
+  pub profile : new.profile ≡ old.profile
   pub limit : new.limit ≡ old.limit
   pub state : KeepsUnless new.is_over new stream
-  pub listed : after ≡ with_all origin (drop (length h.before) (passwords old.limit stream).found) before
+  pub listed : after ≡ with_all origin (drop (length h.before) (passwords old.profile old.limit stream).found) before
 
 abbrev pub ListsWhole : PasswordFrames → PasswordFrames → CaptureOrigin → Written → Written → Type 0
 ListsWhole old new origin before after = (stream : List ℕ) (h : Holds old old.octets.items stream) → ListsNext old new old.octets.items stream h origin before after
@@ -45,6 +48,7 @@ frame_end octets = if nat_lt (length octets) 4 then 4 else 4 + number (take 4 oc
 
 -- nothing of the frame after one of n octets is kept, and octets before it are skipped
 pub record PassesOver (old : PasswordFrames) (n count : ℕ) (new : PasswordFrames) : Type 0 where
+  pub profile : new.profile ≡ old.profile
   pub limit : new.limit ≡ old.limit
   pub is_over : new.is_over ≡ old.is_over
   pub skipped : new.skipped ≡ count
@@ -54,7 +58,7 @@ pub record PassesOver (old : PasswordFrames) (n count : ℕ) (new : PasswordFram
 -- the contents of a frame that is whole were listed
 pub record ListsContentsOf (old : PasswordFrames) (n : ℕ) (contents : List ℕ) (new : PasswordFrames) (origin : CaptureOrigin) (before after : Written) : Type 0 where
   pub passes : PassesOver old n 0 new
-  pub listed : after ≡ with_all origin (password_found (frame_of old.offset n) 4 contents) before
+  pub listed : after ≡ with_all origin (password_found old.profile (frame_of old.offset n) 4 contents) before
 
 -- if it is not whole nothing changes
 abbrev pub ListsContentsIf : Bool → PasswordFrames → ℕ → PasswordFrames → CaptureOrigin → Written → Written → Type 0

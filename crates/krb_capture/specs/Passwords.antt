@@ -1,6 +1,7 @@
 -- Messages that change passwords (RFC 3244, 2): the length of all, the version, and the length of an AP-REQ or AP-REP, of two octets each; that; and the rest, a KRB-PRIV, or a KRB-ERROR if there is no AP-REP.
 use Rattle.std.specs.Prelude.{ℕ, ◌+◌, ◌-◌, nat_lt, if◌then◌else◌, List, [], ◌∷◌, ◌++◌, length, take, drop, Some, Result, Ok, Err, codes}
 use Rattle.std.specs.Int.{w16, from_be_bytes}
+use Rattle.krb_der.specs.declared.profile.Profile.{Profile}
 use Rattle.krb_der.specs.declared.why.Why.{Why}
 use Rattle.krb_der.specs.declared.why.Why.TheVariants as why
 use Rattle.krb_record.specs.declared.extent.Extent.{Extent}
@@ -51,16 +52,16 @@ header octets =
     checked (length octets) all version ap)))
 
 -- a part that follows others, unless it is left out
-abbrev pub part_found : Extent → ℕ → List ℕ → List Found
-part_found extent before [] = []
-part_found extent before (octet ∷ octets) = message_found extent before (octet ∷ octets) ∷ []
+abbrev pub part_found : Profile → Extent → ℕ → List ℕ → List Found
+part_found profile extent before [] = []
+part_found profile extent before (octet ∷ octets) = message_found profile extent before (octet ∷ octets) ∷ []
 
-abbrev pub parts_found : Extent → ℕ → List ℕ → Result Header Fault → List Found
-parts_found extent before octets (Err fault) = Faulty (record { place = before + place_of fault.field; why = fault.why }) (Some (path_of fault.field)) extent ∷ []
-parts_found extent before octets (Ok header) =
+abbrev pub parts_found : Profile → Extent → ℕ → List ℕ → Result Header Fault → List Found
+parts_found profile extent before octets (Err fault) = Faulty (record { place = before + place_of fault.field; why = fault.why }) (Some (path_of fault.field)) extent ∷ []
+parts_found profile extent before octets (Ok header) =
     Password header.version header.ap (length octets - (6 + header.ap))
-    ∷ (part_found extent (before + 6) (take header.ap (drop 6 octets)) ++ part_found extent (before + (6 + header.ap)) (drop (6 + header.ap) octets))
+    ∷ (part_found profile extent (before + 6) (take header.ap (drop 6 octets)) ++ part_found profile extent (before + (6 + header.ap)) (drop (6 + header.ap) octets))
 
 -- octets that are all there, after others of a frame or a datagram
-unfoldable pub password_found : Extent → ℕ → List ℕ → List Found
-password_found extent before octets = parts_found extent before octets (header octets)
+unfoldable pub password_found : Profile → Extent → ℕ → List ℕ → List Found
+password_found profile extent before octets = parts_found profile extent before octets (header octets)

@@ -91,6 +91,7 @@ pub record Follows (directions : Directions) (limit : ℕ) (table : Table) (due 
 -- What it keeps represents a progress, but that these findings are left, which are neither listed nor counted.
 pub record HasFollowedBut (capture : Capture) (settings : Settings) (progress : Progress) (rest : Option (Box Rest Global)) (left : List Finding) : Type 0 where
   pub port : capture.port ≡ settings.port
+  pub profile : capture.profile ≡ settings.profile
   pub form : capture.listing.form ≡ settings.form
   pub fragments : capture.fragments ≡ progress.fragments
   pub table : HoldsSome capture.directions settings.limit progress.table capture.last rest left

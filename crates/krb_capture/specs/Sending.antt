@@ -2,12 +2,14 @@
 use Rattle.std.specs.Prelude.{ℕ, ◌≡◌, List, [], ◌∷◌, ◌++◌, Option, Some, None, is_some}
 use Rattle.krb_packet.specs.declared.contents.Segment.{Segment}
 use Rattle.krb_flow.specs.Directions.{Outcome, end_of, had_of, step}
+use Rattle.krb_flow.specs.Unread.{unread_of}
 use Rattle.krb_flow.specs.declared.direction.Beginning.{Beginning}
 use Rattle.krb_flow.specs.declared.direction.Beginning.TheVariants as beginnings
 use Rattle.krb_flow.specs.declared.direction.State.{State}
 use Rattle.krb_flow.specs.declared.direction.State.TheVariants as states
 use Rattle.krb_flow.specs.declared.stream.End.{End}
-use Rattle.krb_capture.specs.Found.{Found, Joined}
+use Rattle.krb_flow.specs.declared.unread.Unread.{Unread as Octets}
+use Rattle.krb_capture.specs.Found.{Found, Joined, Unread}
 use Rattle.krb_capture.specs.Streams.{end_found, found_with}
 use Rattle.krb_capture.specs.Taken.{Took, service_of}
 use Rattle.krb_capture.specs.declared.flow.Flow.{Flow}
@@ -45,16 +47,22 @@ abbrev pub stream_at : Option Beginning → List ℕ → List ℕ
 stream_at None stream = stream
 stream_at (Some beginning) stream = []
 
--- in order: how what was there ends, how the direction begins, the frames that are whole or refused with the octets that are taken, and how it ends
-abbrev pub outcome_found : Service → ℕ → List ℕ → Outcome → List Found
-outcome_found service limit stream outcome =
+-- octets that are not taken, and are no copies
+abbrev pub unread_found : Option Octets → List Found
+unread_found None = []
+unread_found (Some octets) = Unread octets.place octets.octets octets.why ∷ []
+
+-- in order: how what was there ends, how the direction begins, the octets that are not taken, the frames that are whole or refused with those that are, and how it ends
+abbrev pub outcome_found : Service → ℕ → List ℕ → Option Octets → Outcome → List Found
+outcome_found service limit stream unread outcome =
     end_if service limit stream outcome.before
     ++ (beginning_found outcome.begins
+    ++ (unread_found unread
     ++ (found_with service limit (stream_at outcome.begins stream) outcome.octets
-    ++ end_if service limit (stream_at outcome.begins stream ++ outcome.octets) outcome.end))
+    ++ end_if service limit (stream_at outcome.begins stream ++ outcome.octets) outcome.end)))
 
 abbrev pub segment_found : ℕ → Sent → Segment → List Found
-segment_found limit sent segment = outcome_found sent.service limit sent.stream (step sent.state segment).0
+segment_found limit sent segment = outcome_found sent.service limit sent.stream (unread_of sent.state segment) (step sent.state segment).0
 
 abbrev pub after_segment : Sent → Segment → Sent
 after_segment sent segment =

@@ -2,7 +2,7 @@
 use Rattle.std.specs.Prelude.{ℕ, zero, suc, ◌+◌, ◌^◌, nat_lt, nat_le, not, ◌&&◌, Bool, true, false, if◌then◌else◌, List, [], ◌∷◌, ◌++◌, length, take, drop, Option, Some, None, codes}
 use Rattle.std.specs.List.{filter, list_any}
 use Rattle.krb_der.specs.Octets.{number}
-use Rattle.krb_der.specs.declared.profile.Profile.TheVariants.{Lenient}
+use Rattle.krb_der.specs.declared.profile.Profile.{Profile}
 use Rattle.krb_der.specs.declared.verdict.Refusal.{Refusal}
 use Rattle.krb_der.specs.declared.why.Why.{Why}
 use Rattle.krb_der.specs.declared.why.Why.TheVariants as why
@@ -45,8 +45,8 @@ after_entries offset (entry ∷ others) = after_entries (after_entry offset entr
 -- ---- messages of Kerberos
 
 -- the path in a frame of which these octets are there: there is none in its length
-abbrev pub frame_path : List ℕ → Option (List ℕ)
-frame_path octets = path_of (number (take 4 octets)) (drop 4 octets)
+abbrev pub frame_path : Profile → List ℕ → Option (List ℕ)
+frame_path profile octets = path_of profile (number (take 4 octets)) (drop 4 octets)
 
 -- A frame is refused at an octet of it; the octets that are there of one that is cut end before that place, and it is found at the end alone.
 abbrev pub is_cut : Entry → Bool
@@ -59,14 +59,14 @@ is_unknown (Contents contents) = false
 is_unknown (Fault place reason prefix) = nat_lt place (length prefix) && nat_le (2 ^ 31) (number (take 4 prefix))
 
 -- what is found in a frame that begins at an offset
-abbrev pub entry_found : ℕ → Entry → Found
-entry_found offset (Contents contents) = Whole (message_of_der contents)
-entry_found offset (Fault place reason prefix) = Faulty (record { place = place; why = reason }) (frame_path prefix) (extent_at offset prefix)
+abbrev pub entry_found : Profile → ℕ → Entry → Found
+entry_found profile offset (Contents contents) = Whole (message_of_der contents)
+entry_found profile offset (Fault place reason prefix) = Faulty (record { place = place; why = reason }) (frame_path profile prefix) (extent_at offset prefix)
 
 -- in frames, the first of which does
-abbrev pub entries_found : ℕ → List Entry → List Found
-entries_found offset [] = []
-entries_found offset (entry ∷ others) = entry_found offset entry ∷ entries_found (after_entry offset entry) others
+abbrev pub entries_found : Profile → ℕ → List Entry → List Found
+entries_found profile offset [] = []
+entries_found profile offset (entry ∷ others) = entry_found profile offset entry ∷ entries_found profile (after_entry offset entry) others
 
 -- the octets of the frame that is cut, if one is
 abbrev pub cut_octets : List Entry → List ℕ
@@ -77,11 +77,11 @@ cut_octets (Fault place reason prefix ∷ others) = if nat_le (length prefix) pl
 abbrev pub not_cut : List Entry → List Entry
 not_cut found = filter (λ entry. not (is_cut entry)) found
 
-abbrev pub framed_entries : ℕ → List Entry → Framed
-framed_entries offset found = record { found = entries_found offset (not_cut found); partial = cut_octets found; offset = after_entries offset (not_cut found); over = list_any is_unknown found }
+abbrev pub framed_entries : Profile → ℕ → List Entry → Framed
+framed_entries profile offset found = record { found = entries_found profile offset (not_cut found); partial = cut_octets found; offset = after_entries offset (not_cut found); over = list_any is_unknown found }
 
-unfoldable pub messages_framed : ℕ → List ℕ → Framed
-messages_framed limit stream = framed_entries 0 (entries (messages Lenient) limit stream)
+unfoldable pub messages_framed : Profile → ℕ → List ℕ → Framed
+messages_framed profile limit stream = framed_entries profile 0 (entries (messages profile) limit stream)
 
 -- ---- messages that change passwords, each of which is looked at once it is whole
 
@@ -104,33 +104,33 @@ abbrev pub length_found : Extent → Why → Found
 length_found extent reason = Faulty (record { place = 3; why = reason }) None extent
 
 -- what is found in it, by why its length is refused, and in those after it; after HighBit it is not known where the next one begins
-abbrev pub password_frame_by : Option Why → ℕ → ℕ → List ℕ → Framed → Framed
-password_frame_by (Some why.HighBit) offset n octets others = record { found = length_found (frame_of offset n) why.HighBit ∷ []; partial = []; offset = offset; over = true }
-password_frame_by (Some reason) offset n octets others = before_frames (length_found (frame_of offset n) reason ∷ []) others
-password_frame_by None offset n octets others = if nat_lt (length octets) (4 + n) then no_frames offset octets else before_frames (password_found (frame_of offset n) 4 (take n (drop 4 octets))) others
+abbrev pub password_frame_by : Profile → Option Why → ℕ → ℕ → List ℕ → Framed → Framed
+password_frame_by profile (Some why.HighBit) offset n octets others = record { found = length_found (frame_of offset n) why.HighBit ∷ []; partial = []; offset = offset; over = true }
+password_frame_by profile (Some reason) offset n octets others = before_frames (length_found (frame_of offset n) reason ∷ []) others
+password_frame_by profile None offset n octets others = if nat_lt (length octets) (4 + n) then no_frames offset octets else before_frames (password_found profile (frame_of offset n) 4 (take n (drop 4 octets))) others
 
-abbrev pub password_frame : ℕ → ℕ → ℕ → List ℕ → (ℕ → List ℕ → Framed) → Framed
-password_frame limit offset n octets frames = password_frame_by (length_fault limit n) offset n octets (frames (after_frame offset n) (drop (4 + n) octets))
+abbrev pub password_frame : Profile → ℕ → ℕ → ℕ → List ℕ → (ℕ → List ℕ → Framed) → Framed
+password_frame profile limit offset n octets frames = password_frame_by profile (length_fault limit n) offset n octets (frames (after_frame offset n) (drop (4 + n) octets))
 
 -- the first number bounds how many frames there are
-abbrev pub password_frames : ℕ → ℕ → ℕ → List ℕ → Framed
-password_frames zero limit offset octets = no_frames offset octets
-password_frames (suc bound) limit offset octets =
+abbrev pub password_frames : Profile → ℕ → ℕ → ℕ → List ℕ → Framed
+password_frames profile zero limit offset octets = no_frames offset octets
+password_frames profile (suc bound) limit offset octets =
     if nat_lt (length octets) 4 then no_frames offset octets
-    else password_frame limit offset (number (take 4 octets)) octets (password_frames bound limit)
+    else password_frame profile limit offset (number (take 4 octets)) octets (password_frames profile bound limit)
 
 -- in octets that begin at an offset
-unfoldable pub passwords_framed : ℕ → ℕ → List ℕ → Framed
-passwords_framed limit offset octets = password_frames (length octets) limit offset octets
+unfoldable pub passwords_framed : Profile → ℕ → ℕ → List ℕ → Framed
+passwords_framed profile limit offset octets = password_frames profile (length octets) limit offset octets
 
 -- ---- by what the flow carries, with frames of at most n octets
 abbrev pub framed : Service → ℕ → List ℕ → Framed
-framed services.Kerberos limit stream = messages_framed limit stream
-framed services.Passwords limit stream = passwords_framed limit 0 stream
+framed (services.Kerberos profile) limit stream = messages_framed profile limit stream
+framed (services.Passwords profile) limit stream = passwords_framed profile limit 0 stream
 
 abbrev pub open_path : Service → List ℕ → Option (List ℕ)
-open_path services.Kerberos octets = frame_path octets
-open_path services.Passwords octets = if nat_lt (length octets) 4 then None else Some (codes "KPASSWD")
+open_path (services.Kerberos profile) octets = frame_path profile octets
+open_path (services.Passwords profile) octets = if nat_lt (length octets) 4 then None else Some (codes "KPASSWD")
 
 -- what is found with more octets of a stream
 unfoldable pub found_with : Service → ℕ → List ℕ → List ℕ → List Found

@@ -1,8 +1,9 @@
 -- What is found in a whole capture, and the laws that each flow is listed as if it had come alone.
 use Rattle.std.specs.Prelude.{◌≡◌, ◌<◌, ◌≤◌, ℕ, ◌==◌, ◌&&◌, Bool, true, false, Option, Some, None, is_some, List, [], ◌∷◌, ◌++◌, length, map}
 use Rattle.std.specs.List.{All, Contains, filter, flat_map}
+use Rattle.krb_der.specs.declared.profile.Profile.{Profile}
 use Rattle.krb_packet.specs.Captures.{packets}
-use Rattle.krb_packet.specs.Fragments.{contents_of_whole, no_fragments, same_address, step}
+use Rattle.krb_packet.specs.Fragments.{contents_of_whole, nested_step, no_fragments, same_address}
 use Rattle.krb_packet.specs.Table.{Table as Fragments}
 use Rattle.krb_packet.specs.declared.contents.Contents.{Contents}
 use Rattle.krb_packet.specs.declared.contents.Contents.TheVariants as contents
@@ -18,10 +19,10 @@ use Rattle.krb_record.specs.declared.capture_origin.CaptureOrigin.{CaptureOrigin
 use Rattle.krb_record.specs.declared.flow.Transport.{Transport}
 use Rattle.krb_record.specs.declared.flow.Transport.TheVariants as transports
 use Rattle.krb_capture.specs.Captures.{Finding, Progress, Settings, at_first, contents_in, end_taken, packet_taken}
-use Rattle.krb_capture.specs.Datagrams.{datagram_found}
+use Rattle.krb_capture.specs.Datagrams.{all_found}
 use Rattle.krb_capture.specs.Flows.{flow_between, service_of}
 use Rattle.krb_capture.specs.Found.{Found}
-use Rattle.krb_capture.specs.Laws.{direction_found, stream_found}
+use Rattle.krb_capture.specs.Laws.{but_unread, direction_found, stream_found}
 use Rattle.krb_capture.specs.Sending.{beginning_found, nothing_sent}
 use Rattle.krb_capture.specs.declared.flow.Flow.{Flow}
 use Rattle.krb_capture.specs.declared.flow.Service.{Service}
@@ -29,21 +30,21 @@ use Rattle.krb_capture.specs.declared.flow.Service.{Service}
 -- ---- what packets carry
 
 -- with the fragment that completes a datagram, what that carries, and with another one nothing
-abbrev pub completed_contents : Option Reassembled → List Contents
-completed_contents None = []
-completed_contents (Some whole) = contents_of_whole whole ∷ []
+abbrev pub completed_contents : ℕ → Option Reassembled → List Contents
+completed_contents port None = []
+completed_contents port (Some whole) = contents_of_whole port whole ∷ []
 
-abbrev pub contents_after : Fragments → Contents → List Contents × Fragments
-contents_after fragments (contents.Fragment fragment) = let stepped = step fragments fragment in (completed_contents stepped.0, stepped.1)
-contents_after fragments whole = (whole ∷ [], fragments)
+abbrev pub contents_after : ℕ → Fragments → Contents → List Contents × Fragments
+contents_after port fragments (contents.Fragment fragment) = let stepped = nested_step port fragments fragment in (completed_contents port stepped.0, stepped.1)
+contents_after port fragments whole = (whole ∷ [], fragments)
 
-abbrev pub carried_after : Fragments → List Packet → List Contents
-carried_after fragments [] = []
-carried_after fragments (packet ∷ packets) = let read = contents_after fragments (contents_in packet) in read.0 ++ carried_after read.1 packets
+abbrev pub carried_after : ℕ → Fragments → List Packet → List Contents
+carried_after port fragments [] = []
+carried_after port fragments (packet ∷ packets) = let read = contents_after port fragments (contents_in port packet) in read.0 ++ carried_after port read.1 packets
 
--- what packets carry, in order
-abbrev pub carried : List Packet → List Contents
-carried packets = carried_after no_fragments packets
+-- what packets carry, in order, if this is the port of KDCs
+abbrev pub carried : ℕ → List Packet → List Contents
+carried port packets = carried_after port no_fragments packets
 
 -- ---- from one end to another
 
@@ -104,17 +105,17 @@ abbrev pub PacketsAreNumbered : Type 0
 PacketsAreNumbered = (file : List ℕ) → AreNumbered 0 (packets file).items
 
 -- the flow of each segment between ports of Kerberos
-abbrev pub flows_in : ℕ → List Contents → List Flow
-flows_in port all = map (λ segment. flow_between segment.source segment.target) (filter (λ segment. is_some (service_of port segment.source segment.target)) (segments_in all))
+abbrev pub flows_in : Profile → ℕ → List Contents → List Flow
+flows_in profile port all = map (λ segment. flow_between segment.source segment.target) (filter (λ segment. is_some (service_of profile port segment.source segment.target)) (segments_in all))
 
 -- Whatever else a capture has, if there are segments of no more different flows than are kept: what is found from a source to a target over TCP is what is found in the direction of these segments alone.
 abbrev pub DirectionsAreApart : Type 0
-DirectionsAreApart = (settings : Settings) (packets : List Packet) (different : List Flow) (source target : Endpoint) (service : Service) → AreNumbered 0 packets → length different ≤ 65536 → All (Contains different) (flows_in settings.port (carried packets)) → service_of settings.port source target ≡ Some service → found_between transports.Tcp source target (capture_found settings packets) ≡ direction_found settings.limit (nothing_sent (flow_between source target) service) (segments_between source target (carried packets))
+DirectionsAreApart = (settings : Settings) (packets : List Packet) (different : List Flow) (source target : Endpoint) (service : Service) → AreNumbered 0 packets → length different ≤ 65536 → All (Contains different) (flows_in settings.profile settings.port (carried settings.port packets)) → service_of settings.profile settings.port source target ≡ Some service → found_between transports.Tcp source target (capture_found settings packets) ≡ direction_found settings.limit (nothing_sent (flow_between source target) service) (segments_between source target (carried settings.port packets))
 
--- So if these are the segments of a stream, it is what is found in the stream.
+-- So if these are the segments of a stream, it is what is found in the stream, but for octets that no message has.
 abbrev pub CapturesListStreams : Type 0
-CapturesListStreams = (settings : Settings) (packets : List Packet) (different : List Flow) (source target : Endpoint) (service : Service) (stream : List ℕ) (how : Beginning) (pieces : List Piece) → AreNumbered 0 packets → length different ≤ 65536 → All (Contains different) (flows_in settings.port (carried packets)) → service_of settings.port source target ≡ Some service → segments_between source target (carried packets) ≡ segments_of pieces → AreAllOf stream how pieces → found_between transports.Tcp source target (capture_found settings packets) ≡ beginning_found (Some how) ++ stream_found service settings.limit stream
+CapturesListStreams = (settings : Settings) (packets : List Packet) (different : List Flow) (source target : Endpoint) (service : Service) (stream : List ℕ) (how : Beginning) (pieces : List Piece) → AreNumbered 0 packets → length different ≤ 65536 → All (Contains different) (flows_in settings.profile settings.port (carried settings.port packets)) → service_of settings.profile settings.port source target ≡ Some service → segments_between source target (carried settings.port packets) ≡ segments_of pieces → AreAllOf stream how pieces → but_unread (found_between transports.Tcp source target (capture_found settings packets)) ≡ beginning_found (Some how) ++ stream_found service settings.limit stream
 
 -- Over UDP it is what is found in each of the datagrams alone.
 abbrev pub DatagramsAreApart : Type 0
-DatagramsAreApart = (settings : Settings) (packets : List Packet) (source target : Endpoint) (service : Service) → service_of settings.port source target ≡ Some service → found_between transports.Udp source target (capture_found settings packets) ≡ flat_map (λ datagram. datagram_found service datagram.payload) (datagrams_between source target (carried packets))
+DatagramsAreApart = (settings : Settings) (packets : List Packet) (source target : Endpoint) (service : Service) → service_of settings.profile settings.port source target ≡ Some service → found_between transports.Udp source target (capture_found settings packets) ≡ flat_map (all_found service) (datagrams_between source target (carried settings.port packets))

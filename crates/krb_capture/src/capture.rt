@@ -8,11 +8,11 @@ ghost use Rattle.krb_capture.specs.Flows.{service_of};
 ghost use Rattle.krb_capture.specs.Found.{totals};
 ghost use Rattle.krb_capture.specs.Rests.{HasFollowedBut, Lists};
 
-use crate::datagram::list_datagram;
+use crate::datagram::list_with_surplus;
 use crate::directions::{Directions, Rest};
 use crate::flow::{Due, Service};
 use crate::listing::{Listing, Tally};
-use krb_der::Memory;
+use krb_der::{Memory, Profile};
 use krb_file::FileWhy;
 use krb_frame::Limit;
 use krb_packet::{Contents, Datagram, Ends, Fragment, Fragments, Packet, Segment, contents_of};
@@ -27,6 +27,8 @@ use std::alloc::Global;
 /// is out of memory, too, and changes nothing.
 #[derive(Drop)]
 pub struct Capture {
+    /// By which messages are judged.
+    profile: Profile,
     port: u16,
     fragments: Fragments,
     directions: Directions,
@@ -48,11 +50,13 @@ fn is_clean(totals: &CaptureCounts) -> bool
 
 impl Capture {
     /// Creates an empty capture. Its records are listed in a form, frames of more
-    /// than `limit` octets are refused, and `port` is the one of KDCs.
-    pub fn new(alloc: Global, form: Form, limit: Limit, port: u16) -> Capture
-        ensures { let settings : Settings = record { form = form; limit = limit; port = port } in HasFollowed result settings at_first }
+    /// than `limit` octets are refused, messages are judged by `profile`, and `port` is the one of
+    /// KDCs.
+    pub fn new(alloc: Global, form: Form, profile: Profile, limit: Limit, port: u16) -> Capture
+        ensures { let settings : Settings = record { form = form; profile = profile; limit = limit; port = port } in HasFollowed result settings at_first }
     {
         Capture {
+            profile,
             port,
             fragments: Fragments::new(alloc),
             directions: Directions::new(alloc, limit),
@@ -130,7 +134,7 @@ impl Capture {
     {
         self.last = Due::with(packet);
         self.listing.count_packet();
-        self.take_contents(contents_of(packet), text)
+        self.take_contents(contents_of(packet, self.port), text)
     }
 
     /// Lists what a packet carries.
@@ -155,8 +159,8 @@ impl Capture {
     ) -> Result<Option<Box<Rest>>, Memory>
         ensures { IfOk result (λ rest. (settings : Settings) (progress : Progress) → HasFollowed self.old settings progress → Lists self.new settings (and_counted (fragment_taken settings fragment.now progress)) rest text.old text.new) }
     {
-        match self.fragments.take(fragment)? {
-            Some(whole) => self.take_whole(&whole.contents(), text),
+        match self.fragments.take_nested(self.port, fragment)? {
+            Some(whole) => self.take_whole(&whole.contents(self.port), text),
             None => Ok(None),
         }
     }
@@ -189,9 +193,9 @@ impl Capture {
 
     /// Counts a packet whose header is cut or wrong after its ports, if it is of Kerberos.
     fn take_unread(&mut self, ends: Ends)
-        ensures { (settings : Settings) (progress : Progress) → HasFollowed self.old settings progress → HasFollowed self.new settings (and_counted (unread_taken (service_of settings.port ends.source ends.target) progress)).progress }
+        ensures { (settings : Settings) (progress : Progress) → HasFollowed self.old settings progress → HasFollowed self.new settings (and_counted (unread_taken (service_of settings.profile settings.port ends.source ends.target) progress)).progress }
     {
-        if Service::between(self.port, ends.source, ends.target).is_some() {
+        if Service::between(self.profile, self.port, ends.source, ends.target).is_some() {
             self.listing.count_unread();
         }
     }
@@ -202,9 +206,14 @@ impl Capture {
         datagram: &Datagram<'_>,
         text: &mut TextBuffer,
     ) -> Result<(), Memory>
-        ensures { OnOk result ((settings : Settings) (progress : Progress) → HasFollowed self.old settings progress → Lists self.new settings (and_counted (datagram_taken (service_of settings.port datagram.now.source datagram.now.target) datagram.now progress)) None text.old text.new) }
+        ensures { OnOk result ((settings : Settings) (progress : Progress) → HasFollowed self.old settings progress → Lists self.new settings (and_counted (datagram_taken (service_of settings.profile settings.port datagram.now.source datagram.now.target) datagram.now progress)) None text.old text.new) }
     {
-        let Some(service) = Service::between(self.port, datagram.source, datagram.target) else {
+        let Some(service) = Service::between(
+            self.profile,
+            self.port,
+            datagram.source,
+            datagram.target,
+        ) else {
             return Ok(());
         };
         let origin = self
@@ -212,7 +221,7 @@ impl Capture {
             .over(Transport::Udp, datagram.source, datagram.target);
         let tally = self.listing;
         let mut listing = Listing { tally, text };
-        let listed = list_datagram(service, &datagram.payload, &origin, &mut listing);
+        let listed = list_with_surplus(service, datagram, &origin, &mut listing);
         let (tally, _text) = listing.into_parts();
         self.listing = tally;
         listed
@@ -224,9 +233,14 @@ impl Capture {
         segment: &Segment<'_>,
         text: &mut TextBuffer,
     ) -> Result<Option<Box<Rest>>, Memory>
-        ensures { IfOk result (λ rest. (settings : Settings) (progress : Progress) → HasFollowed self.old settings progress → Lists self.new settings (and_counted (segment_taken settings.limit (service_of settings.port segment.now.source segment.now.target) segment.now progress)) rest text.old text.new) }
+        ensures { IfOk result (λ rest. (settings : Settings) (progress : Progress) → HasFollowed self.old settings progress → Lists self.new settings (and_counted (segment_taken settings.limit (service_of settings.profile settings.port segment.now.source segment.now.target) segment.now progress)) rest text.old text.new) }
     {
-        let Some(service) = Service::between(self.port, segment.source, segment.target) else {
+        let Some(service) = Service::between(
+            self.profile,
+            self.port,
+            segment.source,
+            segment.target,
+        ) else {
             return Ok(None);
         };
         let tally = self.listing;

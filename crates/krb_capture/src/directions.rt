@@ -6,19 +6,23 @@ ghost use Rattle.std.specs.Map.{lookup};
 ghost use Rattle.std.specs.Ordering.{eq_by_cmp, nat_cmp};
 ghost use Rattle.krb_capture.specs.Captures.{Finding, over_tcp, with_each};
 ghost use Rattle.krb_capture.specs.Directions.{HoldsMaps, HoldsTable, IsKnown, Table, begins, begun, flow_cmp, flow_of, followed, gone_on, in_flow, kept, last_of, no_directions, of_ended, of_known, state_after, with_room, without};
-ghost use Rattle.krb_capture.specs.Found.{Found};
+ghost use Rattle.krb_capture.specs.Flows.{origin_of};
+ghost use Rattle.krb_capture.specs.Found.{Found, with_all};
 ghost use Rattle.krb_capture.specs.Rests.{Follows, HoldsBut, HoldsSome, RepresentsBut};
-ghost use Rattle.krb_capture.specs.Sending.{Sent, Represents, step_of};
+ghost use Rattle.krb_capture.specs.Sending.{Sent, Represents, step_of, unread_found};
+ghost use Rattle.krb_flow.specs.Unread.{of_reset};
+ghost use Rattle.krb_record.specs.declared.flow.Transport.TheVariants as transports;
 
 use crate::ended::Ended;
 use crate::flow::{Due, Flow, Service};
 use crate::listing::Listing;
 use crate::numbers::Numbers;
-use crate::sending::{Sending, Step, Stepped, Unlisted};
+use crate::sending::{Sending, Step, Stepped, Unlisted, list_unread};
 use krb_der::Memory;
-use krb_flow::{Direction, Had};
+use krb_flow::{Direction, Had, Unread};
 use krb_frame::Limit;
 use krb_packet::Segment;
+use krb_record::Transport;
 use std::alloc::Global;
 use std::collections::BTreeMap;
 
@@ -106,6 +110,18 @@ fn number_after(number: u64, step: Step, due: Due) -> u64
     if step.began { due.packet } else { number }
 }
 
+/// Lists the octets of a segment that begins no direction, where none is open.
+fn list_passed_over(
+    segment: &Segment<'_>,
+    due: Due,
+    listing: &mut Listing<'_>,
+) -> Result<(), Memory>
+    ensures { OnOk result (listing.new ≡ with_all (origin_of due transports.Tcp segment.now.source segment.now.target) (unread_found (of_reset segment.now)) listing.old) }
+{
+    let origin = due.over(Transport::Tcp, segment.source, segment.target);
+    list_unread(Unread::of_reset(segment), &origin, listing)
+}
+
 impl Directions {
     /// Creates an empty table. Frames of more than `limit` octets are refused.
     pub(crate) fn new(alloc: Global, limit: Limit) -> Directions
@@ -189,7 +205,10 @@ impl Directions {
                 self.numbers.insert(flow, due.packet)?;
                 self.begin(flow, None, segment, service, due, listing)
             }
-            None => Ok(None),
+            None => {
+                list_passed_over(segment, due, listing)?;
+                Ok(None)
+            }
         }
     }
 
@@ -261,6 +280,7 @@ impl Directions {
         ensures { IfOk result (λ rest. (limit : ℕ) (table : Table) → HoldsMaps self.old limit table → Follows self.new limit (of_ended limit due.packet number (lookup (is_at (nat_cmp number)) table.ended) service segment.now table).table due rest (over_tcp due (of_ended limit due.packet number (lookup (is_at (nat_cmp number)) table.ended) service segment.now table).found) listing.old listing.new) }
     {
         if !begins(segment) {
+            list_passed_over(segment, due, listing)?;
             return Ok(None);
         }
         let Some(gone) = self.ended.get(number) else {

@@ -3,6 +3,7 @@
 ghost use Rattle.std.specs.Prelude.{◌≡◌};
 ghost use Rattle.krb_capture.specs.Flows.{due_with, flow_between, origin_of, service_of};
 
+use krb_der::Profile;
 use krb_packet::Packet;
 use krb_record::{CaptureOrigin, Transport};
 use krb_source::{Endpoint, Timestamp};
@@ -36,25 +37,30 @@ impl Flow {
     }
 }
 
-/// What a flow carries.
+/// What a flow carries, and the profile by which its messages are judged.
 #[derive(Clone, Copy)]
 pub(crate) enum Service {
     /// Messages of Kerberos.
-    Kerberos,
-    /// Messages that change passwords.
-    Passwords,
+    Kerberos(Profile),
+    /// Messages that change passwords, whose parts are messages of Kerberos.
+    Passwords(Profile),
 }
 
 impl Service {
     /// Returns what a flow carries, by its ports, if that is of Kerberos: `port` is the one of
-    /// KDCs.
-    pub(crate) fn between(port: u16, source: Endpoint, target: Endpoint) -> Option<Service>
-        ensures { result ≡ service_of port source target }
+    /// KDCs, and messages are judged by the profile.
+    pub(crate) fn between(
+        profile: Profile,
+        port: u16,
+        source: Endpoint,
+        target: Endpoint,
+    ) -> Option<Service>
+        ensures { result ≡ service_of profile port source target }
     {
         if source.port == port || target.port == port {
-            Some(Service::Kerberos)
+            Some(Service::Kerberos(profile))
         } else if source.port == PASSWORD_PORT || target.port == PASSWORD_PORT {
-            Some(Service::Passwords)
+            Some(Service::Passwords(profile))
         } else {
             None
         }

@@ -32,8 +32,12 @@ impl Frames {
         ensures service { service_of result ≡ service }
     {
         match service {
-            Service::Kerberos => Frames::Messages(MessageFrames::new(alloc, limit)),
-            Service::Passwords => Frames::Passwords(PasswordFrames::new(alloc, limit)),
+            Service::Kerberos(profile) => {
+                Frames::Messages(MessageFrames::new(alloc, limit, profile))
+            },
+            Service::Passwords(profile) => {
+                Frames::Passwords(PasswordFrames::new(alloc, limit, profile))
+            },
         }
     }
 

@@ -3,13 +3,14 @@
 ghost use Rattle.std.specs.Prelude.{◌≡◌, ◌↔◌, ◌<◌, ◌^◌, IfOk, IsTrue, OnOk, length};
 ghost use Rattle.std.specs.Option.{option_copied};
 ghost use Rattle.krb_capture.specs.Found.{IsFull, Faulty, Joined, Missing, Password, and_more, totals, with_found};
+ghost use Rattle.krb_capture.specs.Found as found;
 ghost use Rattle.krb_capture.specs.Listed.{IsListed};
 
 use krb_der::{Memory, Profile, Refusal};
-use krb_flow::Lost;
+use krb_flow::{Lost, Unread};
 use krb_record::{
     CaptureCounts, CaptureOrigin, Extent, Form, TextBuffer, put_captured_refusal, put_joined,
-    put_lost, put_password,
+    put_lost, put_password, put_unread,
 };
 use krb_text::put_captured_message;
 use std::alloc::Global;
@@ -162,6 +163,20 @@ impl<'text> Listing<'text> {
             path,
         )?;
         self.tally.counts.lost = and_more(self.tally.counts.lost, 1);
+        Ok(())
+    }
+
+    /// Adds octets that no message has.
+    pub(crate) fn put_unread(
+        &mut self,
+        origin: &CaptureOrigin,
+        unread: Unread,
+    ) -> Result<(), Memory>
+        ensures { OnOk result (self.new ≡ with_found origin.now (found.Unread unread.place unread.octets unread.why) self.old) }
+    {
+        let Unread { place, octets, why } = unread;
+        put_unread(self.text, self.tally.form, origin, place, octets, why)?;
+        self.tally.counts.unread = and_more(self.tally.counts.unread, 1);
         Ok(())
     }
 

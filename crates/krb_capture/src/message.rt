@@ -9,7 +9,7 @@ ghost use Rattle.krb_capture.specs.Messages.{cut_found, prefix_refusal, message_
 use crate::listing::Listing;
 use krb_der::{Memory, Profile, Refusal, Verdict, Why};
 use krb_flow::Lost;
-use krb_judge::{judge, path, read_message};
+use krb_judge::{judge_in, path, read_message_in};
 use krb_record::{CaptureOrigin, Extent, Form};
 use std::alloc::Global;
 
@@ -22,21 +22,23 @@ const MOST_OCTETS: u64 = 2147483647;
 pub(crate) fn path_of(
     alloc: Global,
     form: Form,
+    profile: Profile,
     size: u64,
     prefix: &[u8],
 ) -> Result<Option<String>, Memory>
     requires present { length prefix.now ≤ size }
-    ensures { IfOk result (λ path. path_in form (option_map string_bytes path) ≡ path_in form (path_of size prefix.now)) }
+    ensures { IfOk result (λ path. path_in form (option_map string_bytes path) ≡ path_in form (path_of profile size prefix.now)) }
 {
     if !form.shows_paths() || size > MOST_OCTETS {
         return Ok(None);
     }
-    path(alloc, Profile::Lenient, size as u32, prefix)
+    path(alloc, profile, size as u32, prefix)
 }
 
 /// Lists octets that are refused as a message of `size` octets, which follows `before` others of
 /// a frame or a datagram.
 pub(crate) fn list_refused(
+    profile: Profile,
     octets: &[u8],
     size: u64,
     before: u32,
@@ -47,10 +49,10 @@ pub(crate) fn list_refused(
 ) -> Result<(), Memory>
     requires present { length octets.now ≤ size }
     requires fits { before + refusal.place < 2 ^ 32 }
-    ensures { OnOk result (listing.new ≡ with_found origin.now (refused_found extent before size octets.now refusal) listing.old) }
+    ensures { OnOk result (listing.new ≡ with_found origin.now (refused_found profile extent before size octets.now refusal) listing.old) }
 {
     let prefix = &octets[..octets.len().min(refusal.place as usize + 1)];
-    let path = path_of(listing.allocator(), listing.form(), size, prefix)?;
+    let path = path_of(listing.allocator(), listing.form(), profile, size, prefix)?;
     let place = before + refusal.place;
     let why = refusal.why;
     listing.put_refusal(origin, Refusal { place, why }, path.as_deref(), extent)
@@ -60,6 +62,7 @@ pub(crate) fn list_refused(
 /// there.
 #[tactic(auto, unfolding(crate::specs::Messages::message_found))]
 pub(crate) fn list_message(
+    profile: Profile,
     octets: &[u8],
     before: u32,
     extent: Extent,
@@ -67,23 +70,25 @@ pub(crate) fn list_message(
     listing: &mut Listing<'_>,
 ) -> Result<(), Memory>
     requires { before < 2 ^ 31 }
-    ensures { OnOk result (listing.new ≡ with_found origin.now (message_found extent before octets.now) listing.old) }
+    ensures { OnOk result (listing.new ≡ with_found origin.now (message_found profile extent before octets.now) listing.old) }
 {
     let size = octets.len() as u64;
-    if size <= MOST_OCTETS && listing.put_message(origin, Profile::Lenient, octets)? {
+    if size <= MOST_OCTETS && listing.put_message(origin, profile, octets)? {
         return Ok(());
     }
-    let Err(refusal) = read_message(octets) else {
+    let Err(refusal) = read_message_in(profile, octets) else {
         unreachable!()
     };
-    list_refused(octets, size, before, extent, refusal, origin, listing)
+    list_refused(
+        profile, octets, size, before, extent, refusal, origin, listing,
+    )
 }
 
 /// Returns why the first octets of a message of `size` octets are refused, if they are.
-fn prefix_refusal(octets: &[u8], size: u64) -> Option<Refusal>
+fn prefix_refusal(profile: Profile, octets: &[u8], size: u64) -> Option<Refusal>
     requires some { 0 < size }
     requires present { length octets.now ≤ size }
-    ensures { result ≡ prefix_refusal size octets.now }
+    ensures { result ≡ prefix_refusal profile size octets.now }
 {
     if size > MOST_OCTETS {
         return Some(Refusal {
@@ -91,7 +96,7 @@ fn prefix_refusal(octets: &[u8], size: u64) -> Option<Refusal>
             why: Why::TooLong,
         });
     }
-    match judge(size as u32, octets) {
+    match judge_in(profile, size as u32, octets) {
         Verdict::Refused(refusal) => Some(refusal),
         Verdict::Open | Verdict::Whole => None,
     }
@@ -101,6 +106,7 @@ fn prefix_refusal(octets: &[u8], size: u64) -> Option<Refusal>
 /// not there.
 #[tactic(auto, unfolding(crate::specs::Messages::cut_found))]
 pub(crate) fn list_cut_message(
+    profile: Profile,
     octets: &[u8],
     size: u64,
     extent: Extent,
@@ -109,25 +115,26 @@ pub(crate) fn list_cut_message(
 ) -> Result<(), Memory>
     requires some { 0 < size }
     requires present { length octets.now ≤ size }
-    ensures { OnOk result (listing.new ≡ with_found origin.now (cut_found extent size octets.now) listing.old) }
+    ensures { OnOk result (listing.new ≡ with_found origin.now (cut_found profile extent size octets.now) listing.old) }
 {
-    match prefix_refusal(octets, size) {
-        Some(refusal) => list_refused(octets, size, 0, extent, refusal, origin, listing),
-        None => list_missing(octets, size, origin, listing),
+    match prefix_refusal(profile, octets, size) {
+        Some(refusal) => list_refused(profile, octets, size, 0, extent, refusal, origin, listing),
+        None => list_missing(profile, octets, size, origin, listing),
     }
 }
 
 /// Lists that octets of a message of `size` octets are not there after these.
 fn list_missing(
+    profile: Profile,
     octets: &[u8],
     size: u64,
     origin: &CaptureOrigin,
     listing: &mut Listing<'_>,
 ) -> Result<(), Memory>
     requires present { length octets.now ≤ size }
-    ensures { OnOk result (listing.new ≡ with_found origin.now (Missing (length octets.now) (size - length octets.now) (path_of size octets.now)) listing.old) }
+    ensures { OnOk result (listing.new ≡ with_found origin.now (Missing (length octets.now) (size - length octets.now) (path_of profile size octets.now)) listing.old) }
 {
-    let path = path_of(listing.allocator(), listing.form(), size, octets)?;
+    let path = path_of(listing.allocator(), listing.form(), profile, size, octets)?;
     let place = octets.len() as u64;
     let octets = size - place;
     listing.put_lost(origin, Lost { place, octets }, path.as_deref())

@@ -31,11 +31,11 @@ pub(crate) struct MessageFrames {
 impl MessageFrames {
     /// Creates those of a direction with no octets yet.
     #[inline(always)]
-    pub(crate) fn new(alloc: Global, limit: Limit) -> MessageFrames
-        ensures { TookMessages result limit [] }
+    pub(crate) fn new(alloc: Global, limit: Limit, profile: Profile) -> MessageFrames
+        ensures { TookMessages profile result limit [] }
     {
         MessageFrames {
-            decoder: SkippingDecoder::new(Decoder::new(alloc, limit)),
+            decoder: SkippingDecoder::new(Decoder::with_profile(alloc, limit, profile)),
             offset: 0,
             is_over: false,
         }
@@ -51,14 +51,16 @@ impl MessageFrames {
     ) -> Result<usize, Memory>
         ensures few { IfOk result (λ count. count ≤ length octets.now) }
         ensures full { IfOk result (λ count. count < length octets.now → IsFull listing.new.text) }
-        ensures took { IfOk result (λ count. (limit : ℕ) (stream : List ℕ) → TookMessages self.old limit stream → TookMessages self.new limit (stream ++ take count octets.now)) }
-        ensures listed { IfOk result (λ count. (limit : ℕ) (stream : List ℕ) → TookMessages self.old limit stream → listing.new ≡ with_all origin.now (found_with services.Kerberos limit stream (take count octets.now)) listing.old) }
+        ensures profile { OnOk result (self.new.decoder.current.profile ≡ self.old.decoder.current.profile) }
+        ensures took { IfOk result (λ count. (profile : Profile) (limit : ℕ) (stream : List ℕ) → TookMessages profile self.old limit stream → TookMessages profile self.new limit (stream ++ take count octets.now)) }
+        ensures listed { IfOk result (λ count. (profile : Profile) (limit : ℕ) (stream : List ℕ) → TookMessages profile self.old limit stream → listing.new ≡ with_all origin.now (found_with (services.Kerberos profile) limit stream (take count octets.now)) listing.old) }
     {
         if self.is_over {
             return Ok(octets.len());
         }
         let mut lister = FrameLister {
             offset: self.offset,
+            profile: self.decoder.decoder().profile(),
             origin,
             listing,
         };
@@ -77,9 +79,10 @@ impl MessageFrames {
     /// Returns the path of the field of which the next octet is due, or that has the octet that is
     /// refused, if records of the form show it.
     pub(crate) fn path(&self, alloc: Global, form: Form) -> Result<Option<String>, Memory>
-        ensures { IfOk result (λ path. path_in form (option_map string_bytes path) ≡ path_in form (frame_path self.now.decoder.current.octets)) }
+        ensures { IfOk result (λ path. path_in form (option_map string_bytes path) ≡ path_in form (frame_path self.now.decoder.current.profile self.now.decoder.current.octets)) }
     {
-        path_in_frame(alloc, form, self.decoder.decoder())
+        let decoder = self.decoder.decoder();
+        path_in_frame(alloc, form, decoder.profile(), decoder)
     }
 
     /// Returns where the frame begins that is not whole, and the length that it announces.
@@ -91,7 +94,7 @@ impl MessageFrames {
 
     /// Returns why a frame is refused that is not whole at the end, if there is one.
     pub(crate) fn finish(&self) -> Option<Refusal>
-        ensures { (limit : ℕ) (stream : List ℕ) → TookMessages self.now limit stream → self.now.is_over ≡ false → result ≡ cut_refusal self.now.decoder.current.octets }
+        ensures { (profile : Profile) (limit : ℕ) (stream : List ℕ) → TookMessages profile self.now limit stream → self.now.is_over ≡ false → result ≡ cut_refusal self.now.decoder.current.octets }
     {
         self.decoder.finish().err()
     }
@@ -102,6 +105,8 @@ impl MessageFrames {
 struct FrameLister<'a, 'text> {
     /// Where in the direction the next frame begins.
     offset: u64,
+    /// By which the messages are judged.
+    profile: Profile,
     origin: &'a CaptureOrigin,
     listing: &'a mut Listing<'text>,
 }
@@ -110,10 +115,11 @@ impl<'a, 'text> FrameLister<'a, 'text> {
     /// Lists the refusal of the current frame of a decoder.
     fn put_refusal(&mut self, refusal: Refusal, decoder: &Decoder) -> Result<(), Memory>
         ensures same { OnOk result (self.new.listing.ghost_name ≡ self.old.listing.ghost_name) }
-        ensures others { OnOk result ((self.new.offset ≡ self.old.offset) × (self.new.origin ≡ self.old.origin)) }
-        ensures listed { OnOk result (self.new.listing.now ≡ with_found self.old.origin.now (entry_found self.old.offset (Fault refusal.place refusal.why decoder.now.octets)) self.old.listing.now) }
+        ensures others { OnOk result ((self.new.offset ≡ self.old.offset) × (self.new.origin ≡ self.old.origin) × (self.new.profile ≡ self.old.profile)) }
+        ensures listed { OnOk result (self.new.listing.now ≡ with_found self.old.origin.now (entry_found self.old.profile self.old.offset (Fault refusal.place refusal.why decoder.now.octets)) self.old.listing.now) }
     {
-        let path = path_in_frame(self.listing.allocator(), self.listing.form(), decoder)?;
+        let alloc = self.listing.allocator();
+        let path = path_in_frame(alloc, self.listing.form(), self.profile, decoder)?;
         let extent = extent_of(self.offset, decoder.announced());
         self.listing
             .put_refusal(self.origin, refusal, path.as_deref(), extent)
@@ -161,11 +167,22 @@ pub(crate) fn extent_of(offset: u64, announced: Option<u32>) -> Extent
 
 /// Returns the path of the field of which the next octet is due, or that has the octet that is
 /// refused, if records of the form show it.
-fn path_in_frame(alloc: Global, form: Form, decoder: &Decoder) -> Result<Option<String>, Memory>
-    ensures { IfOk result (λ path. path_in form (option_map string_bytes path) ≡ path_in form (frame_path decoder.now.octets)) }
+fn path_in_frame(
+    alloc: Global,
+    form: Form,
+    profile: Profile,
+    decoder: &Decoder,
+) -> Result<Option<String>, Memory>
+    ensures { IfOk result (λ path. path_in form (option_map string_bytes path) ≡ path_in form (frame_path profile decoder.now.octets)) }
 {
     match decoder.partial() {
         None => Ok(None),
-        Some(partial) => path_of(alloc, form, u64::from(partial.size), partial.octets),
+        Some(partial) => path_of(
+            alloc,
+            form,
+            profile,
+            u64::from(partial.size),
+            partial.octets,
+        ),
     }
 }

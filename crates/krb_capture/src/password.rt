@@ -6,7 +6,7 @@ ghost use Rattle.krb_capture.specs.Passwords.{checked, header, number, part_foun
 
 use crate::listing::Listing;
 use crate::message::list_message;
-use krb_der::{Memory, Refusal, Why};
+use krb_der::{Memory, Profile, Refusal, Why};
 use krb_record::{CaptureOrigin, Extent};
 
 /// How many octets precede the AP-REQ or AP-REP: the length, the version, and the length of that.
@@ -106,6 +106,7 @@ fn read_header(octets: &[u8]) -> Result<Header, Fault>
 
 /// Lists a part that follows `before` other octets, unless it is left out.
 fn list_part(
+    profile: Profile,
     octets: &[u8],
     before: u32,
     extent: Extent,
@@ -113,12 +114,12 @@ fn list_part(
     listing: &mut Listing<'_>,
 ) -> Result<(), Memory>
     requires { before < 2 ^ 31 }
-    ensures { OnOk result (listing.new ≡ with_all origin.now (part_found extent before octets.now) listing.old) }
+    ensures { OnOk result (listing.new ≡ with_all origin.now (part_found profile extent before octets.now) listing.old) }
 {
     if octets.is_empty() {
         return Ok(());
     }
-    list_message(octets, before, extent, origin, listing)
+    list_message(profile, octets, before, extent, origin, listing)
 }
 
 /// Lists the refusal of a header that follows `before` octets.
@@ -143,6 +144,7 @@ fn list_fault(
 /// password and is all there.
 #[tactic(auto, unfolding(crate::specs::Passwords::password_found))]
 pub(crate) fn list_password(
+    profile: Profile,
     octets: &[u8],
     before: u32,
     extent: Extent,
@@ -150,17 +152,18 @@ pub(crate) fn list_password(
     listing: &mut Listing<'_>,
 ) -> Result<(), Memory>
     requires { before < 2 ^ 30 }
-    ensures { OnOk result (listing.new ≡ with_all origin.now (password_found extent before octets.now) listing.old) }
+    ensures { OnOk result (listing.new ≡ with_all origin.now (password_found profile extent before octets.now) listing.old) }
 {
     let header = match read_header(octets) {
         Ok(header) => header,
         Err(fault) => return list_fault(before, extent, fault, origin, listing),
     };
-    list_parts(octets, before, extent, header, origin, listing)
+    list_parts(profile, octets, before, extent, header, origin, listing)
 }
 
 /// Lists a message that changes a password, and its parts.
 fn list_parts(
+    profile: Profile,
     octets: &[u8],
     before: u32,
     extent: Extent,
@@ -170,12 +173,12 @@ fn list_parts(
 ) -> Result<(), Memory>
     requires few { before < 2 ^ 30 }
     requires parts { 6 + header.ap ≤ length octets.now }
-    ensures { OnOk result (listing.new ≡ with_all origin.now (parts_found extent before octets.now (Ok header)) listing.old) }
+    ensures { OnOk result (listing.new ≡ with_all origin.now (parts_found profile extent before octets.now (Ok header)) listing.old) }
 {
     let (_, parts) = octets.split_at(HEADER);
     let (ap, rest) = parts.split_at(usize::from(header.ap));
     let after_ap = HEADER as u32 + u32::from(header.ap);
     listing.put_password(origin, header.version, header.ap, rest.len() as u64)?;
-    list_part(ap, before + HEADER as u32, extent, origin, listing)?;
-    list_part(rest, before + after_ap, extent, origin, listing)
+    list_part(profile, ap, before + HEADER as u32, extent, origin, listing)?;
+    list_part(profile, rest, before + after_ap, extent, origin, listing)
 }

@@ -11,7 +11,7 @@ ghost use Rattle.krb_capture.specs.declared.flow.Service.TheVariants as services
 use crate::listing::{Listing, and_more};
 use crate::message_frames::extent_of;
 use crate::password::list_password;
-use krb_der::{Memory, Refusal, Why};
+use krb_der::{Memory, Profile, Refusal, Why};
 use krb_frame::{Limit, first_frame, length_fault};
 use krb_record::{CaptureOrigin, Extent};
 use std::alloc::Global;
@@ -24,6 +24,8 @@ const LENGTH: usize = 4;
 #[derive(Drop)]
 pub(crate) struct PasswordFrames {
     limit: Limit,
+    /// By which the messages are judged.
+    profile: Profile,
     /// The octets of the frame that is not whole yet, its length first.
     octets: Vec<u8>,
     /// How many octets of a frame that was refused are to come.
@@ -36,11 +38,12 @@ pub(crate) struct PasswordFrames {
 
 impl PasswordFrames {
     /// Creates those of a direction with no octets yet.
-    pub(crate) fn new(alloc: Global, limit: Limit) -> PasswordFrames
-        ensures { TookPasswords result limit [] }
+    pub(crate) fn new(alloc: Global, limit: Limit, profile: Profile) -> PasswordFrames
+        ensures { TookPasswords profile result limit [] }
     {
         PasswordFrames {
             limit,
+            profile,
             octets: Vec::new(alloc),
             skipped: 0,
             is_over: false,
@@ -58,8 +61,9 @@ impl PasswordFrames {
     ) -> Result<usize, Memory>
         ensures few { IfOk result (λ count. count ≤ length octets.now) }
         ensures full { IfOk result (λ count. count < length octets.now → IsFull listing.new.text) }
-        ensures took { IfOk result (λ count. (limit : ℕ) (stream : List ℕ) → TookPasswords self.old limit stream → TookPasswords self.new limit (stream ++ take count octets.now)) }
-        ensures listed { IfOk result (λ count. (limit : ℕ) (stream : List ℕ) → TookPasswords self.old limit stream → listing.new ≡ with_all origin.now (found_with services.Passwords limit stream (take count octets.now)) listing.old) }
+        ensures profile { OnOk result (self.new.profile ≡ self.old.profile) }
+        ensures took { IfOk result (λ count. (profile : Profile) (limit : ℕ) (stream : List ℕ) → TookPasswords profile self.old limit stream → TookPasswords profile self.new limit (stream ++ take count octets.now)) }
+        ensures listed { IfOk result (λ count. (profile : Profile) (limit : ℕ) (stream : List ℕ) → TookPasswords profile self.old limit stream → listing.new ≡ with_all origin.now (found_with (services.Passwords profile) limit stream (take count octets.now)) listing.old) }
     {
         let mut count = 0;
         while count < octets.len() && !listing.is_full() {
@@ -109,7 +113,14 @@ impl PasswordFrames {
     {
         let size = contents.len() as u32;
         let extent = extent_of(self.offset, Some(size));
-        list_password(contents, LENGTH as u32, extent, origin, listing)?;
+        list_password(
+            self.profile,
+            contents,
+            LENGTH as u32,
+            extent,
+            origin,
+            listing,
+        )?;
         self.pass_over(size, 0);
         Ok(LENGTH + contents.len())
     }
@@ -151,7 +162,8 @@ impl PasswordFrames {
         origin: &CaptureOrigin,
         listing: &mut Listing<'_>,
     ) -> Result<(), Memory>
-        ensures { OnOk result (ListsWhole self.old self.new origin.now listing.old listing.new) }
+        ensures listed { OnOk result (ListsWhole self.old self.new origin.now listing.old listing.new) }
+        ensures profile { OnOk result (self.new.profile ≡ self.old.profile) }
     {
         let Some(size) = self.length() else {
             return Ok(());
@@ -183,6 +195,7 @@ impl PasswordFrames {
         }
         let extent = extent_of(self.offset, Some(size));
         list_password(
+            self.profile,
             &self.octets[LENGTH..],
             LENGTH as u32,
             extent,
@@ -215,7 +228,7 @@ impl PasswordFrames {
 
     /// Returns the path in the frame that is not whole: there is none in its length.
     pub(crate) fn path(&self) -> Option<&'static str>
-        ensures { option_copied result ≡ open_path services.Passwords self.now.octets.items }
+        ensures { option_copied result ≡ open_path (services.Passwords self.now.profile) self.now.octets.items }
     {
         (self.octets.len() >= LENGTH).then_some("KPASSWD")
     }
@@ -229,7 +242,7 @@ impl PasswordFrames {
 
     /// Returns why a frame is refused that is not whole at the end, if there is one.
     pub(crate) fn finish(&self) -> Option<Refusal>
-        ensures { (limit : ℕ) (stream : List ℕ) → TookPasswords self.now limit stream → self.now.is_over ≡ false → result ≡ cut_refusal self.now.octets.items }
+        ensures { (profile : Profile) (limit : ℕ) (stream : List ℕ) → TookPasswords profile self.now limit stream → self.now.is_over ≡ false → result ≡ cut_refusal self.now.octets.items }
     {
         if self.octets.is_empty() {
             return None;

@@ -5,14 +5,14 @@ ghost use Rattle.krb_record.specs.declared.flow.Transport.TheVariants as transpo
 ghost use Rattle.krb_capture.specs.Flows.{origin_of};
 ghost use Rattle.krb_capture.specs.Found.{Found, with_all};
 ghost use Rattle.krb_capture.specs.Rests.{RepresentsBut, Sends, Takes};
-ghost use Rattle.krb_capture.specs.Sending.{Sent, Represents, after_segment, beginning_found, end_if, last_found, segment_found, sent_from, step_of, stream_at};
+ghost use Rattle.krb_capture.specs.Sending.{Sent, Represents, after_segment, beginning_found, end_if, last_found, segment_found, sent_from, step_of, stream_at, unread_found};
 ghost use Rattle.krb_capture.specs.Taken.{Took, service_of};
 
 use crate::flow::{Due, Flow, Service};
 use crate::frames::Frames;
 use crate::listing::Listing;
 use krb_der::Memory;
-use krb_flow::{Beginning, Direction, End, Had};
+use krb_flow::{Beginning, Direction, End, Had, Unread};
 use krb_frame::Limit;
 use krb_packet::Segment;
 use krb_record::{CaptureOrigin, Transport};
@@ -101,6 +101,20 @@ impl Unlisted {
     }
 }
 
+/// Lists octets that are not taken, if there are any.
+pub(crate) fn list_unread(
+    unread: Option<Unread>,
+    origin: &CaptureOrigin,
+    listing: &mut Listing<'_>,
+) -> Result<(), Memory>
+    ensures { OnOk result (listing.new ≡ with_all origin.now (unread_found unread) listing.old) }
+{
+    match unread {
+        None => Ok(()),
+        Some(unread) => listing.put_unread(origin, unread),
+    }
+}
+
 /// What came of a segment.
 #[derive(Drop)]
 pub(crate) struct Stepped {
@@ -166,6 +180,7 @@ impl Sending {
         let taken = self.direction.take(self.alloc, segment, waited)?;
         self.list_end(taken.before, &origin, listing)?;
         self.begin(taken.begins, &origin, listing)?;
+        list_unread(taken.unread, &origin, listing)?;
         let octets = taken.octets;
         let left = self.list(octets, waited.as_slice(), taken.end, &origin, listing)?;
         Ok(Stepped {

@@ -1,5 +1,5 @@
 -- A flow among others: what is kept of it, and what is found in it, are those of its segments alone.
-use Rattle.std.proofs.Common.{◌≡◌, ℕ, ◌<◌, ◌≤◌, ◌⊎◌, inl, inr, Bool, true, false, List, [], length, Option, Some, None, refl, sym, ◌∙◌, ap, subst, arith}
+use Rattle.std.proofs.Common.{◌≡◌, ℕ, ◌<◌, ◌≤◌, ◌⊎◌, inl, inr, Bool, true, false, List, length, Option, Some, None, refl, sym, ◌∙◌, ap, subst, arith}
 use Rattle.std.specs.Prelude.{if◌then◌else◌, nat_lt}
 use Rattle.std.specs.declared.cmp.Ordering.{Ordering}
 use Rattle.std.specs.declared.cmp.Ordering.TheVariants.{Less, Equal, Greater}
@@ -13,14 +13,15 @@ use Rattle.std.proofs.lemmas.Cmp.{nat_cmp_total, tied_itself}
 use Rattle.std.proofs.lemmas.Map.Lookups.{exact_unsigned}
 use Rattle.krb_packet.specs.declared.contents.Segment.{Segment}
 use Rattle.krb_flow.specs.Directions.{end_of, had_of}
+use Rattle.krb_flow.specs.Unread.{of_reset}
 use Rattle.krb_flow.specs.declared.direction.State.{State}
 use Rattle.krb_flow.specs.declared.direction.State.TheVariants as states
 use Rattle.krb_flow.specs.declared.had.Had.{Had}
 use Rattle.krb_capture.specs.contracts.flow.FlowOrd.TheImpl.Laws as flow_laws
-use Rattle.krb_capture.specs.Directions.{Followed, Table, active_with, after_found, begins, begun, by_number, ended_with, flow_cmp, flow_of, followed, gone_on, in_flow, kept, nothing_found, of_ended, of_known, with_one_less, with_room}
+use Rattle.krb_capture.specs.Directions.{Followed, Table, active_with, after_found, begins, begun, by_number, ended_with, flow_cmp, flow_of, followed, gone_on, in_flow, kept, nothing_found, of_ended, of_known, passed_over, with_one_less, with_room}
 use Rattle.krb_capture.specs.Flows.{flow_between}
 use Rattle.krb_capture.specs.Found.{Found}
-use Rattle.krb_capture.specs.Sending.{Sent, after_segment, segment_found, sent_from, step_of}
+use Rattle.krb_capture.specs.Sending.{Sent, after_segment, segment_found, sent_from, step_of, unread_found}
 use Rattle.krb_capture.specs.declared.directions.Gone.{Gone}
 use Rattle.krb_capture.specs.declared.flow.Flow.{Flow}
 use Rattle.krb_capture.specs.declared.flow.Service.{Service}
@@ -28,7 +29,7 @@ use Rattle.krb_capture.specs.declared.sending.Step.{Step}
 use Rattle.krb_capture_laws.proofs.Flows.{exact}
 use Rattle.krb_capture.proofs.Maps.{Ascend, Ascend-inserted, Ascend-removed, lookup-inserted, lookup-inserted_other, lookup-removed, lookup-removed_other}
 use Rattle.krb_capture.proofs.Tables.{began-first}
-use Rattle.krb_capture_laws.proofs.Steps.{Same, Ended-from_had_of, begins_anew, passed-found, passed-state, passes_ended, passes_fresh}
+use Rattle.krb_capture_laws.proofs.Steps.{Same, Ended-from_had_of, begins_anew, passed-found, passed-state, passes_ended, passes_fresh, unread_ended, unread_fresh}
 
 pub flow_total : IsTotalOrder flow_cmp
 flow_total = flow_laws.total-law
@@ -163,7 +164,7 @@ Keeps flow table own = KeptBy (number_of flow table) table own
 
 -- What a segment comes to: nothing, or that its direction goes on.
 pub data Went (limit packet : ℕ) (service : Service) (segment : Segment) (table : Table) (followed : Followed) : Type 0 where
-  Passes : followed ≡ nothing_found table → ((own : Sent) → Keeps (flow_of segment) table own → (segment_found limit own segment ≡ []) × Keeps (flow_of segment) table (after_segment own segment)) → Went limit packet service segment table followed
+  Passes : followed ≡ passed_over segment table → ((own : Sent) → Keeps (flow_of segment) table own → (segment_found limit own segment ≡ unread_found (of_reset segment)) × Keeps (flow_of segment) table (after_segment own segment)) → Went limit packet service segment table followed
   Goes : (new : ℕ) (sent : Sent) → (new ≡ packet) ⊎ (number_of (flow_of segment) table ≡ Some new) → sent.flow ≡ flow_of segment → followed.found ≡ in_flow (flow_of segment) (segment_found limit sent segment) → Changed (flow_of segment) new (had_of (after_segment sent segment).state) (after_segment sent segment) table followed.table → ((own : Sent) → own.flow ≡ flow_of segment → own.service ≡ service → Keeps (flow_of segment) table own → Same limit sent own segment) → Went limit packet service segment table followed
 
 module _ (limit packet : ℕ) (service : Service) (segment : Segment) (bound : ℕ) (table : Table) (sound : Sound bound table) (later : bound < packet) where
@@ -225,7 +226,7 @@ module _ (limit packet : ℕ) (service : Service) (segment : Segment) (bound : �
       is : (own : Sent) → Keeps (flow_of segment) table own → KeptAt None (at number table.ended) own
       is own k = subst (λ o. KeptAt o (at number table.ended) own) none (subst (λ o. KeptBy o table own) known k)
 
-      again : (gone : Gone) → at number table.ended ≡ Some gone → (b : Bool) → (step_of (states.Ended gone.had) segment).began ≡ b → Went limit packet service segment table (if b then begun limit packet service (states.Ended gone.had) segment (record table { ended = remove_entry (is_at (nat_cmp number)) table.ended }) else nothing_found table)
+      again : (gone : Gone) → at number table.ended ≡ Some gone → (b : Bool) → (step_of (states.Ended gone.had) segment).began ≡ b → Went limit packet service segment table (if b then begun limit packet service (states.Ended gone.had) segment (record table { ended = remove_entry (is_at (nat_cmp number)) table.ended }) else passed_over segment table)
       again gone e true b =
           begun-went (states.Ended gone.had) (remove_entry (is_at (nat_cmp number)) table.ended) refl b
           (λ n o. subst (λ m. at m table.active ≡ None) (same_Some number n (sym known ∙ o)) none)
@@ -234,9 +235,10 @@ module _ (limit packet : ℕ) (service : Service) (segment : Segment) (bound : �
       again gone e false b =
           Passes refl (λ own k.
           let t : own.state ≡ states.Ended gone.had = subst (λ o. KeptAt None o own) e (is own k) in
-          let passes = passes_ended gone.had segment b in (
-            passed-found limit (states.Ended gone.had) own segment t passes,
-            subst (λ o. KeptBy o table (after_segment own segment)) (sym known) (subst (λ o. KeptAt o (at number table.ended) (after_segment own segment)) (sym none) (subst (λ o. KeptAt None o (after_segment own segment)) (sym e) (passed-state limit (states.Ended gone.had) own segment t passes))),
+          let passes = passes_ended gone.had segment b in
+          let told = unread_ended gone.had segment b in (
+            passed-found limit (states.Ended gone.had) own segment t passes told,
+            subst (λ o. KeptBy o table (after_segment own segment)) (sym known) (subst (λ o. KeptAt o (at number table.ended) (after_segment own segment)) (sym none) (subst (λ o. KeptAt None o (after_segment own segment)) (sym e) (passed-state limit (states.Ended gone.had) own segment t passes told))),
           ))
 
       by : (o : Option Gone) → at number table.ended ≡ o → Went limit packet service segment table (of_ended limit packet number o service segment table)
@@ -249,7 +251,7 @@ module _ (limit packet : ℕ) (service : Service) (segment : Segment) (bound : �
 
   -- one that has not begun
   module _ (room : number_of (flow_of segment) table ≡ None → nat_lt (length table.numbers) 65536 ≡ true) where
-    new-went : number_of (flow_of segment) table ≡ None → (b : Bool) → begins segment ≡ b → Went limit packet service segment table (if b then after_found (with_room limit table).found (begun limit packet service states.Fresh segment (with_room limit table).table) else nothing_found table)
+    new-went : number_of (flow_of segment) table ≡ None → (b : Bool) → begins segment ≡ b → Went limit packet service segment table (if b then after_found (with_room limit table).found (begun limit packet service states.Fresh segment (with_room limit table).table) else passed_over segment table)
     new-went none true b =
         let has_room : with_room limit table ≡ nothing_found table = ap (λ x. if x then nothing_found table else with_one_less limit table.ended table.active table) (room none) in
         subst (λ (r : Followed). Went limit packet service segment table (after_found r.found (begun limit packet service states.Fresh segment r.table))) (sym has_room)
@@ -258,7 +260,8 @@ module _ (limit packet : ℕ) (service : Service) (segment : Segment) (bound : �
         Passes refl (λ own k.
         let t : own.state ≡ states.Fresh = subst (λ o. KeptBy o table own) none k in
         let passes = passes_fresh segment b in
-        (passed-found limit states.Fresh own segment t passes, subst (λ o. KeptBy o table (after_segment own segment)) (sym none) (passed-state limit states.Fresh own segment t passes)))
+        let told = unread_fresh segment b in
+        (passed-found limit states.Fresh own segment t passes told, subst (λ o. KeptBy o table (after_segment own segment)) (sym none) (passed-state limit states.Fresh own segment t passes told)))
 
     pub followed-went : Went limit packet service segment table (followed limit packet service segment table)
     unfolding followed
@@ -414,5 +417,5 @@ module _ (limit packet : ℕ) (service : Service) (segment : Segment) (bound : �
     pub is : followed.found ≡ in_flow (flow_of segment) all
 
   pub went-found : Went limit packet service segment table followed → OfFlow
-  went-found (Passes is passes) = record { all = []; is = ap (λ (x : Followed). x.found) is }
+  went-found (Passes is passes) = record { all = unread_found (of_reset segment); is = ap (λ (x : Followed). x.found) is }
   went-found (Goes new sent at_new flow found changed same) = record { all = segment_found limit sent segment; is = found }

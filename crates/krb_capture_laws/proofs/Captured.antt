@@ -21,7 +21,7 @@ use Rattle.krb_flow.specs.declared.direction.State.TheVariants.{Fresh, Open, End
 use Rattle.krb_flow.specs.Serial.{behind, distance}
 use Rattle.krb_flow.specs.Waiting.{Waiting, keep_one, keep, ready, early}
 use Rattle.krb_flow.specs.Progress.{Progress}
-use Rattle.krb_flow.specs.Directions.{deliver, Outcome, first_number, distance_to, start, end_place, kept, delivered, earlier, advanced, is_skipped, had, is_reached, is_over, ending, Begun, begins, unless_over, goes_on, joined, step}
+use Rattle.krb_flow.specs.Directions.{deliver, Outcome, first_number, distance_to, start, end_place, kept, delivered, earlier, unless_old, advanced, is_skipped, had, is_reached, is_over, ending, Begun, begins, unless_over, goes_on, joined, step}
 use Rattle.krb_flow.specs.Laws.{at_first, IsFirst, HasAt, Piece, IsPiece, PiecesOf, delivered_of, IsFair, AllFair, IsCaptured, DeliversAll}
 use Rattle.krb_capture_laws.proofs.Pieces.{most_waiting, delivers_the_stream, when_both, number_of, same_number, ahead_by, behind_by, deliver_near, on_plain, at_syn}
 
@@ -232,15 +232,21 @@ end_is size first expected place count after before is =
       | inr later ↦ subst (λ (by : Distance). AtEnd size (end_place expected by count)) (ahead_by first expected place later before) (end_at size expected (Ahead (place - expected)) count (omega arith))
     ]
 
+unless_old_at_end : (size expected : ℕ) (place : Option ℕ) → AtEnd size place → AtEnd size (unless_old expected place)
+unfolding AtEnd
+unless_old_at_end size expected None at = at
+unless_old_at_end size expected (Some place) at = when_both (AtEnd size) (nat_lt place expected) (λ _. None) (λ _. Some place) tt at
+
 pub fin_at_end : (stream : List ℕ) (progress : Progress) (piece : Piece) → IsPiece stream progress piece → IsFair stream progress piece → AtEnd (length stream) progress.fin → AtEnd (length stream) (advanced progress piece.1).fin
 fin_at_end stream progress piece is fair at =
     let count = piece.1.payload.size in
     let number : number_of progress.first piece.0 ≡ first_number piece.1 = sym (same_number progress.first piece.0) ∙ sym is.number in
-    elim piece.1.fin as (λ (fin : Bool). piece.1.fin ≡ fin → AtEnd (length stream) (when fin (λ _. earlier (end_place progress.expected (distance_to progress piece.1) count) progress.fin) (λ _. progress.fin))) [
+    elim piece.1.fin as (λ (fin : Bool). piece.1.fin ≡ fin → AtEnd (length stream) (when fin (λ _. earlier (unless_old progress.expected (end_place progress.expected (distance_to progress piece.1) count)) progress.fin) (λ _. progress.fin))) [
       | true ↦ λ there.
-          earlier_at_end (length stream) (end_place progress.expected (distance_to progress piece.1) count) progress.fin
+          earlier_at_end (length stream) (unless_old progress.expected (end_place progress.expected (distance_to progress piece.1) count)) progress.fin
+          (unless_old_at_end (length stream) progress.expected (end_place progress.expected (distance_to progress piece.1) count)
           (subst (λ (n : ℕ). AtEnd (length stream) (end_place progress.expected (distance (number_of progress.first progress.expected) n) count)) number
-          (end_is (length stream) progress.first progress.expected piece.0 count is.after is.before (fair.fin there)))
+          (end_is (length stream) progress.first progress.expected piece.0 count is.after is.before (fair.fin there))))
           at
       | false ↦ λ there. at
     ] refl

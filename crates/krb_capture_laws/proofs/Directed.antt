@@ -6,6 +6,7 @@ use Rattle.krb_flow.specs.Arrivals.{AllCaptured, AreSegmentsOf, BeginsWith}
 use Rattle.krb_flow.specs.Directions.{Outcome, ending, first_number, step}
 use Rattle.krb_flow.specs.Laws.{Piece, IsCaptured, segments_of}
 use Rattle.krb_flow.specs.Progress.{Progress}
+use Rattle.krb_flow.specs.Unread.{unread_of}
 use Rattle.krb_flow.specs.declared.direction.Beginning.{Beginning}
 use Rattle.krb_flow.specs.declared.direction.State.{State}
 use Rattle.krb_flow.specs.declared.direction.State.TheVariants.{Fresh, Open, Ended}
@@ -13,9 +14,10 @@ use Rattle.krb_flow.specs.declared.stream.End.{End}
 use Rattle.krb_flow.specs.declared.stream.End.TheVariants.{Complete}
 use Rattle.krb_flow.specs.declared.had.Had.{Had}
 use Rattle.krb_capture_laws.proofs.Arriving.{Holds, HadAll, Comes, Goes, Ends, outcome, all_taken, is_complete, comes_next, comes_first, passes_over, still_all}
+use Rattle.krb_capture.proofs.Read.{beginning_read, end_read, none_left, read_same, unread_parts, with_read}
 use Rattle.krb_capture.specs.Found.{Found}
-use Rattle.krb_capture.specs.Laws.{RecordsAreOfTheStream, direction_found}
-use Rattle.krb_capture.specs.Sending.{Sent, after_segment, beginning_found, end_if, nothing_sent, outcome_found, segment_found, stream_at}
+use Rattle.krb_capture.specs.Laws.{RecordsAreOfTheStream, but_unread, direction_found}
+use Rattle.krb_capture.specs.Sending.{Sent, after_segment, beginning_found, end_if, nothing_sent, outcome_found, segment_found, stream_at, unread_found}
 use Rattle.krb_capture.specs.Streams.{end_found, found_with}
 use Rattle.krb_capture.specs.declared.flow.Flow.{Flow}
 use Rattle.krb_capture.specs.declared.flow.Service.{Service}
@@ -35,25 +37,48 @@ module _ (limit : ℕ) (flow : Flow) (service : Service) where
   abbrev sent_at : State → List ℕ → Sent
   sent_at state stream = record { flow = flow; service = service; state = state; stream = stream }
 
+  -- what is found in it, but for octets that no message has
+  abbrev direction_read : Sent → List Segment → List Found
+  direction_read sent segments = but_unread (direction_found limit sent segments)
+
   -- a segment with which the direction goes on, or ends
   module _ (state next : State) (held taken octets : List ℕ) (how : Option Beginning) (end : Option End) (segment : Segment) (is : step state segment ≡ outcome how octets end next) (at : stream_at how held ≡ taken) where
-    with_segment : segment_found limit (sent_at state held) segment ≡ beginning_found how ++ (found_with service limit taken octets ++ end_if service limit (taken ++ octets) end)
+    abbrev told : List Found
+    told = unread_found (unread_of state segment)
+
+    abbrev frames : List Found
+    frames = found_with service limit taken octets ++ end_if service limit (taken ++ octets) end
+
+    with_segment : segment_found limit (sent_at state held) segment ≡ beginning_found how ++ (told ++ frames)
     with_segment =
-        ap (λ (went : Outcome × State). outcome_found service limit held went.0) is
-        ∙ ap (λ (stream : List ℕ). beginning_found how ++ (found_with service limit stream octets ++ end_if service limit (stream ++ octets) end)) at
+        ap (λ (went : Outcome × State). outcome_found service limit held (unread_of state segment) went.0) is
+        ∙ ap (λ (stream : List ℕ). beginning_found how ++ (told ++ (found_with service limit stream octets ++ end_if service limit (stream ++ octets) end))) at
+
+    frames_read : but_unread frames ≡ frames
+    frames_read =
+        unread_parts (found_with service limit taken octets) (end_if service limit (taken ++ octets) end)
+        ∙ ap₂ (λ (x y : List Found). x ++ y) (read_same (found_with service limit taken octets) (with_read service limit taken octets)) (read_same (end_if service limit (taken ++ octets) end) (end_read service limit (taken ++ octets) end))
+
+    -- without the octets that no message has
+    segment_read : but_unread (segment_found limit (sent_at state held) segment) ≡ beginning_found how ++ frames
+    segment_read =
+        ap but_unread with_segment
+        ∙ unread_parts (beginning_found how) (told ++ frames)
+        ∙ ap₂ (λ (x y : List Found). x ++ y) (read_same (beginning_found how) (beginning_read how)) (unread_parts told frames ∙ ap₂ (λ (x y : List Found). x ++ y) (none_left (unread_of state segment)) frames_read)
 
     sent_after : after_segment (sent_at state held) segment ≡ sent_at next (taken ++ octets)
     sent_after =
         ap (λ (went : Outcome × State). sent_at went.1 (stream_at went.0.begins held ++ went.0.octets)) is
         ∙ ap (λ (stream : List ℕ). sent_at next (stream ++ octets)) at
 
-    found_after : (segments : List Segment) → direction_found limit (sent_at state held) (segment ∷ segments) ≡ beginning_found how ++ ((found_with service limit taken octets ++ end_if service limit (taken ++ octets) end) ++ direction_found limit (sent_at next (taken ++ octets)) segments)
+    found_after : (segments : List Segment) → direction_read (sent_at state held) (segment ∷ segments) ≡ beginning_found how ++ (frames ++ direction_read (sent_at next (taken ++ octets)) segments)
     found_after segments =
-        ap₂ (λ (found : List Found) (sent : Sent). found ++ direction_found limit sent segments) with_segment sent_after
-        ∙ append_assoc (beginning_found how) (found_with service limit taken octets ++ end_if service limit (taken ++ octets) end) (direction_found limit (sent_at next (taken ++ octets)) segments)
+        unread_parts (segment_found limit (sent_at state held) segment) (direction_found limit (after_segment (sent_at state held) segment) segments)
+        ∙ ap₂ (λ (found : List Found) (sent : Sent). found ++ direction_read sent segments) segment_read sent_after
+        ∙ append_assoc (beginning_found how) frames (direction_read (sent_at next (taken ++ octets)) segments)
 
   -- after the end
-  none_after : (stream : List ℕ) (first : ℕ) (before pieces : List Piece) (had : Had) (held : List ℕ) → HadAll stream first before had → AreSegmentsOf stream first before pieces → direction_found limit (sent_at (Ended had) held) (segments_of pieces) ≡ []
+  none_after : (stream : List ℕ) (first : ℕ) (before pieces : List Piece) (had : Had) (held : List ℕ) → HadAll stream first before had → AreSegmentsOf stream first before pieces → direction_read (sent_at (Ended had) held) (segments_of pieces) ≡ []
   none_after stream first before [] had held all of = refl
   none_after stream first before (piece ∷ pieces) had held all of =
       found_after (Ended had) (Ended had) held held [] None None piece.1 (passes_over stream first before had all piece of.0) refl (segments_of pieces)
@@ -85,36 +110,37 @@ module _ (limit : ℕ) (flow : Flow) (service : Service) where
     parts_after taken left octets after parts e = append_assoc taken octets after ∙ ap (λ (l : List ℕ). taken ++ l) (sym e) ∙ parts
 
     -- at the end of the capture
-    at_end : (before : List Piece) (progress : Progress) (taken : List ℕ) → Holds stream first before progress → taken ++ drop progress.expected stream ≡ stream → AllCaptured stream before → end_found service limit taken (ending progress) ≡ found_with service limit taken (drop progress.expected stream) ++ end
+    at_end : (before : List Piece) (progress : Progress) (taken : List ℕ) → Holds stream first before progress → taken ++ drop progress.expected stream ≡ stream → AllCaptured stream before → but_unread (end_found service limit taken (ending progress)) ≡ found_with service limit taken (drop progress.expected stream) ++ end
     at_end before progress taken h parts all =
         let full : length stream ≤ progress.expected = all_taken stream first before progress h all in
         let none : drop progress.expected stream ≡ [] = drop_of_length-le stream full in
-        ap₂ (λ (s : List ℕ) (e : End). end_found service limit s e) (sym (append-nil taken) ∙ ap (λ (l : List ℕ). taken ++ l) (sym none) ∙ parts) (is_complete stream first before progress h full)
+        read_same (end_found service limit taken (ending progress)) (end_read service limit taken (Some (ending progress)))
+        ∙ ap₂ (λ (s : List ℕ) (e : End). end_found service limit s e) (sym (append-nil taken) ∙ ap (λ (l : List ℕ). taken ++ l) (sym none) ∙ parts) (is_complete stream first before progress h full)
         ∙ ap (λ (l : List Found). l ++ end) (sym (ap (found_with service limit taken) none ∙ found_with-none service limit taken))
 
     -- the octets before a place were taken, and those after it are found with a segment and later
-    with_piece : (state : State) (held taken : List ℕ) (how : Option Beginning) (due : ℕ) (before pieces : List Piece) (piece : Piece) → stream_at how held ≡ taken → taken ++ drop due stream ≡ stream → AreSegmentsOf stream first (piece ∷ before) pieces → Comes stream first (piece ∷ before) due how (step state piece.1) → ((next : Progress) (taken : List ℕ) → Holds stream first (piece ∷ before) next → taken ++ drop next.expected stream ≡ stream → direction_found limit (sent_at (Open next) taken) (segments_of pieces) ≡ found_with service limit taken (drop next.expected stream) ++ end) → direction_found limit (sent_at state held) (piece.1 ∷ segments_of pieces) ≡ beginning_found how ++ (found_with service limit taken (drop due stream) ++ end)
+    with_piece : (state : State) (held taken : List ℕ) (how : Option Beginning) (due : ℕ) (before pieces : List Piece) (piece : Piece) → stream_at how held ≡ taken → taken ++ drop due stream ≡ stream → AreSegmentsOf stream first (piece ∷ before) pieces → Comes stream first (piece ∷ before) due how (step state piece.1) → ((next : Progress) (taken : List ℕ) → Holds stream first (piece ∷ before) next → taken ++ drop next.expected stream ≡ stream → direction_read (sent_at (Open next) taken) (segments_of pieces) ≡ found_with service limit taken (drop next.expected stream) ++ end) → direction_read (sent_at state held) (piece.1 ∷ segments_of pieces) ≡ beginning_found how ++ (found_with service limit taken (drop due stream) ++ end)
     with_piece state held taken how due before pieces piece at parts of comes later = by (step state piece.1) refl comes
       where
-        by : (went : Outcome × State) → step state piece.1 ≡ went → Comes stream first (piece ∷ before) due how went → direction_found limit (sent_at state held) (piece.1 ∷ segments_of pieces) ≡ beginning_found how ++ (found_with service limit taken (drop due stream) ++ end_found service limit stream Complete)
+        by : (went : Outcome × State) → step state piece.1 ≡ went → Comes stream first (piece ∷ before) due how went → direction_read (sent_at state held) (piece.1 ∷ segments_of pieces) ≡ beginning_found how ++ (found_with service limit taken (drop due stream) ++ end_found service limit stream Complete)
         by went is (Goes octets next e prefix more) =
             found_after state (Open next) held taken octets how None piece.1 (is ∙ e) at (segments_of pieces)
             ∙ ap (λ (l : List Found). beginning_found how ++ l)
-            (goes taken (drop due stream) octets parts (drop next.expected stream) (direction_found limit (sent_at (Open next) (taken ++ octets)) (segments_of pieces)) prefix
+            (goes taken (drop due stream) octets parts (drop next.expected stream) (direction_read (sent_at (Open next) (taken ++ octets)) (segments_of pieces)) prefix
             (later next (taken ++ octets) more (parts_after taken (drop due stream) octets (drop next.expected stream) parts prefix)))
         by went is (Ends octets had e prefix all) =
             found_after state (Ended had) held taken octets how (Some Complete) piece.1 (is ∙ e) at (segments_of pieces)
             ∙ ap (λ (l : List Found). beginning_found how ++ l)
-            (stops taken (drop due stream) octets parts (direction_found limit (sent_at (Ended had) (taken ++ octets)) (segments_of pieces)) prefix (none_after stream first (piece ∷ before) pieces had (taken ++ octets) all of))
+            (stops taken (drop due stream) octets parts (direction_read (sent_at (Ended had) (taken ++ octets)) (segments_of pieces)) prefix (none_after stream first (piece ∷ before) pieces had (taken ++ octets) all of))
 
-    open_found : (pieces before : List Piece) (progress : Progress) (taken : List ℕ) → Holds stream first before progress → taken ++ drop progress.expected stream ≡ stream → AreSegmentsOf stream first before pieces → ((place : ℕ) → place < length stream → IsCaptured place before ⊎ IsCaptured place pieces) → direction_found limit (sent_at (Open progress) taken) (segments_of pieces) ≡ found_with service limit taken (drop progress.expected stream) ++ end
+    open_found : (pieces before : List Piece) (progress : Progress) (taken : List ℕ) → Holds stream first before progress → taken ++ drop progress.expected stream ≡ stream → AreSegmentsOf stream first before pieces → ((place : ℕ) → place < length stream → IsCaptured place before ⊎ IsCaptured place pieces) → direction_read (sent_at (Open progress) taken) (segments_of pieces) ≡ found_with service limit taken (drop progress.expected stream) ++ end
     open_found [] before progress taken h parts of all = at_end before progress taken h parts (λ place within. captured_none place before (all place within))
     open_found (piece ∷ pieces) before progress taken h parts of all =
         with_piece (Open progress) taken taken None progress.expected before pieces piece refl parts of.1 (comes_next stream short first before progress h piece of.0)
         (λ next taken h parts. open_found pieces (piece ∷ before) next taken h parts of.1 (λ place within. captured_on place before pieces piece (all place within)))
 
   -- from the first segment on
-  first_found : (stream : List ℕ) (how : Beginning) (pieces : List Piece) (piece : Piece) → length stream < 2 ^ 61 → BeginsWith how piece → piece.1.rst ≡ false → AreSegmentsOf stream (first_number piece.1) [] (piece ∷ pieces) → AllCaptured stream (piece ∷ pieces) → direction_found limit (nothing_sent flow service) (piece.1 ∷ segments_of pieces) ≡ beginning_found (Some how) ++ (found_with service limit [] stream ++ end_found service limit stream Complete)
+  first_found : (stream : List ℕ) (how : Beginning) (pieces : List Piece) (piece : Piece) → length stream < 2 ^ 61 → BeginsWith how piece → piece.1.rst ≡ false → AreSegmentsOf stream (first_number piece.1) [] (piece ∷ pieces) → AllCaptured stream (piece ∷ pieces) → direction_read (nothing_sent flow service) (piece.1 ∷ segments_of pieces) ≡ beginning_found (Some how) ++ (found_with service limit [] stream ++ end_found service limit stream Complete)
   first_found stream how pieces piece short begins no_reset of all =
       with_piece stream short (first_number piece.1) Fresh [] [] (Some how) 0 [] pieces piece refl refl of.1 (comes_first stream short how piece begins no_reset of.0)
       (λ next taken h parts. open_found stream short (first_number piece.1) pieces (piece ∷ []) next taken h parts of.1 (λ place within. captured_on place [] pieces piece (inr (all place within))))

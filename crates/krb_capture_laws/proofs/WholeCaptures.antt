@@ -5,10 +5,11 @@ use Rattle.std.specs.List.{AllByRecursion, Contains, filter}
 use Rattle.std.proofs.lemmas.List.{map-append}
 use Rattle.std.proofs.lemmas.List.Elements.{filter-append, recursion_from_All}
 use Rattle.std.proofs.lemmas.Option.{none-some, same_Some}
-use Rattle.krb_packet.specs.Fragments.{contents_of_whole, step}
+use Rattle.krb_packet.specs.Fragments.{contents_of_whole, nested_step}
 use Rattle.krb_packet.specs.declared.contents.Contents.{Contents}
 use Rattle.krb_packet.specs.declared.contents.Contents.TheVariants as contents
 use Rattle.krb_packet.specs.declared.contents.Datagram.{Datagram}
+use Rattle.krb_der.specs.declared.profile.Profile.{Profile}
 use Rattle.krb_source.specs.declared.endpoint.Endpoint.{Endpoint}
 use Rattle.krb_packet.specs.declared.contents.Segment.{Segment}
 use Rattle.krb_packet.specs.declared.fragments.Reassembled.{Reassembled}
@@ -16,11 +17,11 @@ use Rattle.krb_packet.specs.declared.packet.Packet.{Packet}
 use Rattle.krb_record.specs.declared.flow.Transport.{Transport}
 use Rattle.krb_record.specs.declared.flow.Transport.TheVariants as transports
 use Rattle.krb_capture.specs.Captures.{Finding, Progress, Settings, at_first, completed, contents_in, contents_taken, datagram_taken, over_tcp, over_udp, packet_taken, segment_taken, unread_taken, whole_taken, with_packet}
-use Rattle.krb_capture.specs.Datagrams.{datagram_found}
+use Rattle.krb_capture.specs.Datagrams.{all_found}
 use Rattle.krb_capture.specs.Directions.{Followed, Table, flow_of, followed, last_of, no_directions}
 use Rattle.krb_capture.specs.Flows.{flow_between, origin_of, service_of}
 use Rattle.krb_capture.specs.Found.{Found}
-use Rattle.krb_capture.specs.Laws.{direction_found}
+use Rattle.krb_capture.specs.Laws.{but_unread, direction_found}
 use Rattle.krb_capture.specs.Sending.{Sent, after_segment, nothing_sent, segment_found}
 use Rattle.krb_capture.specs.WholeCaptures.{AreNumbered, CapturesListStreams, DirectionsAreApart, are_ends, carried, carried_after, completed_contents, contents_after, flows_in, found_after, found_between, is_from, segments_between, segments_in}
 use Rattle.krb_capture.specs.declared.flow.Due.{Due}
@@ -77,11 +78,11 @@ module _ (P : Flow → Type 0) where
   all_split [] ys a = (tt, a)
   all_split (x ∷ xs) ys a = let rest = all_split xs ys a.1 in ((a.0, rest.0), rest.1)
 
-flows_in-append : (port : ℕ) (xs ys : List Contents) → flows_in port (xs ++ ys) ≡ flows_in port xs ++ flows_in port ys
-flows_in-append port xs ys =
-    ap (λ l. map (λ segment. flow_between segment.source segment.target) (filter (λ segment. is_some (service_of port segment.source segment.target)) l)) (segments_in-append xs ys)
-    ∙ ap (map (λ segment. flow_between segment.source segment.target)) (filter-append (λ segment. is_some (service_of port segment.source segment.target)) (segments_in xs) (segments_in ys))
-    ∙ map-append (λ segment. flow_between segment.source segment.target) (filter (λ segment. is_some (service_of port segment.source segment.target)) (segments_in xs)) (filter (λ segment. is_some (service_of port segment.source segment.target)) (segments_in ys))
+flows_in-append : (profile : Profile) (port : ℕ) (xs ys : List Contents) → flows_in profile port (xs ++ ys) ≡ flows_in profile port xs ++ flows_in profile port ys
+flows_in-append profile port xs ys =
+    ap (λ l. map (λ segment. flow_between segment.source segment.target) (filter (λ segment. is_some (service_of profile port segment.source segment.target)) l)) (segments_in-append xs ys)
+    ∙ ap (map (λ segment. flow_between segment.source segment.target)) (filter-append (λ segment. is_some (service_of profile port segment.source segment.target)) (segments_in xs) (segments_in ys))
+    ∙ map-append (λ segment. flow_between segment.source segment.target) (filter (λ segment. is_some (service_of profile port segment.source segment.target)) (segments_in xs)) (filter (λ segment. is_some (service_of profile port segment.source segment.target)) (segments_in ys))
 
 -- ---- some segments of a direction
 module _ (limit : ℕ) where
@@ -98,7 +99,7 @@ module _ (limit : ℕ) where
   direction_found-append own (x ∷ xs) ys = ap (λ l. segment_found limit own x ++ l) (direction_found-append (after_segment own x) xs ys) ∙ sym (append_assoc (segment_found limit own x) (steps_found (after_segment own x) xs) (direction_found limit (steps_after (after_segment own x) xs) ys))
 
 -- ---- over TCP
-module _ (settings : Settings) (source target : Endpoint) (service : Service) (different : List Flow) (few : length different ≤ 65536) (serves : service_of settings.port source target ≡ Some service) where
+module _ (settings : Settings) (source target : Endpoint) (service : Service) (different : List Flow) (few : length different ≤ 65536) (serves : service_of settings.profile settings.port source target ≡ Some service) where
   abbrev flow : Flow
   flow = flow_between source target
 
@@ -177,30 +178,30 @@ module _ (settings : Settings) (source target : Endpoint) (service : Service) (d
           }
 
     -- any segment
-    segment-takes : (segment : Segment) → AllByRecursion (λ f. IsOneOf f different) (flows_in settings.port (contents.Segment segment ∷ [])) → Takes progress.last.packet own (segments_between source target (contents.Segment segment ∷ [])) (whole_taken settings (contents.Segment segment) progress).found (whole_taken settings (contents.Segment segment) progress).progress.table
-    segment-takes segment ones = by (service_of settings.port segment.source segment.target) refl ones (are_ends source target segment.source segment.target) refl
+    segment-takes : (segment : Segment) → AllByRecursion (λ f. IsOneOf f different) (flows_in settings.profile settings.port (contents.Segment segment ∷ [])) → Takes progress.last.packet own (segments_between source target (contents.Segment segment ∷ [])) (whole_taken settings (contents.Segment segment) progress).found (whole_taken settings (contents.Segment segment) progress).progress.table
+    segment-takes segment ones = by (service_of settings.profile settings.port segment.source segment.target) refl ones (are_ends source target segment.source segment.target) refl
       where
-        by : (o : Option Service) → service_of settings.port segment.source segment.target ≡ o → AllByRecursion (λ f. IsOneOf f different) (map (λ segment. flow_between segment.source segment.target) (cond (is_some o) (segment ∷ []) [])) → (b : Bool) → are_ends source target segment.source segment.target ≡ b → Takes progress.last.packet own (cond b (segment ∷ []) []) (segment_taken settings.limit o segment progress).found (segment_taken settings.limit o segment progress).progress.table
+        by : (o : Option Service) → service_of settings.profile settings.port segment.source segment.target ≡ o → AllByRecursion (λ f. IsOneOf f different) (map (λ segment. flow_between segment.source segment.target) (cond (is_some o) (segment ∷ []) [])) → (b : Bool) → are_ends source target segment.source segment.target ≡ b → Takes progress.last.packet own (cond b (segment ∷ []) []) (segment_taken settings.limit o segment progress).found (segment_taken settings.limit o segment progress).progress.table
         by None e ones true b =
             let ends = ends-from_are source target segment.source segment.target b in
-            absurd (none-some service (sym e ∙ ap₂ (λ (x y : Endpoint). service_of settings.port x y) ends.source_is ends.target_is ∙ serves))
+            absurd (none-some service (sym e ∙ ap₂ (λ (x y : Endpoint). service_of settings.profile settings.port x y) ends.source_is ends.target_is ∙ serves))
         by None e ones false b = takes_none bound progress.last.packet own [] progress.table h later refl
         by (Some other) e ones true b =
             let ends = ends-from_are source target segment.source segment.target b in
-            takes_own segment other ones.0 (ap₂ flow_between ends.source_is ends.target_is) (same_Some other service (sym e ∙ ap₂ (λ (x y : Endpoint). service_of settings.port x y) ends.source_is ends.target_is ∙ serves))
+            takes_own segment other ones.0 (ap₂ flow_between ends.source_is ends.target_is) (same_Some other service (sym e ∙ ap₂ (λ (x y : Endpoint). service_of settings.profile settings.port x y) ends.source_is ends.target_is ∙ serves))
         by (Some other) e ones false b = takes_other segment other ones.0 b
 
     -- whatever is all there
-    whole-takes : (whole : Contents) → AllByRecursion (λ f. IsOneOf f different) (flows_in settings.port (whole ∷ [])) → Takes progress.last.packet own (segments_between source target (whole ∷ [])) (whole_taken settings whole progress).found (whole_taken settings whole progress).progress.table
+    whole-takes : (whole : Contents) → AllByRecursion (λ f. IsOneOf f different) (flows_in settings.profile settings.port (whole ∷ [])) → Takes progress.last.packet own (segments_between source target (whole ∷ [])) (whole_taken settings whole progress).found (whole_taken settings whole progress).progress.table
     whole-takes (contents.Segment segment) ones = segment-takes segment ones
-    whole-takes (contents.Datagram datagram) ones = by (service_of settings.port datagram.source datagram.target)
+    whole-takes (contents.Datagram datagram) ones = by (service_of settings.profile settings.port datagram.source datagram.target)
       where
         by : (o : Option Service) → Takes progress.last.packet own [] (datagram_taken o datagram progress).found (datagram_taken o datagram progress).progress.table
         by None = takes_none bound progress.last.packet own [] progress.table h later refl
-        by (Some other) = takes_none bound progress.last.packet own (over_udp progress.last datagram (datagram_found other datagram.payload)) progress.table h later (found_between-not_udp source target progress.last datagram (datagram_found other datagram.payload))
+        by (Some other) = takes_none bound progress.last.packet own (over_udp progress.last datagram (all_found other datagram)) progress.table h later (found_between-not_udp source target progress.last datagram (all_found other datagram))
     whole-takes (contents.Fragment fragment) ones = takes_none bound progress.last.packet own [] progress.table h later refl
     whole-takes contents.Other ones = takes_none bound progress.last.packet own [] progress.table h later refl
-    whole-takes (contents.UnreadBetween ends) ones = by (service_of settings.port ends.source ends.target)
+    whole-takes (contents.UnreadBetween ends) ones = by (service_of settings.profile settings.port ends.source ends.target)
       where
         by : (o : Option Service) → Takes progress.last.packet own [] (unread_taken o progress).found (unread_taken o progress).progress.table
         by None = takes_none bound progress.last.packet own [] progress.table h later refl
@@ -209,13 +210,13 @@ module _ (settings : Settings) (source target : Endpoint) (service : Service) (d
 
   -- what a packet carries
   module _ (bound : ℕ) (own : Sent) where
-    completed-takes : (o : Option Reassembled) (progress : Progress) → bound < progress.last.packet → Holds bound progress.table own → AllByRecursion (λ f. IsOneOf f different) (flows_in settings.port (completed_contents o)) → Takes progress.last.packet own (segments_between source target (completed_contents o)) (completed settings o progress).found (completed settings o progress).progress.table
+    completed-takes : (o : Option Reassembled) (progress : Progress) → bound < progress.last.packet → Holds bound progress.table own → AllByRecursion (λ f. IsOneOf f different) (flows_in settings.profile settings.port (completed_contents settings.port o)) → Takes progress.last.packet own (segments_between source target (completed_contents settings.port o)) (completed settings o progress).found (completed settings o progress).progress.table
     completed-takes None progress later h ones = takes_none bound progress.last.packet own [] progress.table h later refl
-    completed-takes (Some whole) progress later h ones = whole-takes bound progress own later h (contents_of_whole whole) ones
+    completed-takes (Some whole) progress later h ones = whole-takes bound progress own later h (contents_of_whole settings.port whole) ones
 
-    contents-takes : (read : Contents) (progress : Progress) → bound < progress.last.packet → Holds bound progress.table own → AllByRecursion (λ f. IsOneOf f different) (flows_in settings.port (contents_after progress.fragments read).0) → Takes progress.last.packet own (segments_between source target (contents_after progress.fragments read).0) (contents_taken settings read progress).found (contents_taken settings read progress).progress.table
+    contents-takes : (read : Contents) (progress : Progress) → bound < progress.last.packet → Holds bound progress.table own → AllByRecursion (λ f. IsOneOf f different) (flows_in settings.profile settings.port (contents_after settings.port progress.fragments read).0) → Takes progress.last.packet own (segments_between source target (contents_after settings.port progress.fragments read).0) (contents_taken settings read progress).found (contents_taken settings read progress).progress.table
     contents-takes (contents.Fragment fragment) progress later h ones =
-        let stepped = step progress.fragments fragment in
+        let stepped = nested_step settings.port progress.fragments fragment in
         completed-takes stepped.0 (record progress { fragments = stepped.1 }) later h ones
     contents-takes (contents.Segment segment) progress later h ones = whole-takes bound progress own later h (contents.Segment segment) ones
     contents-takes (contents.Datagram datagram) progress later h ones = whole-takes bound progress own later h (contents.Datagram datagram) ones
@@ -225,67 +226,67 @@ module _ (settings : Settings) (source target : Endpoint) (service : Service) (d
 
 -- the fragments that are kept
 whole-fragments : (settings : Settings) (whole : Contents) (progress : Progress) → (whole_taken settings whole progress).progress.fragments ≡ progress.fragments
-whole-fragments settings (contents.Segment segment) progress = by (service_of settings.port segment.source segment.target)
+whole-fragments settings (contents.Segment segment) progress = by (service_of settings.profile settings.port segment.source segment.target)
   where
     by : (o : Option Service) → (segment_taken settings.limit o segment progress).progress.fragments ≡ progress.fragments
     by None = refl
     by (Some service) = refl
-whole-fragments settings (contents.Datagram datagram) progress = by (service_of settings.port datagram.source datagram.target)
+whole-fragments settings (contents.Datagram datagram) progress = by (service_of settings.profile settings.port datagram.source datagram.target)
   where
     by : (o : Option Service) → (datagram_taken o datagram progress).progress.fragments ≡ progress.fragments
     by None = refl
     by (Some service) = refl
 whole-fragments settings (contents.Fragment fragment) progress = refl
 whole-fragments settings contents.Other progress = refl
-whole-fragments settings (contents.UnreadBetween ends) progress = by (service_of settings.port ends.source ends.target)
+whole-fragments settings (contents.UnreadBetween ends) progress = by (service_of settings.profile settings.port ends.source ends.target)
   where
     by : (o : Option Service) → (unread_taken o progress).progress.fragments ≡ progress.fragments
     by None = refl
     by (Some service) = refl
 whole-fragments settings contents.Unread progress = refl
 
-contents-fragments : (settings : Settings) (read : Contents) (progress : Progress) → (contents_taken settings read progress).progress.fragments ≡ (contents_after progress.fragments read).1
-contents-fragments settings (contents.Fragment fragment) progress = by (step progress.fragments fragment).0 (record progress { fragments = (step progress.fragments fragment).1 })
+contents-fragments : (settings : Settings) (read : Contents) (progress : Progress) → (contents_taken settings read progress).progress.fragments ≡ (contents_after settings.port progress.fragments read).1
+contents-fragments settings (contents.Fragment fragment) progress = by (nested_step settings.port progress.fragments fragment).0 (record progress { fragments = (nested_step settings.port progress.fragments fragment).1 })
   where
     by : (o : Option Reassembled) (after : Progress) → (completed settings o after).progress.fragments ≡ after.fragments
     by None after = refl
-    by (Some whole) after = whole-fragments settings (contents_of_whole whole) after
+    by (Some whole) after = whole-fragments settings (contents_of_whole settings.port whole) after
 contents-fragments settings (contents.Segment segment) progress = whole-fragments settings (contents.Segment segment) progress
 contents-fragments settings (contents.Datagram datagram) progress = whole-fragments settings (contents.Datagram datagram) progress
 contents-fragments settings contents.Other progress = refl
 contents-fragments settings (contents.UnreadBetween ends) progress = whole-fragments settings (contents.UnreadBetween ends) progress
 contents-fragments settings contents.Unread progress = refl
 
-pub packet-fragments : (settings : Settings) (packet : Packet) (progress : Progress) → (packet_taken settings packet progress).progress.fragments ≡ (contents_after progress.fragments (contents_in packet)).1
+pub packet-fragments : (settings : Settings) (packet : Packet) (progress : Progress) → (packet_taken settings packet progress).progress.fragments ≡ (contents_after settings.port progress.fragments (contents_in settings.port packet)).1
 unfolding packet_taken
-packet-fragments settings packet progress = contents-fragments settings (contents_in packet) (with_packet packet progress)
+packet-fragments settings packet progress = contents-fragments settings (contents_in settings.port packet) (with_packet packet progress)
 
-module _ (settings : Settings) (source target : Endpoint) (service : Service) (different : List Flow) (few : length different ≤ 65536) (serves : service_of settings.port source target ≡ Some service) where
-  packet-takes : (bound : ℕ) (own : Sent) (packet : Packet) (progress : Progress) → bound < packet.number → Holds settings source target service different few serves bound progress.table own → AllByRecursion (λ f. IsOneOf f different) (flows_in settings.port (contents_after progress.fragments (contents_in packet)).0) → Takes settings source target service different few serves packet.number own (segments_between source target (contents_after progress.fragments (contents_in packet)).0) (packet_taken settings packet progress).found (packet_taken settings packet progress).progress.table
+module _ (settings : Settings) (source target : Endpoint) (service : Service) (different : List Flow) (few : length different ≤ 65536) (serves : service_of settings.profile settings.port source target ≡ Some service) where
+  packet-takes : (bound : ℕ) (own : Sent) (packet : Packet) (progress : Progress) → bound < packet.number → Holds settings source target service different few serves bound progress.table own → AllByRecursion (λ f. IsOneOf f different) (flows_in settings.profile settings.port (contents_after settings.port progress.fragments (contents_in settings.port packet)).0) → Takes settings source target service different few serves packet.number own (segments_between source target (contents_after settings.port progress.fragments (contents_in settings.port packet)).0) (packet_taken settings packet progress).found (packet_taken settings packet progress).progress.table
   unfolding packet_taken
-  packet-takes bound own packet progress later h ones = contents-takes settings source target service different few serves bound own (contents_in packet) (with_packet packet progress) later h ones
+  packet-takes bound own packet progress later h ones = contents-takes settings source target service different few serves bound own (contents_in settings.port packet) (with_packet packet progress) later h ones
 
   -- the flow at the end
   only : (f : Flow) → IsBetween f → between source target f ≡ true → f ≡ flow_between source target
   only f is b = let ends = ends-from_are source target f.source f.target b in is ∙ ap₂ flow_between ends.source_is ends.target_is
 
-  packets-found : (packets : List Packet) (bound : ℕ) (own : Sent) (progress : Progress) → AreNumbered bound packets → Holds settings source target service different few serves bound progress.table own → AllByRecursion (λ f. IsOneOf f different) (flows_in settings.port (carried_after progress.fragments packets)) → found_between transports.Tcp source target (found_after settings progress packets) ≡ direction_found settings.limit own (segments_between source target (carried_after progress.fragments packets))
+  packets-found : (packets : List Packet) (bound : ℕ) (own : Sent) (progress : Progress) → AreNumbered bound packets → Holds settings source target service different few serves bound progress.table own → AllByRecursion (λ f. IsOneOf f different) (flows_in settings.profile settings.port (carried_after settings.port progress.fragments packets)) → found_between transports.Tcp source target (found_after settings progress packets) ≡ direction_found settings.limit own (segments_between source target (carried_after settings.port progress.fragments packets))
   packets-found [] bound own progress numbered h ones =
       found_between-tcp source target progress.last (last_of settings.limit progress.table.active)
       ∙ last-own settings.limit (between source target) (flow_between source target) (are_ends-itself source target) only bound progress.table h.sound own h.keeps
   packets-found (packet ∷ packets) bound own progress numbered h ones =
-      let read = contents_after progress.fragments (contents_in packet) in
+      let read = contents_after settings.port progress.fragments (contents_in settings.port packet) in
       let taken = packet_taken settings packet progress in
       let own_segments = segments_between source target read.0 in
-      let split = all_split (λ f. IsOneOf f different) (flows_in settings.port read.0) (flows_in settings.port (carried_after read.1 packets)) (subst (AllByRecursion (λ f. IsOneOf f different)) (flows_in-append settings.port read.0 (carried_after read.1 packets)) ones) in
+      let split = all_split (λ f. IsOneOf f different) (flows_in settings.profile settings.port read.0) (flows_in settings.profile settings.port (carried_after settings.port read.1 packets)) (subst (AllByRecursion (λ f. IsOneOf f different)) (flows_in-append settings.profile settings.port read.0 (carried_after settings.port read.1 packets)) ones) in
       let takes = packet-takes bound own packet progress numbered.0 h split.0 in
       let fragments : taken.progress.fragments ≡ read.1 = packet-fragments settings packet progress in
       found_between-append transports.Tcp source target taken.found (found_after settings taken.progress packets)
       ∙ ap₂ (λ (x y : List Found). x ++ y) takes.found_is
-      (packets-found packets packet.number (steps_after settings.limit own own_segments) taken.progress numbered.1 takes.holds (subst (λ t. AllByRecursion (λ f. IsOneOf f different) (flows_in settings.port (carried_after t packets))) (sym fragments) split.1)
-      ∙ ap (λ t. direction_found settings.limit (steps_after settings.limit own own_segments) (segments_between source target (carried_after t packets))) fragments)
-      ∙ sym (direction_found-append settings.limit own own_segments (segments_between source target (carried_after read.1 packets)))
-      ∙ ap (direction_found settings.limit own) (sym (segments_between-append source target read.0 (carried_after read.1 packets)))
+      (packets-found packets packet.number (steps_after settings.limit own own_segments) taken.progress numbered.1 takes.holds (subst (λ t. AllByRecursion (λ f. IsOneOf f different) (flows_in settings.profile settings.port (carried_after settings.port t packets))) (sym fragments) split.1)
+      ∙ ap (λ t. direction_found settings.limit (steps_after settings.limit own own_segments) (segments_between source target (carried_after settings.port t packets))) fragments)
+      ∙ sym (direction_found-append settings.limit own own_segments (segments_between source target (carried_after settings.port read.1 packets)))
+      ∙ ap (direction_found settings.limit own) (sym (segments_between-append source target read.0 (carried_after settings.port read.1 packets)))
 
   -- of no packets yet
   none_held : Holds settings source target service different few serves 0 no_directions (nothing_sent (flow_between source target) service)
@@ -307,11 +308,12 @@ module _ (settings : Settings) (source target : Endpoint) (service : Service) (d
 
 pub directions_are_apart : DirectionsAreApart
 directions_are_apart settings packets different source target service numbered few all serves =
-    let ones = all_one_of different (flows_in settings.port (carried packets)) (recursion_from_All (Contains different) (flows_in settings.port (carried packets)) all) in
+    let ones = all_one_of different (flows_in settings.profile settings.port (carried settings.port packets)) (recursion_from_All (Contains different) (flows_in settings.profile settings.port (carried settings.port packets)) all) in
     packets-found settings source target service different few serves packets 0 (nothing_sent (flow_between source target) service) at_first numbered (none_held settings source target service different few serves) ones
 
 pub captures_list_streams : CapturesListStreams
 captures_list_streams settings packets different source target service stream how pieces numbered few all serves are stream_all =
-    directions_are_apart settings packets different source target service numbered few all serves
-    ∙ ap (direction_found settings.limit (nothing_sent (flow_between source target) service)) are
+    ap but_unread
+    (directions_are_apart settings packets different source target service numbered few all serves
+    ∙ ap (direction_found settings.limit (nothing_sent (flow_between source target) service)) are)
     ∙ records_are_of_the_stream settings.limit (flow_between source target) service stream how pieces stream_all

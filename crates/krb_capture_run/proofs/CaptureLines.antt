@@ -91,6 +91,7 @@ are_followed model capture None form left e l = record {
   progress = l.progress;
   reads = l.reads;
   followed = record {
+    profile = l.followed.profile;
     port = l.followed.port;
     form = l.followed.form;
     fragments = l.followed.fragments;
@@ -174,7 +175,7 @@ all_left settings file model capture reads h = record {
   progress = at_first;
   found = [];
   reads = reads;
-  followed = record { port = h.port; form = h.form; fragments = h.fragments; table = (h.table, refl); last = h.last; counts = h.counts };
+  followed = record { profile = h.profile; port = h.port; form = h.form; fragments = h.fragments; table = (h.table, refl); last = h.last; counts = h.counts };
   form_is = refl;
   is = refl;
 }

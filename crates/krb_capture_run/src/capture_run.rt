@@ -7,6 +7,7 @@ ghost use Rattle.krb_run.specs.Records.{ListsRecords};
 ghost use Rattle.krb_capture_run.specs.inner.CaptureRuns.{AddsCaptureEnd, AddsFileRefusal, IsCaptureLeft};
 
 use krb_capture::{Capture, Rest};
+use krb_der::Profile;
 use krb_file::{FileFault, FileItem};
 use krb_frame::Limit;
 use krb_packet::Packets;
@@ -99,23 +100,24 @@ impl<R: Read> RecordLines for CaptureLines<'_, R> {
 
 /// Lists the Kerberos messages of a capture, a pcap or a pcapng, in a form: writes the records of
 /// each packet, and at the end those of the end and the totals, or the refusal of the file. Frames
-/// of more than `limit` octets are refused, and `port` is the one of KDCs. Reads and writes as
-/// [`list_records`] does.
+/// of more than `limit` octets are refused, messages are judged by `profile`, and `port` is the one
+/// of KDCs. Reads and writes as [`list_records`] does.
 pub fn run_capture<R: Read, W: Write>(
     alloc: Global,
     form: Form,
+    profile: Profile,
     reader: &mut R,
     writer: &mut W,
     limit: Limit,
     port: u16,
 ) -> Result<RunEnd, RunFault>
-    ensures listed { (file : List ℕ) → R.remaining reader.old ≡ Some file → ListsRecords (capture_listing (record { form = form; limit = limit; port = port }) file) (W.contents writer.old) (W.contents writer.new) result }
+    ensures listed { (file : List ℕ) → R.remaining reader.old ≡ Some file → ListsRecords (capture_listing (record { form = form; profile = profile; limit = limit; port = port }) file) (W.contents writer.old) (W.contents writer.new) result }
 {
     let watch = Watch::new();
     let watch = &watch;
     let reader = in_pieces(alloc, Watched { reader, watch })?;
     let packets = Packets::new(reader);
-    let capture = Capture::new(alloc, form, limit, port);
+    let capture = Capture::new(alloc, form, profile, limit, port);
     let mut text = TextBuffer::new(alloc);
     list_records(
         alloc,

@@ -302,7 +302,7 @@ fn put_capture(
 /// Returns the records of a capture.
 fn capture_records(alloc: Global, file: &[u8]) -> Result<Vec<u8>, FileFault> {
     let mut packets = Packets::new(file);
-    let mut capture = Capture::new(alloc, Form::Lines, Limit::DEFAULT, 88);
+    let mut capture = Capture::new(alloc, Form::Lines, Profile::Lenient, Limit::DEFAULT, 88);
     let mut text = TextBuffer::new(alloc);
     let mut records = Vec::new(alloc);
     let clean = put_capture(alloc, &mut packets, &mut capture, &mut text, &mut records);

@@ -72,10 +72,15 @@ abbrev pub seen_with : Progress → Segment → ℕ
 seen_with progress segment =
     when (nat_lt 0 segment.payload.size || segment.fin) (λ _. later (end_place progress.expected (distance_to progress segment) segment.payload.size) progress.seen) (λ _. progress.seen)
 
--- the place of the FIN, which follows the octets of its segment
+-- a place that is before the octet expected is old
+abbrev pub unless_old : ℕ → Option ℕ → Option ℕ
+unless_old expected None = None
+unless_old expected (Some place) = when (nat_lt place expected) (λ _. None) (λ _. Some place)
+
+-- the place of the FIN, which follows the octets of its segment; an old one is passed over, as a receiver drops it (RFC 9293, 3.10.7.4)
 abbrev pub fin_with : Progress → Segment → Option ℕ
 fin_with progress segment =
-    when segment.fin (λ _. earlier (end_place progress.expected (distance_to progress segment) segment.payload.size) progress.fin) (λ _. progress.fin)
+    when segment.fin (λ _. earlier (unless_old progress.expected (end_place progress.expected (distance_to progress segment) segment.payload.size)) progress.fin) (λ _. progress.fin)
 
 abbrev pub advanced : Progress → Segment → Progress
 advanced progress segment = record progress {

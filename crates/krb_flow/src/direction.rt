@@ -2,10 +2,12 @@
 
 ghost use Rattle.std.specs.Prelude.{◌≡◌, ◌++◌, true, is_some, IfOk, OnOk, OnErr};
 ghost use Rattle.krb_flow.specs.Directions.{begins, end_of, ended, goes_on, had_of, is_first, may_join, outcome_of, step};
+ghost use Rattle.krb_flow.specs.Unread.{unread_at, unread_of};
 ghost use Rattle.krb_flow.specs.declared.direction.State.TheVariants as states;
 
 use crate::had::{Had, first_number};
 use crate::stream::{End, Stream};
+use crate::unread::Unread;
 use krb_der::Memory;
 use krb_packet::Segment;
 use std::alloc::Global;
@@ -37,6 +39,8 @@ pub struct Taken<'a> {
     pub before: Option<End>,
     /// How the direction began, if it did.
     pub begins: Option<Beginning>,
+    /// Those of the segment's octets that are not delivered, and are no copies.
+    pub unread: Option<Unread>,
     /// Those of the segment's octets that are taken at once.
     pub octets: &'a [u8],
     /// How the direction ended, if it did, after these octets and those that waited.
@@ -100,6 +104,7 @@ impl Direction {
         segment: &Segment<'a>,
         waited: &mut Vec<u8>,
     ) -> Result<Taken<'a>, Memory>
+        ensures unread { IfOk result (λ delivered. delivered.unread ≡ unread_of self.old.state segment.now) }
         ensures outcome { IfOk result (λ delivered. outcome_of delivered waited.new.items ≡ (step self.old.state segment.now).0) }
         ensures state { OnOk result (self.new.state ≡ (step self.old.state segment.now).1) }
         ensures memory { OnErr result (is_some (had_of self.new.state) ≡ true) }
@@ -110,15 +115,18 @@ impl Direction {
             return Ok(Taken {
                 before: None,
                 begins: None,
+                unread: Unread::of_reset(segment),
                 octets: &[],
                 end,
             });
         }
         let (before, begins) = self.begin(alloc, segment);
+        let unread = self.unread(segment);
         let (octets, end) = self.go_on(segment, waited)?;
         Ok(Taken {
             before,
             begins,
+            unread,
             octets,
             end,
         })
@@ -178,6 +186,16 @@ impl Direction {
             (None, Some(Beginning::Joined))
         } else {
             (None, None)
+        }
+    }
+
+    /// Returns those octets of a segment that are not delivered, and are no copies.
+    fn unread(&self, segment: &Segment<'_>) -> Option<Unread>
+        ensures { result ≡ unread_at self.now.state segment.now }
+    {
+        match &self.state {
+            State::Open(stream) => stream.unread(segment),
+            State::Fresh | State::Ended(_) => None,
         }
     }
 

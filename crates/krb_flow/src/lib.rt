@@ -4,7 +4,8 @@
 //! The main calls:
 //!
 //! - [`Direction::take`] returns the outcome of a segment ([`Taken`]): how the direction begins or
-//!   ends, and the octets that are next in it, whether they were captured in order or not.
+//!   ends, the octets that are next in it, whether they were captured in order or not, and those
+//!   that are not delivered ([`Unread`]).
 //! - [`Direction::end`] ends a direction, and returns what is known of its octets then.
 //!
 //! Octets that come before their turn wait, in runs of octets that follow each other, at most 1 MiB
@@ -19,9 +20,11 @@ mod direction;
 mod had;
 mod serial;
 mod stream;
+mod unread;
 mod waiting;
 
 pub use direction::{Beginning, Direction, State, Taken};
 pub use had::Had;
 pub use serial::Distance;
 pub use stream::{End, Lost, Stream};
+pub use unread::Unread;

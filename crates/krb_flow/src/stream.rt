@@ -2,9 +2,11 @@
 
 use crate::had::{Had, first_number, number_at};
 use crate::serial::Distance;
+use crate::unread::{Unread, is_keep_alive};
 use crate::waiting::Runs;
 use krb_der::Memory;
 use krb_packet::Segment;
+use krb_source::UnreadWhy;
 use std::alloc::Global;
 use std::marker::Model;
 
@@ -57,7 +59,8 @@ impl Model for Stream {
 ghost use Rattle.std.specs.Prelude.{◌≡◌, ◌+◌, ◌++◌, ◌<◌, ◌^◌, ◌||◌, ◌==◌, length, IfOk, OnOk};
 ghost use Rattle.krb_der.specs.Octets.{when};
 ghost use Rattle.krb_flow.specs.Progress.{begun};
-ghost use Rattle.krb_flow.specs.Directions.{distance_to, earlier, end_place, ending, glimpsed, had, if_later, is_over, later, next_place, passes_all, advanced, delivered, deliver};
+ghost use Rattle.krb_flow.specs.Unread.{unread_in};
+ghost use Rattle.krb_flow.specs.Directions.{distance_to, earlier, end_place, ending, glimpsed, had, if_later, is_over, later, next_place, passes_all, unless_old, advanced, delivered, deliver};
 
 /// Returns the place after a segment of `size` octets, unless that is before octet 0.
 fn end_place(expected: u64, distance: Distance, size: u64) -> Option<u64>
@@ -114,6 +117,16 @@ fn if_later(expected: u64, place: Option<u64>) -> Option<u64>
     }
 }
 
+/// Returns a place, unless it is before the octet that is due: then it is old.
+fn unless_old(expected: u64, place: Option<u64>) -> Option<u64>
+    ensures { result ≡ unless_old expected place }
+{
+    match place {
+        Some(place) if place < expected => None,
+        _ => place,
+    }
+}
+
 impl Stream {
     /// Creates the stream whose octet 0 has a number.
     pub(crate) fn new(alloc: Global, first: u32) -> Stream
@@ -148,6 +161,27 @@ impl Stream {
         ensures { result ≡ passes_all self.now segment.now }
     {
         self.expected.saturating_add(segment.payload.size()) >= MOST_OCTETS
+    }
+
+    /// Returns those octets of a segment that are not taken, and are no copies: those before octet
+    /// 0, or all of a segment that begins too far ahead.
+    pub(crate) fn unread(&self, segment: &Segment<'_>) -> Option<Unread>
+        ensures { result ≡ unread_in self.now segment.now }
+    {
+        if self.passes_all(segment) {
+            return None;
+        }
+        let distance = self.distance_to(segment);
+        let captured = segment.payload.octets().len() as u64;
+        if MOST_AHEAD < distance.ahead() {
+            let place = self.expected + u64::from(distance.ahead());
+            return Unread::if_any(Some(place), captured, UnreadWhy::Ahead);
+        }
+        if is_keep_alive(distance, &segment.payload) {
+            return None;
+        }
+        let before = u64::from(distance.behind()).saturating_sub(self.expected);
+        Unread::if_any(Some(before), before.min(captured), UnreadWhy::Before)
     }
 
     /// Takes a segment. Returns those of its octets that are taken at once, borrowed; those that
@@ -203,7 +237,8 @@ impl Stream {
         let size = segment.payload.size();
         let end = end_place(self.expected, distance, size);
         self.seen = seen_with(self.seen, end, size > 0 || segment.fin);
-        self.fin = place_with(self.fin, end, segment.fin);
+        let fin = unless_old(self.expected, end);
+        self.fin = place_with(self.fin, fin, segment.fin);
         let prefix = self
             .waiting
             .pass(self.expected, distance.ahead(), octets, waited)?;

@@ -10,7 +10,7 @@ use Rattle.krb_words.specs.declared.sources.NamedPath.{NamedPath}
 use Rattle.krb_words.specs.declared.sources.Source.{Source}
 use Rattle.krb_words.specs.declared.sources.Source.TheVariants as source
 use Rattle.krb_host.specs.Around.{Around}
-use Rattle.krb_host.specs.Expanded.{Expands, Puts, Stands, cache_in}
+use Rattle.krb_host.specs.Expanded.{Expands, IsEmptyTold, Puts, Stands, cache_in}
 
 -- ---- one source
 module _ (around : Around) (s : Source) (before after : List Source) where
@@ -29,11 +29,11 @@ module _ (around : Around) (s : Source) (before after : List Source) where
     added = ap (map place_of) more ∙ map-append place_of before (source.File copy ∷ []);
   }
 
-  pub caches_put : {V : Type 0} (items : V → List ℕ) (names read : List V) (directory : NamedPath) → s ≡ source.Directory directory → around.HasCaches directory (map items names) → read ≡ names → map place_of after ≡ map place_of before ++ map (λ name. cache_in directory.path.items (items name)) read → Puts around s 0 before after
-  caches_put items names read directory is has same more = record {
+  pub caches_put : {V : Type 0} (items : V → List ℕ) (names read : List V) (directory : NamedPath) → s ≡ source.Directory directory → around.HasCaches directory (map items names) → IsEmptyTold around s (map items names) → read ≡ names → map place_of after ≡ map place_of before ++ map (λ name. cache_in directory.path.items (items name)) read → Puts around s 0 before after
+  caches_put items names read directory is has told same more = record {
     places = map (λ name. cache_in directory.path.items (items name)) read;
     stands = subst (λ (t : Source). Stands around t (map (λ name. cache_in directory.path.items (items name)) read) 0) (sym is)
-        (inl (map items names, has, ap (map (λ name. cache_in directory.path.items (items name))) same ∙ sym (map-map (cache_in directory.path.items) items names), refl));
+        (inl (map items names, has, subst (λ (t : Source). IsEmptyTold around t (map items names)) is told, ap (map (λ name. cache_in directory.path.items (items name))) same ∙ sym (map-map (cache_in directory.path.items) items names), refl));
     added = more;
   }
 

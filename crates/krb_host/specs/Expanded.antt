@@ -11,10 +11,19 @@ use Rattle.krb_host.specs.Around.{Around}
 abbrev pub cache_in : List ℕ → List ℕ → Place
 cache_in directory name = File (codes "DIR::" ++ directory ++ codes "/" ++ name) (directory ++ codes "/" ++ name)
 
--- a source stands for itself, and a directory for each cache in it; or it cannot be read, which is told
+-- what is said of a directory without a cache
+abbrev pub no_cache : List ℕ
+no_cache = codes "this directory has no credential cache: no name in it begins with tkt"
+
+-- it is told if a source has no cache among these names
+abbrev pub IsEmptyTold : Around → Source → List (List ℕ) → Type 0
+IsEmptyTold around s [] = around.IsHintTold s no_cache
+IsEmptyTold around s (first ∷ others) = Unit {0}
+
+-- a source stands for itself, and a directory for each cache in it, and it is told if it has none; or it cannot be read, which is told
 abbrev pub Stands : Around → Source → List Place → ℕ → Type 0
 Stands around (source.Directory directory) places status =
-    ((names : List (List ℕ)) × around.HasCaches directory names × (places ≡ map (cache_in directory.path.items) names) × (status ≡ 0))
+    ((names : List (List ℕ)) × around.HasCaches directory names × IsEmptyTold around (source.Directory directory) names × (places ≡ map (cache_in directory.path.items) names) × (status ≡ 0))
     ⊎ ((fault : RunFault) × IsRead fault × around.IsFaultTold (source.Directory directory) fault × (places ≡ []) × (status ≡ 3))
 Stands around s places status = (places ≡ place_of s ∷ []) × (status ≡ 0)
 

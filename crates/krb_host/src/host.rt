@@ -24,6 +24,10 @@ pub trait Host {
     fn caches(&self, directory: &NamedPath) -> io::Result<Vec<Vec<u8>>>
         ensures { IfOk result (λ names. (around self.now).HasCaches directory.now (map (λ name. name.items) names.items)) };
 
+    /// Returns whether the standard output is a terminal.
+    fn writes_to_terminal(&self) -> bool
+        ensures { (around self.now).WritesToTerminal result };
+
     /// Returns the seconds since the beginning of 1970 that the clock says.
     fn now(&self) -> u32
         ensures { (around self.now).IsNow result };

@@ -2,7 +2,7 @@
 
 ghost use Rattle.std.specs.Prelude.{◌≡◌, ◌++◌, map, IfOk, OnOk};
 ghost use Rattle.krb_words.specs.Sources.{place_of};
-ghost use Rattle.krb_host.specs.Expanded.{Expands, Puts, cache_in};
+ghost use Rattle.krb_host.specs.Expanded.{Expands, IsEmptyTold, Puts, cache_in};
 
 use crate::host::Host;
 use krb_run::RunFault;
@@ -11,6 +11,9 @@ use std::alloc::{AllocError, Global};
 
 /// The status of a directory that cannot be read.
 const FAULT: u8 = 3;
+
+/// What is said of a directory without a cache.
+const NO_CACHE: &str = "this directory has no credential cache: no name in it begins with tkt";
 
 /// Sources that can be opened, and the greatest of the statuses of those that cannot be looked for.
 #[derive(Drop)]
@@ -56,8 +59,17 @@ fn put_caches(
     Ok(())
 }
 
-/// Appends what stands for a source: itself, or each cache of a directory. A directory that cannot
-/// be read is told, and the status is then that of a fault.
+/// Tells that a directory has no cache, if it has no name of one.
+fn tell_empty<H: Host>(host: &H, source: &Source, names: &[Vec<u8>])
+    ensures { IsEmptyTold (H.around host.now) source.now (map (λ name. name.items) names.now) }
+{
+    if names.is_empty() {
+        host.tell_hint(source, NO_CACHE);
+    }
+}
+
+/// Appends what stands for a source: itself, or each cache of a directory. A directory without one
+/// is told, and so is one that cannot be read, for which the status is that of a fault.
 fn put_source<H: Host>(
     alloc: Global,
     host: &H,
@@ -77,6 +89,7 @@ fn put_source<H: Host>(
         }
         Source::Directory(directory) => match host.caches(directory) {
             Ok(names) => {
+                tell_empty(host, source, names.as_slice());
                 put_caches(alloc, directory.path.as_slice(), names.as_slice(), sources)?;
                 Ok(0)
             }

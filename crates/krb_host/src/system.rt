@@ -1,6 +1,7 @@
 //! What the program runs on: its files, its clock, its standard input and its standard error.
 
 ghost use Rattle.std.specs.Prelude.{None};
+ghost use Rattle.std.specs.Io.{ReadsAtMost};
 
 use crate::files;
 use crate::host::Host;
@@ -10,12 +11,19 @@ use krb_words::{NamedPath, Source};
 use std::fmt::Display;
 use std::fs::File;
 use std::io;
-use std::io::{ErrorKind, Read};
-use std::rt::Stdin;
+use std::io::{ErrorKind, IsTerminal, Read, Write};
+use std::rt::{Stdin, Stdout};
 use std::time::{SystemTime, UNIX_EPOCH};
 
 /// The name of the standard input in faults.
 const INPUT: &str = "standard input";
+
+/// What is said where the standard input is a terminal, since a command without a file reads it.
+const WAITING: &str =
+    "this is a terminal, and is read up to Ctrl-D (a file that is named as a command is ./NAME)";
+
+/// How often a call is made at most that signals interrupt.
+const MOST_TRIES: u32 = 1 << 20;
 
 /// The files, the clock, the standard input and the standard error of the program.
 #[derive(Clone, Copy)]
@@ -30,12 +38,65 @@ pub enum Opened {
     File(File),
 }
 
-impl Read for Opened {
-    fn read(&mut self, octets: &mut [u8]) -> io::Result<usize> {
+impl Opened {
+    /// Reads once.
+    fn read_once(&mut self, octets: &mut [u8]) -> io::Result<usize>
+        ensures { ReadsAtMost result octets.new }
+    {
         match self {
             Opened::Input(input) => input.read(octets),
             Opened::File(file) => file.read(octets),
         }
+    }
+}
+
+impl Read for Opened {
+    /// Reads, and again if a signal interrupted that.
+    fn read(&mut self, octets: &mut [u8]) -> io::Result<usize> {
+        for _ in 0..MOST_TRIES {
+            match self.read_once(octets) {
+                Err(error) if error.kind() == ErrorKind::Interrupted => {}
+                outcome => return outcome,
+            }
+        }
+        Err(ErrorKind::Interrupted.into())
+    }
+}
+
+/// The standard output. It has no buffer.
+#[derive(Drop)]
+pub struct Printed(Stdout);
+
+impl Write for Printed {
+    /// Writes, and again if a signal interrupted that before an octet was written.
+    fn write(&mut self, octets: &[u8]) -> io::Result<usize> {
+        for _ in 0..MOST_TRIES {
+            match self.0.write(octets) {
+                Err(error) if error.kind() == ErrorKind::Interrupted => {}
+                outcome => return outcome,
+            }
+        }
+        Err(ErrorKind::Interrupted.into())
+    }
+
+    fn flush(&mut self) -> io::Result<()> {
+        self.0.flush()
+    }
+}
+
+impl System<'_> {
+    /// Returns the standard output.
+    pub fn output(&self) -> Printed {
+        Printed(self.rt.stdout())
+    }
+
+    /// Returns the standard input. If it is a terminal, that is told, since it may not be meant.
+    fn input(&self) -> Stdin {
+        let input = self.rt.stdin();
+        if input.is_terminal() {
+            tell(self.rt, &Source::Input, WAITING, "\n");
+        }
+        input
     }
 }
 
@@ -44,11 +105,14 @@ impl Host for System<'_> {
 
     // A contract does not see what is in a file, a directory or the standard input, what time it
     // is, nor what is written to the standard error.
-    ghost around = { λ system. record { octets = λ source. None; HasCaches = λ directory names. Unit {0}; IsNow = λ seconds. Unit {0}; IsFaultTold = λ source fault. Unit {0}; IsHintTold = λ source text. Unit {0}; IsEndTold = λ source line. Unit {0}; AreWordsTold = λ text. Unit {0} } };
+    ghost around = { λ system. record { octets = λ source. None; HasCaches = λ directory names. Unit {0}; WritesToTerminal = λ is_terminal. Unit {0}; IsNow = λ seconds. Unit {0}; IsFaultTold = λ source fault. Unit {0}; IsHintTold = λ source text. Unit {0}; IsEndTold = λ source line. Unit {0}; AreWordsTold = λ text. Unit {0} } };
 
     fn open(&self, source: &Source) -> io::Result<Opened> {
         match source {
-            Source::Input => Ok(Opened::Input(self.rt.stdin())),
+            Source::Input => Ok(Opened::Input(self.input())),
+            Source::File(file) if is_of_directory(file) => {
+                Ok(Opened::File(files::open_regular(self.rt, file.path.as_slice())?))
+            }
             Source::File(file) | Source::Directory(file) => {
                 Ok(Opened::File(files::open(self.rt, file.path.as_slice())?))
             }
@@ -57,6 +121,10 @@ impl Host for System<'_> {
 
     fn caches(&self, directory: &NamedPath) -> io::Result<Vec<Vec<u8>>> {
         files::caches(self.rt, directory.path.as_slice())
+    }
+
+    fn writes_to_terminal(&self) -> bool {
+        self.rt.stdout().is_terminal()
     }
 
     fn now(&self) -> u32 {
@@ -86,6 +154,11 @@ impl Host for System<'_> {
     fn tell_words(&self, text: &str) {
         let _ = eprint!(self.rt; "{text}");
     }
+}
+
+/// Returns whether a name is that of a cache in a directory, `DIR::PATH`.
+fn is_of_directory(file: &NamedPath) -> bool {
+    file.name.as_slice().strip_prefix(b"DIR::") == Some(file.path.as_slice())
 }
 
 /// Returns the seconds from the beginning of 1970 to a time, and the last ones of 32 bits of a

@@ -1,5 +1,5 @@
 -- What rules read of a text, told of the input.
-use Rattle.std.proofs.Common.{ℕ, ◌≡◌, List, [], ◌∷◌, length, Result, Ok, Err, IfOk, IfErr, refl, sym, subst}
+use Rattle.std.proofs.Common.{ℕ, ◌≡◌, List, [], ◌∷◌, length, Option, Result, Ok, Err, IfOk, IfErr, refl, sym, subst}
 use Rattle.std.specs.Global.{Vec}
 use Rattle.krb_input.specs.Readings.{Reading}
 use Rattle.krb_input.specs.Braces.{before, block, to_brace}
@@ -26,7 +26,7 @@ pub spelled_err : (spells found : Spells) (result : Result Spelled InputFault) �
 spelled_err spells found (Ok made) is found_is = tt
 spelled_err spells found (Err fault) is found_is = subst (λ s. IsFaultOf s fault) (sym is) found_is
 
-pub braces_fault : (inside following : List ℕ) (fault result : TextFault) → (following ≡ [] → ⊥) → IsFault (block inside) fault →
-    ((reading : Reading) → IsFault reading fault → IsFault (before (length following) reading) result) → IsFault (to_brace inside following) result
-braces_fault inside [] fault result some is told = absurd (some refl)
-braces_fault inside (brace ∷ following) fault result some is told = told (block inside) is
+pub braces_fault : (comment : Option ℕ) (inside following : List ℕ) (fault result : TextFault) → (following ≡ [] → ⊥) → IsFault (block inside) fault →
+    ((reading : Reading) → IsFault reading fault → IsFault (before (length following) reading) result) → IsFault (to_brace comment inside following) result
+braces_fault comment inside [] fault result some is told = absurd (some refl)
+braces_fault comment inside (brace ∷ following) fault result some is told = told (block inside) is

@@ -22,24 +22,29 @@ tokens_if_fit (Some left) text = Err left
 abbrev pub escapes_or_tokens : List ℕ → Reading
 escapes_or_tokens text = when (has_escape text) (λ _. escapes text) (λ _. tokens_if_fit (first_unfit false text) text)
 
--- A block, in which comments are blanks. A comment that does not end is at fault.
-abbrev pub block_if_closed : Option ℕ → List ℕ → Reading
-block_if_closed None block = escapes_or_tokens (blanked Outside block)
-block_if_closed (Some left) block = Err left
-
+-- a block, in which comments are blanks
 abbrev pub block : List ℕ → Reading
-block octets = block_if_closed (unclosed octets) octets
+block octets = escapes_or_tokens (blanked Outside octets)
 
 -- what is read of a text that others follow
 abbrev pub before : (following : ℕ) → Reading → Reading
 before following (Ok octets) = Ok octets
 before following (Err left) = Err (left + following)
 
--- what is before a `}`, and the text from there on; it is missing at the end if there is none
-abbrev pub to_brace : (inside following : List ℕ) → Reading
-to_brace inside [] = Err 0
-to_brace inside (brace ∷ following) = before (suc (length following)) (block inside)
+-- a block that no `}` ends: a comment in it that does not end is at fault, or else the `}` is missing at the end
+abbrev pub unended : (comment : Option ℕ) → Reading
+unended None = Err 0
+unended (Some left) = Err left
 
--- What is before the next `}`. The text is what follows the first `{`.
+-- what is before a `}`, and the text from there on, if there is one
+abbrev pub to_brace : (comment : Option ℕ) → (inside following : List ℕ) → Reading
+to_brace comment inside [] = unended comment
+to_brace comment inside (brace ∷ following) = before (suc (length following)) (block inside)
+
+-- how many octets come before the first `}` that stands in no comment, or in all
+abbrev pub block_length : List ℕ → ℕ
+block_length text = length_before 0x7D (blanked Outside text)
+
+-- What is before the next `}` that stands in no comment. The text is what follows the first `{`.
 abbrev pub braces : List ℕ → Reading
-braces text = to_brace (take (length_before 0x7D text) text) (drop (length_before 0x7D text) text)
+braces text = to_brace (unclosed text) (take (block_length text) text) (drop (block_length text) text)

@@ -29,9 +29,10 @@ after_name text =
 abbrev pub is_space : ℕ → Bool
 is_space octet = octet == 0x20 || octet == 0x09
 
--- what follows `>` or `<` and a blank, as curl -v has before a field, or all of a text
+-- what follows `>` or `<`, a blank that ends no line, and more blanks, as curl -v has before a field, or all of a text
 abbrev pub after_arrow : List ℕ → List ℕ
-after_arrow (arrow ∷ blank ∷ text) = if (arrow == 0x3E || arrow == 0x3C) && is_space blank then text else arrow ∷ blank ∷ text
+after_arrow (arrow ∷ blank ∷ text) =
+    when ((arrow == 0x3E || arrow == 0x3C) && is_space blank) (λ _. skip_blanks text) (λ _. arrow ∷ blank ∷ text)
 after_arrow text = text
 
 abbrev pub value_or_all : Option (List ℕ) → List ℕ → List ℕ
@@ -50,6 +51,10 @@ after_space (octet ∷ text) = if is_space octet then Some text else None
 abbrev pub after_scheme_name : List ℕ → Option (List ℕ)
 after_scheme_name text = or_other (after_word (codes "negotiate") text) (λ _. after_word (codes "kerberos") text)
 
--- the token of a header field, if a text is one
+-- what follows blanks and an arrow, where a field or a scheme may begin
+abbrev pub field_of : List ℕ → List ℕ
+field_of text = after_arrow (skip_blanks text)
+
+-- the token of a header field, if a text is one, maybe after blanks and an arrow
 abbrev pub token_of : List ℕ → Option (List ℕ)
-token_of text = option_and_then after_space (after_scheme_name (after_field (after_arrow text)))
+token_of text = option_and_then after_space (after_scheme_name (after_field (field_of text)))

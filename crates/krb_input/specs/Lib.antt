@@ -12,6 +12,7 @@ pub mod Octets
 pub mod Inputs
 pub mod Signatures
 pub mod Sources
+pub mod TokenHints
 pub mod Hints
 pub mod Laws
 pub mod inner

@@ -42,6 +42,15 @@ signatures =
     -- PEM (RFC 7468), SQLite
     ∷ sign (codes "-----BEGIN") hint.Pem
     ∷ sign (codes "SQLite") hint.Sqlite
+    -- requests and responses of HTTP (RFC 9112, 3 and 4; RFC 9110, 9.3)
+    ∷ sign (codes "GET ") hint.Http
+    ∷ sign (codes "HEAD ") hint.Http
+    ∷ sign (codes "POST ") hint.Http
+    ∷ sign (codes "PUT ") hint.Http
+    ∷ sign (codes "DELETE ") hint.Http
+    ∷ sign (codes "CONNECT ") hint.Http
+    ∷ sign (codes "OPTIONS ") hint.Http
+    ∷ sign (codes "HTTP/") hint.Http
     ∷ []
 
 -- the first of signatures with which octets begin

@@ -1,14 +1,14 @@
 //! What may help where a source is refused at once.
 
 ghost use Rattle.std.specs.Prelude.{◌≡◌, ◌++◌, take, IfOk, string_bytes};
-ghost use Rattle.krb_input.specs.Hints.{begins_message as is_tag_of_message, converted_text, given_command as command_given, guessed as guess, guessed_message as guess_of_message, hint_for, hint_text, holds_caches as may_hold_caches, is_frame as begins_as_frame, is_primary as names_a_cache, leads_back, leads_to as command_of, packed_text, unless_used as unless_it_was_used};
+ghost use Rattle.krb_input.specs.Hints.{begins_message as is_tag_of_message, converted_text, given_command as command_given, guessed as guess, guessed_message as guess_of_message, hint_for, hint_text, holds_caches as may_hold_caches, http_text, is_frame as begins_as_frame, is_primary as names_a_cache, is_version_two as begins_as_version_two, leads_back, leads_to as command_of, packed_text, signed_or_old, unless_used as unless_it_was_used};
 ghost use Rattle.std.specs.Option.{option_or};
-ghost use Rattle.krb_input.specs.Signatures.{signed as hint_of_signature};
 ghost use Rattle.krb_input.specs.Sources.{file_kind};
 
 use crate::octets::{first_no_text, is_tag};
 use crate::signature::signed;
 use crate::source_kind::SourceKind;
+use crate::token_hint::{named_token, refused_by};
 use std::alloc::{AllocError, Global};
 
 /// What a source is or may be, by its first octets.
@@ -24,6 +24,8 @@ pub enum Hint {
     Bzip2,
     /// A keytab.
     Keytab,
+    /// A keytab whose first length no entry has, or a credential cache of version 2.
+    VersionTwo,
     /// A credential cache.
     Ccache,
     /// A keytab or a credential cache of version 1.
@@ -38,8 +40,20 @@ pub enum Hint {
     Pem,
     /// An SQLite database.
     Sqlite,
+    /// A token of IAKERB.
+    Iakerb,
+    /// A token of GSS-API with a checksum of a message (RFC 4121, 4.2.6.1).
+    MicToken,
+    /// A token of GSS-API with a message that it protects (RFC 4121, 4.2.6.2).
+    WrapToken,
+    /// A token of SPNEGO that has no token of a mechanism.
+    Negotiation,
+    /// A header of HTTP, which may have no token of Kerberos.
+    Header,
     /// The primary file of a collection of credential caches.
     Primary,
+    /// HTTP, of which a header may have a token.
+    Http,
     /// A stream of frames.
     Stream,
     /// A message, a Ticket or a token.
@@ -53,7 +67,9 @@ pub enum Hint {
 pub fn hint_of(used: SourceKind, first: &[u8]) -> Option<Hint>
     ensures { result ≡ hint_for used first.now }
 {
-    unless_used(used, looked_up(used, front(first)))
+    let first = front(first);
+    let known = named_token(first).or(unless_used(used, looked_up(used, first)));
+    known.or(refused_by(used, first))
 }
 
 /// Returns the first 16 octets, or all if there are fewer.
@@ -66,9 +82,33 @@ fn front(first: &[u8]) -> &[u8]
 
 /// Returns what octets are by their signature, or else may be.
 fn looked_up(used: SourceKind, first: &[u8]) -> Option<Hint>
-    ensures { result ≡ option_or (hint_of_signature first.now) (guess used first.now) }
+    ensures { result ≡ option_or (signed_or_old first.now) (guess used first.now) }
 {
-    signed(first).or(guessed(used, first))
+    signed_or_old(first).or(guessed(used, first))
+}
+
+/// Returns what octets are by their signature. A cache of version 2 has that of a keytab, and then the
+/// type of a name, which is less than the length of any entry.
+#[tactic(auto, unfolding(crate::specs::Hints::signed_or_old))]
+fn signed_or_old(first: &[u8]) -> Option<Hint>
+    ensures { result ≡ signed_or_old first.now }
+{
+    if is_version_two(first) {
+        Some(Hint::VersionTwo)
+    } else {
+        signed(first)
+    }
+}
+
+/// Returns whether octets begin as a credential cache of version 2: with its signature and the type
+/// of the name of its default principal.
+fn is_version_two(first: &[u8]) -> bool
+    ensures { result ≡ begins_as_version_two first.now }
+{
+    match first {
+        [0x05, 0x02, 0x00, 0x00, 0x00, name_type, ..] => *name_type <= 12,
+        _ => false,
+    }
 }
 
 /// Returns a hint, unless it is to the command that was used.
@@ -197,6 +237,10 @@ impl Hint {
             Hint::Zstd => packed(alloc, "this is a zstd file: zstdcat ", given, file),
             Hint::Bzip2 => packed(alloc, "this is a bzip2 file: bzcat ", given, file),
             Hint::Keytab => before(alloc, "this is a keytab: krbls keytab ", file),
+            Hint::VersionTwo => alone(
+                alloc,
+                "this is a keytab, or a cache of version 2, which krbls does not read",
+            ),
             Hint::Ccache => before(alloc, "this is a credential cache: krbls ccache ", file),
             Hint::VersionOne => alone(
                 alloc,
@@ -213,10 +257,31 @@ impl Hint {
                 alloc,
                 "this is an SQLite database, which krbls does not read",
             ),
+            Hint::Iakerb => alone(
+                alloc,
+                "this is a token of IAKERB, which krbls does not read",
+            ),
+            Hint::MicToken => alone(
+                alloc,
+                "this is a MIC token of GSS-API, which has no message of Kerberos in it",
+            ),
+            Hint::WrapToken => alone(
+                alloc,
+                "this is a Wrap token of GSS-API, which has no message of Kerberos in it",
+            ),
+            Hint::Negotiation => alone(
+                alloc,
+                "this is a token of SPNEGO with no token of Kerberos in it",
+            ),
+            Hint::Header => alone(
+                alloc,
+                "this is a header of HTTP, of which krbls reads the token after Negotiate or Kerberos",
+            ),
             Hint::Primary => alone(
                 alloc,
                 "this may be the primary file of a collection: krbls ccache DIR:DIRECTORY",
             ),
+            Hint::Http => searched(alloc, file),
             Hint::Stream => before(alloc, "this may be a stream: krbls stream ", file),
             Hint::Message => before(alloc, "this may be a message: krbls message ", file),
             Hint::Text => before(
@@ -264,6 +329,17 @@ fn packed(
         text.push_str(" ")?;
     }
     text.push_str("-")?;
+    Ok(text)
+}
+
+/// Returns what is said of HTTP, of whose headers those with a token are read.
+fn searched(alloc: Global, file: &str) -> Result<String, AllocError>
+    ensures { IfOk result (λ text. string_bytes text ≡ http_text file.now) }
+{
+    let mut text = String::new(alloc);
+    text.push_str("this is HTTP; if a header has a token: grep -ai negotiate ")?;
+    text.push_str(file)?;
+    text.push_str(" | krbls message --lines -")?;
     Ok(text)
 }
 

@@ -33,6 +33,7 @@ mod source_kind;
 mod spelled;
 mod text;
 mod text_fault;
+mod token_hint;
 mod tokens;
 
 pub use hint::{Hint, hint_of};

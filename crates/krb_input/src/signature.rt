@@ -18,7 +18,7 @@ macro_rules! signatures {
     };
 }
 
-static SIGNATURES: [Signature; 18] = signatures![
+static SIGNATURES: [Signature; 26] = signatures![
     b"\x1F\x8B" Gzip,
     b"\xFD7zXZ\x00" Xz,
     b"\x28\xB5\x2F\xFD" Zstd,
@@ -37,6 +37,14 @@ static SIGNATURES: [Signature; 18] = signatures![
     b"snoop\x00\x00\x00" Snoop,
     b"-----BEGIN" Pem,
     b"SQLite" Sqlite,
+    b"GET " Http,
+    b"HEAD " Http,
+    b"POST " Http,
+    b"PUT " Http,
+    b"DELETE " Http,
+    b"CONNECT " Http,
+    b"OPTIONS " Http,
+    b"HTTP/" Http,
 ];
 
 /// Returns the signatures.

@@ -1,8 +1,8 @@
 //! A text that is read octet by octet, in which comments may be blanks.
 
-ghost use Rattle.std.specs.Prelude.{◌≡◌, length};
+ghost use Rattle.std.specs.Prelude.{◌≡◌, ◌≤◌, length};
 ghost use Rattle.krb_der.specs.Octets.{begins_with};
-ghost use Rattle.krb_input.specs.Characters.{count_digits};
+ghost use Rattle.krb_input.specs.Characters.{count_digits, length_before};
 ghost use Rattle.krb_input.specs.Comments.{after, blanked, text_left, unclosed};
 ghost use Rattle.krb_input.specs.inner.Results.{IsFirst};
 
@@ -116,6 +116,24 @@ impl<'a> Text<'a> {
         let mut count = 0;
         while let Some((octet, others)) = rest.split_first() {
             if !is_digit(octet) {
+                return count;
+            }
+            count += 1;
+            rest = others;
+        }
+        count
+    }
+
+    /// Returns how many octets come before the first of an octet, or in all.
+    #[tactic(auto, using(crate::proofs::Blanked::blanks))]
+    pub(crate) fn length_before(self, octet: u8) -> usize
+        ensures count { result ≡ length_before octet (text_left self.entry) }
+        ensures within { result ≤ length (text_left self.entry) }
+    {
+        let mut rest = self;
+        let mut count = 0;
+        while let Some((first, others)) = rest.split_first() {
+            if first == octet {
                 return count;
             }
             count += 1;

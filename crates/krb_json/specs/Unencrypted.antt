@@ -1,4 +1,4 @@
--- What is not encrypted: an EncryptedData of encryption type 0 has its plain text for a cipher (RFC 3961, 6.3, and RFC 4120, 5.2.9).
+-- What is not encrypted: an EncryptedData of encryption type 0 has its plain text for a cipher (RFC 1510, 6.3.1, and RFC 4120, 5.2.9).
 use Rattle.std.specs.Prelude.{ℕ, ℤ, pos, negsuc, ◌+◌, ◌==◌, ◌&&◌, if◌then◌else◌, Bool, true, false, List, [], ◌∷◌, Option, Some, None}
 use Rattle.std.specs.Option.{option_and_then}
 use Rattle.krb_msg.specs.Term.{Term, Fields, Integer, Text, Octets, Time, Bits, Sequence, SequenceOf, Tagged, Application, End, Required, Optional, Value, Values}

@@ -10,7 +10,7 @@ use Rattle.hex.specs.Hex.{is_hex_digit}
 use Rattle.krb_der.specs.Octets.{when, begins_with}
 use Rattle.krb_input.specs.Base64.{base64, first_octet}
 use Rattle.krb_input.specs.Braces.{after_first}
-use Rattle.krb_input.specs.Characters.{is_blank, is_text, is_x}
+use Rattle.krb_input.specs.Characters.{is_blank, is_text, is_x, skip_blanks}
 use Rattle.krb_input.specs.Digits.{are_digits, digits}
 use Rattle.krb_input.specs.Dumps.{begins_after, begins_dump, count_zeros, is_prefixed}
 use Rattle.krb_input.specs.Escapes.{escapes, has_escape}
@@ -70,7 +70,7 @@ no_escapes (octet ∷ text) are =
 no_arrow_first : (text : List ℕ) → AreSpaced text → after_arrow text ≡ text
 no_arrow_first [] are = refl
 no_arrow_first (octet ∷ []) are = refl
-no_arrow_first (octet ∷ blank ∷ text) are = ap (λ b. if b && is_space blank then text else octet ∷ blank ∷ text) (no_arrow octet (All-head IsSpaced octet (blank ∷ text) are))
+no_arrow_first (octet ∷ blank ∷ text) are = ap (λ b. when (b && is_space blank) (λ _. skip_blanks text) (λ _. octet ∷ blank ∷ text)) (no_arrow octet (All-head IsSpaced octet (blank ∷ text) are))
 
 -- a word that has a `:` is not there
 abbrev has_colon : List ℕ → Bool
@@ -129,19 +129,12 @@ apart_of first small begins =
     let inner = and_parts (not zero) (not n) outer.0 in
     record { no_zero = not-true zero inner.0; no_n = not-true n inner.1; no_k = not-true k outer.1 }
 
--- the first octet of a text, which is a blank or that character, begins no scheme
+-- that character begins no scheme
 abbrev is_scheme_letter : ℕ → Bool
 is_scheme_letter octet = lower_case octet == 0x6E || lower_case octet == 0x6B
 
-blank_no_letter : (octet : ℕ) → is_blank octet ≡ true → is_scheme_letter octet ≡ false
-blank_no_letter octet is = grind (arith, nat_tests)
-
-no_letter : (first octet : ℕ) (text others : List ℕ) (blank : Bool) → Apart first → is_blank octet ≡ blank → without_blanks (octet ∷ text) ≡ symbol (first / 4) ∷ others → is_scheme_letter octet ≡ false
-no_letter first octet text others true apart is given = blank_no_letter octet is
-no_letter first octet text others false apart is given =
-    let same : octet ∷ without_blanks text ≡ symbol (first / 4) ∷ others = sym (ap (λ b. if not b then octet ∷ without_blanks text else without_blanks text) is) ∙ given in
-    let octet_is : symbol (first / 4) ≡ octet = cc in
-    subst (λ o. is_scheme_letter o ≡ false) octet_is (ap (λ b. b || lower_case (symbol (first / 4)) == 0x6B) apart.no_n ∙ apart.no_k)
+no_letter : (first : ℕ) → Apart first → is_scheme_letter (symbol (first / 4)) ≡ false
+no_letter first apart = ap (λ b. b || lower_case (symbol (first / 4)) == 0x6B) apart.no_n ∙ apart.no_k
 
 no_scheme : (octet : ℕ) (text : List ℕ) → is_scheme_letter octet ≡ false → after_scheme_name (octet ∷ text) ≡ None
 no_scheme octet text is =
@@ -149,11 +142,22 @@ no_scheme octet text is =
     ap (λ b. or_other (when b (λ _. after_word (codes "egotiate") text) (λ _. None)) (λ _. after_word (codes "kerberos") (octet ∷ text))) parts.0
     ∙ ap (λ b. when b (λ _. after_word (codes "erberos") text) (λ _. None)) parts.1
 
+-- what follows blanks is such a text, too
+skipped_by : (octet : ℕ) (text : List ℕ) (blank : Bool) → is_blank octet ≡ blank → AreSpaced (octet ∷ text) → AreSpaced (skip_blanks text) → AreSpaced (skip_blanks (octet ∷ text))
+skipped_by octet text true is are others = subst AreSpaced (sym (ap (λ b. when b (λ _. skip_blanks text) (λ _. octet ∷ text)) is)) others
+skipped_by octet text false is are others = subst AreSpaced (sym (ap (λ b. when b (λ _. skip_blanks text) (λ _. octet ∷ text)) is)) are
+
+skipped_spaced : (text : List ℕ) → AreSpaced text → AreSpaced (skip_blanks text)
+skipped_spaced [] are = are
+skipped_spaced (octet ∷ text) are = skipped_by octet text (is_blank octet) refl are (skipped_spaced text (All-tail IsSpaced octet text are))
+
 no_token : (first : ℕ) (text others : List ℕ) → Apart first → AreSpaced text → without_blanks text ≡ symbol (first / 4) ∷ others → token_of text ≡ None
-no_token first [] others apart are given = absurd (cc)
-no_token first (octet ∷ text) others apart are given =
-    ap (λ t. option_and_then after_space (after_scheme_name t)) (no_field (octet ∷ text) are)
-    ∙ ap (option_and_then after_space) (no_scheme octet text (no_letter first octet text others (is_blank octet) apart refl given))
+no_token first text others apart are given =
+    let found = next text (symbol (first / 4)) others given in
+    let spaced : AreSpaced (symbol (first / 4) ∷ found.rest) = subst AreSpaced found.skipped (skipped_spaced text are) in
+    ap (λ t. option_and_then after_space (after_scheme_name (after_field (after_arrow t)))) found.skipped
+    ∙ ap (λ t. option_and_then after_space (after_scheme_name t)) (no_field (symbol (first / 4) ∷ found.rest) spaced)
+    ∙ ap (option_and_then after_space) (no_scheme (symbol (first / 4)) found.rest (no_letter first apart))
 
 -- ---- digits and dumps
 digit_or_blank_fits : (octet : ℕ) (after_zero : Bool) → (is_hex_digit octet || is_blank octet) ≡ true → (is_hex_digit octet || is_mark octet || after_zero && is_x octet) ≡ true

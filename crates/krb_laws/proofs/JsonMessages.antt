@@ -14,6 +14,7 @@ use Rattle.krb_text.specs.Inside.{inside_of}
 use Rattle.krb_record.specs.Origins.{message_origin}
 use Rattle.krb_text.specs.Messages.{fields_of, message_record, notes, ticket_record}
 use Rattle.krb_record.specs.Values.{Field, the, with_origin}
+use Rattle.krb_text.specs.declared.clear_type.Carrier.TheVariants as carriers
 use Rattle.krb_text_laws.proofs.MessageOneLine.{record_is_plain}
 use Rattle.krb_source.specs.declared.layer.Layer.{Layer}
 use Rattle.krb_laws.specs.JsonLaws.{IsLine, MessagesAreJson, PartFits, PrintsJson}
@@ -52,10 +53,10 @@ counted (message.KrbCred m) good = cred m (its_value (message.KrbCred m) refl go
 counted (message.KrbError m) good = error m (its_value (message.KrbError m) refl good)
 
 its_parts : (m : Message) → IsInProfile profiles.Lenient m → IfSome (inside_of m) (AllByRecursion PartFits)
-its_parts (message.AsReq m) good = kdc_req_inside m (its_value (message.AsReq m) refl good).1.1.1.0
-its_parts (message.AsRep m) good = padata_inside false m.padata
-its_parts (message.TgsReq m) good = kdc_req_inside m (its_value (message.TgsReq m) refl good).1.1.1.0
-its_parts (message.TgsRep m) good = padata_inside false m.padata
+its_parts (message.AsReq m) good = kdc_req_inside m good.fits.1.1.0 (its_value (message.AsReq m) refl good).1.1.1.0
+its_parts (message.AsRep m) good = padata_inside carriers.Reply m.padata good.fits.1.1.0
+its_parts (message.TgsReq m) good = kdc_req_inside m good.fits.1.1.0 (its_value (message.TgsReq m) refl good).1.1.1.0
+its_parts (message.TgsRep m) good = padata_inside carriers.Reply m.padata good.fits.1.1.0
 its_parts (message.KrbCred m) good = tickets_inside m.tickets (its_value (message.KrbCred m) refl good).1.1.0.1
 its_parts (message.KrbError m) good = error_inside m
 its_parts other good = tt

@@ -1,5 +1,5 @@
 -- The text of a record is that of its object.
-use Rattle.std.proofs.Common.{◌≡◌, ℕ, ◌+◌, ◌≤◌, Bool, true, Option, Some, None, IfSome, List, [], ◌∷◌, ◌++◌, codes, refl, sym, ◌∙◌, ap, subst, append_assoc, append-nil, arith}
+use Rattle.std.proofs.Common.{◌≡◌, ℕ, pos, ◌+◌, ◌≤◌, Bool, true, Option, Some, None, IfSome, List, [], ◌∷◌, ◌++◌, codes, refl, sym, ◌∙◌, ap, subst, append_assoc, append-nil, arith}
 use Rattle.std.specs.Prelude.{◌≢◌}
 use Rattle.std.proofs.lemmas.Bool.{and_parts}
 use Rattle.std.specs.List.{AllByRecursion, flat_map, list_all}
@@ -8,7 +8,7 @@ use Rattle.json.specs.Strict.{keys, AreDistinct}
 use Rattle.krb_registry.specs.declared.registry.Registry.TheVariants as registries
 use Rattle.krb_record.specs.Forms.{closing, ending, fields_text, heading, inside_text, json_value, labelled, members, name_string, names_member, opening, opening_from, part_text, record_text}
 use Rattle.krb_record.specs.Text.{list_text}
-use Rattle.krb_record.specs.Values.{Value, Named, Numbers, ErrorCode, Reason, NoReason, Field, Part, Printed}
+use Rattle.krb_record.specs.Values.{Value, Named, Numbers, ErrorCode, Status, Reason, NoReason, Field, Part, Printed}
 use Rattle.krb_record.specs.declared.form.Form.TheVariants as form
 use Rattle.krb_laws.specs.Json.{field_members, inside_members, json_of, json_of_value, list_of, members_of, name_json, names_of_value, object_of, part_json}
 use Rattle.krb_laws.specs.JsonLaws.{FitsJson, IsJson, PartFits, ValueFits, are_different, inside_name, is_plain, member_names}
@@ -31,6 +31,7 @@ module _ (levels : ℕ) (enough : 2 ≤ levels) (name : List ℕ) (plain : IsPla
   unfolding names_member names_of_value
   names_text rest (Named registry n) h k = one_named (codes "_name") refl (a_name registry n) k
   names_text rest (ErrorCode code) h k = one_named (codes "_name") refl (a_name registries.ErrorCodes code) k
+  names_text rest (Status n) h k = one_named (codes "_name") refl (a_name registries.Statuses (pos n)) k
   names_text rest (Reason n reason) h k = one_named (codes "_name") refl (printable reason h.1) k
   names_text {text} rest NoReason h k =
       subst (λ t. AreMembers (t ++ text) (members_of ((name ++ codes "_name", null) ∷ rest)) levels) (append_assoc (44 ∷ 34 ∷ name) (codes "_name\":") (codes "null")) (one_named (codes "_name") refl a_null k)
@@ -67,6 +68,7 @@ after_names : (P : List ℕ → Type 0) (name : List ℕ) (rest : List (List ℕ
 unfolding names_of_value
 after_names P name rest h k all (Named registry n) = (h, all)
 after_names P name rest h k all (ErrorCode code) = (h, all)
+after_names P name rest h k all (Status n) = (h, all)
 after_names P name rest h k all (Reason n reason) = (h, all)
 after_names P name rest h k all NoReason = (h, all)
 after_names P name rest h k all (Numbers registry ns) = (k, all)
@@ -85,6 +87,7 @@ distinct_names : (name : List ℕ) (rest : List (List ℕ × Json)) → AllOther
 unfolding names_of_value
 distinct_names name rest h k apart (Named registry n) = distinct_cons (name ++ codes "_name") (keys (members_of rest)) h apart
 distinct_names name rest h k apart (ErrorCode code) = distinct_cons (name ++ codes "_name") (keys (members_of rest)) h apart
+distinct_names name rest h k apart (Status n) = distinct_cons (name ++ codes "_name") (keys (members_of rest)) h apart
 distinct_names name rest h k apart (Reason n reason) = distinct_cons (name ++ codes "_name") (keys (members_of rest)) h apart
 distinct_names name rest h k apart NoReason = distinct_cons (name ++ codes "_name") (keys (members_of rest)) h apart
 distinct_names name rest h k apart (Numbers registry ns) = distinct_cons (name ++ codes "_names") (keys (members_of rest)) k apart

@@ -4,7 +4,7 @@ use Rattle.std.proofs.lemmas.Bool.{and_parts, and_from}
 use Rattle.std.proofs.lemmas.Grind.{flat_map-append}
 use Rattle.std.specs.List.{AllByRecursion, flat_map, list_all}
 use Rattle.std.specs.Str.{bytes_eq}
-use Rattle.krb_record.specs.Values.{Value, Absent, NoTicket, Number, Named, Numbers, ErrorCode, Reason, NoReason, String, Quoted, FileName, Word, Hex, Flags, TicketFlags, Encrypted, Principal, Address, Digest, YesNo, Offset, RefusedTicket, Flow, Layers, Field, Part, printed, with_inside, with_origin}
+use Rattle.krb_record.specs.Values.{Value, Absent, NoTicket, Number, Named, Numbers, ErrorCode, Status, Reason, NoReason, String, Quoted, FileName, Word, Hex, Flags, TicketFlags, Encrypted, Principal, Address, Digest, YesNo, Offset, RefusedTicket, Flow, Layers, Field, Part, printed, with_inside, with_origin}
 use Rattle.krb_text_laws.proofs.EachForm.{AreShown, IsShown}
 use Rattle.krb_laws.specs.JsonLaws.{FitsJson, IsSmall, PartFits, ValueFits, are_different, inside_name, is_plain, member_names}
 use Rattle.krb_laws.proofs.JsonRecords.{ValuesFit, names_are_plain}
@@ -30,6 +30,7 @@ IsCounted value = Unit {0}
 fits : (value : Value) → IsShown value → IsCounted value → ValueFits value
 fits Absent s h = tt
 fits NoTicket s h = tt
+fits (Status number) s h = tt
 fits (Reason n name) s h = (h, s)
 fits NoReason s h = tt
 fits (String octets) s h = tt

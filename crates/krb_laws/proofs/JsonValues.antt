@@ -18,7 +18,7 @@ use Rattle.krb_registry.specs.declared.registry.Registry.TheVariants as registri
 use Rattle.krb_record.specs.Flows.{transport_name, endpoint_object, flow_object}
 use Rattle.krb_record.specs.Forms.{address_object, digest_object, flags_object, four_octets, json_string, json_value, name_string, octets_string, offset_object, or_null, principal_object, refused_object, encrypted_object, set_names, shown_octet, true_or_false}
 use Rattle.krb_record.specs.Text.{IsPrintable, hex, principal_text, list_text}
-use Rattle.krb_record.specs.Values.{Value, Absent, NoTicket, Number, Named, Numbers, ErrorCode, Reason, NoReason, String, Quoted, FileName, Word, Hex, Flags, TicketFlags, Encrypted, Principal, Address, Digest, YesNo, Offset, RefusedTicket, Flow, Layers}
+use Rattle.krb_record.specs.Values.{Value, Absent, NoTicket, Number, Named, Numbers, ErrorCode, Status, Reason, NoReason, String, Quoted, FileName, Word, Hex, Flags, TicketFlags, Encrypted, Principal, Address, Digest, YesNo, Offset, RefusedTicket, Flow, Layers}
 use Rattle.krb_record.specs.declared.flow.Transport.{Transport}
 use Rattle.krb_record.specs.declared.flow.Transport.TheVariants as transports
 use Rattle.krb_source.specs.Layers.{layer_name}
@@ -200,6 +200,7 @@ value_text (Number n) h = a_signed n h
 value_text (Named registry n) h = a_signed n h
 value_text (Numbers registry ns) h = more (a_list 0 signed_decimal number_of IsSmall (λ n h. a_signed n h) ns h)
 value_text (ErrorCode code) h = a_signed code h
+value_text (Status n) h = a_plain (hex (four_octets n)) (plain_hex (four_octets n))
 value_text (Reason n name) h = a_number n h.0
 value_text NoReason h = a_null
 value_text (String octets) h = some_octets octets

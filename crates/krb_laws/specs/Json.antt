@@ -1,5 +1,5 @@
 -- What is printed in the form Json, as values of JSON (RFC 8259): the object of a record, and the value of a field.
-use Rattle.std.specs.Prelude.{ℕ, ℤ, ◌-◌, ◌*◌, List, [], ◌∷◌, ◌++◌, length, map, Option, Some, None, codes, decimal}
+use Rattle.std.specs.Prelude.{ℕ, ℤ, pos, ◌-◌, ◌*◌, List, [], ◌∷◌, ◌++◌, length, map, Option, Some, None, codes, decimal}
 use Rattle.std.specs.Fmt.{signed_decimal}
 use Rattle.std.specs.List.{flat_map}
 use Rattle.std.specs.Net.Text.{ip_text}
@@ -14,7 +14,7 @@ use Rattle.krb_registry.specs.declared.registry.Registry.TheVariants as registri
 use Rattle.krb_record.specs.Flows.{transport_name}
 use Rattle.krb_record.specs.Forms.{four_octets, set_names, shown_octet}
 use Rattle.krb_record.specs.Text.{hex, principal_text}
-use Rattle.krb_record.specs.Values.{Value, Absent, NoTicket, Number, Named, Numbers, ErrorCode, Reason, NoReason, String, Quoted, FileName, Word, Hex, Flags, TicketFlags, Encrypted, Principal, Address, Digest, YesNo, Offset, RefusedTicket, Flow, Layers, Field, Part, Printed}
+use Rattle.krb_record.specs.Values.{Value, Absent, NoTicket, Number, Named, Numbers, ErrorCode, Status, Reason, NoReason, String, Quoted, FileName, Word, Hex, Flags, TicketFlags, Encrypted, Principal, Address, Digest, YesNo, Offset, RefusedTicket, Flow, Layers, Field, Part, Printed}
 use Rattle.krb_source.specs.Layers.{layer_name}
 
 -- ---- values of JSON
@@ -112,6 +112,7 @@ json_of_value (Number n) = number_of n
 json_of_value (Named registry n) = number_of n
 json_of_value (Numbers registry ns) = list_of number_of ns
 json_of_value (ErrorCode code) = number_of code
+json_of_value (Status n) = string (hex (four_octets n))
 json_of_value (Reason n name) = count_of n
 json_of_value NoReason = null
 json_of_value (String octets) = octets_of octets
@@ -136,6 +137,7 @@ json_of_value (Layers layers) = list_of (λ layer. string (layer_name layer)) la
 unfoldable pub names_of_value : (name : List ℕ) → Value → List (List ℕ × Json)
 names_of_value name (Named registry n) = (name ++ codes "_name", name_json registry n) ∷ []
 names_of_value name (ErrorCode code) = (name ++ codes "_name", name_json registries.ErrorCodes code) ∷ []
+names_of_value name (Status n) = (name ++ codes "_name", name_json registries.Statuses (pos n)) ∷ []
 names_of_value name (Reason n reason) = (name ++ codes "_name", string reason) ∷ []
 names_of_value name NoReason = (name ++ codes "_name", null) ∷ []
 names_of_value name (Numbers registry ns) = (name ++ codes "_names", list_of (name_json registry) ns) ∷ []

@@ -5,7 +5,7 @@ use Rattle.json.specs.Json.{array, boolean, item, member, no_items, no_members, 
 use Rattle.krb_registry.specs.Rows.{name_in, name_of, rows}
 use Rattle.krb_registry.specs.declared.registry.Registry.TheVariants as registries
 use Rattle.krb_record.specs.Streams.{counted_end_record}
-use Rattle.krb_record.specs.Values.{Absent, Named, Numbers, String, YesNo, Number, part, printed, the, with_inside, with_origin}
+use Rattle.krb_record.specs.Values.{Absent, Named, Numbers, Status, String, YesNo, Number, part, printed, the, with_inside, with_origin}
 use Rattle.krb_laws.specs.Json.{json_of, json_of_value, names_of_value}
 
 end_of_stream : json_of (counted_end_record 8 0) ≡ object (member (codes "kind") (string (codes "end")) (member (codes "messages") (number (codes "8")) (member (codes "refused") (number (codes "0")) no_members)))
@@ -19,6 +19,12 @@ named : json_of (printed (codes "K") (the (codes "t") (Named registries.NameType
     (member (codes "e_names") (array (item (string (codes "aes256-cts-hmac-sha1-96")) (item null no_items))) no_members)))))
 unfolding digits json_of json_of_value names_of_value rows name_in name_of
 named = refl
+
+-- a status is its digits, and its name
+a_status : json_of (printed (codes "K") (the (codes "s") (Status 0xC0000072) ∷ []))
+    ≡ object (member (codes "kind") (string (codes "K")) (member (codes "s") (string (codes "c0000072")) (member (codes "s_name") (string (codes "STATUS_ACCOUNT_DISABLED")) no_members)))
+unfolding json_of json_of_value names_of_value rows name_in name_of
+a_status = refl
 
 -- an origin comes after the kind; an octet that is no character is `\x` and its digits, and what is absent is null
 with_a_line : json_of (with_origin (the (codes "line") (Number (pos 3)) ∷ []) (printed (codes "K") (the (codes "a") (String (0x22 ∷ 0x0A ∷ [])) ∷ the (codes "b") Absent ∷ [])))

@@ -238,7 +238,7 @@ Stops-header form =
     Stops-then (called fields.SigFigs (number_at w32)) _ (Stops-plain fields.SigFigs) (λ sigfigs.
     Stops-then (called fields.SnapLen (number_at w32)) _ (Stops-plain fields.SnapLen) (λ snaplen.
     Stops-then (field_in fields.LinkType w32 form.order) _ (Stops-field fields.LinkType w32 form.order) (λ link.
-    Stops-succeed (record { form = form; link = link_type (link % 2 ^ 28) }))))))
+    Stops-succeed (record { form = form; link = link_type (link % 2 ^ 26) }))))))
 
 Stops-packet : (header : Header) (count : ℕ) → Stops (packet_at header count)
 Stops-packet header count =

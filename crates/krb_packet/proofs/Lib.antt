@@ -14,3 +14,4 @@ pub mod Steps
 pub mod Stepwise
 pub mod Streams
 pub mod BodyContents
+pub mod Nesting

@@ -13,11 +13,16 @@ use Rattle.krb_file.specs.declared.field_name.FilePart.{FilePart}
 use Rattle.krb_file.specs.declared.field_name.FilePart.TheVariants as parts
 use Rattle.krb_packet.specs.declared.packet.Packet.{Packet}
 use Rattle.krb_packet.specs.declared.packet.LinkType.TheVariants as links
+use Rattle.krb_packet.specs.declared.contents.Contents.{Contents}
 use Rattle.krb_packet.specs.declared.contents.Contents.TheVariants as contents
 use Rattle.krb_packet.specs.declared.contents.Original.{Original}
 use Rattle.krb_packet.specs.declared.contents.Fragment.{Fragment}
-use Rattle.krb_packet.specs.Payloads.{Captured, field, number8, number16, number32, after, beyond, within}
-use Rattle.krb_packet.specs.Contents.{datagram, ends, segment, transport, announced, ipv4, options, extension, after_headers, ipv6, network, tag, ethernet, raw_ip, frame, contents_of}
+use Rattle.krb_packet.specs.Payloads.{Captured, field, number8, number16, number32, after, beyond, past, within}
+use Rattle.krb_packet.specs.Contents.{after_headers, announced, authentication, contents_of, datagram, ends, ethernet, extension, frame, ipv4, ipv6, logical_link, of_fragment, of_protocol, of_type, of_type_or_length, options, payload_of, raw_ip, segment, snap, snap_type, step as header_step, tag, tcp, udp}
+use Rattle.krb_packet.specs.Contents.{datagram_or_tunnel}
+use Rattle.krb_packet.specs.Envelopes.{after_labels, gre, label, long_ppp, of_gre, of_ppp, pseudowire, session}
+use Rattle.krb_packet.specs.Passed.{is_passed_protocol, is_passed_type}
+use Rattle.krb_packet.specs.Tunnels.{geneve, is_tunnel, of_port, payload, tunnel, vxlan}
 use Rattle.krb_packet.specs.Table.{Table}
 use Rattle.krb_packet.specs.Fragments.{no_fragments, step, unread}
 use Rattle.krb_packet.specs.Captures.{Packets, packets}
@@ -107,24 +112,24 @@ whole octets = record { octets = octets; size = length octets }
 abbrev local : IpAddr
 local = ip.V4 (record { octets = 127 ∷ 0 ∷ 0 ∷ 1 ∷ [] })
 
-segment_is_carried : contents_of links.Ethernet (whole syn) ≡ contents.Segment (record { source = record { address = local; port = 42700 }; target = record { address = local; port = 88 }; sequence = 4106491343; fin = false; syn = true; rst = false; payload = record { octets = []; size = 0 } })
-unfolding frame ethernet number16 number8 number32 field after beyond within network ipv4 announced transport ends segment
+segment_is_carried : contents_of 88 links.Ethernet (whole syn) ≡ contents.Segment (record { source = record { address = local; port = 42700 }; target = record { address = local; port = 88 }; sequence = 4106491343; fin = false; syn = true; rst = false; payload = record { octets = []; size = 0 } })
+unfolding frame ethernet of_type_or_length of_type number16 number8 number32 field after beyond within ipv4 announced of_protocol tcp ends segment
 segment_is_carried = refl
 
 -- of which the last option is cut, or the last octet before the options, or all but the source's port
 abbrev without_octets : ℕ → Captured
 without_octets missing = record { octets = take (74 - missing) syn; size = 74 }
 
-cut_options_are_passed : contents_of links.Ethernet (without_octets 1) ≡ contents_of links.Ethernet (whole syn)
-unfolding frame ethernet number16 number8 number32 field after beyond within network ipv4 announced transport ends segment
+cut_options_are_passed : contents_of 88 links.Ethernet (without_octets 1) ≡ contents_of 88 links.Ethernet (whole syn)
+unfolding frame ethernet of_type_or_length of_type number16 number8 number32 field after beyond within ipv4 announced of_protocol tcp ends segment
 cut_options_are_passed = refl
 
-cut_header_is_unread : contents_of links.Ethernet (without_octets 21) ≡ contents.UnreadBetween (record { source = record { address = local; port = 42700 }; target = record { address = local; port = 88 } })
-unfolding frame ethernet number16 number8 number32 field after beyond within network ipv4 announced transport ends segment
+cut_header_is_unread : contents_of 88 links.Ethernet (without_octets 21) ≡ contents.UnreadBetween (record { source = record { address = local; port = 42700 }; target = record { address = local; port = 88 } })
+unfolding frame ethernet of_type_or_length of_type number16 number8 number32 field after beyond within ipv4 announced of_protocol tcp ends segment
 cut_header_is_unread = refl
 
-cut_ports_are_unread : contents_of links.Ethernet (without_octets 38) ≡ contents.Unread
-unfolding frame ethernet number16 number8 number32 field after beyond within network ipv4 announced transport ends segment
+cut_ports_are_unread : contents_of 88 links.Ethernet (without_octets 38) ≡ contents.Unread
+unfolding frame ethernet of_type_or_length of_type number16 number8 number32 field after beyond within ipv4 announced of_protocol tcp ends segment
 cut_ports_are_unread = refl
 
 -- a datagram in IPv6 after hop-by-hop options and two VLAN tags, of which two octets are padding and two were not captured
@@ -134,9 +139,59 @@ loopback = ip.V6 (record { segments = segments_of (hex (codes "00000000000000000
 abbrev tagged : List ℕ
 tagged = hex (codes "000000000000 000000000000 88A8 0005 8100 002A 86DD 60000000 0015 00 40 00000000000000000000000000000001 00000000000000000000000000000001 11 00 010400000000 0058 C000 000D 0000 6B6573")
 
-datagram_is_carried : contents_of links.Ethernet (record { octets = tagged; size = length tagged + 4 }) ≡ contents.Datagram (record { source = record { address = loopback; port = 88 }; target = record { address = loopback; port = 49152 }; payload = record { octets = hex (codes "6B6573"); size = 5 } })
-unfolding frame ethernet tag number16 number8 field after within network ipv6 after_headers extension options announced transport ends datagram
+datagram_is_carried : contents_of 88 links.Ethernet (record { octets = tagged; size = length tagged + 4 }) ≡ contents.Datagram (record { source = record { address = loopback; port = 88 }; target = record { address = loopback; port = 49152 }; payload = record { octets = hex (codes "6B6573"); size = 5 }; surplus = record { octets = []; size = 0 } })
+unfolding frame ethernet of_type_or_length of_type header_step tag number16 number8 field after past within ipv6 after_headers extension options announced of_protocol udp is_tunnel ends datagram
 datagram_is_carried = refl
+
+-- the same datagram in Ethernet after SNAP in a tag, and after an authentication header of IPv4, in which no octet was cut
+abbrev udp_octets : List ℕ
+udp_octets = hex (codes "0058 C000 000B 0000 6B6573")
+
+abbrev carried_between : IpAddr → Contents
+carried_between address = contents.Datagram (record { source = record { address = address; port = 88 }; target = record { address = address; port = 49152 }; payload = whole (hex (codes "6B6573")); surplus = whole [] })
+
+snap_is_carried : contents_of 88 links.Ethernet (whole (hex (codes "000000000000 000000000000 9300 0005 0027 AAAA03 0000F8 0800 45000037 00000000 40330000 7F000001 7F000001 1104 0000 00000000 00000000 000000000000000000000000") ++ udp_octets)) ≡ carried_between local
+unfolding frame ethernet of_type_or_length of_type header_step tag logical_link snap snap_type number16 number8 field after past within ipv4 announced of_protocol authentication payload_of udp is_tunnel ends datagram
+snap_is_carried = refl
+
+-- a neighbour is asked for its address, and a packet is encrypted
+neighbours_are_passed : contents_of 88 links.Ethernet (whole (hex (codes "000000000000 000000000000 8100 0005 0806"))) ≡ contents.Other
+unfolding frame ethernet of_type_or_length of_type header_step tag number16 number8 field after is_passed_type
+neighbours_are_passed = refl
+
+encrypted_is_unread : contents_of 88 links.Ethernet (whole (hex (codes "000000000000 000000000000 88E5"))) ≡ contents.Unread
+unfolding frame ethernet of_type_or_length of_type number16 field after is_passed_type
+encrypted_is_unread = refl
+
+-- the same datagram as a frame of Ethernet, and that in envelopes: in ERSPAN of type I; in VXLAN, whose labels are those of a network of 80; in Geneve, of which an option has four octets; and in a pseudowire of MPLS within a PPPoE session
+abbrev framed : List ℕ
+framed = hex (codes "020000000001 020000000002 0800 4500001F 00000000 40110000 7F000001 7F000001") ++ udp_octets
+
+erspan_is_carried : contents_of 88 links.RawIp (whole (hex (codes "45000045 00000000 402F0000 C0000201 C0000202 0000 88BE") ++ framed)) ≡ carried_between local
+unfolding frame raw_ip ethernet of_type_or_length of_type header_step number16 number8 field after past within ipv4 announced of_protocol gre of_gre udp is_tunnel ends datagram
+erspan_is_carried = refl
+
+vxlan_is_carried : contents_of 88 links.RawIp (whole (hex (codes "45000051 00000000 40110000 C0000201 C0000202 C000 12B5 003D 0000 08000000 00005000") ++ framed)) ≡ carried_between local
+unfolding frame raw_ip ethernet of_type_or_length of_type header_step number32 number16 number8 field after past within ipv4 announced of_protocol udp is_tunnel datagram_or_tunnel tunnel payload of_port vxlan ends datagram
+vxlan_is_carried = refl
+
+-- to the same port from that of KDCs it is none
+reply_is_carried : contents_of 88 links.RawIp (whole (hex (codes "4500001F 00000000 40110000 7F000001 7F000001 0058 12B5 000B 0000 6B6573"))) ≡ contents.Datagram (record { source = record { address = local; port = 88 }; target = record { address = local; port = 4789 }; payload = whole (hex (codes "6B6573")); surplus = whole [] })
+unfolding frame raw_ip header_step number16 number8 field after past within ipv4 announced of_protocol udp is_tunnel datagram_or_tunnel ends datagram
+reply_is_carried = refl
+
+-- an answer of a name server to that port is passed over, and anything else unread
+answer_is_passed : contents_of 88 links.RawIp (whole (hex (codes "4500001F 00000000 40110000 7F000001 7F000001 0035 12B5 000B 0000 6B6573"))) ≡ contents.Other
+unfolding frame raw_ip header_step number32 number16 number8 field after past within ipv4 announced of_protocol udp is_tunnel datagram_or_tunnel tunnel payload of_port vxlan ends datagram
+answer_is_passed = refl
+
+geneve_is_carried : contents_of 88 links.RawIp (whole (hex (codes "45000055 00000000 40110000 C0000201 C0000202 C000 17C1 0041 0000 01006558 00005000 00000000") ++ framed)) ≡ carried_between local
+unfolding frame raw_ip ethernet of_type_or_length of_type header_step number32 number16 number8 field after past within ipv4 announced of_protocol udp is_tunnel datagram_or_tunnel tunnel payload of_port geneve ends datagram
+geneve_is_carried = refl
+
+pseudowire_is_carried : contents_of 88 links.Ethernet (whole (hex (codes "000000000000 000000000000 8864 1100 0001 0000 0281 00010040 00020140 00000000") ++ framed)) ≡ carried_between local
+unfolding frame ethernet of_type_or_length of_type header_step session long_ppp of_ppp label after_labels pseudowire number16 number8 field after past within ipv4 announced of_protocol udp is_tunnel ends datagram
+pseudowire_is_carried = refl
 
 -- ---- fragments: the segment above in two, of 16 octets and of 24
 abbrev segment_octets : List ℕ
@@ -157,18 +212,23 @@ first = record { original = original; protocol = 6; offset = 0; is_last = false;
 abbrev second : Fragment
 second = record { original = original; protocol = 6; offset = 16; is_last = true; payload = whole second_octets }
 
-first_is_carried : contents_of links.RawIp (whole (hex (codes "45000024 A4682000 40060000 7F000001 7F000001") ++ first_octets)) ≡ contents.Fragment first
-unfolding frame raw_ip number16 number8 field after within ipv4 announced
+first_is_carried : contents_of 88 links.RawIp (whole (hex (codes "45000024 A4682000 40060000 7F000001 7F000001") ++ first_octets)) ≡ contents.Fragment first
+unfolding frame raw_ip number16 number8 field after within ipv4 announced of_fragment
 first_is_carried = refl
 
-second_is_carried : contents_of links.RawIp (whole (hex (codes "4500002C A4680002 40060000 7F000001 7F000001") ++ second_octets)) ≡ contents.Fragment second
-unfolding frame raw_ip number16 number8 field after within ipv4 announced
+second_is_carried : contents_of 88 links.RawIp (whole (hex (codes "4500002C A4680002 40060000 7F000001 7F000001") ++ second_octets)) ≡ contents.Fragment second
+unfolding frame raw_ip number16 number8 field after within ipv4 announced of_fragment
 second_is_carried = refl
 
 -- a fragment of ICMP is passed over
-other_is_passed : contents_of links.RawIp (whole (hex (codes "45000024 A4682000 40010000 7F000001 7F000001") ++ first_octets)) ≡ contents.Other
-unfolding frame raw_ip number16 number8 field after within ipv4 announced
+other_is_passed : contents_of 88 links.RawIp (whole (hex (codes "45000024 A4682000 40010000 7F000001 7F000001") ++ first_octets)) ≡ contents.Other
+unfolding frame raw_ip number16 number8 field after within ipv4 announced of_fragment is_passed_protocol
 other_is_passed = refl
+
+-- one of ESP is unread
+envelope_is_unread : contents_of 88 links.RawIp (whole (hex (codes "45000024 A4682000 40320000 7F000001 7F000001") ++ first_octets)) ≡ contents.Unread
+unfolding frame raw_ip number16 number8 field after within ipv4 announced of_fragment is_passed_protocol
+envelope_is_unread = refl
 
 -- one after another, and what comes of the last one
 abbrev after_all : Table → List Fragment → Table

@@ -1,18 +1,18 @@
 -- Datagrams put together from their fragments, which come in any order (RFC 791, 3.2; RFC 8200, 4.5).
-use Rattle.std.specs.Prelude.{ℕ, ◌+◌, ◌-◌, ◌^◌, min, nat_eq, nat_lt, Bool, true, false, ◌&&◌, ◌==◌, Option, Some, None, List, [], ◌∷◌, ◌++◌, length, fold, position, slice_set, remove}
+use Rattle.std.specs.Prelude.{ℕ, zero, suc, ◌+◌, ◌-◌, ◌^◌, min, nat_eq, nat_lt, Bool, true, false, ◌&&◌, ◌==◌, Option, Some, None, List, [], ◌∷◌, ◌++◌, length, fold, position, slice_set, remove}
 use Rattle.std.specs.List.{slice_get, slice_index_or}
 use Rattle.std.specs.Option.{option_and_then}
 use Rattle.std.specs.Cmp.Lexicographic.{pointwise}
 use Rattle.std.specs.declared.net.ip_addr.IpAddr.{IpAddr}
 use Rattle.std.specs.declared.net.ip_addr.IpAddr.TheVariants as ip
 use Rattle.krb_der.specs.Octets.{when}
-use Rattle.krb_packet.specs.Payloads.{Captured}
-use Rattle.krb_packet.specs.Contents.{transport, after_headers}
+use Rattle.krb_packet.specs.Contents.{or_unread, walk}
 use Rattle.krb_packet.specs.Parts.{Parts, no_parts, add_fragment, is_complete, joined}
 use Rattle.krb_packet.specs.declared.contents.Original.{Original}
 use Rattle.krb_packet.specs.declared.contents.Fragment.{Fragment}
 use Rattle.krb_packet.specs.declared.contents.Contents.{Contents}
 use Rattle.krb_packet.specs.declared.contents.Contents.TheVariants as contents
+use Rattle.krb_packet.specs.declared.header.Header.TheVariants as headers
 use Rattle.krb_packet.specs.declared.fragments.Progress.{Progress}
 use Rattle.krb_packet.specs.declared.fragments.Progress.TheVariants.{Open, Discarded}
 use Rattle.krb_packet.specs.declared.fragments.Pending.{Pending}
@@ -112,20 +112,43 @@ unread table = fold (λ count pending. plus count pending.count) table.given_up 
 
 -- ---- what a whole datagram carries
 
--- a fragment in a datagram that was put together cannot be read
-abbrev pub or_unread : Option Contents → Contents
-or_unread None = contents.Unread
-or_unread (Some (contents.Fragment fragment)) = contents.Unread
-or_unread (Some (contents.Datagram datagram)) = contents.Datagram datagram
-or_unread (Some (contents.Segment segment)) = contents.Segment segment
-or_unread (Some contents.Other) = contents.Other
-or_unread (Some (contents.UnreadBetween ends)) = contents.UnreadBetween ends
-or_unread (Some contents.Unread) = contents.Unread
+-- The walk goes on from the header of IP that the fragments had. That takes no octet, and so there may be a step more than octets.
+unfoldable pub carried_in : ℕ → Reassembled → Contents
+carried_in port made = or_unread (walk port (length made.octets + 1) (headers.Protocol (record { source = made.original.source; target = made.original.target }) made.protocol) (record { octets = made.octets; size = length made.octets }))
 
--- in IPv4 each fragment has the protocol; in IPv6 other headers may come before it
-abbrev pub carried : Original → ℕ → Captured → Option ℕ → Option Contents
-carried original kind packet (Some protocol) = transport original.source original.target protocol packet
-carried original kind packet None = after_headers original.source original.target kind packet
+-- With a fragment in a whole datagram another one may be completed, and so on: what is left at the end, and the table then. Each of them leaves the table, in which are 1024 at most.
+abbrev pub if_completed : (Reassembled → Table → Option Reassembled × Table) → Option Reassembled → Table → Option Reassembled × Table
+if_completed rest None table = (None, table)
+if_completed rest (Some made) table = rest made table
 
-unfoldable pub contents_of_whole : Reassembled → Contents
-contents_of_whole whole = or_unread (carried whole.original whole.protocol (record { octets = whole.octets; size = length whole.octets }) whole.original.protocol)
+abbrev pub inner : Contents → Option Fragment
+inner (contents.Fragment fragment) = Some fragment
+inner (contents.Datagram datagram) = None
+inner (contents.Segment segment) = None
+inner contents.Other = None
+inner (contents.UnreadBetween ends) = None
+inner contents.Unread = None
+
+abbrev pub after_inner : (Reassembled → Table → Option Reassembled × Table) → Reassembled → Table → Option Fragment → Option Reassembled × Table
+after_inner rest made table None = (Some made, table)
+after_inner rest made table (Some fragment) = let stepped = step table fragment in if_completed rest stepped.0 stepped.1
+
+unfoldable pub inside : ℕ → ℕ → Reassembled → Table → Option Reassembled × Table
+inside port zero made table = (Some made, table)
+inside port (suc bound) made table = after_inner (inside port bound) made table (inner (carried_in port made))
+
+-- a fragment, and those that are in what it completes
+unfoldable pub nested_step : ℕ → Table → Fragment → Option Reassembled × Table
+nested_step port table fragment = let stepped = step table fragment in if_completed (inside port most_datagrams) stepped.0 stepped.1
+
+-- a fragment that is still in the last of them cannot be read
+abbrev pub unless_fragment : Contents → Contents
+unless_fragment (contents.Fragment fragment) = contents.Unread
+unless_fragment (contents.Datagram datagram) = contents.Datagram datagram
+unless_fragment (contents.Segment segment) = contents.Segment segment
+unless_fragment contents.Other = contents.Other
+unless_fragment (contents.UnreadBetween ends) = contents.UnreadBetween ends
+unless_fragment contents.Unread = contents.Unread
+
+unfoldable pub contents_of_whole : ℕ → Reassembled → Contents
+contents_of_whole port made = unless_fragment (carried_in port made)

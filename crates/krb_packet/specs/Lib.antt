@@ -1,4 +1,8 @@
 pub mod Payloads
+pub mod Passed
+pub mod Steps
+pub mod Envelopes
+pub mod Tunnels
 pub mod Contents
 pub mod Parts
 pub mod Table

@@ -70,7 +70,7 @@ are_apart one other = nat_le one.end other.start || nat_le other.end one.start
 abbrev pub agrees : Parts → Span → Bool
 agrees parts span = (not parts.is_ended || nat_le span.end parts.reach) && (not span.is_last || nat_le parts.reach span.end)
 
--- whether none that came overlaps a fragment (RFC 5722), they agree about the end, and there are not too many octets in all
+-- whether none that came overlaps a fragment (RFC 5722, which is of IPv6: those of IPv4 are treated alike), they agree about the end, and there are not too many octets in all
 abbrev pub fits : Parts → Fragment → Bool
 fits parts fragment =
     let span = span_of fragment in

@@ -40,6 +40,10 @@ after size payload = when (nat_lt (length payload.octets) size) (λ _. None) (λ
 unfoldable pub beyond : ℕ → Captured → Option Captured
 beyond size payload = when (nat_lt payload.size size) (λ _. None) (λ _. Some (record { octets = drop size payload.octets; size = payload.size - size }))
 
+-- the same, and nothing if there are fewer
+unfoldable pub past : ℕ → Captured → Captured
+past size payload = record { octets = drop size payload.octets; size = payload.size - size }
+
 -- its first n octets
 unfoldable pub within : ℕ → Captured → Captured
 within size payload = record { octets = take size payload.octets; size = size }

@@ -46,7 +46,7 @@ known_version orders.LittleEndian = 0x00040002
 abbrev pub version : ByteOrder → ℕ → Result (Unit {0}) FileWhy
 version order number = when (number == known_version order) (λ _. Ok tt) (λ _. Err why.Version)
 
--- After the version come thiszone, sigfigs and snaplen, which are not read; the low 28 bits of the last number are the link type.
+-- After the version come thiszone, sigfigs and snaplen, which are not read; the low 26 bits of the last number are the link type, and above them is the size of the frame check sequence, which follows each frame as padding does.
 abbrev pub header_at : Form → Reader Header
 header_at form = do
   version ← checked_number fields.Version w32 form.order (version form.order)
@@ -54,7 +54,7 @@ header_at form = do
   sigfigs ← called fields.SigFigs (number_at w32)
   snaplen ← called fields.SnapLen (number_at w32)
   link ← field_in fields.LinkType w32 form.order
-  succeed (record { form = form; link = link_type (link % 2 ^ 28) })
+  succeed (record { form = form; link = link_type (link % 2 ^ 26) })
 
 -- ---- a packet of a pcap
 

@@ -22,6 +22,8 @@ pub struct Datagram<'a> {
     pub target: Endpoint,
     /// Its octets.
     pub payload: Payload<'a>,
+    /// What follows these, within the length of IP.
+    pub surplus: Payload<'a>,
 }
 
 /// A TCP segment (RFC 9293, 3.1).
@@ -79,12 +81,13 @@ pub enum Contents<'a> {
     Datagram(Datagram<'a>),
     /// A TCP segment.
     Segment(Segment<'a>),
-    /// A fragment of a datagram that may be of UDP or TCP, unless it is all of its datagram.
+    /// A fragment of a datagram that may carry UDP or TCP, unless it is all of its datagram.
     Fragment(Fragment<'a>),
-    /// Another protocol, or a fragment of one.
+    /// What carries no packet of IP, or a fragment of it: it is passed over.
     Other,
     /// A header of UDP or TCP that is cut or wrong after its ports.
     UnreadBetween(Ends),
-    /// A header that is cut or wrong up to there, or a type of link that is not known.
+    /// A header that is cut or wrong up to there, or the number of a link, of an EtherType or of a
+    /// protocol that is not known.
     Unread,
 }

@@ -2,18 +2,18 @@
 
 ghost use Rattle.std.specs.Prelude.{◌≡◌, ◌++◌, ◌<◌, None, Some, Err, [], ◌∷◌, length, map, remove, slice_index, IfOk, OnErr, OnOk};
 ghost use Rattle.std.specs.List.{slice_index_or};
-ghost use Rattle.krb_packet.specs.Fragments.{no_fragments, no_fragments_of, whole_of, with_fragment_at, without_first, finished, step, unread};
+ghost use Rattle.krb_packet.specs.Fragments.{no_fragments, no_fragments_of, whole_of, with_fragment_at, without_first, finished, inner, inside, step, unread};
 ghost use Rattle.krb_packet.specs.Table.{pending_in, table_of};
 ghost use Rattle.krb_packet.specs.inner.Places.{IsFound, IsGap, IsIndexed, fewer_than, original_cmp, place_without};
 
-use crate::contents::{Fragment, Original};
+use crate::contents::{Contents, Fragment, Original};
 use crate::fragments::{Pending, Reassembled};
 use krb_der::Memory;
 use std::alloc::Global;
 use std::cmp::Ordering;
 
 /// How many datagrams are put together at once.
-const MOST_DATAGRAMS: usize = 1024;
+pub(crate) const MOST_DATAGRAMS: usize = 1024;
 
 /// Datagrams that are put together, none of which is whole. It is public for contracts alone.
 #[derive(Drop)]
@@ -34,6 +34,16 @@ fn lower(places: &mut [usize], removed: usize)
         if *place > removed {
             *place -= 1;
         }
+    }
+}
+
+/// Returns the fragment that is carried, if it is one.
+fn inner<'a>(contents: Contents<'a>) -> Option<Fragment<'a>>
+    ensures { result ≡ inner contents.entry }
+{
+    match contents {
+        Contents::Fragment(fragment) => Some(fragment),
+        _ => None,
     }
 }
 
@@ -197,6 +207,35 @@ impl Datagrams {
             Ok(at) => self.go_on(alloc, at, fragment),
             Err(at) => self.begin(alloc, at, fragment),
         }
+    }
+
+    /// Adds the fragment that a whole datagram carries, if it does, and that of the datagram which is
+    /// completed by it, and so on, at most `most` of them. Returns the last one, or `None` if one of
+    /// the fragments completes nothing.
+    pub(crate) fn go_inside(
+        &mut self,
+        alloc: Global,
+        port: u16,
+        most: usize,
+        whole: Reassembled,
+    ) -> Result<Option<Reassembled>, Memory>
+        requires { IsIndexed self.old }
+        ensures whole { IfOk result (λ left. left ≡ (inside port most whole (table_of self.old)).0) }
+        ensures state { OnOk result (table_of self.new ≡ (inside port most whole (table_of self.old)).1) }
+        ensures index { IsIndexed self.new }
+    {
+        let mut whole = whole;
+        for _ in 0..most {
+            let next = match inner(whole.carried(port)) {
+                Some(fragment) => self.take(alloc, &fragment)?,
+                None => return Ok(Some(whole)),
+            };
+            match next {
+                Some(next) => whole = next,
+                None => return Ok(None),
+            }
+        }
+        Ok(Some(whole))
     }
 
     /// Returns the number of fragments that are part of no whole datagram, at most 2^64 - 1.

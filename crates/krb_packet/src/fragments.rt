@@ -2,10 +2,10 @@
 
 use crate::assembly::{Assembly, Relation};
 use crate::contents::{Contents, Fragment, Original};
-use crate::datagrams::Datagrams;
-use crate::internet::after_headers;
+use crate::datagrams::{Datagrams, MOST_DATAGRAMS};
+use crate::header::{Addresses, Header};
 use crate::payload::Payload;
-use crate::transport::transport;
+use crate::walk::walk_or_unread;
 use krb_der::{Memory, Octets};
 use std::alloc::Global;
 use std::marker::Model;
@@ -16,7 +16,8 @@ use std::net::IpAddr;
 pub enum Progress {
     /// Fragments came, and these are their octets.
     Open(Assembly),
-    /// It is discarded for one of its fragments (RFC 5722), and will not be put together.
+    /// It is discarded for one of its fragments, and will not be put together (RFC 5722, which is of
+    /// IPv6: datagrams of IPv4 are treated alike).
     Discarded,
 }
 
@@ -61,7 +62,7 @@ impl Model for Fragments {
 }
 
 ghost use Rattle.std.specs.Prelude.{◌≡◌, if◌then◌else◌, None, is_some, IfOk, OnErr, OnOk};
-ghost use Rattle.krb_packet.specs.Fragments.{no_fragments_of, plus, pending_with, whole_of, no_fragments, step, unread, contents_of_whole};
+ghost use Rattle.krb_packet.specs.Fragments.{no_fragments_of, plus, pending_with, whole_of, no_fragments, step, unread, carried_in, contents_of_whole, nested_step};
 
 impl Pending {
     /// Returns a datagram with no fragments yet.
@@ -116,21 +117,27 @@ impl Pending {
 }
 
 impl Reassembled {
-    /// Returns what the datagram carries: a UDP datagram or a TCP segment, whose octets are
-    /// borrowed from it. If a header is cut or wrong, or of another fragment, it cannot be read.
-    #[tactic(auto, unfolding(crate::specs::Fragments::contents_of_whole))]
-    pub fn contents(&self) -> Contents<'_>
-        ensures { result ≡ contents_of_whole self.now }
+    /// Returns what the datagram carries, which may be a fragment of another one.
+    #[tactic(auto, unfolding(crate::specs::Fragments::carried_in))]
+    pub(crate) fn carried(&self, port: u16) -> Contents<'_>
+        ensures { result ≡ carried_in port self.now }
     {
         let Original { source, target, .. } = self.original;
-        let packet = Payload::new(self.octets.as_slice(), 0);
-        let carried = match self.original.protocol {
-            Some(protocol) => transport(source, target, protocol, &packet),
-            None => after_headers(source, target, self.protocol, packet),
-        };
-        match carried {
-            None | Some(Contents::Fragment(_)) => Contents::Unread,
-            Some(contents) => contents,
+        let octets = self.octets.as_slice();
+        let header = Header::Protocol(Addresses { source, target }, self.protocol);
+        walk_or_unread(port, octets.len() + 1, header, Payload::new(octets, 0))
+    }
+
+    /// Returns what the datagram carries: a UDP datagram or a TCP segment, whose octets are
+    /// borrowed from it. If a header is cut or wrong, or of another fragment, it cannot be read: a
+    /// fragment is taken by [`take_nested`](Fragments::take_nested) before. `port` is that of KDCs.
+    #[tactic(auto, unfolding(crate::specs::Fragments::contents_of_whole))]
+    pub fn contents(&self, port: u16) -> Contents<'_>
+        ensures { result ≡ contents_of_whole port self.now }
+    {
+        match self.carried(port) {
+            Contents::Fragment(_) => Contents::Unread,
+            contents => contents,
         }
     }
 }
@@ -157,6 +164,27 @@ impl Fragments {
         ensures memory { OnErr result (self.new ≡ self.old) }
     {
         self.datagrams.take(self.alloc, fragment)
+    }
+
+    /// Adds a fragment, as [`take`](Fragments::take) does, and if the datagram that is completed by it
+    /// carries a fragment, this one, too, and so on. Returns the datagram that is whole at the end and
+    /// carries none. Out of memory, the datagrams that were completed are lost. `port` is that of KDCs.
+    #[tactic(auto, unfolding(crate::specs::Fragments::nested_step))]
+    pub fn take_nested(
+        &mut self,
+        port: u16,
+        fragment: &Fragment<'_>,
+    ) -> Result<Option<Reassembled>, Memory>
+        ensures whole { IfOk result (λ whole. whole ≡ (nested_step port self.old fragment.now).0) }
+        ensures state { OnOk result (self.new ≡ (nested_step port self.old fragment.now).1) }
+    {
+        match self.datagrams.take(self.alloc, fragment)? {
+            Some(whole) => {
+                self.datagrams
+                    .go_inside(self.alloc, port, MOST_DATAGRAMS, whole)
+            },
+            None => Ok(None),
+        }
     }
 
     /// Returns the number of fragments that are part of no whole datagram, at most 2^64 - 1.

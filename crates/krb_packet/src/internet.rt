@@ -2,17 +2,33 @@
 
 ghost use Rattle.std.specs.Prelude.{◌≡◌};
 ghost use Rattle.krb_packet.specs.declared.contents.Contents.TheVariants as kinds;
-ghost use Rattle.krb_packet.specs.Contents.{announced, ipv4, options, fragment_header, is_whole, is_skipped, extension, extensions, fragment, fragment_or_other, is_transport, may_lead_to_transport, after_headers, ipv6};
+ghost use Rattle.krb_packet.specs.Contents.{after_headers, announced, authentication, extension, extensions, fragment, fragment_header, ipv4, ipv6, is_followed, is_skipped, is_whole, may_lead_on, of_fragment, of_protocol, options, payload_of};
 
 use crate::contents::{Contents, Fragment, Original};
+use crate::envelope::gre;
+use crate::header::{Addresses, Header, Step};
+use crate::passed::is_passed_protocol;
 use crate::payload::Payload;
-use crate::transport::transport;
+use crate::transport::{tcp, udp};
 use std::net::{IpAddr, Ipv4Addr, Ipv6Addr};
 
 /// The protocols.
 const TCP: u8 = 6;
 
 const UDP: u8 = 17;
+
+const AUTHENTICATION: u8 = 51;
+
+const IPV4: u8 = 4;
+
+const IPV6: u8 = 41;
+
+const GRE: u8 = 47;
+
+/// The EtherTypes of IP in IP.
+const IPV4_TYPE: u16 = 0x0800;
+
+const IPV6_TYPE: u16 = 0x86DD;
 
 /// How many octets the header of IPv6 has.
 const IPV6_HEADER: usize = 40;
@@ -26,33 +42,73 @@ const FRAGMENT: u8 = 44;
 
 const DESTINATION_OPTIONS: u8 = 60;
 
-/// Returns whether a protocol is UDP or TCP.
-fn is_transport(protocol: u8) -> bool
-    ensures { result ≡ is_transport protocol }
+/// Returns whether a protocol is followed.
+fn is_followed(protocol: u8) -> bool
+    ensures { result ≡ is_followed protocol }
 {
-    protocol == UDP || protocol == TCP
+    matches!(protocol, UDP | TCP | AUTHENTICATION | IPV4 | IPV6 | GRE)
 }
 
-/// Returns whether a header is that of UDP or TCP, or one that may come before these in IPv6.
-fn may_lead_to_transport(kind: u8) -> bool
-    ensures { result ≡ may_lead_to_transport kind }
+/// Returns whether a header is that of a protocol that is followed, or one that may come before it
+/// in IPv6.
+fn may_lead_on(kind: u8) -> bool
+    ensures { result ≡ may_lead_on kind }
 {
-    is_transport(kind)
+    is_followed(kind)
         || matches!(
             kind,
             HOP_BY_HOP_OPTIONS | ROUTING | FRAGMENT | DESTINATION_OPTIONS
         )
 }
 
-/// Returns a fragment, if it may be of UDP or TCP.
-fn fragment_or_other<'a>(may_be: bool, fragment: Fragment<'a>) -> Contents<'a>
-    ensures { result ≡ fragment_or_other may_be (kinds.Fragment fragment.entry) }
+/// Returns what follows an authentication header.
+#[tactic(auto, unfolding(crate::specs::Contents::authentication))]
+fn authentication<'a>(addresses: Addresses, packet: Payload<'a>) -> Option<Step<'a>>
+    ensures { result ≡ authentication addresses packet.entry }
 {
-    if may_be {
-        Contents::Fragment(fragment)
-    } else {
-        Contents::Other
+    let protocol = packet.number8(0)?;
+    let words = packet.number8(1)?;
+    let rest = packet.after(usize::from(words) * 4 + 8)?;
+    if words < 1 {
+        return None;
     }
+    Some(Step::Next(Header::Protocol(addresses, protocol), rest))
+}
+
+/// Returns what follows the header of IP, by its protocol.
+#[tactic(auto, unfolding(crate::specs::Contents::of_protocol))]
+#[inline(always)]
+fn of_protocol<'a>(addresses: Addresses, protocol: u8, packet: Payload<'a>) -> Option<Step<'a>>
+    ensures { result ≡ of_protocol addresses protocol packet.entry }
+{
+    match protocol {
+        UDP => udp(addresses, packet),
+        TCP => tcp(addresses, packet),
+        AUTHENTICATION => authentication(addresses, packet),
+        IPV4 => Some(Step::Next(Header::Type(IPV4_TYPE), packet)),
+        IPV6 => Some(Step::Next(Header::Type(IPV6_TYPE), packet)),
+        GRE => gre(packet),
+        _ => {
+            if is_passed_protocol(protocol) {
+                return Some(Step::Found(Contents::Other));
+            }
+            None
+        }
+    }
+}
+
+/// Returns a fragment of a protocol, if it is kept.
+#[tactic(auto, unfolding(crate::specs::Contents::of_fragment))]
+fn of_fragment<'a>(is_kept: bool, protocol: u8, fragment: Fragment<'a>) -> Option<Step<'a>>
+    ensures { result ≡ of_fragment is_kept protocol (kinds.Fragment fragment.entry) }
+{
+    if is_kept {
+        return Some(Step::Found(Contents::Fragment(fragment)));
+    }
+    if is_passed_protocol(protocol) {
+        return Some(Step::Found(Contents::Other));
+    }
+    None
 }
 
 /// Returns as much of a packet as its header announces, or all of it if it announces 0.
@@ -67,9 +123,9 @@ fn announced<'a>(size: u16, packet: Payload<'a>) -> Payload<'a>
     }
 }
 
-/// Returns what a packet of IPv4 carries.
+/// Returns what follows a header of IPv4.
 #[tactic(auto, unfolding(crate::specs::Contents::ipv4))]
-pub(crate) fn ipv4<'a>(packet: Payload<'a>) -> Option<Contents<'a>>
+pub(crate) fn ipv4<'a>(packet: Payload<'a>) -> Option<Step<'a>>
     ensures { result ≡ ipv4 packet.entry }
 {
     // With this field all others were captured, too.
@@ -85,15 +141,17 @@ pub(crate) fn ipv4<'a>(packet: Payload<'a>) -> Option<Contents<'a>>
     if first / 16 != 4 || words < 5 {
         return None;
     }
-    let source = IpAddr::V4(Ipv4Addr::from_octets(source));
-    let target = IpAddr::V4(Ipv4Addr::from_octets(target));
+    let addresses = Addresses {
+        source: IpAddr::V4(Ipv4Addr::from_octets(source)),
+        target: IpAddr::V4(Ipv4Addr::from_octets(target)),
+    };
     if flags % (1 << 14) == 0 {
-        return transport(source, target, protocol, &payload);
+        return of_protocol(addresses, protocol, payload);
     }
     let fragment = Fragment {
         original: Original {
-            source,
-            target,
+            source: addresses.source,
+            target: addresses.target,
             identification: u32::from(identification),
             protocol: Some(protocol),
         },
@@ -102,7 +160,7 @@ pub(crate) fn ipv4<'a>(packet: Payload<'a>) -> Option<Contents<'a>>
         is_last: flags / (1 << 13) % 2 == 0,
         payload,
     };
-    Some(fragment_or_other(is_transport(protocol), fragment))
+    of_fragment(is_followed(protocol), protocol, fragment)
 }
 
 /// Returns the kind of the header after one of options, and what it begins.
@@ -179,8 +237,8 @@ fn extensions<'a>(most: usize, kind: u8, packet: Payload<'a>) -> Option<(u8, Pay
 
 /// Returns the fragment whose header a packet begins with.
 #[tactic(auto, unfolding(crate::specs::Contents::fragment))]
-fn fragment<'a>(source: IpAddr, target: IpAddr, packet: &Payload<'a>) -> Option<Contents<'a>>
-    ensures { result ≡ fragment source target packet.now }
+fn fragment<'a>(addresses: Addresses, packet: &Payload<'a>) -> Option<Step<'a>>
+    ensures { result ≡ fragment addresses packet.now }
 {
     let next = packet.number8(0)?;
     let offset = packet.number16(2)?;
@@ -188,8 +246,8 @@ fn fragment<'a>(source: IpAddr, target: IpAddr, packet: &Payload<'a>) -> Option<
     let payload = packet.after(8)?;
     let fragment = Fragment {
         original: Original {
-            source,
-            target,
+            source: addresses.source,
+            target: addresses.target,
             identification,
             protocol: None,
         },
@@ -198,30 +256,25 @@ fn fragment<'a>(source: IpAddr, target: IpAddr, packet: &Payload<'a>) -> Option<
         is_last: offset % 2 == 0,
         payload,
     };
-    Some(fragment_or_other(may_lead_to_transport(next), fragment))
+    of_fragment(may_lead_on(next), next, fragment)
 }
 
-/// Returns what a packet of IPv6 carries from a header of this kind on.
+/// Returns what follows the extension headers of IPv6, the first of which is of this kind.
 #[tactic(auto, unfolding(crate::specs::Contents::after_headers))]
-pub(crate) fn after_headers<'a>(
-    source: IpAddr,
-    target: IpAddr,
-    kind: u8,
-    packet: Payload<'a>,
-) -> Option<Contents<'a>>
-    ensures { result ≡ after_headers source target kind packet.entry }
+fn after_headers<'a>(addresses: Addresses, kind: u8, packet: Payload<'a>) -> Option<Step<'a>>
+    ensures { result ≡ after_headers addresses kind packet.entry }
 {
     let (kind, packet) = extensions(packet.octets().len() + 1, kind, packet)?;
     if kind == FRAGMENT {
-        fragment(source, target, &packet)
+        fragment(addresses, &packet)
     } else {
-        transport(source, target, kind, &packet)
+        of_protocol(addresses, kind, packet)
     }
 }
 
-/// Returns what a packet of IPv6 carries.
+/// Returns what follows a header of IPv6.
 #[tactic(auto, unfolding(crate::specs::Contents::ipv6))]
-pub(crate) fn ipv6<'a>(packet: Payload<'a>) -> Option<Contents<'a>>
+pub(crate) fn ipv6<'a>(packet: Payload<'a>) -> Option<Step<'a>>
     ensures { result ≡ ipv6 packet.entry }
 {
     // With these octets all fields were captured.
@@ -234,7 +287,24 @@ pub(crate) fn ipv6<'a>(packet: Payload<'a>) -> Option<Contents<'a>>
     if first / 16 != 6 {
         return None;
     }
-    let source = IpAddr::V6(Ipv6Addr::from_octets(source));
-    let target = IpAddr::V6(Ipv6Addr::from_octets(target));
-    after_headers(source, target, kind, announced(size, rest))
+    let addresses = Addresses {
+        source: IpAddr::V6(Ipv6Addr::from_octets(source)),
+        target: IpAddr::V6(Ipv6Addr::from_octets(target)),
+    };
+    after_headers(addresses, kind, announced(size, rest))
+}
+
+/// Returns what follows a header of IP, whose version the addresses have.
+#[tactic(auto, unfolding(crate::specs::Contents::payload_of))]
+pub(crate) fn payload_of<'a>(
+    addresses: Addresses,
+    kind: u8,
+    packet: Payload<'a>,
+) -> Option<Step<'a>>
+    ensures { result ≡ payload_of addresses kind packet.entry }
+{
+    match addresses.source {
+        IpAddr::V4(_) => of_protocol(addresses, kind, packet),
+        IpAddr::V6(_) => after_headers(addresses, kind, packet),
+    }
 }

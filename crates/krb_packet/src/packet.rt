@@ -5,8 +5,10 @@ ghost use Rattle.krb_packet.specs.Values.{link_type, time_at, time_of};
 ghost use Rattle.krb_packet.specs.Contents.{contents_of};
 
 use crate::contents::Contents;
+use crate::header::Step;
 use crate::link::frame;
 use crate::payload::Payload;
+use crate::walk::walk_or_unread;
 use krb_der::Octets;
 use krb_source::Timestamp;
 
@@ -93,13 +95,15 @@ pub struct Packet {
 }
 
 /// Returns what a packet carries: a UDP datagram or a TCP segment, whose octets are borrowed from
-/// it. Octets after the length that IP announces are padding, and no part of them.
-pub fn contents_of(packet: &Packet) -> Contents<'_>
-    ensures { result ≡ contents_of packet.now.link (record { octets = packet.now.octets; size = max packet.now.size (length packet.now.octets) }) }
+/// it. Octets after the length that IP announces are padding, and no part of them. `port` is that of
+/// KDCs: a datagram to or from it, or the port of changes of passwords, is no tunnel.
+pub fn contents_of(packet: &Packet, port: u16) -> Contents<'_>
+    ensures { result ≡ contents_of port packet.now.link (record { octets = packet.now.octets; size = max packet.now.size (length packet.now.octets) }) }
 {
-    let payload = Payload::new(packet.octets.as_slice(), u64::from(packet.size));
-    match frame(packet.link, payload) {
-        Some(contents) => contents,
+    let octets = packet.octets.as_slice();
+    match frame(packet.link, Payload::new(octets, u64::from(packet.size))) {
+        Some(Step::Found(contents)) => contents,
+        Some(Step::Next(header, rest)) => walk_or_unread(port, octets.len(), header, rest),
         None => Contents::Unread,
     }
 }

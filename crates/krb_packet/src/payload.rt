@@ -22,7 +22,7 @@ impl<'a> Model for Payload<'a> {
 }
 
 ghost use Rattle.std.specs.Prelude.{◌≡◌, ◌≤◌, length, max};
-ghost use Rattle.krb_packet.specs.Payloads.{field, number8, number16, number32, after, beyond, within};
+ghost use Rattle.krb_packet.specs.Payloads.{field, number8, number16, number32, after, beyond, past, within};
 
 impl<'a> Payload<'a> {
     /// Creates a payload of captured octets, and a size on the wire. It is no smaller than that of
@@ -103,6 +103,16 @@ impl<'a> Payload<'a> {
             octets,
             size: self.size - size as u64,
         })
+    }
+
+    /// Returns what follows the first `size` octets on the wire, which may be nothing.
+    #[tactic(auto, unfolding(crate::specs::Payloads::past))]
+    pub(crate) fn past(&self, size: usize) -> Payload<'a>
+        ensures { result ≡ past size self.now }
+    {
+        let octets = &self.octets[self.octets.len().min(size)..];
+        let size = self.size.saturating_sub(size as u64);
+        Payload { octets, size }
     }
 
     /// Returns the first `size` octets of it.

@@ -135,7 +135,7 @@ pub(crate) fn read_header<F: FieldReader>(form: Form, reader: &mut F) -> Result<
     let link = field32(form.order, FieldName::LinkType, reader)?;
     Ok(Header {
         form,
-        link: LinkType::of(link % (1 << 28)),
+        link: LinkType::of(link % (1 << 26)),
     })
 }
 

@@ -1,10 +1,12 @@
 //! The headers of UDP (RFC 768) and TCP (RFC 9293, 3.1).
 
 ghost use Rattle.std.specs.Prelude.{◌≡◌};
-ghost use Rattle.krb_packet.specs.Contents.{datagram, ends, or_unread_between, segment, transport};
+ghost use Rattle.krb_packet.specs.Contents.{datagram, datagram_or_tunnel, ends, or_unread_between, segment, tcp, udp};
 
 use crate::contents::{Contents, Datagram, Ends, Segment};
+use crate::header::{Addresses, Header, Step};
 use crate::payload::Payload;
+use crate::tunnel::{is_served, is_tunnel, tunnel};
 use krb_source::Endpoint;
 use std::net::IpAddr;
 
@@ -31,10 +33,12 @@ fn datagram<'a>(ends: &Ends, packet: &Payload<'a>) -> Option<Contents<'a>>
     if length < UDP_HEADER {
         return None;
     }
+    let size = length - UDP_HEADER;
     Some(Contents::Datagram(Datagram {
         source: ends.source,
         target: ends.target,
-        payload: rest.within(u64::from(length - UDP_HEADER)),
+        payload: rest.within(u64::from(size)),
+        surplus: rest.past(usize::from(size)),
     }))
 }
 
@@ -97,26 +101,42 @@ fn or_unread_between<'a>(ends: &Ends, read: Option<Contents<'a>>) -> Contents<'a
     }
 }
 
-/// Returns what a packet carries, by the number of its protocol.
-#[tactic(auto, unfolding(crate::specs::Contents::transport))]
+/// Returns the datagram of UDP that a packet carries, or that it may be a tunnel.
+#[tactic(auto, unfolding(crate::specs::Contents::udp))]
 #[inline(always)]
-pub(crate) fn transport<'a>(
-    source: IpAddr,
-    target: IpAddr,
-    protocol: u8,
-    packet: &Payload<'a>,
-) -> Option<Contents<'a>>
-    ensures { result ≡ transport source target protocol packet.now }
+pub(crate) fn udp<'a>(addresses: Addresses, packet: Payload<'a>) -> Option<Step<'a>>
+    ensures { result ≡ udp addresses packet.entry }
 {
-    match protocol {
-        17 => {
-            let ends = ends(source, target, packet)?;
-            Some(or_unread_between(&ends, datagram(&ends, packet)))
-        }
-        6 => {
-            let ends = ends(source, target, packet)?;
-            Some(or_unread_between(&ends, segment(&ends, packet)))
-        }
-        _ => Some(Contents::Other),
+    let ends = ends(addresses.source, addresses.target, &packet)?;
+    if is_tunnel(ends.target.port) {
+        return Some(Step::Next(Header::Tunnel(addresses), packet));
     }
+    Some(Step::Found(or_unread_between(&ends, datagram(&ends, &packet))))
+}
+
+/// Returns what a packet of UDP to the port of a tunnel carries: a datagram, if it is between ports of
+/// Kerberos, and else a tunnel.
+#[tactic(auto, unfolding(crate::specs::Contents::datagram_or_tunnel))]
+pub(crate) fn datagram_or_tunnel<'a>(
+    port: u16,
+    addresses: Addresses,
+    packet: &Payload<'a>,
+) -> Option<Step<'a>>
+    ensures { result ≡ datagram_or_tunnel port addresses packet.now }
+{
+    let ends = ends(addresses.source, addresses.target, packet)?;
+    if is_served(port, &ends) {
+        return Some(Step::Found(or_unread_between(&ends, datagram(&ends, packet))));
+    }
+    tunnel(&ends, packet)
+}
+
+/// Returns the segment of TCP that a packet carries.
+#[tactic(auto, unfolding(crate::specs::Contents::tcp))]
+#[inline(always)]
+pub(crate) fn tcp<'a>(addresses: Addresses, packet: Payload<'a>) -> Option<Step<'a>>
+    ensures { result ≡ tcp addresses packet.entry }
+{
+    let ends = ends(addresses.source, addresses.target, &packet)?;
+    Some(Step::Found(or_unread_between(&ends, segment(&ends, &packet))))
 }

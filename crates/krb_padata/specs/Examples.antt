@@ -8,8 +8,8 @@ use Rattle.krb_msg.specs.Judgement.{term_judgement}
 use Rattle.krb_msg.specs.ValueOfDer.{value_of_der}
 use Rattle.krb_msg.specs.declared.checksum.Checksum.{Checksum}
 use Rattle.krb_msg.specs.declared.encrypted_data.EncryptedData.{EncryptedData}
-use Rattle.krb_padata.specs.Grammar.{etype_info, etype_info2, pa_fx_fast_request, pa_fx_fast_reply, pa_for_user, pa_pac_options}
-use Rattle.krb_padata.specs.Types.{etype_info_entry_value, etype_info2_entry_value, krb_fast_armored_req_of, krb_fast_armored_rep_of, pa_for_user_value, pa_pac_options_of}
+use Rattle.krb_padata.specs.Grammar.{etype_info, etype_info2, kerb_error_data, pa_fx_fast_request, pa_fx_fast_reply, pa_for_user, pa_pac_options, typed_data}
+use Rattle.krb_padata.specs.Types.{etype_info_entry_value, etype_info2_entry_value, kerb_error_data_value, krb_fast_armored_req_of, krb_fast_armored_rep_of, pa_for_user_value, pa_pac_options_of, typed_data_item_value}
 
 entries : der etype_info (map etype_info_entry_value (record { etype = pos 18; salt = Some (codes "R") } ∷ [])) ≡ hex (codes "300C 300A A003020112 A103040152")
 entries = refl
@@ -53,3 +53,14 @@ reply_encrypted = refl
 -- ---- options
 options : pa_pac_options_of (value_of_der pa_pac_options (hex (codes "3009A00703050010000000"))) ≡ record { flags = (0, hex (codes "10000000")) }
 options = refl
+
+-- ---- the data of errors
+typed : der typed_data (map typed_data_item_value (record { data_type = pos 109; data_value = Some (codes "x") } ∷ record { data_type = pos 3; data_value = None } ∷ [])) ≡ hex (codes "3013 300A A00302016D A103040178 3005 A003020103")
+typed = refl
+
+-- METHOD-DATA is none: its fields are [1] and [2]
+typed_differ : term_judgement typed_data 13 (hex (codes "300B 3009 A103020113 A2020400")) ≡ verdict.Refused (record { place = 4; why = why.Tag })
+typed_differ = refl
+
+error_data : der kerb_error_data (kerb_error_data_value (record { data_type = pos 3; data_value = Some (hex (codes "720000C0 00000000 01000000")) })) ≡ hex (codes "3015 A103020103 A20E040C720000C00000000001000000")
+error_data = refl

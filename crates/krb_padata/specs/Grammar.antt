@@ -65,3 +65,20 @@ abbrev pub pa_pac_options : Term
 pa_pac_options = Sequence (
     field 0 "flags" kerberos_flags
     ⨟ End)
+
+-- ---- RFC 4120, 5.9.1
+abbrev pub typed_data_item : Term
+typed_data_item = Sequence (
+    field 0 "data-type" int32
+    ⨟ optional 1 "data-value" octet_string
+    ⨟ End)
+
+abbrev pub typed_data : Term
+typed_data = sequence_of typed_data_item
+
+-- ---- MS-KILE, 2.2.2
+abbrev pub kerb_error_data : Term
+kerb_error_data = Sequence (
+    field 1 "data-type" int32
+    ⨟ optional 2 "data-value" octet_string
+    ⨟ End)

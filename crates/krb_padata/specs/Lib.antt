@@ -1,4 +1,5 @@
 pub mod Grammar
 pub mod Types
 pub mod PacRequest
+pub mod ExtendedError
 pub mod Examples

@@ -1,7 +1,9 @@
 -- Records of captures: what is found in a flow, with the packet, its time and the flow; and the last one.
 use Rattle.std.specs.Prelude.{ℕ, pos, List, [], ◌∷◌, ◌++◌, Option, codes}
 use Rattle.krb_der.specs.declared.verdict.Refusal.{Refusal}
+use Rattle.krb_source.specs.UnreadReasons.{unread_reason_name, unread_reason_number}
 use Rattle.krb_source.specs.declared.file_why.FileWhy.{FileWhy}
+use Rattle.krb_source.specs.declared.unread_why.UnreadWhy.{UnreadWhy}
 use Rattle.krb_record.specs.declared.capture.CaptureCounts.{CaptureCounts}
 use Rattle.krb_record.specs.declared.extent.Extent.{Extent}
 use Rattle.krb_record.specs.declared.form.Form.{Form}
@@ -9,7 +11,7 @@ use Rattle.krb_record.specs.declared.capture_origin.CaptureOrigin.{CaptureOrigin
 use Rattle.krb_record.specs.Forms.{record_line}
 use Rattle.krb_record.specs.Refusals.{extent_in, file_refused_record, path_in, refusal_record}
 use Rattle.krb_record.specs.Time.{timestamp_text}
-use Rattle.krb_record.specs.Values.{Flow, Number, Word, Field, Printed, the, printed, with_origin, if_there}
+use Rattle.krb_record.specs.Values.{Flow, Number, Reason, Word, Field, Printed, the, printed, with_origin, if_there}
 
 -- the packet, its time and the flow
 abbrev pub origin_fields : CaptureOrigin → List Field
@@ -36,6 +38,18 @@ lost_record form place octets path =
 
 abbrev pub lost_line : Form → CaptureOrigin → ℕ → ℕ → Option (List ℕ) → List ℕ
 lost_line form origin place octets path = captured_line form origin (lost_record form place octets path)
+
+-- octets between ports of Kerberos that no message has: the place of the first one, if they have one, how many they are, and why
+abbrev pub unread_record : Option ℕ → ℕ → UnreadWhy → Printed
+unread_record place octets reason =
+    printed (codes "unread")
+    (the (codes "place") (if_there (λ place. Number (pos place)) place)
+    ∷ the (codes "octets") (Number (pos octets))
+    ∷ the (codes "why") (Reason (unread_reason_number reason) (unread_reason_name reason))
+    ∷ [])
+
+abbrev pub unread_line : Form → CaptureOrigin → Option ℕ → ℕ → UnreadWhy → List ℕ
+unread_line form origin place octets reason = captured_line form origin (unread_record place octets reason)
 
 -- a message that changes a password (RFC 3244, section 2): its version, the size of its AP-REQ or AP-REP, and that of the rest
 abbrev pub password_record : ℕ → ℕ → ℕ → Printed

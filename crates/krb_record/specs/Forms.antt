@@ -1,5 +1,5 @@
 -- The three forms of records: lines, lines with the names of numbers, and JSON (RFC 8259), one object each.
-use Rattle.std.specs.Prelude.{ℕ, ℤ, unsigned_abs, ◌+◌, ◌-◌, ◌*◌, ◌/◌, ◌%◌, ◌^◌, ◌==◌, ◌&&◌, nat_le, not, Bool, true, false, List, [], ◌∷◌, ◌++◌, length, map, Option, Some, None, codes, if◌then◌else◌}
+use Rattle.std.specs.Prelude.{ℕ, ℤ, pos, unsigned_abs, ◌+◌, ◌-◌, ◌*◌, ◌/◌, ◌%◌, ◌^◌, ◌==◌, ◌&&◌, nat_le, not, Bool, true, false, List, [], ◌∷◌, ◌++◌, length, map, Option, Some, None, codes, if◌then◌else◌}
 use Rattle.std.specs.List.{filter, flat_map, list_all}
 use Rattle.std.specs.Int.RustNames.{bit_and}
 use Rattle.std.specs.Fmt.{decimal, signed_decimal}
@@ -16,7 +16,7 @@ use Rattle.krb_record.specs.Flows.{flow_text, flow_object}
 use Rattle.krb_record.specs.TicketFlags.{ticket_flags_text}
 use Rattle.krb_record.specs.Errors.{code_text}
 use Rattle.krb_source.specs.Layers.{layer_name}
-use Rattle.krb_record.specs.Values.{Value, Absent, NoTicket, Number, Named, Numbers, ErrorCode, Reason, NoReason, String, Quoted, FileName, Word, Hex, Flags, TicketFlags, Encrypted, Principal, Address, Digest, YesNo, Offset, RefusedTicket, Flow, Layers, Field, Part, Printed}
+use Rattle.krb_record.specs.Values.{Value, Absent, NoTicket, Number, Named, Numbers, ErrorCode, Status, Reason, NoReason, String, Quoted, FileName, Word, Hex, Flags, TicketFlags, Encrypted, Principal, Address, Digest, YesNo, Offset, RefusedTicket, Flow, Layers, Field, Part, Printed}
 
 -- ---- flags by name; bit 0 is the highest of the first octet
 -- whether a bit is set; those after the last octet are not
@@ -67,6 +67,11 @@ abbrev pub flags_text : Bool → Registry → ℕ × List ℕ → List ℕ
 flags_text false registry bits = decimal (8 * length bits.1 - bits.0) ++ codes ":" ++ hex bits.1
 flags_text true registry bits = decimal (8 * length bits.1 - bits.0) ++ codes ":" ++ hex bits.1 ++ codes ":" ++ named_flags_text registry bits.1
 
+-- a status of 32 bits in hexadecimal, and with names `:` and its name, or `-` if it has none
+abbrev pub status_text : Bool → ℕ → List ℕ
+status_text false number = hex (four_octets number)
+status_text true number = hex (four_octets number) ++ codes ":" ++ or_dash (λ name. name) (name_of registries.Statuses (pos number))
+
 -- why and where octets are no ticket
 abbrev pub refused_ticket_text : Bool → Refusal → List ℕ
 refused_ticket_text false refusal = codes "refused:" ++ decimal refusal.place ++ codes ":" ++ decimal (reason_number refusal.why)
@@ -81,6 +86,7 @@ value_text names (Named registry number) = number_text names registry number
 value_text names (Numbers registry numbers) = list_text (number_text names registry) numbers
 value_text false (ErrorCode code) = code_text code
 value_text true (ErrorCode code) = number_text true registries.ErrorCodes code
+value_text names (Status number) = status_text names number
 value_text names (Reason number name) = decimal number ++ codes " " ++ name
 value_text names NoReason = codes "-"
 value_text names (String octets) = escape octets
@@ -178,6 +184,7 @@ json_value (Number number) = signed_decimal number
 json_value (Named registry number) = signed_decimal number
 json_value (Numbers registry numbers) = list_text signed_decimal numbers
 json_value (ErrorCode code) = signed_decimal code
+json_value (Status number) = codes "\"" ++ hex (four_octets number) ++ codes "\""
 json_value (Reason number name) = decimal number
 json_value NoReason = codes "null"
 json_value (String octets) = octets_string octets
@@ -201,6 +208,7 @@ json_value (Layers layers) = list_text (λ layer. json_string (layer_name layer)
 unfoldable pub names_member : List ℕ → Value → List ℕ
 names_member begin (Named registry number) = begin ++ codes "_name\":" ++ name_string registry number
 names_member begin (ErrorCode code) = begin ++ codes "_name\":" ++ name_string registries.ErrorCodes code
+names_member begin (Status number) = begin ++ codes "_name\":" ++ name_string registries.Statuses (pos number)
 names_member begin (Reason number name) = begin ++ codes "_name\":" ++ json_string name
 names_member begin NoReason = begin ++ codes "_name\":null"
 names_member begin (Numbers registry numbers) = begin ++ codes "_names\":" ++ list_text (name_string registry) numbers

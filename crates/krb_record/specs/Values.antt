@@ -14,6 +14,7 @@ pub data Value : Type 0 where
   Named : (registry : Registry) → (number : ℤ) → Value
   Numbers : (registry : Registry) → (numbers : List ℤ) → Value
   ErrorCode : (code : ℤ) → Value
+  Status : (number : ℕ) → Value
   Reason : (number : ℕ) → (name : List ℕ) → Value
   NoReason : Value
   String : (octets : List ℕ) → Value

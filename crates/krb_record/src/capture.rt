@@ -2,7 +2,7 @@
 
 ghost use Rattle.std.specs.Prelude.{◌≡◌, ◌++◌, OnOk};
 ghost use Rattle.std.specs.Option.{option_copied};
-ghost use Rattle.krb_record.specs.Captures.{capture_end_line, capture_refused_line, captured_refused_line, count_fields, joined_line, lost_line, password_line};
+ghost use Rattle.krb_record.specs.Captures.{capture_end_line, capture_refused_line, captured_refused_line, count_fields, joined_line, lost_line, password_line, unread_line};
 ghost use Rattle.krb_record.specs.Forms.{fields_text};
 
 use crate::capture_origin::{CaptureOrigin, put_captured_opening};
@@ -13,7 +13,7 @@ use crate::put_field;
 use crate::refusal::{Reason, put_fault_fields, put_path};
 use crate::text_buffer::TextBuffer;
 use krb_der::Refusal;
-use krb_source::FileWhy;
+use krb_source::{FileWhy, UnreadWhy};
 use std::alloc::AllocError;
 
 /// Appends the line of a refused message of a capture: the place of the octet at fault and what is
@@ -72,6 +72,26 @@ pub fn put_lost(
     put_end(text, form)
 }
 
+/// Appends the line of octets between ports of Kerberos that no message has: the place of the first
+/// one in the direction or in the datagram, if they have one, how many they are, and why.
+#[tactic(auto, unfolding(crate::specs::Forms::record_text))]
+pub fn put_unread(
+    text: &mut TextBuffer,
+    form: Form,
+    origin: &CaptureOrigin,
+    place: Option<u64>,
+    count: u64,
+    why: UnreadWhy,
+) -> Result<(), AllocError>
+    ensures { OnOk result (text.new ≡ text.old ++ unread_line form origin.now place count why) }
+{
+    put_captured_opening(text, form, origin, "unread")?;
+    put_field!(text, form, "place": &place)?;
+    put_field!(text, form, "octets": &count)?;
+    put_field!(text, form, "why": &Reason::of_unread(why))?;
+    put_end(text, form)
+}
+
 /// Appends the line of a message that changes a password (RFC 3244, section 2): its version, how
 /// many octets its AP-REQ or AP-REP has, and how many follow it.
 #[tactic(auto, unfolding(crate::specs::Forms::record_text))]
@@ -103,7 +123,7 @@ pub struct CaptureCounts {
     pub refused: u64,
     /// How many times octets were not in the capture.
     pub lost: u64,
-    /// The packets whose headers could not be read.
+    /// The packets that could not be read, and how often octets were in no message.
     pub unread: u64,
 }
 

@@ -34,6 +34,7 @@ mod origin;
 mod principal;
 mod refusal;
 mod shown;
+mod status;
 mod stream;
 mod text_buffer;
 mod ticket_flags;
@@ -41,7 +42,7 @@ mod time;
 
 pub use capture::{
     CaptureCounts, put_capture_end, put_capture_refusal, put_captured_refusal, put_joined,
-    put_lost, put_password,
+    put_lost, put_password, put_unread,
 };
 pub use capture_origin::{CaptureOrigin, put_captured_opening};
 pub use error_code::ErrorCode;
@@ -63,6 +64,7 @@ pub use refusal::{
     put_untold_message_refusal,
 };
 pub use shown::{ABSENT, HexText, Plain, QuotedText, Shown, Text, put_begin, put_names_begin};
+pub use status::Status;
 pub use stream::{
     put_counted_stream_end, put_stream_end, put_stream_refusal, put_untold_stream_refusal,
 };

@@ -4,6 +4,7 @@ ghost use Rattle.std.specs.Prelude.{◌≡◌, [], ◌∷◌, ◌++◌, OnOk, co
 ghost use Rattle.std.specs.Option.{option_copied};
 ghost use Rattle.krb_der.specs.Reasons.{reason_name, reason_number};
 ghost use Rattle.krb_source.specs.FileReasons.{file_reason_name, file_reason_number};
+ghost use Rattle.krb_source.specs.UnreadReasons.{unread_reason_name, unread_reason_number};
 ghost use Rattle.krb_record.specs.Forms.{field, fields_text};
 ghost use Rattle.krb_record.specs.Origins.{message_origin};
 ghost use Rattle.krb_record.specs.Refusals.{at_field, extent_in, fault_record, file_refused_line, form_field, length_field, message_refused_line, path_in, spelling_in, untold_message_refused_line};
@@ -18,7 +19,10 @@ use crate::put_field;
 use crate::shown::{ABSENT, Plain, Shown, Text, put_begin};
 use crate::text_buffer::TextBuffer;
 use krb_der::{Refusal, Why, why_number, why_text};
-use krb_source::{FileWhy, Spelling, file_why_number, file_why_text};
+use krb_source::{
+    FileWhy, Spelling, UnreadWhy, file_why_number, file_why_text, unread_why_number,
+    unread_why_text,
+};
 use std::alloc::AllocError;
 use std::marker::Model;
 
@@ -60,6 +64,17 @@ impl Reason {
         Reason {
             number: file_why_number(why),
             name: file_why_text(why),
+        }
+    }
+
+    /// Returns the number and the name of why octets of a capture are in no message.
+    #[tactic(auto, using(crate::proofs::Reasons::unread_reason_is_ascii))]
+    pub fn of_unread(why: UnreadWhy) -> Reason
+        ensures { result ≡ (unread_reason_number why, unread_reason_name why) }
+    {
+        Reason {
+            number: unread_why_number(why),
+            name: unread_why_text(why),
         }
     }
 }

@@ -2,6 +2,8 @@ pub mod EncryptionTypes
 pub mod ChecksumTypes
 pub mod PreAuthenticationData
 pub mod ErrorCodes
+pub mod ErrorDataTypes
+pub mod Statuses
 pub mod KdcOptions
 pub mod ApOptions
 pub mod PacOptions

@@ -10,6 +10,8 @@ use Rattle.krb_registry.specs.EncryptionTypes.{encryption_types}
 use Rattle.krb_registry.specs.ChecksumTypes.{checksum_types}
 use Rattle.krb_registry.specs.PreAuthenticationData.{pre_authentication_data}
 use Rattle.krb_registry.specs.ErrorCodes.{error_codes}
+use Rattle.krb_registry.specs.ErrorDataTypes.{error_data_types}
+use Rattle.krb_registry.specs.Statuses.{statuses}
 use Rattle.krb_registry.specs.KdcOptions.{kdc_options}
 use Rattle.krb_registry.specs.ApOptions.{ap_options}
 use Rattle.krb_registry.specs.PacOptions.{pac_options}
@@ -24,6 +26,8 @@ rows registry.EncryptionTypes = encryption_types
 rows registry.ChecksumTypes = checksum_types
 rows registry.PreAuthenticationData = pre_authentication_data
 rows registry.ErrorCodes = error_codes
+rows registry.ErrorDataTypes = error_data_types
+rows registry.Statuses = statuses
 rows registry.KdcOptions = kdc_options
 rows registry.ApOptions = ap_options
 rows registry.PacOptions = pac_options

@@ -91,8 +91,12 @@ fn places(registry: Registry) -> &'static [u8] {
         Registry::NameTypes => &NAME_TYPES,
         Registry::AddressTypes => &ADDRESS_TYPES,
         Registry::Notes => &NOTES,
-        Registry::KdcOptions | Registry::ApOptions | Registry::PacOptions | Registry::TicketFlags =>
-            &[],
+        Registry::ErrorDataTypes
+        | Registry::Statuses
+        | Registry::KdcOptions
+        | Registry::ApOptions
+        | Registry::PacOptions
+        | Registry::TicketFlags => &[],
     }
 }
 

@@ -5,8 +5,8 @@ ghost use Rattle.krb_registry.specs.Rows.{number_and_name, rows};
 
 use crate::row::Row;
 use crate::tables::{
-    address_types, ap_options, checksum_types, encryption_types, error_codes, kdc_options,
-    name_types, notes, pac_options, pre_authentication_data, ticket_flags,
+    address_types, ap_options, checksum_types, encryption_types, error_codes, error_data_types,
+    kdc_options, name_types, notes, pac_options, pre_authentication_data, statuses, ticket_flags,
 };
 
 /// A registry of numbers that have names.
@@ -20,6 +20,10 @@ pub enum Registry {
     PreAuthenticationData,
     /// The error codes (RFC 4120, 7.5.9).
     ErrorCodes,
+    /// The types of KERB-ERROR-DATA (MS-KILE, 2.2.2).
+    ErrorDataTypes,
+    /// The statuses of Windows, which a KDC tells in an extended error (MS-ERREF, 2.3.1).
+    Statuses,
     /// The options of an AS-REQ and a TGS-REQ, by the numbers of their bits (RFC 4120, 5.4.1).
     KdcOptions,
     /// The options of an AP-REQ, by the numbers of their bits (RFC 4120, 5.5.1).
@@ -47,6 +51,8 @@ pub fn rows(registry: Registry) -> &'static [Row]
         Registry::ChecksumTypes => &checksum_types::ROWS,
         Registry::PreAuthenticationData => &pre_authentication_data::ROWS,
         Registry::ErrorCodes => &error_codes::ROWS,
+        Registry::ErrorDataTypes => &error_data_types::ROWS,
+        Registry::Statuses => &statuses::ROWS,
         Registry::KdcOptions => &kdc_options::ROWS,
         Registry::ApOptions => &ap_options::ROWS,
         Registry::PacOptions => &pac_options::ROWS,

@@ -5,13 +5,13 @@ use Rattle.krb_run.specs.declared.begun.Begun.{Begun}
 use Rattle.krb_run.specs.declared.begun.Then.{Then}
 use Rattle.krb_run.specs.declared.begun.Then.TheVariants.{Others, End, Fault}
 
--- the octets that were read first
+-- the first of the octets that were read, which tell what it is
 abbrev pub first_of : {R : Type 0} → Begun R → List ℕ
-first_of begun = take begun.count begun.octets
+first_of begun = take 16 begun.octets.items
 
--- those of them that are still to be read again
+-- those that are still to be read again
 abbrev pub left_of : {R : Type 0} → Begun R → List ℕ
-left_of begun = drop begun.given (first_of begun)
+left_of begun = drop begun.given begun.octets.items
 
 -- what follows them
 abbrev pub others_of : Then → Option (List ℕ) → Option (List ℕ)

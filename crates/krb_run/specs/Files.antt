@@ -1,5 +1,5 @@
--- The listing of what is read whole, and what a run on it does to its reader and its writer.
-use Rattle.std.specs.Prelude.{ℕ, ◌≡◌, List, ◌++◌, length, Option, Some}
+-- The listing of what is read before anything is written, and what a run on it does to its reader and its writer.
+use Rattle.std.specs.Prelude.{ℕ, ◌≡◌, ◌⊎◌, List, ◌++◌, length, Option, Some}
 use Rattle.std.specs.Io.KnownBytes.{Consumes, Appends, Keeps, IsAtEnd}
 use Rattle.krb_run.specs.Records.{AppendsPrefix}
 use Rattle.krb_run.specs.declared.file_run.FileText.{FileText}
@@ -9,11 +9,6 @@ use Rattle.krb_run.specs.declared.run.RunFault.TheVariants as fault
 use Rattle.krb_run.specs.declared.transfer.ReaderState.{ReaderState}
 use Rattle.krb_run.specs.declared.transfer.ReaderState.TheVariants as reader
 use Rattle.krb_run.specs.Faults.{IsRead}
-
--- all octets that a reader had were read
-pub record ReadsAll (had left : Option (List ℕ)) (file : List ℕ) : Type 0 where
-  pub taken : Consumes had left file
-  pub ended : IsAtEnd left
 
 -- The listing of a file, and how its run ends.
 pub record FileListing : Type 0 where
@@ -30,21 +25,29 @@ IsDecidedByPrefix Lists most = (kept rest : List ℕ) (listing : FileListing) �
 
 -- ---- what a run does
 
--- A run read all octets that its reader had, and appended the listing of these to what is written.
+-- no octets that come after those of a file change its listing
+abbrev pub IsSettled : (List ℕ → FileListing → Type 0) → (file : List ℕ) → FileListing → Type 0
+IsSettled Lists file listing = (rest : List ℕ) → Lists (file ++ rest) listing
+
+-- Octets that a reader had were read, up to its end, or up to where their listing is settled: so it is the listing of all that the reader had.
+pub record Reads (Lists : List ℕ → FileListing → Type 0) (had left : Option (List ℕ)) (file : List ℕ) (listing : FileListing) : Type 0 where
+  pub taken : Consumes had left file
+  pub listed : Lists file listing
+  pub enough : IsAtEnd left ⊎ IsSettled Lists file listing
+
+-- A run appended the listing of what its reader had to what is written.
 pub record ListsFile (Lists : List ℕ → FileListing → Type 0) (had left written_before written_after : Option (List ℕ)) (ended : RunEnd) : Type 0 where
   pub file : List ℕ
   pub listing : FileListing
-  pub listed : Lists file listing
-  pub taken : ReadsAll had left file
+  pub read : Reads Lists had left file listing
   pub added : Appends written_before written_after listing.text
   pub ended_so : ended ≡ listing.end
 
--- A run read all octets that its reader had, and appended a prefix of their listing to what is written.
+-- A run appended a prefix of the listing of what its reader had to what is written.
 pub record ListsPrefix (Lists : List ℕ → FileListing → Type 0) (had left written_before written_after : Option (List ℕ)) : Type 0 where
   pub file : List ℕ
   pub listing : FileListing
-  pub listed : Lists file listing
-  pub taken : ReadsAll had left file
+  pub read : Reads Lists had left file listing
   pub added : AppendsPrefix written_before written_after listing.text
 
 -- a prefix of the octets that a reader had was read

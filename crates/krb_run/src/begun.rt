@@ -1,12 +1,14 @@
 //! Readers that were begun.
 
-ghost use Rattle.std.specs.Prelude.{◌≡◌, ◌<◌, ◌≤◌, length};
+ghost use Rattle.std.specs.Prelude.{◌≡◌, ◌<◌, ◌≤◌, length, IfOk};
 ghost use Rattle.std.specs.Io.KnownBytes.{Keeps};
 
+use crate::run::PIECE_OCTETS;
+use std::alloc::{AllocError, Global};
 use std::io;
 use std::io::{Error, Read};
 
-/// How many octets of a source are read at most when it is begun.
+/// How many octets of a source tell what it is: no more are looked at.
 const FIRST_OCTETS: usize = 16;
 
 /// What follows the first octets of a reader.
@@ -20,62 +22,68 @@ enum Then {
     Fault(Error),
 }
 
-/// A reader whose first octets were read, at most 16. They are lent,
-/// and read again before what follows them. A read that failed fails when it is come to.
+/// A reader of which the first pieces were read, one if that has enough octets. The first 16 of them
+/// are lent, and all are read again before what follows them. A read that failed fails when it is
+/// come to.
 #[derive(Drop)]
 pub struct Begun<R> {
     reader: R,
-    octets: [u8; 16],
-    /// How many of the octets were read.
-    count: usize,
+    /// The octets that were read.
+    octets: Vec<u8>,
     /// How many of them were read again.
     given: usize,
     then: Then,
-    pub ghost few: { count ≤ 16 },
-    pub ghost in_order: { given ≤ count },
+    pub ghost in_order: { given ≤ length octets.items },
 }
 
 impl<R> Begun<R> {
     ghost use Rattle.krb_run.specs.Begun.{first_of};
 
-    /// Returns the octets that were read first.
+    /// Returns the first of the octets that were read, at most 16.
     pub fn first(&self) -> &[u8]
         ensures { result.now ≡ first_of self.now }
     {
-        &self.octets[..self.count]
+        let end = self.octets.len().min(FIRST_OCTETS);
+        &self.octets[..end]
+    }
+}
+
+impl<R: Read + Drop> Begun<R> {
+    ghost use Rattle.krb_run.specs.Begun.{BeginsWith, begun_remaining, first_of};
+
+    /// Reads the first pieces of a reader, until there are at least `least` octets, or 16, or it ends
+    /// or a read fails. It is asked for 64 KiB at once, as by a run: what keeps records, as a socket
+    /// of messages does, gives one at each read, and loses what is not asked for. The error is
+    /// running out of memory.
+    pub fn begin(alloc: Global, reader: R, least: usize) -> Result<Begun<R>, AllocError>
+        ensures keeps { IfOk result (λ begun. Keeps (R.remaining reader) (begun_remaining R.remaining begun)) }
+        ensures begins { IfOk result (λ begun. BeginsWith (first_of begun) (begun_remaining R.remaining begun)) }
+    {
+        let least = least.min(FIRST_OCTETS);
+        let mut reader = reader;
+        let mut piece = vec![in alloc; 0u8; PIECE_OCTETS]?;
+        let mut octets = Vec::new(alloc);
+        'reads: while octets.len() < least {
+            match reader.read(piece.as_mut_slice()) {
+                Ok(0) => return Ok(begun_reader(reader, octets, Then::End)),
+                Ok(count) => octets.extend_from_slice(&piece[..count])?,
+                Err(error) => return Ok(begun_reader(reader, octets, Then::Fault(error))),
+            }
+        }
+        Ok(begun_reader(reader, octets, Then::Others))
     }
 }
 
 impl<R: Read> Begun<R> {
-    ghost use Rattle.krb_run.specs.Begun.{BeginsWith, Gives, begun_remaining, first_of};
-
-    /// Reads the first octets of a reader: at least `least` of them, unless it ends or a read fails,
-    /// and at most 16.
-    pub fn begin(reader: R, least: usize) -> Begun<R>
-        ensures keeps { Keeps (R.remaining reader) (begun_remaining R.remaining result) }
-        ensures begins { BeginsWith (first_of result) (begun_remaining R.remaining result) }
-    {
-        let least = least.min(FIRST_OCTETS);
-        let mut reader = reader;
-        let mut octets = [0; FIRST_OCTETS];
-        let mut count = 0;
-        'reads: while count < least {
-            match reader.read(&mut octets[count..]) {
-                Ok(0) => return begun_reader(reader, octets, count, Then::End),
-                Ok(more) => count += more,
-                Err(error) => return begun_reader(reader, octets, count, Then::Fault(error)),
-            }
-        }
-        begun_reader(reader, octets, count, Then::Others)
-    }
+    ghost use Rattle.krb_run.specs.Begun.{Gives, begun_remaining};
 
     /// Gives some of the octets that were read first.
     fn give(&mut self, buffer: &mut [u8]) -> usize
-        requires { self.old.given < self.old.count }
+        requires { self.old.given < length self.old.octets.items }
         ensures bound { result ≤ length buffer.new }
         ensures bytes { Gives (begun_remaining R.remaining self.old) (begun_remaining R.remaining self.new) result buffer.new }
     {
-        let count = (self.count - self.given).min(buffer.len());
+        let count = (self.octets.len() - self.given).min(buffer.len());
         buffer[..count].copy_from_slice(&self.octets[self.given..self.given + count]);
         self.given += count;
         count
@@ -83,18 +91,15 @@ impl<R: Read> Begun<R> {
 }
 
 /// Returns a reader whose first octets were read.
-fn begun_reader<R>(reader: R, octets: [u8; 16], count: usize, then: Then) -> Begun<R>
-    requires { count ≤ 16 }
+fn begun_reader<R>(reader: R, octets: Vec<u8>, then: Then) -> Begun<R>
     ensures reader { result.reader ≡ reader }
     ensures octets { result.octets ≡ octets }
-    ensures count { result.count ≡ count }
     ensures given { result.given ≡ 0 }
     ensures then { result.then ≡ then }
 {
     Begun {
         reader,
         octets,
-        count,
         given: 0,
         then,
     }
@@ -106,7 +111,7 @@ impl<R: Read> Read for Begun<R> {
     ghost remaining = { begun_remaining R.remaining };
 
     fn read(&mut self, buffer: &mut [u8]) -> io::Result<usize> {
-        if self.given < self.count {
+        if self.given < self.octets.len() {
             return Ok(self.give(buffer));
         }
         match self.then {

@@ -1,9 +1,9 @@
-//! Runs over files, which are read whole before anything is written.
+//! Runs over files, which are read before anything is written.
 
-ghost use Rattle.std.specs.Prelude.{◌≡◌, ◌+◌, ◌^◌, ◌≤◌, ◌⊎◌, List, ℕ, Some, IfSome, IfErr, IfOk, OnErr, OnOk};
+ghost use Rattle.std.specs.Prelude.{◌≡◌, ◌+◌, ◌^◌, ◌≤◌, List, ℕ, Some, IfSome, IfErr, IfOk, OnErr, OnOk};
 ghost use Rattle.krb_run.specs.declared.transfer.ReaderState.TheVariants as reader;
 ghost use Rattle.krb_run.specs.Files.{ReadsSome, FileListing, ListsFile, FailsFile, IsDecidedByPrefix, MatchesReader, shown};
-ghost use Rattle.krb_run.specs.inner.FileRuns.{ReadsPrefix, IsOfReading};
+ghost use Rattle.krb_run.specs.inner.FileRuns.{IsNotFailed, IsOfReading, ReadsUpTo};
 
 use crate::run::{PIECE_OCTETS, RunEnd, RunFault};
 use crate::transfer::{CountedReader, write_all};
@@ -20,22 +20,22 @@ pub struct FileText {
     pub end: RunEnd,
 }
 
-/// Returns how many of `count` octets are kept after the `kept` others: all of them, or those
-/// up to the greatest number.
-fn room(most: Option<usize>, kept: usize, count: usize) -> usize
+/// Returns how many octets more are read at once after these: a piece, or those up to the greatest
+/// number.
+fn room(most: Option<usize>, kept: usize) -> usize
     requires { IfSome most (λ most. kept ≤ most) }
-    ensures few { result ≤ count }
+    ensures few { result ≤ 65536 }
     ensures within { IfSome most (λ most. kept + result ≤ most) }
-    ensures all { (result ≡ count) ⊎ (most ≡ Some (kept + result)) }
+    ensures full { result ≡ 0 → most ≡ Some kept }
 {
     match most {
-        Some(most) => count.min(most - kept),
-        None => count,
+        Some(most) => PIECE_OCTETS.min(most - kept),
+        None => PIECE_OCTETS,
     }
 }
 
-/// Reads all that a reader has, and returns it, or the first `most` octets of it. The vector grows
-/// as the octets come.
+/// Reads what a reader has, all of it or the first `most` octets, after which it is not asked. The
+/// vector grows as the octets come.
 fn read_all<R: Read>(
     alloc: Global,
     counted: &mut CountedReader<'_, R>,
@@ -43,8 +43,8 @@ fn read_all<R: Read>(
 ) -> Result<Vec<u8>, RunFault>
     requires open { counted.old.state ≡ reader.Open }
     ensures same_reader { counted.new.reader.ghost_name ≡ counted.old.reader.ghost_name }
-    ensures prefix { IfOk result (λ file. ReadsPrefix (R.remaining counted.old.reader.now) (R.remaining counted.new.reader.now) most file.items) }
-    ensures ended { OnOk result (counted.new.state ≡ reader.Ended) }
+    ensures read { IfOk result (λ file. ReadsUpTo (R.remaining counted.old.reader.now) (R.remaining counted.new.reader.now) most file.items) }
+    ensures state { OnOk result (IsNotFailed counted.new.state) }
     ensures fault { IfErr result (IsOfReading counted.new.state) }
     ensures taken { OnErr result (ReadsSome (R.remaining counted.old.reader.now) (R.remaining counted.new.reader.now)) }
     ensures asks { counted.new.made ≤ 2 ^ 40 }
@@ -52,12 +52,16 @@ fn read_all<R: Read>(
     let mut buffer = vec![in alloc; 0u8; PIECE_OCTETS]?;
     let mut file = Vec::new(alloc);
     'pieces: loop {
-        let count = counted.read(buffer.as_mut_slice())?;
+        let room = room(most, file.len());
+        if room == 0 {
+            return Ok(file);
+        }
+        let piece = &mut buffer[..room];
+        let count = counted.read(piece)?;
         if count == 0 {
             return Ok(file);
         }
-        let kept = room(most, file.len(), count);
-        file.extend_from_slice(&buffer[..kept])?;
+        file.extend_from_slice(&piece[..count])?;
     }
 }
 
@@ -67,7 +71,7 @@ pub trait FileFormat {
     ghost Lists: { Self → List ℕ → FileListing → Type 0 };
 
     /// Returns the number of octets of a file that decide its listing, if there is one: octets
-    /// after them change nothing.
+    /// after them change nothing, and are not read.
     fn most(&self) -> Option<usize>
         ensures { IsDecidedByPrefix (Lists self.now) result };
 
@@ -78,9 +82,9 @@ pub trait FileFormat {
         ensures fault { IfErr result (λ e. e ≡ RunFault.Memory) };
 }
 
-/// Lists a file of a format, and returns how the run ended. All that the reader has is read first, by
-/// at most 2^40 reads of 64 KiB each, and no more of it is kept than decides the listing. If a read
-/// fails or memory runs out, nothing is written.
+/// Lists a file of a format, and returns how the run ended. What decides the listing is read first, by
+/// at most 2^40 reads of at most 64 KiB each: all that the reader has, or as many octets as decide it,
+/// after which it is not asked. If a read fails or memory runs out, nothing is written.
 pub fn run_file<R: Read, W: Write, F: FileFormat>(
     alloc: Global,
     counted: &mut CountedReader<'_, R>,

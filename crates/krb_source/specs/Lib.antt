@@ -1,3 +1,4 @@
 pub mod Spellings
 pub mod Layers
 pub mod FileReasons
+pub mod UnreadReasons

@@ -3,7 +3,7 @@
 
 use crate::examples::octets_of;
 use krb_capture::Capture;
-use krb_der::Memory;
+use krb_der::{Memory, Profile};
 use krb_file::FileFault;
 use krb_frame::Limit;
 use krb_packet::{Packet, Packets};
@@ -82,7 +82,7 @@ fn put_records(
 /// Appends the listing of a capture. Returns whether nothing is refused, lost or unread.
 fn put_listing(alloc: Global, octets: &[u8], text: &mut TextBuffer) -> Result<bool, Fail> {
     let mut packets = Packets::new(octets);
-    let mut capture = Capture::new(alloc, Form::Lines, Limit::DEFAULT, 88);
+    let mut capture = Capture::new(alloc, Form::Lines, Profile::Lenient, Limit::DEFAULT, 88);
     let clean = put_records(alloc, &mut packets, &mut capture, text);
     drop(capture);
     drop(packets);
@@ -122,7 +122,7 @@ const TOO_MUCH: usize = FULL + 2 * 108;
 
 /// Returns how many octets of text each step over the packet leaves.
 fn step_sizes(alloc: Global, packet: &Packet, text: &mut TextBuffer) -> Result<Vec<usize>, Memory> {
-    let mut capture = Capture::new(alloc, Form::Lines, Limit::DEFAULT, 88);
+    let mut capture = Capture::new(alloc, Form::Lines, Profile::Lenient, Limit::DEFAULT, 88);
     let mut sizes = Vec::new(alloc);
     let mut rest = capture.take(packet, text)?;
     for _ in 0..8 {

@@ -17,7 +17,7 @@ message#30303030303030303A20366631642033#message#-#-
 message#30303030303030303A20366631203330#message#-#-
 message#746B740A#message#-#this may be the primary file of a collection: krbls ccache DIR:DIRECTORY
 message#4E65676F746961746562783077473641#message#-#-
-message#4E65676F746961746520#message#-#-
+message#4E65676F746961746520#message#-#this is a header of HTTP, of which krbls reads the token after Negotiate or Kerberos
 message#4E544C4D5353500001000000978208E2#message#-#-
 message#4E65676F746961746520594947414267#message#-#-
 message#000000#message#-#-
@@ -40,7 +40,7 @@ message#FD377A585A000004#message#-#this is an xz file: xzcat - | krbls message -
 message#7F454C4602010100#message#-#-
 message#05020000005B0002000B434F52505553#message#-#this is a keytab: krbls keytab -
 message#0501#message#-#this is a keytab or credential cache of version 1, which krbls does not read
-stream#474554202F20485454502F312E310D0A#stream#-#this is text; if it is a message: krbls message -
+stream#474554202F20485454502F312E310D0A#stream#-#this is HTTP; if a header has a token: grep -ai negotiate - | krbls message --lines -
 stream#28B52FFD0400#stream#-#this is a zstd file: zstdcat - | krbls stream -
 stream#425A683931415926535980#stream#-#this is a bzip2 file: bzcat - | krbls stream -
 stream#30303030303030303A20366631642033#stream#-#this is text; if it is a message: krbls message -
@@ -56,10 +56,13 @@ ccache#746B740A#ccache#-#this may be the primary file of a collection: krbls cca
 ccache#53514C69746520666F726D6174203300#ccache#-#this is an SQLite database, which krbls does not read
 ccache#5949474342676B71686B694739784942#ccache#-#this is text; if it is a message: krbls message -
 ccache##ccache#-#-
-stream#485454502F312E3120323030204F4B0D#stream#-#this is text; if it is a message: krbls message -
+stream#485454502F312E3120323030204F4B0D#stream#-#this is HTTP; if a header has a token: grep -ai negotiate - | krbls message --lines -
 keytab#05020000005B0002000B434F52505553#keytab#-#-
 capture#0A0D0D0AC00000004D3C2B1A01000000#capture#-#-
-ccache#0502#ccache#b\\x20c.keytab#this is a keytab: krbls keytab b\\x20c.keytab
+ccache#0502#ccache#'b c.keytab'#this is a keytab: krbls keytab 'b c.keytab'
+ccache#05020000000100000001#ccache#-#this is a keytab, or a cache of version 2, which krbls does not read
+keytab#05020000000C00000001#keytab#-#this is a keytab, or a cache of version 2, which krbls does not read
+ccache#05020000000D#ccache#-#this is a keytab: krbls keytab -
 capture#1F8B0800000000000003#capture#x.gz#this is a gzip file: zcat x.gz | krbls capture -
 message#2D2D2D2D2D424547494E20582D2D2D2D#message#-#this is PEM, which holds certificates or keys and no Kerberos
 stream#425A6839#-#a b.bz2#this is a bzip2 file: bzcat a b.bz2 | krbls -
@@ -79,7 +82,19 @@ ccache#746B74610962#ccache#x#this is text; if it is a message: krbls message x
 stream#746B740A#stream#x#this is text; if it is a message: krbls message x
 stream#3031323334353637383961626364656680#stream#x#this is text; if it is a message: krbls message x
 stream#30313233343536373839616263646580#stream#x#-
-stream#6031323334353637383961626364656680#stream#x#this is text; if it is a message: krbls message x";
+stream#6031323334353637383961626364656680#stream#x#this is text; if it is a message: krbls message x
+message#4E544C4D20546C524D#message#x#this is a header of HTTP, of which krbls reads the token after Negotiate or Kerberos
+stream#4E544C4D20546C524D#stream#x#this is text; if it is a message: krbls message x
+message#600C06062B06010502050501#message#x#this is a token of IAKERB, which krbls does not read
+stream#60820C0006062B060105020505#stream#x#this is a token of IAKERB, which krbls does not read
+stream#040400FFFFFFFFFF#stream#x#this is a MIC token of GSS-API, which has no message of Kerberos in it
+stream#040400FFFFFFFF00#stream#x#-
+ccache#050407FF0000#ccache#x#this is a Wrap token of GSS-API, which has no message of Kerberos in it
+ccache#050408FF0000#ccache#x#-
+message#60818506092A864886F7120102020201#message#x#this is a Wrap token of GSS-API, which has no message of Kerberos in it
+message#A1073005A0030A0100#message#x#this is a token of SPNEGO with no token of Kerberos in it
+message#A1093007A0030A0101A200#message#x#-
+message#A0023000#message#x#this is a token of SPNEGO with no token of Kerberos in it";
 
 /// Rows of what sources hold, and their first octets.
 const KINDS: &str = "\

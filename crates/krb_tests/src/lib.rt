@@ -16,6 +16,8 @@ mod ccache;
 #[cfg(test)]
 mod der;
 #[cfg(test)]
+mod error_data;
+#[cfg(test)]
 mod examples;
 #[cfg(test)]
 mod fakes;

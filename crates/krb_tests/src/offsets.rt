@@ -69,7 +69,15 @@ fn list(
     match source {
         Source::Stream => run_stream_in(alloc, form, profile, false, &mut octets, listed, limit),
         Source::GoingOn => run_stream_in(alloc, form, profile, true, &mut octets, listed, limit),
-        Source::Capture => run_capture(alloc, form, &mut octets, listed, limit, 88),
+        Source::Capture => run_capture(
+            alloc,
+            form,
+            Profile::Lenient,
+            &mut octets,
+            listed,
+            limit,
+            88,
+        ),
     }
 }
 

@@ -105,7 +105,7 @@ fn a_reader_that_was_begun_gives_all(rt: HostRuntime) -> Result<(), Fail> {
                 is_over: false,
                 asked: &asked,
             };
-            let mut begun = Begun::begin(watched, 16);
+            let mut begun = Begun::begin(alloc, watched, 16)?;
             assert_eq!(rt; begun.first(), &octets[..count.min(16)]);
             let mut all = Vec::new(alloc);
             begun.read_to_end(&mut all)?;
@@ -125,7 +125,7 @@ fn a_read_that_failed_fails_when_it_is_come_to(rt: HostRuntime) -> Result<(), Fa
         is_over: false,
         asked: &asked,
     };
-    let mut begun = Begun::begin(watched, 16);
+    let mut begun = Begun::begin(rt.alloc(), watched, 16)?;
     assert_eq!(rt; begun.first(), b"abc".as_slice());
     let mut buffer = [0; 8];
     assert_eq!(rt; begun.read(&mut buffer)?, 3);

@@ -33,7 +33,7 @@ fn next(rt: &impl Abort, alloc: Global, packets: &mut Packets<&[u8]>) -> Packet 
 
 /// The segment in a packet.
 fn segment<'a>(rt: &impl Abort, packet: &'a Packet) -> Segment<'a> {
-    match contents_of(packet) {
+    match contents_of(packet, 88) {
         Contents::Segment(segment) => segment,
         _ => panic!(rt; "no segment"),
     }

@@ -76,7 +76,7 @@ fn blocks_are_read(rt: HostRuntime) {
         nanoseconds: 555770097,
     };
     assert!(rt; packet.time == Some(time));
-    match contents_of(&packet) {
+    match contents_of(&packet, 88) {
         Contents::Datagram(datagram) => {
             assert!(rt; datagram.source == local(60354) && datagram.target == local(88));
             assert!(rt; datagram.payload.size() == 181);

@@ -45,6 +45,18 @@ const HEADERS6: [[u8; 48]; 2] = [
     ],
 ];
 
+/// Headers of IPv4 before two fragments, of 16 and of 20 octets, of a packet of IPv4 in another one.
+const HEADERS_AROUND: [[u8; 20]; 2] = [
+    [
+        0x45, 0x00, 0x00, 0x24, 0x00, 0x01, 0x20, 0x00, 0x40, 0x04, 0x00, 0x00, 0xc0, 0x00, 0x02,
+        0x01, 0xc0, 0x00, 0x02, 0x02,
+    ],
+    [
+        0x45, 0x00, 0x00, 0x28, 0x00, 0x01, 0x00, 0x02, 0x40, 0x04, 0x00, 0x00, 0xc0, 0x00, 0x02,
+        0x01, 0xc0, 0x00, 0x02, 0x02,
+    ],
+];
+
 /// A packet of a header and octets.
 fn packet(rt: &impl Abort, alloc: Global, header: &[u8], octets: &[u8]) -> Packet {
     let mut all = Vec::new(alloc);
@@ -62,7 +74,7 @@ fn packet(rt: &impl Abort, alloc: Global, header: &[u8], octets: &[u8]) -> Packe
 
 /// The fragment in a packet.
 fn fragment<'a>(rt: &impl Abort, packet: &'a Packet) -> Fragment<'a> {
-    match contents_of(packet) {
+    match contents_of(packet, 88) {
         Contents::Fragment(fragment) => fragment,
         _ => panic!(rt; "no fragment"),
     }
@@ -80,10 +92,22 @@ fn taken(
     }
 }
 
+/// What comes of a fragment and of those in what it completes.
+fn taken_nested(
+    rt: &impl Abort,
+    fragments: &mut Fragments,
+    fragment: &Fragment<'_>,
+) -> Option<Reassembled> {
+    match fragments.take_nested(88, fragment) {
+        Ok(whole) => whole,
+        Err(_) => panic!(rt; "out of memory"),
+    }
+}
+
 /// Whether it is the segment.
 fn is_segment(whole: Option<Reassembled>) -> bool {
     match whole {
-        Some(whole) => match whole.contents() {
+        Some(whole) => match whole.contents(88) {
             Contents::Segment(segment) => {
                 whole.octets.as_slice() == SEGMENT.as_slice()
                     && segment.source.port == 42700
@@ -115,6 +139,21 @@ fn fragments_are_put_together(rt: HostRuntime) {
         assert!(rt; is_segment(taken(&rt, &mut fragments, &first)));
         assert!(rt; fragments.unread() == 0);
     }
+}
+
+#[test]
+fn fragments_in_fragments_are_put_together(rt: HostRuntime) {
+    let mut fragments = Fragments::new(rt.alloc());
+    let last = packet(&rt, rt.alloc(), &HEADERS4[1], &SEGMENT[FIRST..]);
+    assert!(rt; taken_nested(&rt, &mut fragments, &fragment(&rt, &last)).is_none());
+    let inner = packet(&rt, rt.alloc(), &HEADERS4[0], &SEGMENT[..FIRST]);
+    let (front, back) = inner.octets.as_slice().split_at(FIRST);
+    let front = packet(&rt, rt.alloc(), &HEADERS_AROUND[0], front);
+    let back = packet(&rt, rt.alloc(), &HEADERS_AROUND[1], back);
+    assert!(rt; taken_nested(&rt, &mut fragments, &fragment(&rt, &front)).is_none());
+    assert!(rt; fragments.unread() == 2);
+    assert!(rt; is_segment(taken_nested(&rt, &mut fragments, &fragment(&rt, &back))));
+    assert!(rt; fragments.unread() == 0);
 }
 
 #[test]

@@ -1,13 +1,13 @@
 //! Names of numbers, as IANA's "Kerberos Parameters" and the RFCs have them.
 
 use krb_registry::Registry::{
-    AddressTypes, ApOptions, ChecksumTypes, EncryptionTypes, ErrorCodes, KdcOptions, NameTypes,
-    Notes, PacOptions, PreAuthenticationData, TicketFlags,
+    AddressTypes, ApOptions, ChecksumTypes, EncryptionTypes, ErrorCodes, ErrorDataTypes,
+    KdcOptions, NameTypes, Notes, PacOptions, PreAuthenticationData, Statuses, TicketFlags,
 };
 use krb_registry::{Registry, name_of, rows};
 
 /// Numbers of registries, and the names that they have.
-const NAMES: [(Registry, i64, Option<&str>); 40] = [
+const NAMES: [(Registry, i64, Option<&str>); 45] = [
     (EncryptionTypes, 18, Some("aes256-cts-hmac-sha1-96")),
     (EncryptionTypes, 20, Some("aes256-cts-hmac-sha384-192")),
     (EncryptionTypes, 23, Some("rc4-hmac")),
@@ -29,6 +29,11 @@ const NAMES: [(Registry, i64, Option<&str>); 40] = [
     (ErrorCodes, 37, Some("KRB_AP_ERR_SKEW")),
     (ErrorCodes, 62, Some("KDC_ERR_CLIENT_NOT_TRUSTED")),
     (ErrorCodes, 101, None),
+    (ErrorDataTypes, 1, None),
+    (ErrorDataTypes, 3, Some("KERB_ERR_TYPE_EXTENDED")),
+    (Statuses, 0xC000_0072, Some("STATUS_ACCOUNT_DISABLED")),
+    (Statuses, 0xC000_0073, None),
+    (Statuses, -0x3FFF_FF8E, None),
     (KdcOptions, 0, None),
     (KdcOptions, 8, Some("renewable")),
     (KdcOptions, 31, Some("validate")),

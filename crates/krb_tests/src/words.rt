@@ -44,6 +44,14 @@ fn conversion_name(is_decode: bool, profile: Profile, framing: Framing) -> &'sta
     }
 }
 
+/// Returns a short name of the listing of captures.
+fn capture_name(profile: Profile) -> &'static str {
+    match profile {
+        Profile::Lenient => "capture",
+        Profile::Strict => "strict capture",
+    }
+}
+
 /// Returns the first line of a text.
 fn first_line(text: &str) -> &str {
     text.lines().next().unwrap_or("")
@@ -79,7 +87,7 @@ fn named(command: &Command) -> (&str, Option<u32>) {
         Command::Message(profile, inputs) => (message_name(*profile, *inputs), None),
         Command::Keytab => ("keytab", None),
         Command::Ccache(when) => timed("ccache", "ccache now", *when),
-        Command::Capture(limit, _) => ("capture", Some(limit.get())),
+        Command::Capture(limit, profile, _) => (capture_name(*profile), Some(limit.get())),
         Command::Decode(limit, profile, framing) => (
             conversion_name(true, *profile, *framing),
             Some(limit.get()),
@@ -96,7 +104,7 @@ fn named(command: &Command) -> (&str, Option<u32>) {
 /// Returns the port of a command, if it has one.
 fn port_of(command: &Command) -> Option<u16> {
     match command {
-        Command::Capture(_, port) => Some(*port),
+        Command::Capture(_, _, port) => Some(*port),
         _ => None,
     }
 }
@@ -214,10 +222,14 @@ keytab => keytab, -
 ccache => ccache, -
 ccache --now 0 => ccache 0, -
 ccache --file a --now 4294967295 => ccache 4294967295, a
+ccache --now 4294967296 => ccache 4294967295, -
+ccache --now 253402300799 => ccache 4294967295, -
 capture => capture 16777216 88, -
 capture --port 750 a b => capture 16777216 750, a, b
 capture --limit 30 --port=65535 --json => capture 30 65535 json, -
 capture --names --port +0001 => capture 16777216 1 named, -
+capture --strict a => strict capture 16777216 88, a
+capture --port 90 --strict --limit=30 => strict capture 30 90, -
 decode a b => decode 16777216, a, b
 decode --strict --limit 30 --unframed => strict decode one 30, -
 encode --unframed --file a => encode one 16777216, a
@@ -249,7 +261,7 @@ stream --limit 5a
 stream --file --
 stream -x
 stream --version
-ccache --now 4294967296
+ccache --now 253402300800
 keytab --now 1
 keytab --strict
 ccache --strict
@@ -260,7 +272,7 @@ capture --port 0
 capture --port 65536
 capture --port -1
 capture --port 88 --port 88
-capture --strict
+capture --strict --strict
 capture --keep-going
 capture --now 5
 stream --port 88

@@ -1,6 +1,6 @@
 -- What is in the clear inside of messages: the parts of a message's record, in the order in which the octets have them.
--- RFC 4120, 5.2.7; RFC 6113, 5.4; MS-SFU, 2.2.1; MS-KILE, 2.2.3 and 2.2.10.
-use Rattle.std.specs.Prelude.{ℕ, ℤ, pos, negsuc, ◌==◌, ◌||◌, Bool, true, false, List, [], ◌∷◌, ◌++◌, map, Option, Some, None, codes, if◌then◌else◌}
+-- RFC 4120, 5.2.7 and 5.9.1; RFC 6113, 5.4; MS-SFU, 2.2.1; MS-KILE, 2.2.1 to 2.2.3 and 2.2.10.
+use Rattle.std.specs.Prelude.{ℕ, ℤ, pos, negsuc, ◌==◌, Bool, true, false, List, [], ◌∷◌, ◌++◌, map, Option, Some, None, codes, if◌then◌else◌}
 use Rattle.std.specs.List.{flat_map}
 use Rattle.krb_msg.specs.Grammar.{ap_req, encrypted_data, method_data}
 use Rattle.krb_msg.specs.Term.{Value}
@@ -13,21 +13,27 @@ use Rattle.krb_msg.specs.declared.message.Message.{Message}
 use Rattle.krb_msg.specs.declared.message.Message.TheVariants as message
 use Rattle.krb_msg.specs.declared.pa_data.PaData.{PaData}
 use Rattle.krb_msg.specs.declared.ticket.Ticket.{Ticket}
-use Rattle.krb_padata.specs.Grammar.{etype_info, etype_info2, pa_for_user, pa_fx_fast_reply, pa_fx_fast_request, pa_pac_options}
+use Rattle.krb_padata.specs.ExtendedError.{kerb_ext_error_in}
+use Rattle.krb_padata.specs.Grammar.{etype_info, etype_info2, kerb_error_data, pa_for_user, pa_fx_fast_reply, pa_fx_fast_request, pa_pac_options, typed_data}
 use Rattle.krb_padata.specs.PacRequest.{pac_request_in}
-use Rattle.krb_padata.specs.Types.{etype_info2_entry_of, etype_info_entry_of, krb_fast_armored_rep_of, krb_fast_armored_req_of, pa_for_user_of, pa_pac_options_of}
+use Rattle.krb_padata.specs.Types.{etype_info2_entry_of, etype_info_entry_of, kerb_error_data_of, krb_fast_armored_rep_of, krb_fast_armored_req_of, pa_for_user_of, pa_pac_options_of, typed_data_item_of}
 use Rattle.krb_padata.specs.declared.etype_info2_entry.EtypeInfo2Entry.{EtypeInfo2Entry}
 use Rattle.krb_padata.specs.declared.etype_info_entry.EtypeInfoEntry.{EtypeInfoEntry}
+use Rattle.krb_padata.specs.declared.kerb_error_data.KerbErrorData.{KerbErrorData}
+use Rattle.krb_padata.specs.declared.kerb_ext_error.KerbExtError.{KerbExtError}
 use Rattle.krb_padata.specs.declared.krb_fast_armor.KrbFastArmor.{KrbFastArmor}
 use Rattle.krb_padata.specs.declared.krb_fast_armored_rep.KrbFastArmoredRep.{KrbFastArmoredRep}
 use Rattle.krb_padata.specs.declared.krb_fast_armored_req.KrbFastArmoredReq.{KrbFastArmoredReq}
 use Rattle.krb_padata.specs.declared.pa_for_user.PaForUser.{PaForUser}
 use Rattle.krb_padata.specs.declared.pa_pac_options.PaPacOptions.{PaPacOptions}
+use Rattle.krb_padata.specs.declared.typed_data_item.TypedDataItem.{TypedDataItem}
 use Rattle.krb_registry.specs.declared.registry.Registry.TheVariants as registries
-use Rattle.krb_text.specs.Judged.{asks_for_preauth, judged, says_preauth_failed}
+use Rattle.krb_text.specs.Judged.{asks_for_preauth, judged}
 use Rattle.krb_text.specs.MessageFields.{ap_req_fields, padata}
 use Rattle.krb_text.specs.MessageValues.{checksum, principal, encrypted}
-use Rattle.krb_record.specs.Values.{Absent, Flags, Hex, Named, Number, Quoted, YesNo, Part, the, part, if_there}
+use Rattle.krb_record.specs.Values.{Absent, Flags, Hex, Named, Number, Numbers, Quoted, Status, YesNo, Part, the, part, if_there}
+use Rattle.krb_text.specs.declared.clear_type.Carrier.{Carrier}
+use Rattle.krb_text.specs.declared.clear_type.Carrier.TheVariants as carriers
 use Rattle.krb_text.specs.declared.clear_type.ClearType.{ClearType}
 use Rattle.krb_text.specs.declared.clear_type.ClearType.TheVariants as types
 
@@ -39,6 +45,29 @@ one_if told (Some a) = told a ∷ []
 abbrev pub each_if : {A : Type 0} → (A → Part) → Option (List A) → List Part
 each_if told None = []
 each_if told (Some items) = map told items
+
+-- ---- extended errors
+-- KERB-EXT-ERROR (MS-KILE, 2.2.1)
+abbrev pub ext_error_part : KerbExtError → Part
+ext_error_part e =
+    part (codes "KERB-EXT-ERROR") (the (codes "status") (Status e.status)
+    ∷ the (codes "reserved") (Number (pos e.reserved))
+    ∷ the (codes "flags") (Number (pos e.flags))
+    ∷ [])
+
+-- the type of a value in the data of an error that is an extended error (MS-KILE, 2.2.2)
+abbrev pub is_extended : ℤ → Bool
+is_extended (pos number) = number == 3
+is_extended (negsuc number) = false
+
+-- the extended error in a value of a type, if it is one
+abbrev pub ext_error_if : Bool → List ℕ → Option KerbExtError
+ext_error_if false octets = None
+ext_error_if true octets = kerb_ext_error_in octets
+
+abbrev pub ext_error_in : ℤ → Option (List ℕ) → Option KerbExtError
+ext_error_in type None = None
+ext_error_in type (Some octets) = ext_error_if (is_extended type) octets
 
 -- ---- pre-authentication data
 -- PA-TGS-REQ (RFC 4120, 5.2.7.1)
@@ -52,6 +81,11 @@ encrypted_part kind e = part kind (the (codes "enc") (encrypted e) ∷ [])
 -- PA-PW-SALT (RFC 4120, 5.2.7.3)
 abbrev pub salt_part : List ℕ → Part
 salt_part octets = part (codes "PA-PW-SALT") (the (codes "salt") (Quoted octets) ∷ [])
+
+-- the same in METHOD-DATA, where Samba's KDC has an extended error, of which what is reserved is 0
+abbrev pub salt_or_error_part : List ℕ → Option KerbExtError → Part
+salt_or_error_part octets None = salt_part octets
+salt_or_error_part octets (Some e) = if e.reserved == 0 then ext_error_part e else salt_part octets
 
 -- an entry of PA-ETYPE-INFO (RFC 4120, 5.2.7.4)
 abbrev pub etype_info_part : EtypeInfoEntry → Part
@@ -116,30 +150,39 @@ abbrev pub pac_options_part : PaPacOptions → Part
 pac_options_part p = part (codes "PA-PAC-OPTIONS") (the (codes "options") (Flags registries.PacOptions p.flags) ∷ [])
 
 -- ---- by type (RFC 4120, 7.5.2; RFC 6113, 5.4)
--- what a type is in a request, and in a reply or an error
-unfoldable pub type_of_number : Bool → ℕ → ClearType
-type_of_number in_request number =
+-- what is a salt, and what PA-FX-FAST is, by what carries it
+abbrev pub salt_in : Carrier → ClearType
+salt_in carriers.Error = types.SaltOrError
+salt_in other = types.PwSalt
+
+abbrev pub fast_in : Carrier → ClearType
+fast_in carriers.Request = types.FastRequest
+fast_in other = types.FastReply
+
+unfoldable pub type_of_number : Carrier → ℕ → ClearType
+type_of_number carrier number =
     if number == 1 then types.TgsReq
     else if number == 2 then types.EncTimestamp
-    else if number == 3 then types.PwSalt
+    else if number == 3 then salt_in carrier
     else if number == 11 then types.EtypeInfo
     else if number == 19 then types.EtypeInfo2
     else if number == 128 then types.PacRequest
     else if number == 129 then types.ForUser
-    else if number == 136 then (if in_request then types.FastRequest else types.FastReply)
+    else if number == 136 then fast_in carrier
     else if number == 138 then types.EncryptedChallenge
     else if number == 167 then types.PacOptions
     else types.Other
 
-abbrev pub clear_type : Bool → ℤ → ClearType
-clear_type in_request (pos number) = type_of_number in_request number
-clear_type in_request (negsuc number) = types.Other
+abbrev pub clear_type : Carrier → ℤ → ClearType
+clear_type carrier (pos number) = type_of_number carrier number
+clear_type carrier (negsuc number) = types.Other
 
 -- the parts of a value; one that is not judged to be of its type, or of another type, has none
 abbrev pub clear_parts : ClearType → List ℕ → List Part
 clear_parts types.TgsReq octets = one_if (λ v. tgs_req_part (ap_req_of v)) (judged ap_req octets)
 clear_parts types.EncTimestamp octets = one_if (λ v. encrypted_part (codes "PA-ENC-TIMESTAMP") (encrypted_data_of v)) (judged encrypted_data octets)
 clear_parts types.PwSalt octets = salt_part octets ∷ []
+clear_parts types.SaltOrError octets = salt_or_error_part octets (kerb_ext_error_in octets) ∷ []
 clear_parts types.EtypeInfo octets = each_if (λ v. etype_info_part (etype_info_entry_of v)) (judged etype_info octets)
 clear_parts types.EtypeInfo2 octets = each_if (λ v. etype_info2_part (etype_info2_entry_of v)) (judged etype_info2 octets)
 clear_parts types.PacRequest octets = one_if pac_request_part (pac_request_in octets)
@@ -150,12 +193,12 @@ clear_parts types.EncryptedChallenge octets = one_if (λ v. encrypted_part (code
 clear_parts types.PacOptions octets = one_if (λ v. pac_options_part (pa_pac_options_of v)) (judged pa_pac_options octets)
 clear_parts types.Other octets = []
 
-abbrev pub item_parts : Bool → PaData → List Part
-item_parts in_request item = clear_parts (clear_type in_request item.padata_type) item.padata_value
+abbrev pub item_parts : Carrier → PaData → List Part
+item_parts carrier item = clear_parts (clear_type carrier item.padata_type) item.padata_value
 
-abbrev pub padata_parts : Bool → Option (List PaData) → List Part
-padata_parts in_request None = []
-padata_parts in_request (Some items) = flat_map (item_parts in_request) items
+abbrev pub padata_parts : Carrier → Option (List PaData) → List Part
+padata_parts carrier None = []
+padata_parts carrier (Some items) = flat_map (item_parts carrier) items
 
 -- ---- messages
 -- a Ticket (RFC 4120, 5.3)
@@ -164,37 +207,61 @@ ticket_part t = part (codes "Ticket") (the (codes "server") (principal t.realm t
 
 -- AS-REQ and TGS-REQ
 abbrev pub kdc_req_parts : KdcReq → List Part
-kdc_req_parts m = padata_parts true m.padata ++ each_if ticket_part m.body.additional_tickets
+kdc_req_parts m = padata_parts carriers.Request m.padata ++ each_if ticket_part m.body.additional_tickets
 
--- the METHOD-DATA of an error: of one that says that pre-authentication failed first their types, which the record of one
--- that asks for it has as a field
+-- ---- the data of errors (RFC 4120, 5.9.1; MS-KILE, 2.2.2)
+-- METHOD-DATA: first its types, unless the error asks for pre-authentication, whose record has them as a field
 abbrev pub methods_part : List PaData → Part
 methods_part items = part (codes "METHOD-DATA") (the (codes "methods") (padata items) ∷ [])
 
-abbrev pub types_if : Bool → List PaData → List Part
-types_if false items = []
-types_if true items = methods_part items ∷ []
+abbrev pub types_unless : Bool → List PaData → List Part
+types_unless true items = []
+types_unless false items = methods_part items ∷ []
 
-abbrev pub method_parts : Bool → Option (Value method_data) → List Part
-method_parts failed None = []
-method_parts failed (Some items) = types_if failed (map pa_data_of items) ++ flat_map (item_parts false) (map pa_data_of items)
+abbrev pub method_parts : Bool → List PaData → List Part
+method_parts asks items = types_unless asks items ++ flat_map (item_parts carriers.Error) items
 
--- the data of an error, which are METHOD-DATA if it says either (RFC 4120, 5.9.1)
-abbrev pub method_data_if : Bool → Option (List ℕ) → Option (Value method_data)
-method_data_if has_methods None = None
-method_data_if false (Some octets) = None
-method_data_if true (Some octets) = judged method_data octets
+-- TYPED-DATA: its types, and the extended errors in it
+abbrev pub types_part : List TypedDataItem → Part
+types_part items = part (codes "TYPED-DATA") (the (codes "types") (Numbers registries.PreAuthenticationData (map (λ item. item.data_type) items)) ∷ [])
+
+abbrev pub typed_item_parts : TypedDataItem → List Part
+typed_item_parts item = one_if ext_error_part (ext_error_in item.data_type item.data_value)
+
+abbrev pub typed_parts : List TypedDataItem → List Part
+typed_parts items = types_part items ∷ flat_map typed_item_parts items
+
+-- KERB-ERROR-DATA: its type, and the extended error that it may be
+abbrev pub error_data_part : KerbErrorData → Part
+error_data_part e = part (codes "KERB-ERROR-DATA") (the (codes "type") (Named registries.ErrorDataTypes e.data_type) ∷ [])
+
+abbrev pub error_data_parts : KerbErrorData → List Part
+error_data_parts e = error_data_part e ∷ one_if ext_error_part (ext_error_in e.data_type e.data_value)
+
+-- the first of these that all of the octets are one item of decides
+abbrev pub first_parts : Bool → Option (Value method_data) → Option (Value typed_data) → Option (Value kerb_error_data) → List Part
+first_parts asks (Some items) typed other = method_parts asks (map pa_data_of items)
+first_parts asks None (Some items) other = typed_parts (map typed_data_item_of items)
+first_parts asks None None (Some v) = error_data_parts (kerb_error_data_of v)
+first_parts asks None None None = []
+
+abbrev pub data_parts : Bool → List ℕ → List Part
+data_parts asks octets = first_parts asks (judged method_data octets) (judged typed_data octets) (judged kerb_error_data octets)
+
+abbrev pub data_parts_if : Bool → Option (List ℕ) → List Part
+data_parts_if asks None = []
+data_parts_if asks (Some octets) = data_parts asks octets
 
 abbrev pub krb_error_parts : KrbError → List Part
-krb_error_parts m =
-    method_parts (says_preauth_failed m.error_code) (method_data_if (asks_for_preauth m.error_code || says_preauth_failed m.error_code) m.e_data)
+krb_error_parts m = data_parts_if (asks_for_preauth m.error_code) m.e_data
 
+-- ---- all messages
 -- the parts of a message; those that have no pre-authentication data and no list of Tickets have no list of parts
 abbrev pub inside_of : Message → Option (List Part)
 inside_of (message.AsReq m) = Some (kdc_req_parts m)
-inside_of (message.AsRep m) = Some (padata_parts false m.padata)
+inside_of (message.AsRep m) = Some (padata_parts carriers.Reply m.padata)
 inside_of (message.TgsReq m) = Some (kdc_req_parts m)
-inside_of (message.TgsRep m) = Some (padata_parts false m.padata)
+inside_of (message.TgsRep m) = Some (padata_parts carriers.Reply m.padata)
 inside_of (message.ApReq m) = None
 inside_of (message.ApRep m) = None
 inside_of (message.KrbSafe m) = None

@@ -26,14 +26,10 @@ judged_if true term octets = if_whole (term_judgement term (length octets) octet
 unfoldable pub judged : (term : Term) → List ℕ → Option (Value term)
 judged term octets = judged_if (are_octets octets) term octets
 
--- whether an error asks for pre-authentication, and whether it says that it failed (RFC 4120, 7.5.9)
+-- whether an error asks for pre-authentication (RFC 4120, 7.5.9)
 abbrev pub asks_for_preauth : ℤ → Bool
 asks_for_preauth (pos code) = code == 25
 asks_for_preauth (negsuc code) = false
-
-abbrev pub says_preauth_failed : ℤ → Bool
-says_preauth_failed (pos code) = code == 24
-says_preauth_failed (negsuc code) = false
 
 -- the METHOD-DATA in the data of an error that asks for pre-authentication (RFC 4120, 5.9.1)
 abbrev pub methods_in : ℤ → Option (List ℕ) → Option (Value method_data)

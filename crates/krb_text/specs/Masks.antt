@@ -1,6 +1,6 @@
--- Messages without what is encrypted or opaque: each octet of ciphers, of checksums and of user data is 00, also inside of pre-authentication data, and so is each octet of other pre-authentication data and of the data of errors.
-use Rattle.std.specs.Prelude.{ℕ, ℤ, ◌||◌, Bool, true, false, List, length, map, Option, Some, None}
-use Rattle.std.specs.Option.{option_map}
+-- Messages without what is encrypted or opaque: each octet of ciphers, of checksums and of user data is 00, also inside of pre-authentication data, and so is each octet of other pre-authentication data and of the data of errors that are of no type.
+use Rattle.std.specs.Prelude.{ℕ, ◌||◌, Bool, true, false, List, length, map, Option, Some, None}
+use Rattle.std.specs.Option.{is_some, option_map}
 use Rattle.krb_file.specs.Fields.{zeros}
 use Rattle.krb_msg.specs.declared.ap_rep.ApRep.{ApRep}
 use Rattle.krb_msg.specs.declared.ap_req.ApReq.{ApReq}
@@ -18,12 +18,14 @@ use Rattle.krb_msg.specs.declared.message.Message.{Message}
 use Rattle.krb_msg.specs.declared.message.Message.TheVariants as message
 use Rattle.krb_msg.specs.declared.pa_data.PaData.{PaData}
 use Rattle.krb_msg.specs.declared.ticket.Ticket.{Ticket}
-use Rattle.krb_msg.specs.Grammar.{ap_req, checksum, encrypted_data, pa_data, ticket}
+use Rattle.krb_msg.specs.Grammar.{ap_req, checksum, encrypted_data, method_data, pa_data, ticket}
 use Rattle.krb_msg.specs.Term.{Term, Value, der}
-use Rattle.krb_padata.specs.Grammar.{etype_info, etype_info2, krb_fast_armor, pa_for_user, pa_fx_fast_reply, pa_fx_fast_request, pa_pac_options}
+use Rattle.krb_padata.specs.Grammar.{etype_info, etype_info2, kerb_error_data, krb_fast_armor, pa_for_user, pa_fx_fast_reply, pa_fx_fast_request, pa_pac_options, typed_data}
 use Rattle.krb_padata.specs.PacRequest.{pac_request_in}
 use Rattle.krb_text.specs.Inside.{clear_type, is_ap_req_armor}
-use Rattle.krb_text.specs.Judged.{asks_for_preauth, judged, says_preauth_failed}
+use Rattle.krb_text.specs.Judged.{judged}
+use Rattle.krb_text.specs.declared.clear_type.Carrier.{Carrier}
+use Rattle.krb_text.specs.declared.clear_type.Carrier.TheVariants as carriers
 use Rattle.krb_text.specs.declared.clear_type.ClearType.{ClearType}
 use Rattle.krb_text.specs.declared.clear_type.ClearType.TheVariants as types
 
@@ -91,6 +93,7 @@ abbrev pub masked_clear : ClearType → List ℕ → List ℕ
 masked_clear types.TgsReq octets = masked_as ap_req masked_ap_req_value octets
 masked_clear types.EncTimestamp octets = masked_as encrypted_data masked_encrypted_value octets
 masked_clear types.PwSalt octets = octets
+masked_clear types.SaltOrError octets = octets
 masked_clear types.EtypeInfo octets = octets_or_zeros octets (judged etype_info octets)
 masked_clear types.EtypeInfo2 octets = octets_or_zeros octets (judged etype_info2 octets)
 masked_clear types.PacRequest octets = octets_or_zeros octets (pac_request_in octets)
@@ -101,20 +104,20 @@ masked_clear types.EncryptedChallenge octets = masked_as encrypted_data masked_e
 masked_clear types.PacOptions octets = octets_or_zeros octets (judged pa_pac_options octets)
 masked_clear types.Other octets = zeros (length octets)
 
--- in a request, or in a reply or an error
-abbrev pub masked_item : Bool → PaData → PaData
-masked_item in_request p = record p { padata_value = masked_clear (clear_type in_request p.padata_type) p.padata_value }
+-- by what carries it
+abbrev pub masked_item : Carrier → PaData → PaData
+masked_item carrier p = record p { padata_value = masked_clear (clear_type carrier p.padata_type) p.padata_value }
 
 -- an item of METHOD-DATA, as a value of its term
 abbrev pub masked_method : Value pa_data → Value pa_data
-masked_method item = (item.0, (masked_clear (clear_type false item.0) item.1.0, tt))
+masked_method item = (item.0, (masked_clear (clear_type carriers.Error item.0) item.1.0, tt))
 
 -- ---- messages
 abbrev pub masked_kdc_req : KdcReq → KdcReq
-masked_kdc_req m = record m { padata = option_map (map (masked_item true)) m.padata; body = masked_req_body m.body }
+masked_kdc_req m = record m { padata = option_map (map (masked_item carriers.Request)) m.padata; body = masked_req_body m.body }
 
 abbrev pub masked_kdc_rep : KdcRep → KdcRep
-masked_kdc_rep m = record m { padata = option_map (map (masked_item false)) m.padata; ticket = masked_ticket m.ticket; enc_part = masked_encrypted m.enc_part }
+masked_kdc_rep m = record m { padata = option_map (map (masked_item carriers.Reply)) m.padata; ticket = masked_ticket m.ticket; enc_part = masked_encrypted m.enc_part }
 
 abbrev pub masked_ap_req : ApReq → ApReq
 masked_ap_req m = record m { ticket = masked_ticket m.ticket; authenticator = masked_encrypted m.authenticator }
@@ -131,16 +134,19 @@ masked_krb_priv m = record m { enc_part = masked_encrypted m.enc_part }
 abbrev pub masked_krb_cred : KrbCred → KrbCred
 masked_krb_cred m = record m { tickets = map masked_ticket m.tickets; enc_part = masked_encrypted m.enc_part }
 
--- the data of an error are opaque unless it asks for pre-authentication or says that it failed
-abbrev pub opaque_unless : Bool → Option (List ℕ) → Option (List ℕ)
+-- the data of an error are opaque unless they are METHOD-DATA, TYPED-DATA or KERB-ERROR-DATA
+abbrev pub opaque_unless : Bool → List ℕ → List ℕ
 opaque_unless true octets = octets
-opaque_unless false octets = option_map (λ some. zeros (length some)) octets
+opaque_unless false octets = zeros (length octets)
 
-abbrev pub masked_data : ℤ → Option (List ℕ) → Option (List ℕ)
-masked_data code octets = opaque_unless (asks_for_preauth code || says_preauth_failed code) octets
+abbrev pub has_type : List ℕ → Bool
+has_type octets = is_some (judged method_data octets) || is_some (judged typed_data octets) || is_some (judged kerb_error_data octets)
+
+abbrev pub masked_data : List ℕ → List ℕ
+masked_data octets = opaque_unless (has_type octets) octets
 
 abbrev pub masked_krb_error : KrbError → KrbError
-masked_krb_error m = record m { e_data = masked_data m.error_code m.e_data }
+masked_krb_error m = record m { e_data = option_map masked_data m.e_data }
 
 abbrev pub masked : Message → Message
 masked (message.AsReq m) = message.AsReq (masked_kdc_req m)

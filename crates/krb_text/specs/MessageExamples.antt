@@ -4,6 +4,7 @@ use Rattle.std.specs.Fmt.{digits}
 use Rattle.std.specs.declared.net.ip_addr.IpAddr.{IpAddr}
 use Rattle.std.specs.declared.net.ip_addr.IpAddr.TheVariants as ip
 use Rattle.krb_der.specs.Hex.{hex}
+use Rattle.krb_der.specs.Octets.{item}
 use Rattle.krb_msg.specs.declared.message.Message.{Message}
 use Rattle.krb_msg.specs.Views.{message_of_der}
 use Rattle.krb_registry.specs.Rows.{rows, name_in, name_of}
@@ -170,6 +171,26 @@ named_request = refl
 named_other : text_of NamedLines (with_pac (hex (codes "3005A003010101"))) ≡ codes "AS-REQ realm=A client=- server=- options=7:40:forwardable from=- till=19700101000000Z rtime=- nonce=-1 etypes=[18:aes256-cts-hmac-sha1-96] padata=[128:PA-PAC-REQUEST] addresses=- authdata=- tickets=- notes=[2:short-flags,3:negative] inside=0"
 unfolding digits closing labelled opening inside_text part_text judged type_of_number record_text value_text named_flags_text set_names unnamed message_record rows name_in name_of
 named_other = refl
+
+-- ---- what is inside of errors
+-- with this code and this data
+abbrev error_of : List ℕ → List ℕ → List ℕ
+error_of code octets = item 0x7E (item 0x30 (hex (codes "A003020105 A10302011E A411180F32303236313133303037303030305A A503020100") ++ item 0xA6 (item 0x02 code) ++ hex (codes "A9031B0141 AA0E300CA003020102A10530031B0168") ++ item 0xAC (item 0x04 octets)))
+
+-- the account of a client is disabled, as a KDC of Windows says it
+of_windows : text_of NamedLines (error_of (18 ∷ []) (hex (codes "3015 A103020103 A20E040C720000C00000000001000000"))) ≡ codes "KRB-ERROR code=18:KDC_ERR_CLIENT_REVOKED client=- server=h@A ctime=- cusec=- stime=20261130070000Z susec=0 text=- data=23 methods=- notes=[] inside=2 KERB-ERROR-DATA type=3:KERB_ERR_TYPE_EXTENDED KERB-EXT-ERROR status=c0000072:STATUS_ACCOUNT_DISABLED reserved=0 flags=1"
+unfolding digits principal_text closing labelled opening inside_text part_text judged type_of_number record_text value_text message_record rows name_in name_of
+of_windows = refl
+
+-- and as Samba's does, as if it were a salt in METHOD-DATA
+of_samba : text_of NamedLines (error_of (18 ∷ []) (hex (codes "3017 3015 A103020103 A20E040C720000C00000000001000000"))) ≡ codes "KRB-ERROR code=18:KDC_ERR_CLIENT_REVOKED client=- server=h@A ctime=- cusec=- stime=20261130070000Z susec=0 text=- data=25 methods=- notes=[] inside=2 METHOD-DATA methods=[3:PA-PW-SALT] KERB-EXT-ERROR status=c0000072:STATUS_ACCOUNT_DISABLED reserved=0 flags=1"
+unfolding digits principal_text closing labelled opening inside_text part_text judged type_of_number record_text value_text message_record rows name_in name_of
+of_samba = refl
+
+-- parameters of Diffie and Hellman, in TYPED-DATA
+of_types : text_of NamedLines (error_of (65 ∷ []) (hex (codes "300B 3009 A00302016D A1020400"))) ≡ codes "KRB-ERROR code=65:KDC_ERR_DH_KEY_PARAMETERS_NOT_ACCEPTED client=- server=h@A ctime=- cusec=- stime=20261130070000Z susec=0 text=- data=13 methods=- notes=[] inside=1 TYPED-DATA types=[109:TD-DH-PARAMETERS]"
+unfolding digits principal_text closing labelled opening inside_text part_text judged type_of_number record_text value_text message_record rows name_in name_of
+of_types = refl
 
 -- ---- from a capture: in a server's answer to a request to change a password
 abbrev local : IpAddr

@@ -7,8 +7,9 @@ ghost use Rattle.krb_msg.specs.Types.{IsValidApReq, ap_req_of, ap_req_of_view, a
 ghost use Rattle.krb_msg.specs.Term.{IfPresent};
 ghost use Rattle.krb_padata.specs.Types.{IsValidKrbFastArmor, etype_info2_entry_of_view, etype_info_entry_of_view, krb_fast_armor_of, krb_fast_armor_view_value, krb_fast_armored_rep_of_view, krb_fast_armored_req_of_view, pa_for_user_of_view, pa_pac_options_of_view};
 ghost use Rattle.krb_registry.specs.declared.registry.Registry.TheVariants.{EncryptionTypes};
+ghost use Rattle.krb_padata.specs.ExtendedError.{kerb_ext_error_in};
 ghost use Rattle.krb_record.specs.Forms.{field, part_text};
-ghost use Rattle.krb_text.specs.Inside.{ap_req_in, etype_info2_part, etype_info_part, fast_reply_part, fast_request_part, for_user_part, one_if, pac_options_part, pac_request_part, salt_part, encrypted_part, tgs_req_part, ticket_part};
+ghost use Rattle.krb_text.specs.Inside.{ap_req_in, etype_info2_part, etype_info_part, ext_error_part, fast_reply_part, fast_request_part, for_user_part, one_if, pac_options_part, pac_request_part, salt_or_error_part, salt_part, encrypted_part, tgs_req_part, ticket_part};
 ghost use Rattle.krb_text.specs.Judged.{judged};
 ghost use Rattle.krb_text.specs.MessageValues.{principal, encrypted};
 ghost use Rattle.krb_record.specs.Values.{Named, Number, if_there};
@@ -21,10 +22,10 @@ use crate::viewed::{
 };
 use krb_msg::{ApReq, ApReqView, EncryptedData, EncryptedDataView, Ticket};
 use krb_padata::{
-    EtypeInfo2Entry, EtypeInfoEntry, KrbFastArmorView, PaForUser, PaFxFastReply, PaFxFastRequest,
-    PaPacOptions,
+    EtypeInfo2Entry, EtypeInfoEntry, KerbExtError, KrbFastArmorView, PaForUser, PaFxFastReply,
+    PaFxFastRequest, PaPacOptions, view_kerb_ext_error,
 };
-use krb_record::{ABSENT, Form, Numbered, QuotedText, TextBuffer, put_closing, put_field};
+use krb_record::{ABSENT, Form, Numbered, QuotedText, Status, TextBuffer, put_closing, put_field};
 use krb_registry::Registry;
 use std::alloc::AllocError;
 
@@ -263,6 +264,37 @@ pub(crate) fn put_salt(
     put_part_opening(text, at, "PA-PW-SALT")?;
     put_field!(text, at.form, "salt": &QuotedText(octets))?;
     put_closing(text, at.form)
+}
+
+/// Appends the part of an extended error (MS-KILE, 2.2.1).
+#[tactic(auto, unfolding(krb_record::specs::Forms::part_text))]
+pub(crate) fn put_ext_error(
+    text: &mut TextBuffer,
+    at: PartPlace,
+    error: KerbExtError,
+) -> Result<(), AllocError>
+    ensures { OnOk result (text.new ≡ text.old ++ separator at.form (nat_lt 0 at.told) ++ part_text at.form (ext_error_part error)) }
+{
+    put_part_opening(text, at, "KERB-EXT-ERROR")?;
+    put_field!(text, at.form, "status": &Status(error.status))?;
+    put_field!(text, at.form, "reserved": &u64::from(error.reserved))?;
+    put_field!(text, at.form, "flags": &u64::from(error.flags))?;
+    put_closing(text, at.form)
+}
+
+/// Appends the part of a salt of an error (RFC 4120, 5.2.7.3), or of an extended error, which Samba's
+/// KDC sends as if it were a salt.
+pub(crate) fn put_salt_or_error(
+    text: &mut TextBuffer,
+    at: PartPlace,
+    octets: &[u8],
+) -> Result<(), AllocError>
+    ensures { OnOk result (text.new ≡ text.old ++ separator at.form (nat_lt 0 at.told) ++ part_text at.form (salt_or_error_part octets.now (kerb_ext_error_in octets.now))) }
+{
+    match view_kerb_ext_error(octets) {
+        Some(error) if error.reserved == 0 => put_ext_error(text, at, error),
+        _ => put_salt(text, at, octets),
+    }
 }
 
 /// Appends the part of a PA-PAC-REQUEST (MS-KILE, 2.2.3).

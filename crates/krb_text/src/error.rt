@@ -7,7 +7,7 @@ ghost use Rattle.krb_msg.specs.Viewed.{AreViewed, items_of};
 ghost use Rattle.krb_registry.specs.declared.registry.Registry.TheVariants.{PreAuthenticationData};
 ghost use Rattle.krb_record.specs.Forms.{field};
 ghost use Rattle.krb_text.specs.Inside.{krb_error_parts};
-ghost use Rattle.krb_text.specs.Judged.{judged};
+ghost use Rattle.krb_text.specs.Judged.{asks_for_preauth, judged};
 ghost use Rattle.krb_text.specs.MessageFields.{krb_error_fields, methods};
 ghost use Rattle.krb_text.specs.MessageValues.{client, principal};
 ghost use Rattle.krb_record.specs.Values.{ErrorCode as IsErrorCode, Number, Numbers, Quoted, Word, count, if_there};
@@ -26,7 +26,14 @@ use krb_record::{ErrorCode, Form, TextBuffer, put_field};
 use std::alloc::AllocError;
 
 /// The code of an error that asks for pre-authentication (RFC 4120, 7.5.9).
-pub(crate) const PREAUTH_REQUIRED: i64 = 25;
+const PREAUTH_REQUIRED: i64 = 25;
+
+/// Returns whether an error asks for pre-authentication.
+pub(crate) fn asks_for_preauth(code: i64) -> bool
+    ensures { result ≡ asks_for_preauth code }
+{
+    code == PREAUTH_REQUIRED
+}
 
 /// Returns a view of METHOD-DATA, if the octets are that.
 pub(crate) fn method_data(octets: &[u8]) -> Option<ItemsView<'_>>

@@ -1,27 +1,25 @@
 //! What is inside of messages: their parts, after the fields of a record.
 
-ghost use Rattle.std.specs.Prelude.{◌≡◌, ◌+◌, ◌<◌, ◌++◌, ◌||◌, None, Some, false, true, map, IfOk, List, MatchOption, OnOk};
+ghost use Rattle.std.specs.Prelude.{◌≡◌, ◌++◌, Some, map, IfOk, List, OnOk};
 ghost use Rattle.std.specs.Option.{option_map};
 ghost use Rattle.krb_msg.specs.Grammar.{pa_data, ticket};
 ghost use Rattle.krb_msg.specs.Types.{IsValidKdcRep, IsValidKdcReq, IsValidKrbCred, IsValidKrbError, kdc_rep_of_view, kdc_req_of_view, krb_cred_of_view, krb_error_of_view, pa_data_of, ticket_of};
 ghost use Rattle.krb_msg.specs.Term.{IfPresent};
 ghost use Rattle.krb_msg.specs.Viewed.{AreViewed, items_of};
-ghost use Rattle.krb_record.specs.Forms.{ending, part_text};
-ghost use Rattle.krb_text.specs.Inside.{each_if, kdc_req_parts, krb_error_parts, method_data_if, methods_part, padata_parts, ticket_part, types_if};
-ghost use Rattle.krb_text.specs.Judged.{asks_for_preauth, says_preauth_failed};
+ghost use Rattle.krb_record.specs.Forms.{ending};
+ghost use Rattle.krb_text.specs.Inside.{each_if, kdc_req_parts, krb_error_parts, padata_parts, ticket_part};
 ghost use Rattle.krb_record.specs.Values.{Part};
-ghost use Rattle.krb_text.specs.inner.Parts.{Tells, separator};
+ghost use Rattle.krb_text.specs.declared.clear_type.Carrier.TheVariants as carriers;
+ghost use Rattle.krb_text.specs.inner.Parts.{Tells};
 
-use crate::error::{PREAUTH_REQUIRED, method_data};
-use crate::list::PaDataTypes;
+use crate::clear_type::Carrier;
+use crate::error::asks_for_preauth;
+use crate::error_data::put_data;
 use crate::padata::put_padata;
-use crate::part::{PartPlace, put_each, put_part_opening};
+use crate::part::{PartPlace, put_each};
 use krb_msg::{ItemsView, KdcRepView, KdcReqView, KrbCredView, KrbErrorView, Ticket};
-use krb_record::{Form, TextBuffer, put_closing, put_field};
+use krb_record::{Form, TextBuffer};
 use std::alloc::AllocError;
-
-/// The code of an error that says that pre-authentication failed (RFC 4120, 7.5.9).
-const PREAUTH_FAILED: i64 = 24;
 
 /// A message that may have parts.
 pub(crate) trait HasParts {
@@ -42,15 +40,15 @@ pub(crate) trait HasParts {
 fn put_optional_padata(
     text: &mut TextBuffer,
     form: Form,
-    in_request: bool,
+    carrier: Carrier,
     items: Option<ItemsView<'_>>,
 ) -> Result<u64, AllocError>
     requires { IfPresent (λ items. AreViewed pa_data items.octets.now) items }
-    ensures { IfOk result (λ told. Tells form (padata_parts in_request (option_map (map pa_data_of) (option_map (λ items. items_of pa_data items.octets.now) items.entry))) 0 text.old told text.new) }
+    ensures { IfOk result (λ told. Tells form (padata_parts carrier (option_map (map pa_data_of) (option_map (λ items. items_of pa_data items.octets.now) items.entry))) 0 text.old told text.new) }
 {
     match items {
         None => Ok(0),
-        Some(items) => put_padata(text, form, 0, in_request, items),
+        Some(items) => put_padata(text, form, 0, carrier, items),
     }
 }
 
@@ -87,18 +85,18 @@ impl<'a> HasParts for KdcReqView<'a> {
     ghost IsValid = { IsValidKdcReq };
 
     fn put_parts(&self, text: &mut TextBuffer, form: Form) -> Result<u64, AllocError> {
-        let told = put_optional_padata(text, form, true, self.padata)?;
+        let told = put_optional_padata(text, form, Carrier::Request, self.padata)?;
         put_optional_tickets(text, PartPlace { form, told }, self.body.additional_tickets)
     }
 }
 
 impl<'a> HasParts for KdcRepView<'a> {
-    ghost parts = { λ m. padata_parts false (kdc_rep_of_view m).padata };
+    ghost parts = { λ m. padata_parts carriers.Reply (kdc_rep_of_view m).padata };
 
     ghost IsValid = { IsValidKdcRep };
 
     fn put_parts(&self, text: &mut TextBuffer, form: Form) -> Result<u64, AllocError> {
-        put_optional_padata(text, form, false, self.padata)
+        put_optional_padata(text, form, Carrier::Reply, self.padata)
     }
 }
 
@@ -112,72 +110,16 @@ impl<'a> HasParts for KrbCredView<'a> {
     }
 }
 
-/// Returns whether an error asks for pre-authentication or says that it failed, so that its data
-/// are METHOD-DATA.
-fn has_methods(code: i64) -> bool
-    ensures { result ≡ (asks_for_preauth code || says_preauth_failed code) }
-{
-    code == PREAUTH_REQUIRED || code == PREAUTH_FAILED
-}
-
-/// Returns a view of the METHOD-DATA of an error that asks for pre-authentication or says that it
-/// failed (RFC 4120, 5.9.1), if its data is that.
-fn methods_of<'a>(error: &KrbErrorView<'a>) -> Option<ItemsView<'a>>
-    requires { IsValidKrbError error.now }
-    ensures { let seen = krb_error_of_view error.now in let found = method_data_if (asks_for_preauth seen.error_code || says_preauth_failed seen.error_code) seen.e_data in MatchOption result (found ≡ None) (λ items. AreViewed pa_data items.octets.now × (found ≡ Some (items_of pa_data items.octets.now))) }
-{
-    match error.e_data {
-        Some(octets) if has_methods(error.error_code) => method_data(octets),
-        _ => None,
-    }
-}
-
-/// Appends the part of METHOD-DATA, their types.
-#[tactic(auto, unfolding(krb_record::specs::Forms::part_text))]
-fn put_methods_part(
-    text: &mut TextBuffer,
-    form: Form,
-    items: ItemsView<'_>,
-) -> Result<(), AllocError>
-    requires { AreViewed pa_data items.octets.now }
-    ensures { OnOk result (text.new ≡ text.old ++ separator form false ++ part_text form (methods_part (map pa_data_of (items_of pa_data items.entry.octets.now)))) }
-{
-    put_part_opening(text, PartPlace { form, told: 0 }, "METHOD-DATA")?;
-    put_field!(text, form, "methods": &PaDataTypes::new(items))?;
-    put_closing(text, form)
-}
-
-/// Appends the part of METHOD-DATA of an error that says that pre-authentication failed, and returns
-/// how many parts were told by now.
-fn put_methods(
-    text: &mut TextBuffer,
-    form: Form,
-    failed: bool,
-    items: ItemsView<'_>,
-) -> Result<u64, AllocError>
-    requires { AreViewed pa_data items.octets.now }
-    ensures { IfOk result (λ told. Tells form (types_if failed (map pa_data_of (items_of pa_data items.entry.octets.now))) 0 text.old told text.new) }
-{
-    if failed {
-        put_methods_part(text, form, items)?;
-        Ok(1)
-    } else {
-        Ok(0)
-    }
-}
-
 impl<'a> HasParts for KrbErrorView<'a> {
     ghost parts = { λ m. krb_error_parts (krb_error_of_view m) };
 
     ghost IsValid = { IsValidKrbError };
 
     fn put_parts(&self, text: &mut TextBuffer, form: Form) -> Result<u64, AllocError> {
-        let Some(items) = methods_of(self) else {
-            return Ok(0);
-        };
-        let failed = self.error_code == PREAUTH_FAILED;
-        let told = put_methods(text, form, failed, items)?;
-        put_padata(text, form, told, false, items)
+        match self.e_data {
+            None => Ok(0),
+            Some(octets) => put_data(text, form, asks_for_preauth(self.error_code), octets),
+        }
     }
 }
 

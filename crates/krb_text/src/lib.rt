@@ -12,6 +12,7 @@
 mod clear;
 mod clear_type;
 mod error;
+mod error_data;
 mod inside;
 mod list;
 mod message;
@@ -22,7 +23,7 @@ mod record;
 mod ticket;
 mod viewed;
 
-pub use clear_type::ClearType;
+pub use clear_type::{Carrier, ClearType};
 pub use record::{put_captured_message, put_message_from, put_message_in, put_message_text};
 pub use ticket::put_ticket;
 pub use viewed::{ViewedStrings, encrypted_of};

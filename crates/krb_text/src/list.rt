@@ -13,10 +13,13 @@ ghost use Rattle.krb_text.specs.Messages.{padata};
 ghost use Rattle.krb_record.specs.Text.{joined, list_text};
 ghost use Rattle.krb_record.specs.Values.{Numbers};
 ghost use Rattle.krb_record.specs.Items.{number_item};
+ghost use Rattle.krb_padata.specs.Grammar.{typed_data_item};
+ghost use Rattle.krb_padata.specs.Types.{typed_data_item_of};
 ghost use Rattle.krb_text.specs.inner.Items.{IsFirstNumber, item_number};
 
 use krb_der::Int32;
 use krb_msg::{ItemsView, PaData, View, next_item, next_type};
+use krb_padata::TypedDataItem;
 use krb_record::{NumberForm, Shown, TextBuffer, put_begin, put_names_begin, put_number_item};
 use krb_registry::Registry;
 use std::alloc::AllocError;
@@ -42,6 +45,17 @@ impl<'a> Listed<'a> for PaData {
     #[inline(always)]
     fn next_number(items: ItemsView<'a>) -> Option<(i64, ItemsView<'a>)> {
         next_type(items)
+    }
+}
+
+/// Its type alone.
+impl<'a> Listed<'a> for TypedDataItem {
+    #[inline(always)]
+    fn next_number(items: ItemsView<'a>) -> Option<(i64, ItemsView<'a>)> {
+        match next_item::<TypedDataItem>(items) {
+            None => None,
+            Some((item, rest)) => Some((item.data_type, rest)),
+        }
     }
 }
 
@@ -260,5 +274,48 @@ impl<'a> Shown for PaDataTypes<'a> {
     #[inline(always)]
     fn put_members(&self, object: &mut TextBuffer, begin: &str) -> Result<(), AllocError> {
         put_numbers_members::<PaData>(object, begin, Registry::PreAuthenticationData, self.0)
+    }
+}
+
+/// The types of TYPED-DATA that is viewed in octets. Contracts see the numbers.
+#[derive(Drop)]
+pub(crate) struct TypedDataTypes<'a>(ItemsView<'a>);
+
+impl<'a> Model for TypedDataTypes<'a> {
+    ghost use Rattle.std.specs.Prelude.{List, ℤ, map};
+    ghost use Rattle.krb_msg.specs.Viewed.{AreViewed, items_of};
+    ghost use Rattle.krb_padata.specs.Grammar.{typed_data_item};
+    ghost use Rattle.krb_text.specs.inner.Items.{item_number};
+
+    ghost Value = { List ℤ };
+
+    ghost view = { λ seen. map (item_number typed_data_item) (items_of typed_data_item seen.0.octets.now) };
+
+    ghost invariant = { λ seen. AreViewed typed_data_item seen.0.octets.now };
+}
+
+impl<'a> TypedDataTypes<'a> {
+    /// Takes the items of a list.
+    #[inline(always)]
+    pub(crate) fn new(items: ItemsView<'a>) -> TypedDataTypes<'a>
+        requires { AreViewed typed_data_item items.octets.now }
+        ensures { Numbers PreAuthenticationData result ≡ Numbers PreAuthenticationData (map (λ item. item.data_type) (map typed_data_item_of (items_of typed_data_item items.entry.octets.now))) }
+    {
+        TypedDataTypes(items)
+    }
+}
+
+/// The numbers in brackets, with commas between them.
+impl<'a> Shown for TypedDataTypes<'a> {
+    ghost shown = { λ numbers. Numbers PreAuthenticationData numbers };
+
+    #[inline(never)]
+    fn put_text(&self, line: &mut TextBuffer, names: bool) -> Result<(), AllocError> {
+        put_numbers_text::<TypedDataItem>(line, names, Registry::PreAuthenticationData, self.0)
+    }
+
+    #[inline(always)]
+    fn put_members(&self, object: &mut TextBuffer, begin: &str) -> Result<(), AllocError> {
+        put_numbers_members::<TypedDataItem>(object, begin, Registry::PreAuthenticationData, self.0)
     }
 }

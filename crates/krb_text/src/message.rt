@@ -1,9 +1,10 @@
 //! The fields of the records of messages, by the views of their kinds.
 
-ghost use Rattle.std.specs.Prelude.{◌≡◌, ◌++◌, false, map, None, OnOk, Some, codes};
+ghost use Rattle.std.specs.Prelude.{◌≡◌, ◌++◌, map, None, OnOk, Some, codes};
 ghost use Rattle.krb_msg.specs.Types.{IsValidKdcReqBody, IsValidKdcReq, IsValidKdcRep, IsValidApReq, IsValidApRep, IsValidKrbSafe, IsValidKrbPriv, IsValidKrbCred, kdc_req_body_of_view, kdc_req_of_view, kdc_rep_of_view, ap_req_of_view, ap_rep_of_view, krb_safe_of_view, krb_priv_of_view, krb_cred_of_view};
 ghost use Rattle.krb_registry.specs.declared.registry.Registry.TheVariants as registries;
 ghost use Rattle.krb_record.specs.Forms.{field};
+ghost use Rattle.krb_text.specs.declared.clear_type.Carrier.TheVariants as carriers;
 ghost use Rattle.krb_text.specs.Inside.{kdc_req_parts, padata_parts, ticket_part};
 ghost use Rattle.krb_text.specs.MessageFields.{padata, kdc_req_fields, kdc_rep_fields, ap_req_fields, ap_rep_fields, krb_safe_fields, krb_priv_fields, krb_cred_fields};
 ghost use Rattle.krb_text.specs.MessageValues.{principal, encrypted};
@@ -97,7 +98,7 @@ impl<'a> HasRecord for KdcRepView<'a> {
 
     ghost fields = { λ rep. kdc_rep_fields (kdc_rep_of_view rep) };
 
-    ghost inside = { λ rep. Some (padata_parts false (kdc_rep_of_view rep).padata) };
+    ghost inside = { λ rep. Some (padata_parts carriers.Reply (kdc_rep_of_view rep).padata) };
 
     fn put_fields(&self, text: &mut TextBuffer, form: Form) -> Result<(), AllocError> {
         let ticket = &self.ticket;

@@ -12,8 +12,8 @@ ghost use Rattle.krb_text.specs.Judged.{judged};
 ghost use Rattle.krb_text.specs.declared.clear_type.ClearType.TheVariants.{PacRequest};
 ghost use Rattle.krb_text.specs.inner.Parts.{Tells};
 
-use crate::clear::{put_encrypted, put_pac_request, put_salt};
-use crate::clear_type::ClearType;
+use crate::clear::{put_encrypted, put_pac_request, put_salt, put_salt_or_error};
+use crate::clear_type::{Carrier, ClearType};
 use crate::part::{PartPlace, put_each, put_whole, view_judged};
 use krb_msg::{ApReq, EncryptedData, ItemsView, PaData, next_item};
 use krb_padata::{
@@ -82,6 +82,10 @@ fn put_value(
             put_salt(text, at, octets)?;
             Ok(told.saturating_add(1))
         }
+        ClearType::SaltOrError => {
+            put_salt_or_error(text, at, octets)?;
+            Ok(told.saturating_add(1))
+        }
         ClearType::EtypeInfo => put_etype_info(text, at, octets),
         ClearType::EtypeInfo2 => put_etype_info2(text, at, octets),
         ClearType::PacRequest => put_pac_request_of(text, at, octets),
@@ -99,16 +103,16 @@ pub(crate) fn put_padata(
     text: &mut TextBuffer,
     form: Form,
     told: u64,
-    in_request: bool,
+    carrier: Carrier,
     items: ItemsView<'_>,
 ) -> Result<u64, AllocError>
     requires { AreViewed pa_data items.octets.now }
-    ensures { IfOk result (λ by_now. Tells form (flat_map (item_parts in_request) (map pa_data_of (items_of pa_data items.entry.octets.now))) told text.old by_now text.new) }
+    ensures { IfOk result (λ by_now. Tells form (flat_map (item_parts carrier) (map pa_data_of (items_of pa_data items.entry.octets.now))) told text.old by_now text.new) }
 {
     let mut by_now = told;
     let mut others = items;
     'others: while let Some((seen, rest)) = next_item::<PaData>(others) {
-        let kind = ClearType::of(in_request, &seen);
+        let kind = ClearType::of(carrier, &seen);
         by_now = put_value(text, form, by_now, kind, seen.padata_value)?;
         others = rest;
     }

@@ -18,10 +18,10 @@ use Rattle.krb_record.specs.declared.form.Form.{Form}
 use Rattle.krb_record.specs.declared.form.Form.TheVariants as form
 use Rattle.krb_record.specs.Errors.{code_name, code_suffix, code_text}
 use Rattle.krb_record.specs.FileNames.{is_plain_in_name, name_octet, name_text}
-use Rattle.krb_record.specs.Forms.{four_octets, plus_text, unnamed, unnamed_from, named_in, is_set, set_names, named_flags_text, number_text, flags_text, refused_ticket_text, value_text, json_character, json_string, shown_octet, octets_string, or_null, name_string, flags_object, encrypted_object, principal_object, address_object, digest_object, offset_object, refused_object, true_or_false, json_value, names_member, members, labelled, field, opening, closing, fields_text, origin_text, opening_from, heading, part_text, inside_text, ending, record_text}
+use Rattle.krb_record.specs.Forms.{four_octets, plus_text, unnamed, unnamed_from, named_in, is_set, set_names, named_flags_text, number_text, status_text, flags_text, refused_ticket_text, value_text, json_character, json_string, shown_octet, octets_string, or_null, name_string, flags_object, encrypted_object, principal_object, address_object, digest_object, offset_object, refused_object, true_or_false, json_value, names_member, members, labelled, field, opening, closing, fields_text, origin_text, opening_from, heading, part_text, inside_text, ending, record_text}
 use Rattle.krb_record.specs.Text.{AllAreOctets, IsPrintable, principal_text, two_hex, yes_or_no}
 use Rattle.krb_record.specs.TicketFlags.{flag_name, set_flags, names_text, other_flags, eight_hex, others_text, ticket_flags_text}
-use Rattle.krb_record.specs.Values.{Value, Absent, NoTicket, Number, Named, Numbers, ErrorCode, Reason, NoReason, String, Quoted, FileName, Word, Hex, Flags, TicketFlags, Encrypted, Principal, Address, Digest, YesNo, Offset, RefusedTicket, Flow, Layers, Field, Part, Printed}
+use Rattle.krb_record.specs.Values.{Value, Absent, NoTicket, Number, Named, Numbers, ErrorCode, Status, Reason, NoReason, String, Quoted, FileName, Word, Hex, Flags, TicketFlags, Encrypted, Principal, Address, Digest, YesNo, Offset, RefusedTicket, Flow, Layers, Field, Part, Printed}
 use Rattle.krb_record.specs.inner.Flags.{names_set}
 use Rattle.krb_source.specs.Layers.{layer_name}
 use Rattle.krb_source.specs.declared.layer.Layer.{Layer}
@@ -155,6 +155,12 @@ ticket_flags : (bits : ℕ) → Prints (ticket_flags_text bits)
 unfolding ticket_flags_text
 ticket_flags bits = join (flag_names bits) (other_bits (other_flags bits) (omega (arith, and_le_r bits 0x8003_FFFF)))
 
+-- ---- statuses
+status : (names : Bool) (n : ℕ) → n < 2 ^ 32 → Prints (status_text names n)
+status false n h = in_hex (four_octets n) (four n h)
+status true n h =
+    join (join (in_hex (four_octets n) (four n h)) (word (codes ":") refl)) (optional (λ name. name) IsPrintable (λ name h. record { all = h }) (name_of registries.Statuses (pos n)) (its_name registries.Statuses (pos n)))
+
 -- ---- the codes of errors
 error_name : (n : ℕ) → Prints (code_name n)
 unfolding code_name
@@ -240,6 +246,7 @@ layer_in_string : (l : Layer) → Prints (json_string (layer_name l))
 layer_in_string l = string (layer_name l) (layer l).all
 
 abbrev pub IsShown : Value → Type 0
+IsShown (Status number) = number < 2 ^ 32
 IsShown (Reason number name) = IsPrintable name
 IsShown (String octets) = AreOctets octets
 IsShown (Quoted octets) = AreOctets octets
@@ -262,6 +269,7 @@ in_line names (Named registry n) h = numbered names registry n
 in_line names (Numbers registry ns) h = list (number_text names registry) (numbered names registry) ns
 in_line false (ErrorCode code) h = error_code code
 in_line true (ErrorCode code) h = numbered true registries.ErrorCodes code
+in_line names (Status number) h = status names number h
 in_line names (Reason n name) h = join (join (number n) (word (codes " ") refl)) (record { all = h })
 in_line names NoReason h = word (codes "-") refl
 in_line names (String octets) h = escaped octets h
@@ -291,6 +299,7 @@ in_object (Number n) h = signed n
 in_object (Named registry n) h = signed n
 in_object (Numbers registry ns) h = list signed_decimal signed ns
 in_object (ErrorCode code) h = signed code
+in_object (Status number) h = join (join (word (codes "\"") refl) (in_hex (four_octets number) (four number h))) (word (codes "\"") refl)
 in_object (Reason n name) h = number n
 in_object NoReason h = word (codes "null") refl
 in_object (String octets) h = octets_in_string octets h
@@ -314,6 +323,7 @@ after_value : (begin : List ℕ) (value : Value) → Prints begin → IsShown va
 unfolding names_member
 after_value begin (Named registry n) before h = join (join before (word (codes "_name\":") refl)) (name_in_string registry n)
 after_value begin (ErrorCode code) before h = join (join before (word (codes "_name\":") refl)) (name_in_string registries.ErrorCodes code)
+after_value begin (Status number) before h = join (join before (word (codes "_name\":") refl)) (name_in_string registries.Statuses (pos number))
 after_value begin (Reason n name) before h = join (join before (word (codes "_name\":") refl)) (string name h)
 after_value begin NoReason before h = join before (word (codes "_name\":null") refl)
 after_value begin (Numbers registry ns) before h = join (join before (word (codes "_names\":") refl)) (list (name_string registry) (name_in_string registry) ns)

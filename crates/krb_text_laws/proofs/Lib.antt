@@ -4,6 +4,7 @@ pub mod Printable
 pub mod Flows
 pub mod EachForm
 pub mod EndOneLine
+pub mod ErrorNumbers
 pub mod FieldsOneLine
 pub mod InsideOneLine
 pub mod MessageOneLine

@@ -22,6 +22,7 @@ use Rattle.krb_text.specs.Judged.{judged}
 use Rattle.krb_text.specs.Masks.{masked_ap_req_value, masked_armor, masked_armor_if, masked_as, masked_checksum_value, masked_clear, masked_fast_reply, masked_fast_request, masked_for_user, masked_item, masked_encrypted_value, masked_ticket_value, octets_or_zeros}
 use Rattle.krb_text.specs.MessageValues.{principal, encrypted}
 use Rattle.krb_record.specs.Values.{Number, Part, if_there}
+use Rattle.krb_text.specs.declared.clear_type.Carrier.{Carrier}
 use Rattle.krb_text.specs.declared.clear_type.ClearType.{ClearType}
 use Rattle.krb_text.specs.declared.clear_type.ClearType.TheVariants as types
 use Rattle.krb_text_laws.proofs.Alike.{Alike, Replace, SomeAlike, as_many, fits_as, replace_same, replace_zeros, same, some_same}
@@ -34,7 +35,7 @@ by_form term tag zero v e =
     absurd cc
 by_form term tag (suc n) v e = tag (sym (ap first_or_zero (e ∙ der_is term v)))
 
-zeros_not_judged : (term : Term) → (tag_of term ≡ 0 → ⊥) → (n : ℕ) → judged term (zeros n) ≡ None
+pub zeros_not_judged : (term : Term) → (tag_of term ≡ 0 → ⊥) → (n : ℕ) → judged term (zeros n) ≡ None
 zeros_not_judged term tag n = not_judged term (zeros n) (λ whole. of_der (whole_is_value term (zeros n) (AreOctets-zeros n) whole))
   where
     of_der : IsDer term (zeros n) → ⊥
@@ -179,6 +180,7 @@ kept_request octets (Some include) e = refl
 pub clear_same : (type : ClearType) (octets : List ℕ) → clear_parts type (masked_clear type octets) ≡ clear_parts type octets
 clear_same types.TgsReq octets = masked_same ap_req masked_ap_req_value _ tgs_req_same octets (ap_req_masked octets)
 clear_same types.PwSalt octets = refl
+clear_same types.SaltOrError octets = refl
 clear_same types.EtypeInfo octets = ap (each_if _) (kept_judged etype_info (λ e. absurd cc) octets)
 clear_same types.EtypeInfo2 octets = ap (each_if _) (kept_judged etype_info2 (λ e. absurd cc) octets)
 clear_same types.PacRequest octets = ap (one_if _) (kept_request octets (pac_request_in octets) refl)
@@ -192,6 +194,7 @@ clear_same other octets = masked_same encrypted_data masked_encrypted_value _ (e
 pub clear_replaced : (type : ClearType) (octets : List ℕ) → Replace (masked_clear type octets) octets
 clear_replaced types.TgsReq octets = (ap_req_masked octets).replace
 clear_replaced types.PwSalt octets = replace_same octets
+clear_replaced types.SaltOrError octets = replace_same octets
 clear_replaced types.EtypeInfo octets = kept octets (judged etype_info octets)
 clear_replaced types.EtypeInfo2 octets = kept octets (judged etype_info2 octets)
 clear_replaced types.PacRequest octets = kept octets (pac_request_in octets)
@@ -202,6 +205,6 @@ clear_replaced types.PacOptions octets = kept octets (judged pa_pac_options octe
 clear_replaced types.Other octets = replace_zeros octets
 clear_replaced other octets = (encrypted_masked octets).replace
 
-pub items_same : (in_request : Bool) (items : List PaData) → flat_map (item_parts in_request) (map (masked_item in_request) items) ≡ flat_map (item_parts in_request) items
-items_same in_request [] = refl
-items_same in_request (p ∷ items) = ap₂ (λ (a b : List Part). a ++ b) (clear_same (clear_type in_request p.padata_type) p.padata_value) (items_same in_request items)
+pub items_same : (carrier : Carrier) (items : List PaData) → flat_map (item_parts carrier) (map (masked_item carrier) items) ≡ flat_map (item_parts carrier) items
+items_same carrier [] = refl
+items_same carrier (p ∷ items) = ap₂ (λ (a b : List Part). a ++ b) (clear_same (clear_type carrier p.padata_type) p.padata_value) (items_same carrier items)

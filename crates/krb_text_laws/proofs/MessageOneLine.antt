@@ -1,5 +1,5 @@
 -- What is printed of a message is one line.
-use Rattle.std.proofs.Common.{◌≡◌, false, true, List, [], ◌∷◌, ◌++◌, refl, codes}
+use Rattle.std.proofs.Common.{◌≡◌, true, List, [], ◌∷◌, ◌++◌, refl, codes}
 use Rattle.std.specs.List.{list_all}
 use Rattle.krb_der.specs.declared.profile.Profile.TheVariants as profiles
 use Rattle.krb_msg.specs.Term.{IfPresent}
@@ -13,6 +13,7 @@ use Rattle.krb_record.specs.Values.{Field, Printed, the}
 use Rattle.krb_record.proofs.Printable.{is_printable}
 use Rattle.krb_text_laws.proofs.EachForm.{ArePlainParts, AreShown, names_are_plain}
 use Rattle.krb_text.specs.Inside.{inside_of}
+use Rattle.krb_text.specs.declared.clear_type.Carrier.TheVariants as carriers
 use Rattle.krb_text_laws.proofs.FieldsOneLine.{kdc_req, kdc_rep, of_ap_req, safe, error}
 use Rattle.krb_text_laws.proofs.InsideOneLine.{error_inside, kdc_req_inside, padata_inside, tickets_inside}
 
@@ -35,9 +36,9 @@ plain m kind names h inside = record { kind = kind; names = names; fields = and_
 
 pub record_is_plain : (m : Message) → IsInProfile profiles.Lenient m → IsPlain (message_record m)
 record_is_plain (message.AsReq m) good = plain (message.AsReq m) refl refl (kdc_req m good.fits.1.1.1.0) (kdc_req_inside m good.fits.1.1.0 good.fits.1.1.1.0)
-record_is_plain (message.AsRep m) good = plain (message.AsRep m) refl refl (kdc_rep m good.fits.1.1.1.0.0 good.fits.1.1.1.1.0 good.fits.1.1.1.1.1.0) (padata_inside false m.padata good.fits.1.1.0)
+record_is_plain (message.AsRep m) good = plain (message.AsRep m) refl refl (kdc_rep m good.fits.1.1.1.0.0 good.fits.1.1.1.1.0 good.fits.1.1.1.1.1.0) (padata_inside carriers.Reply m.padata good.fits.1.1.0)
 record_is_plain (message.TgsReq m) good = plain (message.TgsReq m) refl refl (kdc_req m good.fits.1.1.1.0) (kdc_req_inside m good.fits.1.1.0 good.fits.1.1.1.0)
-record_is_plain (message.TgsRep m) good = plain (message.TgsRep m) refl refl (kdc_rep m good.fits.1.1.1.0.0 good.fits.1.1.1.1.0 good.fits.1.1.1.1.1.0) (padata_inside false m.padata good.fits.1.1.0)
+record_is_plain (message.TgsRep m) good = plain (message.TgsRep m) refl refl (kdc_rep m good.fits.1.1.1.0.0 good.fits.1.1.1.1.0 good.fits.1.1.1.1.1.0) (padata_inside carriers.Reply m.padata good.fits.1.1.0)
 record_is_plain (message.ApReq m) good = plain (message.ApReq m) refl refl (of_ap_req m good.fits) tt
 record_is_plain (message.KrbSafe m) good = plain (message.KrbSafe m) refl refl (safe m good.fits) tt
 record_is_plain (message.KrbCred m) good = plain (message.KrbCred m) refl refl (tt, (tt, tt)) (tickets_inside m.tickets good.fits.1.1.0.1)

@@ -1,5 +1,5 @@
 -- The values of METHOD-DATA that are not shown have no part in what is printed of an error.
-use Rattle.std.proofs.Common.{◌≡◌, ℕ, ℤ, ◌+◌, ◌<◌, ◌^◌, ◌||◌, Bool, true, false, Option, Some, List, [], ◌∷◌, ◌++◌, length, map, codes, refl, sym, ◌∙◌, ap, ap₂, arith, length-append}
+use Rattle.std.proofs.Common.{◌≡◌, ℕ, ℤ, ◌+◌, ◌<◌, ◌^◌, Bool, true, false, Option, Some, List, [], ◌∷◌, ◌++◌, length, map, codes, refl, sym, ◌∙◌, ap, ap₂, arith, length-append}
 use Rattle.std.proofs.lemmas.List.Concat.{flat_map-cons}
 use Rattle.std.specs.List.{flat_map, AllByRecursion}
 use Rattle.krb_msg.specs.Grammar.{pa_data, method_data}
@@ -8,10 +8,11 @@ use Rattle.krb_msg.specs.Term.{Value, Fits, der}
 use Rattle.krb_msg.specs.Types.{pa_data_of}
 use Rattle.krb_msg.specs.declared.krb_error.KrbError.{KrbError}
 use Rattle.krb_msg.specs.declared.message.Message.TheVariants as message
-use Rattle.krb_text.specs.Inside.{clear_type, item_parts, krb_error_parts, method_data_if, method_parts, types_if}
-use Rattle.krb_text.specs.Judged.{asks_for_preauth, judged, says_preauth_failed}
+use Rattle.krb_text.specs.Inside.{clear_type, data_parts, item_parts, krb_error_parts, types_unless}
+use Rattle.krb_text.specs.Judged.{asks_for_preauth, judged}
 use Rattle.krb_text.specs.Messages.{methods, notes, krb_error_fields, message_record}
 use Rattle.krb_text.specs.Masks.{masked_method}
+use Rattle.krb_text.specs.declared.clear_type.Carrier.TheVariants as carriers
 use Rattle.krb_record.specs.Values.{Field, Part, the, printed, with_inside}
 use Rattle.krb_text_laws.proofs.Alike.{Alike, as_many, fits_as, same_item}
 use Rattle.krb_text.proofs.Judged.{judged_der}
@@ -19,7 +20,7 @@ use Rattle.krb_text_laws.proofs.MaskedParts.{clear_replaced, clear_same}
 
 -- ---- the octets of METHOD-DATA are as many
 method_alike : (v : Value pa_data) → Alike pa_data (masked_method v) v
-method_alike v = (refl, (clear_replaced (clear_type false v.0) v.1.0, tt))
+method_alike v = (refl, (clear_replaced (clear_type carriers.Error v.0) v.1.0, tt))
 
 methods-length : (items : List (Value pa_data)) → length (flat_map (der pa_data) (map masked_method items)) ≡ length (flat_map (der pa_data) items)
 methods-length [] = refl
@@ -46,13 +47,13 @@ types-same : (items : List (Value pa_data)) → map (λ item. item.padata_type) 
 types-same [] = refl
 types-same (v ∷ items) = ap (λ (types : List ℤ). v.0 ∷ types) (types-same items)
 
-parts-same : (items : List (Value pa_data)) → flat_map (item_parts false) (map pa_data_of (map masked_method items)) ≡ flat_map (item_parts false) (map pa_data_of items)
+parts-same : (items : List (Value pa_data)) → flat_map (item_parts carriers.Error) (map pa_data_of (map masked_method items)) ≡ flat_map (item_parts carriers.Error) (map pa_data_of items)
 parts-same [] = refl
-parts-same (v ∷ items) = ap₂ (λ (a b : List Part). a ++ b) (clear_same (clear_type false v.0) v.1.0) (parts-same items)
+parts-same (v ∷ items) = ap₂ (λ (a b : List Part). a ++ b) (clear_same (clear_type carriers.Error v.0) v.1.0) (parts-same items)
 
-types_if-same : (failed : Bool) (items : List (Value pa_data)) → types_if failed (map pa_data_of (map masked_method items)) ≡ types_if failed (map pa_data_of items)
-types_if-same false items = refl
-types_if-same true items = rw (types-same items) refl
+types_unless-same : (asks : Bool) (items : List (Value pa_data)) → types_unless asks (map pa_data_of (map masked_method items)) ≡ types_unless asks (map pa_data_of items)
+types_unless-same true items = refl
+types_unless-same false items = rw (types-same items) refl
 
 -- what an error shows of its data
 module _ (items : Value method_data) (fits : Fits method_data items) (short : length (der method_data items) < 2 ^ 31) where
@@ -63,9 +64,8 @@ module _ (items : Value method_data) (fits : Fits method_data items) (short : le
   methods-same false code e = rw e refl
   methods-same true code e = rw (e, data-read items fits short, masked_read, types-same items) refl
 
-  inside-same : (failed has : Bool) → method_parts failed (method_data_if has (Some (der method_data (map masked_method items)))) ≡ method_parts failed (method_data_if has (Some (der method_data items)))
-  inside-same failed false = refl
-  inside-same failed true = rw (data-read items fits short, masked_read, types_if-same failed items, parts-same items) refl
+  inside-same : (asks : Bool) → data_parts asks (der method_data (map masked_method items)) ≡ data_parts asks (der method_data items)
+  inside-same asks = rw (data-read items fits short, masked_read, types_unless-same asks items, parts-same items) refl
 
 -- ---- the record
 error-has : (note : Note) (m : KrbError) (octets others : List ℕ) → message_has note (message.KrbError (record m { e_data = Some octets })) ≡ message_has note (message.KrbError (record m { e_data = Some others }))
@@ -85,5 +85,5 @@ pub methods-record : (m : KrbError) (items : Value method_data) → Fits method_
     → message_record (message.KrbError (record m { e_data = Some (der method_data (map masked_method items)) })) ≡ message_record (message.KrbError m)
 methods-record m items fits short is =
     record-of m (der method_data (map masked_method items)) (der method_data items) (data-length items) (methods-same items fits short (asks_for_preauth m.error_code) m.error_code refl)
-    (inside-same items fits short (says_preauth_failed m.error_code) (asks_for_preauth m.error_code || says_preauth_failed m.error_code))
+    (inside-same items fits short (asks_for_preauth m.error_code))
     ∙ ap (λ (data_of : Option (List ℕ)). message_record (message.KrbError (record m { e_data = data_of }))) (sym is)

@@ -1,11 +1,11 @@
 -- What is encrypted, opaque or a checksum has no part in what is printed of a message.
-use Rattle.std.proofs.Common.{◌≡◌, ℕ, ℤ, Bool, true, false, ◌||◌, Option, Some, None, List, [], ◌∷◌, ◌++◌, length, map, codes, refl, ap, ap₂, ◌∙◌}
+use Rattle.std.proofs.Common.{◌≡◌, ℕ, ℤ, Bool, true, false, ◌||◌, Option, Some, None, List, [], ◌∷◌, ◌++◌, length, map, codes, refl, sym, ap, ap₂, ◌∙◌}
 use Rattle.std.proofs.lemmas.List.{length-map}
 use Rattle.std.specs.List.{list_any}
-use Rattle.std.specs.Option.{option_map}
+use Rattle.std.specs.Option.{is_some, option_map}
 use Rattle.krb_file.proofs.Zeros.{length-zeros}
-use Rattle.krb_msg.specs.Term.{Term, Value}
-use Rattle.krb_msg.specs.Grammar.{pa_data, ticket, kdc_req_body, kdc_req, kdc_rep, krb_cred, krb_error}
+use Rattle.krb_msg.specs.Term.{Term, Value, tag_of}
+use Rattle.krb_msg.specs.Grammar.{method_data, pa_data, ticket, kdc_req_body, kdc_req, kdc_rep, krb_cred, krb_error}
 use Rattle.krb_msg.specs.Types.{pa_data_value, ticket_value, kdc_req_body_value, kdc_req_value, kdc_rep_value, krb_cred_value, krb_error_value}
 use Rattle.krb_msg.specs.Notes.{Note, HighOctet, FewFlags, Negative, EmptyList, list_has, has, message_has, notes_of}
 use Rattle.krb_msg.specs.declared.ap_rep.ApRep.{ApRep}
@@ -28,13 +28,16 @@ use Rattle.krb_record.specs.declared.capture_origin.CaptureOrigin.{CaptureOrigin
 use Rattle.krb_record.specs.Captures.{captured_line}
 use Rattle.krb_text.specs.Messages.{captured_message_line}
 use Rattle.krb_record.specs.Forms.{record_line}
-use Rattle.krb_text.specs.Inside.{each_if, inside_of, kdc_req_parts, krb_error_parts, method_data_if, method_parts, padata_parts, ticket_part}
-use Rattle.krb_text.specs.Judged.{asks_for_preauth, says_preauth_failed}
+use Rattle.krb_text.specs.Inside.{data_parts_if, each_if, first_parts, inside_of, kdc_req_parts, krb_error_parts, padata_parts, ticket_part}
+use Rattle.krb_text.specs.Judged.{asks_for_preauth, judged}
+use Rattle.krb_text.specs.declared.clear_type.Carrier.{Carrier}
+use Rattle.krb_text.specs.declared.clear_type.Carrier.TheVariants as carriers
 use Rattle.krb_text.specs.Messages.{padata, notes, methods, kdc_req_fields, kdc_rep_fields, ap_req_fields, ap_rep_fields, krb_safe_fields, krb_priv_fields, krb_cred_fields, krb_error_fields, message_record, message_line, message_line_from, ticket_line, ticket_record}
 use Rattle.krb_text.specs.MessageValues.{encrypted}
 use Rattle.krb_record.specs.Values.{Field, Part, Printed, the, printed, with_inside, with_origin, if_there, count}
-use Rattle.krb_text.specs.Masks.{masked_encrypted, masked_item, masked_ticket, masked_req_body, masked_kdc_req, masked_kdc_rep, masked_ap_req, masked_ap_rep, masked_krb_safe, masked_krb_priv, masked_krb_cred, masked_krb_error, masked, opaque_unless}
-use Rattle.krb_text_laws.proofs.MaskedParts.{items_same}
+use Rattle.krb_text.specs.Masks.{masked_encrypted, masked_item, masked_ticket, masked_req_body, masked_kdc_req, masked_kdc_rep, masked_ap_req, masked_ap_rep, masked_krb_safe, masked_krb_priv, masked_krb_cred, masked_krb_error, masked, masked_data, has_type, opaque_unless}
+use Rattle.krb_padata.specs.Grammar.{kerb_error_data, typed_data}
+use Rattle.krb_text_laws.proofs.MaskedParts.{items_same, zeros_not_judged}
 
 -- ---- the values of fields
 pub encrypted-same : (e : EncryptedData) → encrypted (masked_encrypted e) ≡ encrypted e
@@ -44,13 +47,13 @@ some_encrypted-same : (e : Option EncryptedData) → if_there encrypted (option_
 some_encrypted-same None = refl
 some_encrypted-same (Some e) = encrypted-same e
 
-types-same : (in_request : Bool) (items : List PaData) → map (λ item. item.padata_type) (map (masked_item in_request) items) ≡ map (λ item. item.padata_type) items
-types-same in_request [] = refl
-types-same in_request (item ∷ items) = ap (λ (types : List ℤ). item.padata_type ∷ types) (types-same in_request items)
+types-same : (carrier : Carrier) (items : List PaData) → map (λ item. item.padata_type) (map (masked_item carrier) items) ≡ map (λ item. item.padata_type) items
+types-same carrier [] = refl
+types-same carrier (item ∷ items) = ap (λ (types : List ℤ). item.padata_type ∷ types) (types-same carrier items)
 
-padata-same : (in_request : Bool) (items : Option (List PaData)) → if_there padata (option_map (map (masked_item in_request)) items) ≡ if_there padata items
-padata-same in_request None = refl
-padata-same in_request (Some items) = rw (types-same in_request items) refl
+padata-same : (carrier : Carrier) (items : Option (List PaData)) → if_there padata (option_map (map (masked_item carrier)) items) ≡ if_there padata items
+padata-same carrier None = refl
+padata-same carrier (Some items) = rw (types-same carrier items) refl
 
 tickets-same : (tickets : List Ticket) → count (map masked_ticket tickets) ≡ count tickets
 tickets-same tickets = rw (length-map tickets masked_ticket) refl
@@ -61,10 +64,10 @@ some_tickets-same (Some tickets) = tickets-same tickets
 
 -- ---- the fields of messages
 kdc_req-same : (m : KdcReq) → kdc_req_fields (masked_kdc_req m) ≡ kdc_req_fields m
-kdc_req-same m = rw (padata-same true m.padata, some_encrypted-same m.body.enc_authorization_data, some_tickets-same m.body.additional_tickets) refl
+kdc_req-same m = rw (padata-same carriers.Request m.padata, some_encrypted-same m.body.enc_authorization_data, some_tickets-same m.body.additional_tickets) refl
 
 kdc_rep-same : (m : KdcRep) → kdc_rep_fields (masked_kdc_rep m) ≡ kdc_rep_fields m
-kdc_rep-same m = rw (padata-same false m.padata, length-zeros (length m.ticket.enc_part.cipher), length-zeros (length m.enc_part.cipher)) refl
+kdc_rep-same m = rw (padata-same carriers.Reply m.padata, length-zeros (length m.ticket.enc_part.cipher), length-zeros (length m.enc_part.cipher)) refl
 
 ap_req-same : (m : ApReq) → ap_req_fields (masked_ap_req m) ≡ ap_req_fields m
 ap_req-same m = rw (length-zeros (length m.ticket.enc_part.cipher), length-zeros (length m.authenticator.cipher)) refl
@@ -81,19 +84,48 @@ krb_safe-same m = rw (length-zeros (length m.body.user_data), length-zeros (leng
 krb_cred-same : (m : KrbCred) → krb_cred_fields (masked_krb_cred m) ≡ krb_cred_fields m
 krb_cred-same m = rw (length-map m.tickets masked_ticket, length-zeros (length m.enc_part.cipher)) refl
 
--- the data of an error, whether it asks for pre-authentication, says that it failed, or neither
-data-same : (shown : Bool) (octets : Option (List ℕ)) → if_there count (opaque_unless shown octets) ≡ if_there count octets
-data-same true octets = refl
-data-same false None = refl
-data-same false (Some octets) = rw (length-zeros (length octets)) refl
+-- the data of an error, which are of a type or none: as many octets, and of the same types
+opaque-length : (shown : Bool) (octets : List ℕ) → length (opaque_unless shown octets) ≡ length octets
+opaque-length true octets = refl
+opaque-length false octets = length-zeros (length octets)
 
-methods-same : (asks failed : Bool) (code : ℤ) (octets : Option (List ℕ)) → asks_for_preauth code ≡ asks → methods code (opaque_unless (asks || failed) octets) ≡ methods code octets
-methods-same false false code (Some octets) e = rw e refl
-methods-same other another code third e = refl
+data-same : (octets : Option (List ℕ)) → if_there count (option_map masked_data octets) ≡ if_there count octets
+data-same None = refl
+data-same (Some octets) = rw (opaque-length (has_type octets) octets) refl
+
+judged_if-same : (term : Term) → (tag_of term ≡ 0 → ⊥) → (octets : List ℕ) (shown : Bool) → (shown ≡ false → judged term octets ≡ None) → judged term (opaque_unless shown octets) ≡ judged term octets
+judged_if-same term tag octets true none = refl
+judged_if-same term tag octets false none = zeros_not_judged term tag (length octets) ∙ sym (none refl)
+
+record AreNone {A B C : Type 0} (a : Option A) (b : Option B) (c : Option C) : Type 0 where
+  first : a ≡ None
+  second : b ≡ None
+  third : c ≡ None
+
+none-of : {A B C : Type 0} (a : Option A) (b : Option B) (c : Option C) → (is_some a || is_some b || is_some c) ≡ false → AreNone a b c
+none-of None None None e = record { first = refl; second = refl; third = refl }
+none-of (Some a) b c e = absurd cc
+none-of None (Some b) c e = absurd cc
+none-of None None (Some c) e = absurd cc
+
+untyped : (octets : List ℕ) → has_type octets ≡ false → AreNone (judged method_data octets) (judged typed_data octets) (judged kerb_error_data octets)
+untyped octets e = none-of (judged method_data octets) (judged typed_data octets) (judged kerb_error_data octets) e
+
+method_data-same : (octets : List ℕ) → judged method_data (masked_data octets) ≡ judged method_data octets
+method_data-same octets = judged_if-same method_data (λ e. absurd cc) octets (has_type octets) (λ e. (untyped octets e).first)
+
+typed_data-same : (octets : List ℕ) → judged typed_data (masked_data octets) ≡ judged typed_data octets
+typed_data-same octets = judged_if-same typed_data (λ e. absurd cc) octets (has_type octets) (λ e. (untyped octets e).second)
+
+error_data-same : (octets : List ℕ) → judged kerb_error_data (masked_data octets) ≡ judged kerb_error_data octets
+error_data-same octets = judged_if-same kerb_error_data (λ e. absurd cc) octets (has_type octets) (λ e. (untyped octets e).third)
+
+methods-same : (code : ℤ) (octets : Option (List ℕ)) → methods code (option_map masked_data octets) ≡ methods code octets
+methods-same code None = refl
+methods-same code (Some octets) = rw (method_data-same octets) refl
 
 krb_error-same : (m : KrbError) → krb_error_fields (masked_krb_error m) ≡ krb_error_fields m
-krb_error-same m =
-    rw (data-same (asks_for_preauth m.error_code || says_preauth_failed m.error_code) m.e_data, methods-same (asks_for_preauth m.error_code) (says_preauth_failed m.error_code) m.error_code m.e_data refl) refl
+krb_error-same m = rw (data-same m.e_data, methods-same m.error_code m.e_data) refl
 
 -- ---- the notes
 any-same : {A B : Type 0} (test : B → Bool) (value : A → B) (mask : A → A) → ((x : A) → test (value (mask x)) ≡ test (value x)) → (xs : List A) → list_any test (map value (map mask xs)) ≡ list_any test (map value xs)
@@ -140,33 +172,32 @@ kdc_req_body-has note b = go b.enc_authorization_data b.additional_tickets
     go None None = refl
     go (Some e) None = refl
 
-item-same : (note : Note) (in_request : Bool) (item : PaData) → has note pa_data (pa_data_value (masked_item in_request item)) ≡ has note pa_data (pa_data_value item)
-item-same note in_request item = refl
+item-same : (note : Note) (carrier : Carrier) (item : PaData) → has note pa_data (pa_data_value (masked_item carrier item)) ≡ has note pa_data (pa_data_value item)
+item-same note carrier item = refl
 
 kdc_req-has : (note : Note) (number : ℕ) (m : KdcReq) → has note (kdc_req number) (kdc_req_value number (masked_kdc_req m)) ≡ has note (kdc_req number) (kdc_req_value number m)
 kdc_req-has note number m = go m.padata
   where
     go : (items : Option (List PaData)) → has note (kdc_req number) (kdc_req_value number (masked_kdc_req (req_with m items))) ≡ has note (kdc_req number) (kdc_req_value number (req_with m items))
     go None = rw (kdc_req_body-has note m.body) refl
-    go (Some items) = rw (items-same note pa_data pa_data_value (masked_item true) (item-same note true) items, kdc_req_body-has note m.body) refl
+    go (Some items) = rw (items-same note pa_data pa_data_value (masked_item carriers.Request) (item-same note carriers.Request) items, kdc_req_body-has note m.body) refl
 
 kdc_rep-has : (note : Note) (number : ℕ) (m : KdcRep) → has note (kdc_rep number) (kdc_rep_value number (masked_kdc_rep m)) ≡ has note (kdc_rep number) (kdc_rep_value number m)
 kdc_rep-has note number m = go m.padata
   where
     go : (items : Option (List PaData)) → has note (kdc_rep number) (kdc_rep_value number (masked_kdc_rep (rep_with m items))) ≡ has note (kdc_rep number) (kdc_rep_value number (rep_with m items))
     go None = refl
-    go (Some items) = rw (items-same note pa_data pa_data_value (masked_item false) (item-same note false) items) refl
+    go (Some items) = rw (items-same note pa_data pa_data_value (masked_item carriers.Reply) (item-same note carriers.Reply) items) refl
 
 krb_cred-has : (note : Note) (m : KrbCred) → has note krb_cred (krb_cred_value (masked_krb_cred m)) ≡ has note krb_cred (krb_cred_value m)
 krb_cred-has note m = rw (any-same (has note ticket) ticket_value masked_ticket (ticket-same note) m.tickets) refl
 
 krb_error-has : (note : Note) (m : KrbError) → has note krb_error (krb_error_value (masked_krb_error m)) ≡ has note krb_error (krb_error_value m)
-krb_error-has note m = go (asks_for_preauth m.error_code || says_preauth_failed m.error_code) m.e_data
+krb_error-has note m = go m.e_data
   where
-    go : (shown : Bool) (octets : Option (List ℕ)) → has note krb_error (krb_error_value (error_with m (opaque_unless shown octets))) ≡ has note krb_error (krb_error_value (error_with m octets))
-    go true octets = refl
-    go false None = refl
-    go false (Some octets) = refl
+    go : (octets : Option (List ℕ)) → has note krb_error (krb_error_value (error_with m (option_map masked_data octets))) ≡ has note krb_error (krb_error_value (error_with m octets))
+    go None = refl
+    go (Some octets) = refl
 
 message-has : (note : Note) (m : Message) → message_has note (masked m) ≡ message_has note m
 message-has note (message.AsReq m) = kdc_req-has note 10 m
@@ -181,9 +212,9 @@ notes-same : (m : Message) → notes_of (masked m) ≡ notes_of m
 notes-same m = rw (message-has HighOctet m, message-has FewFlags m, message-has Negative m, message-has EmptyList m) refl
 
 -- ---- what is inside
-padata-inside : (in_request : Bool) (items : Option (List PaData)) → padata_parts in_request (option_map (map (masked_item in_request)) items) ≡ padata_parts in_request items
-padata-inside in_request None = refl
-padata-inside in_request (Some items) = items_same in_request items
+padata-inside : (carrier : Carrier) (items : Option (List PaData)) → padata_parts carrier (option_map (map (masked_item carrier)) items) ≡ padata_parts carrier items
+padata-inside carrier None = refl
+padata-inside carrier (Some items) = items_same carrier items
 
 ticket-inside : (t : Ticket) → ticket_part (masked_ticket t) ≡ ticket_part t
 ticket-inside t = rw (length-zeros (length t.enc_part.cipher)) refl
@@ -197,21 +228,22 @@ some_tickets-inside None = refl
 some_tickets-inside (Some tickets) = tickets-inside tickets
 
 kdc_req-inside : (m : KdcReq) → kdc_req_parts (masked_kdc_req m) ≡ kdc_req_parts m
-kdc_req-inside m = ap₂ (λ (a b : List Part). a ++ b) (padata-inside true m.padata) (some_tickets-inside m.body.additional_tickets)
+kdc_req-inside m = ap₂ (λ (a b : List Part). a ++ b) (padata-inside carriers.Request m.padata) (some_tickets-inside m.body.additional_tickets)
 
-methods-inside : (shown : Bool) (octets : Option (List ℕ)) → method_data_if shown (opaque_unless shown octets) ≡ method_data_if shown octets
-methods-inside true octets = refl
-methods-inside false None = refl
-methods-inside false (Some octets) = refl
+data-inside : (asks : Bool) (octets : Option (List ℕ)) → data_parts_if asks (option_map masked_data octets) ≡ data_parts_if asks octets
+data-inside asks None = refl
+data-inside asks (Some octets) =
+    ap (λ found. first_parts asks found (judged typed_data (masked_data octets)) (judged kerb_error_data (masked_data octets))) (method_data-same octets)
+    ∙ ap₂ (λ typed other. first_parts asks (judged method_data octets) typed other) (typed_data-same octets) (error_data-same octets)
 
 krb_error-inside : (m : KrbError) → krb_error_parts (masked_krb_error m) ≡ krb_error_parts m
-krb_error-inside m = ap (method_parts (says_preauth_failed m.error_code)) (methods-inside (asks_for_preauth m.error_code || says_preauth_failed m.error_code) m.e_data)
+krb_error-inside m = data-inside (asks_for_preauth m.error_code) m.e_data
 
 inside-same : (m : Message) → inside_of (masked m) ≡ inside_of m
 inside-same (message.AsReq m) = ap Some (kdc_req-inside m)
-inside-same (message.AsRep m) = ap Some (padata-inside false m.padata)
+inside-same (message.AsRep m) = ap Some (padata-inside carriers.Reply m.padata)
 inside-same (message.TgsReq m) = ap Some (kdc_req-inside m)
-inside-same (message.TgsRep m) = ap Some (padata-inside false m.padata)
+inside-same (message.TgsRep m) = ap Some (padata-inside carriers.Reply m.padata)
 inside-same (message.KrbCred m) = ap Some (tickets-inside m.tickets)
 inside-same (message.KrbError m) = ap Some (krb_error-inside m)
 inside-same other = refl

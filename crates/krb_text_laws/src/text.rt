@@ -58,8 +58,8 @@ pub fn plain_lines_have_nothing_inside()
 /// What is printed of a message or a Ticket, in each form, with an origin and of a capture too, is as
 /// of the same with every octet 00 of its ciphers, its checksum and its user data, of the ciphers
 /// and checksums inside of its pre-authentication data and of what is not shown of these, and of
-/// the data of an error that neither asks for pre-authentication nor says that it failed; and the
-/// record of one that does is as with such values in its METHOD-DATA.
+/// the data of an error that are neither METHOD-DATA nor TYPED-DATA nor KERB-ERROR-DATA; and the
+/// record of one that has METHOD-DATA is as with such values in it.
 pub fn ciphers_are_not_shown()
     ensures record { CiphersAreNotInRecords }
     ensures line { CiphersAreNotInLines }

@@ -1,4 +1,4 @@
--- The tokens of SPNEGO (RFC 4178, 4.2, and NegHints of MS-SPNG, 2.2.1): three SEQUENCEs, each of whose fields may be left out.
+-- The tokens of SPNEGO (RFC 4178, 4.2, and NegHints of MS-SPNG, 2.2.1): three SEQUENCEs, each of whose fields may be left out. So more is taken than 4.2.1 allows, where mechTypes is not OPTIONAL.
 use Rattle.std.specs.Prelude.{ℕ, ◌+◌, true, false, List, [], ◌∷◌, length, codes, Option, Some, None, Result, Ok, Err}
 use Prim.Native.String.{String}
 use Rattle.krb_der.specs.Octets.{when, begins_with}

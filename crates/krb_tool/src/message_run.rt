@@ -70,8 +70,8 @@ pub fn run_message<R: Read, W: Write>(
 /// spells it as `krb_input` reads it: as octets, in hexadecimal, as a dump or in base64; it is the
 /// message, or a frame, a GSS-API token or one of SPNEGO in which the message lies, as `krb_token`
 /// opens it, or a Ticket. A text that spells no octets is `refused hex`, `refused dump` or `refused
-/// base64`, and an input of more than 16777216 octets `refused length`; of that the first 16777217
-/// are kept. All that the reader has is read first, by at most 2^40 reads of 64 KiB each.
+/// base64`, and an input of more than 16777216 octets `refused length`. It is read first, by at most
+/// 2^40 reads of at most 64 KiB each: all that the reader has, or 16777217 octets, which settle that.
 pub fn run_message_in<R: Read, W: Write>(
     alloc: Global,
     form: Form,

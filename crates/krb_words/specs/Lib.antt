@@ -1,4 +1,6 @@
+pub mod CacheTypes
 pub mod Names
+pub mod Shell
 pub mod Sources
 pub mod Times
 pub mod Words

@@ -21,11 +21,22 @@ is_conversion (commands.Decode limit profile how) = true
 is_conversion (commands.Encode limit profile how) = true
 is_conversion _ = false
 
+-- messages are written as they are, and not as text
+abbrev pub writes_messages : Command → Bool
+writes_messages (commands.Encode limit profile how) = true
+writes_messages _ = false
+
+-- names may be those of credential caches
+abbrev pub names_caches : Command → Bool
+names_caches (commands.List when) = true
+names_caches (commands.Ccache when) = true
+names_caches _ = false
+
 -- the command that lists a source of a kind, without options but a time
 abbrev pub listing_for : SourceKind → Option When → Command
 listing_for kind.Keytab when = commands.Keytab
 listing_for kind.Ccache when = commands.Ccache when
-listing_for kind.Capture when = commands.Capture 16777216 88
+listing_for kind.Capture when = commands.Capture 16777216 profile.Lenient 88
 listing_for kind.Message when = commands.Message profile.Lenient inputs.Whole
 listing_for kind.Stream when = commands.Stream 16777216 profile.Lenient after.Ends
 
@@ -33,7 +44,7 @@ listing_for kind.Stream when = commands.Stream 16777216 profile.Lenient after.En
 abbrev pub kind_used : Command → Option SourceKind
 kind_used commands.Keytab = Some kind.Keytab
 kind_used (commands.Ccache when) = Some kind.Ccache
-kind_used (commands.Capture limit port) = Some kind.Capture
+kind_used (commands.Capture limit chosen port) = Some kind.Capture
 kind_used (commands.Message profile each) = Some kind.Message
 kind_used (commands.Stream limit profile refused) = Some kind.Stream
 kind_used _ = None
@@ -44,9 +55,8 @@ when_of (commands.List when) = when
 when_of (commands.Ccache when) = when
 when_of _ = None
 
--- how many octets of a source are awaited before its run begins: the first one of a stream, which may be live, else those by which a command or a hint is chosen
+-- how many octets of a source are awaited before its run begins: those by which a command or a hint is chosen, if one is
 abbrev pub octets_awaited : Command → ℕ
-octets_awaited (commands.Stream limit profile refused) = 1
 octets_awaited (commands.Decode limit profile how) = 1
 octets_awaited (commands.Encode limit profile how) = 1
 octets_awaited _ = 16

@@ -57,10 +57,23 @@ seconds_of_day text = 3600 * two text 11 + 60 * two text 14 + two text 17
 abbrev pub seconds_since : Text → ℕ
 seconds_since text = 86400 * days_since text + seconds_of_day text
 
--- ---- the time that a text says: the clock's, a number of seconds, or a date and a time, of which the last is that of 32 bits
+-- the last second that a date and a time can say: 9999-12-31T23:59:59Z
+abbrev pub last_second : ℕ
+last_second = 253402300799
+
+-- a text is a number of seconds, up to the last one of dates
+abbrev pub CountsSeconds : Text → ℕ → Type 0
+CountsSeconds text seconds = ParsesUnsigned {E = ℕ} 64 10 text (Ok seconds) × (seconds ≤ last_second)
+
+-- the last second of 32 bits stands for each later one
+abbrev pub soonest : ℕ → ℕ
+soonest seconds = min seconds (2 ^ 32 - 1)
+
+-- ---- the time that a text says: the clock's, a number of seconds, or a date and a time
 abbrev pub IsWhen : Text → When → Type 0
 IsWhen text when.Clock = text ≡ codes "now"
-IsWhen text (when.Seconds seconds) = Spells text seconds ⊎ (IsDateTime text × (seconds ≡ min (seconds_since text) (2 ^ 32 - 1)))
+IsWhen text (when.Seconds seconds) =
+    ((counted : ℕ) × CountsSeconds text counted × (seconds ≡ soonest counted)) ⊎ (IsDateTime text × (seconds ≡ soonest (seconds_since text)))
 
 abbrev pub IsWhenIf : Option Text → Option When → Type 0
 IsWhenIf None when = when ≡ None
@@ -70,7 +83,7 @@ IsWhenIf (Some text) (Some when) = IsWhen text when
 -- a text that says no time
 pub record IsNoTime (text : Text) : Type 0 where
   pub clock : text ≡ codes "now" → ⊥
-  pub number : (seconds : ℕ) → Spells text seconds → ⊥
+  pub number : (seconds : ℕ) → CountsSeconds text seconds → ⊥
   pub date : IsDateTime text → ⊥
 
 abbrev pub IsNoWhen : Option Text → Type 0

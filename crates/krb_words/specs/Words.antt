@@ -110,7 +110,7 @@ abbrev pub ccache_app : App
 ccache_app = with_files (with_output (with_rule (new_app (codes "ccache")) now_option))
 
 abbrev pub capture_app : App
-capture_app = with_files (with_output (with_rule (with_rule (new_app (codes "capture")) limit_option) port_option))
+capture_app = with_files (with_output (with_rule (with_rule (with_rule (new_app (codes "capture")) limit_option) port_option) strict_flag))
 
 abbrev pub decode_app : App
 decode_app = with_messages (new_app (codes "decode"))
@@ -183,7 +183,7 @@ IsCommand name rows (commands.Stream limit chosen refused) = (name ≡ codes "st
 IsCommand name rows (commands.Message chosen each) = (name ≡ codes "message") × IsProfile (first_of (codes "strict") rows) chosen × IsInputs (first_of (codes "lines") rows) each
 IsCommand name rows commands.Keytab = name ≡ codes "keytab"
 IsCommand name rows (commands.Ccache when) = (name ≡ codes "ccache") × IsWhenIf (first_of (codes "now") rows) when
-IsCommand name rows (commands.Capture limit port) = (name ≡ codes "capture") × IsNumberOr 16777216 (one_of (codes "limit") rows) limit × IsNumberOr 88 (one_of (codes "port") rows) port
+IsCommand name rows (commands.Capture limit chosen port) = (name ≡ codes "capture") × IsNumberOr 16777216 (one_of (codes "limit") rows) limit × IsProfile (first_of (codes "strict") rows) chosen × IsNumberOr 88 (one_of (codes "port") rows) port
 IsCommand name rows (commands.Decode limit chosen framed) = (name ≡ codes "decode") × IsNumberOr 16777216 (one_of (codes "limit") rows) limit × IsProfile (first_of (codes "strict") rows) chosen × IsFraming (first_of (codes "unframed") rows) framed
 IsCommand name rows (commands.Encode limit chosen framed) = (name ≡ codes "encode") × IsNumberOr 16777216 (one_of (codes "limit") rows) limit × IsProfile (first_of (codes "strict") rows) chosen × IsFraming (first_of (codes "unframed") rows) framed
 IsCommand name rows (commands.Help text) = ⊥

@@ -61,7 +61,7 @@ fn now_option<'a>(alloc: Global) -> Arg<'a>
         alloc,
         "now",
         "WHEN",
-        "Shows what expired by now, a date or seconds since 1970",
+        "Compares expiry with now, a date, or seconds since 1970",
     )
 }
 
@@ -92,7 +92,11 @@ fn strict_flag<'a>(alloc: Global) -> Arg<'a>
     ensures rule { rule_of result ≡ strict_flag }
     ensures local { result.global ≡ false }
 {
-    flag(alloc, "strict", "Refuses messages that have a note")
+    flag(
+        alloc,
+        "strict",
+        "Refuses messages that have a note (krbls help stream)",
+    )
 }
 
 /// Returns the option `--names`.
@@ -127,7 +131,7 @@ fn with_filename_flag<'a>(alloc: Global) -> Arg<'a>
     flag(
         alloc,
         "with-filename",
-        "Begins each line with the file that it is of: file=NAME",
+        "Begins each line with its file: file=NAME",
     )
     .short('H')
 }
@@ -188,7 +192,7 @@ fn file_option<'a>(alloc: Global) -> Arg<'a>
         alloc,
         "file",
         "PATH",
-        "Reads this file before those that are named",
+        "Reads this file first; for a name that begins with -",
     )
 }
 
@@ -209,7 +213,7 @@ fn lines_flag<'a>(alloc: Global) -> Arg<'a>
     ensures rule { rule_of result ≡ lines_flag }
     ensures local { result.global ≡ false }
 {
-    flag(alloc, "lines", "Reads a message from each line")
+    flag(alloc, "lines", "Reads each line as a message of its own")
 }
 
 /// Returns the option `--unframed`.
@@ -220,13 +224,13 @@ fn unframed_flag<'a>(alloc: Global) -> Arg<'a>
     flag(
         alloc,
         "unframed",
-        "Reads or writes one message, without its length",
+        "Reads or writes one message, with no length before it",
     )
 }
 
 /// What a command takes: an option, or the words that name files.
 #[derive(Clone, Copy)]
-enum Parameter {
+pub(crate) enum Parameter {
     /// `--now WHEN`.
     Now,
     /// `--limit OCTETS`.
@@ -274,14 +278,32 @@ impl Parameter {
             Parameter::FileNames => file_names(alloc),
         }
     }
+
+    /// Returns whether it is the option of a name, which is written with its hyphens.
+    pub(crate) fn is_named(self, name: &str) -> bool {
+        match self {
+            Parameter::Now => name == "--now",
+            Parameter::Limit => name == "--limit",
+            Parameter::Port => name == "--port",
+            Parameter::KeepGoing => name == "--keep-going",
+            Parameter::Strict => name == "--strict",
+            Parameter::Lines => name == "--lines",
+            Parameter::Unframed => name == "--unframed",
+            Parameter::Names => name == "--names",
+            Parameter::Json => name == "--json",
+            Parameter::WithFilename => name == "-H" || name == "--with-filename",
+            Parameter::File => name == "--file",
+            Parameter::FileNames => false,
+        }
+    }
 }
 
 /// A command of the program: its name, its help and what it takes, in the order of its help.
 #[derive(Clone, Copy)]
-struct Part {
-    name: &'static str,
+pub(crate) struct Part {
+    pub(crate) name: &'static str,
     help: &'static CommandHelp,
-    parameters: &'static [Parameter],
+    pub(crate) parameters: &'static [Parameter],
 }
 
 /// The commands of the program.
@@ -354,6 +376,7 @@ static PARTS: [Part; 8] = [
         parameters: &[
             Parameter::Limit,
             Parameter::Port,
+            Parameter::Strict,
             Parameter::Names,
             Parameter::Json,
             Parameter::WithFilename,
@@ -386,7 +409,7 @@ static PARTS: [Part; 8] = [
 ];
 
 /// Returns the commands of the program.
-fn parts() -> &'static [Part]
+pub(crate) fn parts() -> &'static [Part]
     ensures { map app_for result.now ≡ apps }
 {
     &PARTS

@@ -17,8 +17,8 @@ pub(crate) const KRBLS_HELP: CommandHelp = CommandHelp {
 Reads files or the standard input, and prints a line for each message, record or
 credential. The last line says that all was read, or what was refused, at which
 octet and why. If there are several files, a line `file name=FILE` comes before
-the lines of each. With --json lines are JSON objects. No octet of a key or of a
-cipher is shown.
+the lines of each. With --json lines are JSON objects. No octet of what krbls
+reads as a key or a cipher is shown.
 
 Without a command each file is listed as its first octets say. If it is of
 another kind than the command, the standard error says which command reads it.
@@ -42,7 +42,8 @@ pub(crate) const LIST_HELP: CommandHelp = CommandHelp {
     about: "Lists each file as its first octets say; needs no name",
     usage: "krbls [list] [OPTIONS] FILE...",
     below: "\
-Takes for each file the command that its first octets say, without options:
+Lists each file by the command that its first octets call for, with that
+command's defaults:
   05 02                               keytab
   05 03, 05 04                        ccache
   a pcap or a pcapng                  capture
@@ -65,8 +66,9 @@ pub(crate) const STREAM_HELP: CommandHelp = CommandHelp {
 Reads frames, as one direction of a TCP connection to a KDC has them: four
 octets of length, the highest first, and a message. Prints a line for each
 message, and then `end messages=N` or `refused messages=N place=P why=REASON`;
-P counts from the first octet of the frame. With --keep-going a refusal is a
-line of its own, and `end messages=N refused=M` is the last one.
+P is an octet of the refused frame, from 0; its first four are the length. With
+--keep-going a refusal is a line of its own, and `end messages=N refused=M` is
+the last one.
 
 A message has a note if it has an octet above 7F in a string (1), fewer than 32
 flags (2), a negative kvno, nonce or seq-number (3), or an empty list that may
@@ -80,13 +82,14 @@ pub(crate) const MESSAGE_HELP: CommandHelp = CommandHelp {
     about: "Lists a message, a Ticket or a token, as octets or text",
     usage: "krbls message [OPTIONS] [FILE]...",
     below: "\
-Reads a message, a Ticket, a GSS-API or SPNEGO token, or a message after the
-four octets of its length: its octets, or text of them. The text is hexadecimal,
+Reads one message, Ticket, or GSS-API or SPNEGO token, as octets or as text. A
+message may have its four octets of length before it. The text is hexadecimal,
 also as C, Python and Wireshark write it, a dump with offsets (xxd, hexdump -C,
-od -tx1), base64, or an HTTP header with `Negotiate`. Prints the line of the
-message, with `via=` and what it was in before it, or `refused place=P
-why=REASON`, or `refused WORD` if the text is none of these; WORD is `hex`,
-`dump`, `base64`, `length` (more than 16777216 octets) or `ntlm`.
+od -tx1), base64, or an HTTP header with `Negotiate`.
+
+Prints the message's line, after `via=` and what it was in. Or it prints
+`refused place=P why=REASON`, or `refused WORD` if it is no text of octets; WORD
+is `hex`, `dump`, `base64`, `length` (more than 16777216 octets) or `ntlm`.
 
 With --lines each line of the input is read by itself, its record has `line=N`
 before it, and `end messages=N refused=M` is the last line.
@@ -123,8 +126,8 @@ credential or configuration entry, and then `end credentials=N`, or
 `refused place=P why=REASON` after the lines of what comes before the fault.
 
 A name may have `FILE:` or `WRFILE:` before it. `DIR::PATH` is the cache PATH,
-and `DIR:PATH` each cache of the directory PATH: the files whose names begin
-with `tkt`.
+and `DIR:PATH` each cache of the directory PATH: the regular files whose names
+begin with `tkt`.
 
 Examples:
   krbls ccache --now now /tmp/krb5cc_1000
@@ -140,13 +143,15 @@ file or a pipe. Lists the messages that UDP and TCP carry from or to the port,
 and those of port 464, by which passwords are changed. Prints a line for each,
 as `krbls stream` does, with `packet=N t=TIME flow=SOURCE>TARGET` before it: the
 packet that completes it, its time, and who sent it to whom. There are such
-lines also for what is refused and for octets that were not captured. The last
-line is `end packets=N messages=N refused=N lost=N unread=N`; if the file is at
-fault, it begins with `refused` and ends with `place=P why=REASON`.
+lines also for what is refused, for octets that were not captured, and for those
+that no message has (`unread`). The last line is
+`end packets=N messages=N refused=N lost=N unread=N`. If the file itself is
+damaged, the last line is `refused .. place=P why=REASON`.
 
 Examples:
   krbls capture --names kdc.pcap
-  tcpdump --immediate-mode -U -w - 'port 88 or port 464' | krbls capture",
+  tcpdump --immediate-mode -U -w - \\
+    'port 88 or port 464 or (ip[6:2] & 0x1fff != 0)' | krbls capture",
 };
 
 pub(crate) const DECODE_HELP: CommandHelp = CommandHelp {
@@ -158,12 +163,12 @@ object of one member, with the names of RFC 4120, appendix A. Octets are in
 hexadecimal. `krbls encode` makes the same frames of the lines again.
 
 A refusal ends a file: the standard error says at which octet of the frame it
-is, why and in which field. So does an EncryptedData of encryption type 0, which
-is not encrypted and so not printed. Other ciphers are printed, and can be
-attacked.
+is, why and in which field. So does anything that is not encrypted (encryption
+type 0): it could be a key. What is encrypted is printed; treat it as a secret,
+since weak passwords can be guessed from it.
 
 Example:
-  krbls decode --unframed ticket.kirbi > ticket.json",
+  krbls decode kdc.stream > kdc.jsonl",
 };
 
 pub(crate) const ENCODE_HELP: CommandHelp = CommandHelp {
@@ -177,5 +182,5 @@ A line that is at fault ends a file: the standard error has its number, the path
 of a field and what is wrong with that.
 
 Example:
-  krbls encode --unframed ticket.json > ticket.kirbi",
+  krbls encode kdc.jsonl > kdc.stream",
 };

@@ -11,22 +11,29 @@
 //!   source of a kind.
 //! - [`When`] is the time that credentials are compared with: the clock's, which the program reads,
 //!   or a number of seconds.
+//! - [`ShellWord`] writes a name as a shell reads it, and [`other_cache`] says what a name is that no
+//!   file has.
 //!
 //! Nothing here opens a file or prints a text: `krbls` does. What each command lists is in
 //! `krb_tool`.
 #![tactic(auto)]
 
+mod cache_types;
 mod commands;
 mod help;
 mod names;
+mod shell;
 mod sources;
 mod tasks;
+mod tips;
 mod when;
 mod words;
 
+pub use cache_types::other_cache;
 pub use commands::VERSION;
 pub use krb_der::{Limit, Profile};
 pub use krb_record::Form;
+pub use shell::ShellWord;
 pub use sources::{NamedPath, Source};
 pub use when::When;
 pub use words::{

@@ -2,7 +2,7 @@
 
 ghost use Rattle.std.specs.Prelude.{◌≡◌};
 ghost use Rattle.std.specs.Option.{option_map};
-ghost use Rattle.krb_words.specs.Tasks.{is_conversion, kind_used, listing_for, octets_awaited, text_of, when_of};
+ghost use Rattle.krb_words.specs.Tasks.{is_conversion, kind_used, listing_for, names_caches, octets_awaited, text_of, when_of, writes_messages};
 
 use crate::when::When;
 use crate::words::{AfterRefusal, Command, Inputs, USUAL_PORT};
@@ -17,7 +17,7 @@ impl Command {
         match kind {
             SourceKind::Keytab => Command::Keytab,
             SourceKind::Ccache => Command::Ccache(when),
-            SourceKind::Capture => Command::Capture(Limit::DEFAULT, USUAL_PORT),
+            SourceKind::Capture => Command::Capture(Limit::DEFAULT, Profile::Lenient, USUAL_PORT),
             SourceKind::Message => Command::Message(Profile::Lenient, Inputs::Whole),
             SourceKind::Stream => {
                 Command::Stream(Limit::DEFAULT, Profile::Lenient, AfterRefusal::Ends)
@@ -40,6 +40,20 @@ impl Command {
         ensures { result ≡ is_conversion self.now }
     {
         matches!(self, Command::Decode(..) | Command::Encode(..))
+    }
+
+    /// Returns whether the command writes messages as they are, and not text.
+    pub fn writes_messages(&self) -> bool
+        ensures { result ≡ writes_messages self.now }
+    {
+        matches!(self, Command::Encode(..))
+    }
+
+    /// Returns whether a name that the command is given may be that of a credential cache.
+    pub fn names_caches(&self) -> bool
+        ensures { result ≡ names_caches self.now }
+    {
+        matches!(self, Command::List(_) | Command::Ccache(_))
     }
 
     /// Returns the kind of the sources that the command lists. `None` if it finds that out, or does
@@ -68,13 +82,14 @@ impl Command {
     }
 
     /// Returns how many octets of a source are awaited before it is listed: those by which the
-    /// command of the source or a hint is chosen. A stream is listed as it comes, since it may be
-    /// live.
+    /// command of the source or a hint is chosen, whatever the pieces are in which they come. No
+    /// frame of a message is as short, so a live stream is still listed as it comes. Nothing is
+    /// chosen for `decode` and `encode`.
     pub fn octets_awaited(&self) -> usize
         ensures { result ≡ octets_awaited self.now }
     {
         match self {
-            Command::Stream(..) | Command::Decode(..) | Command::Encode(..) => 1,
+            Command::Decode(..) | Command::Encode(..) => 1,
             _ => 16,
         }
     }

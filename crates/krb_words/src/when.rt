@@ -1,10 +1,10 @@
 //! The times that credentials are compared with.
 
-ghost use Rattle.std.specs.Prelude.{◌≡◌, ◌≤◌, ◌<◌, IfSome, pos, unsigned_abs};
+ghost use Rattle.std.specs.Prelude.{ℕ, ◌≡◌, ◌≤◌, ◌<◌, IfSome, pos, unsigned_abs};
 ghost use Rattle.std.specs.Option.{MatchOption};
 ghost use Rattle.jiff_core.specs.Calendar.{IsDate};
 ghost use Rattle.jiff_core.specs.Date.{IsYmd, epoch_day};
-ghost use Rattle.krb_words.specs.Times.{IsClock, IsDateTime, IsDay, IsNoTime, IsWhen, days_since, digit, fits, has_form, seconds_of_day, seconds_since, two, year};
+ghost use Rattle.krb_words.specs.Times.{CountsSeconds, IsClock, IsDateTime, IsDay, IsNoTime, IsWhen, days_since, digit, fits, has_form, seconds_of_day, seconds_since, soonest, two, year};
 
 use jiff_core::civil::Date;
 
@@ -14,9 +14,12 @@ pub enum When {
     /// What the clock says.
     Clock,
     /// That many seconds after the beginning of 1970. No credential ends after the last second of
-    /// 32 bits, which stands for each later one.
+    /// 32 bits, which stands for each later one, up to the year 9999.
     Seconds(u32),
 }
+
+/// The last second after the beginning of 1970 that a date and a time can say.
+const LAST_SECOND: u64 = 253_402_300_799;
 
 /// A date and a time as they are printed, in which `0` stands for any digit.
 const FORM: &[u8] = b"0000-00-00T00:00:00Z";
@@ -140,6 +143,24 @@ fn date_time(text: &[u8]) -> Option<u64>
     }
 }
 
+/// Returns how many seconds after the beginning of 1970 a text says, if it is such a number that a
+/// date can say.
+fn count(text: &str) -> Option<u64>
+    ensures { MatchOption result ((seconds : ℕ) → CountsSeconds text.now seconds → ⊥) (CountsSeconds text.now) }
+{
+    match text.parse::<u64>() {
+        Ok(seconds) if seconds <= LAST_SECOND => Some(seconds),
+        _ => None,
+    }
+}
+
+/// Returns the time of a number of seconds after the beginning of 1970.
+fn at(seconds: u64) -> When
+    ensures { result ≡ When.Seconds (soonest seconds) }
+{
+    When::Seconds(seconds.min(u64::from(u32::MAX)) as u32)
+}
+
 /// Returns the time that a text says: `now`, a date and a time, or a number of seconds.
 pub(crate) fn read_when(text: &str) -> Option<When>
     ensures { MatchOption result (IsNoTime text.now) (IsWhen text.now) }
@@ -148,10 +169,10 @@ pub(crate) fn read_when(text: &str) -> Option<When>
         return Some(When::Clock);
     }
     if let Some(seconds) = date_time(text.as_bytes()) {
-        return Some(When::Seconds(seconds.min(u64::from(u32::MAX)) as u32));
+        return Some(at(seconds));
     }
-    match text.parse::<u32>() {
-        Ok(seconds) => Some(When::Seconds(seconds)),
-        Err(_) => None,
+    match count(text) {
+        Some(seconds) => Some(at(seconds)),
+        None => None,
     }
 }

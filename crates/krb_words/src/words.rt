@@ -11,6 +11,7 @@ ghost use Rattle.krb_words.specs.inner.NotRead.{FindsNoJob, IfWrong, IsNoJob, Is
 use crate::commands::krbls_command;
 use crate::names::command_words;
 use crate::sources::{Source, sources_of};
+use crate::tips::with_tip;
 use crate::when::{When, read_when};
 use clap::error::ErrorKind;
 use clap::{ArgMatches, Error};
@@ -69,8 +70,9 @@ pub enum Command {
     Keytab,
     /// A credential cache, and the time at which credentials may have expired.
     Ccache(Option<When>),
-    /// A capture, with frames of at most the limit's octets, and the port of Kerberos.
-    Capture(Limit, u16),
+    /// A capture, with frames of at most the limit's octets, the profile by which messages are
+    /// judged, and the port of Kerberos.
+    Capture(Limit, Profile, u16),
     /// Messages of a profile, of at most the limit's octets, which are turned into lines of JSON.
     Decode(Limit, Profile, Framing),
     /// Lines of JSON, which are turned into messages of a profile, of at most the limit's octets.
@@ -123,15 +125,18 @@ fn wrong(text: Result<String, AllocError>) -> WordsFault {
     }
 }
 
+/// What is said of words that `clap` accepts and that are no command line. There are none.
+const NOT_READ: &str = "error: krbls could not read its own options; this is a fault of krbls\n";
+
 /// Returns the fault of words that `clap` accepts and that are no command line. There are none.
 fn not_read(alloc: Global) -> WordsFault {
-    wrong(String::from_str(alloc, "error: the command line is not read\n"))
+    wrong(String::from_str(alloc, NOT_READ))
 }
 
 /// Returns the fault of a text that says no time.
 fn no_time(alloc: Global, text: &str) -> WordsFault {
     wrong(format!(in alloc;
-        "error: invalid value '{text}' for '--now <WHEN>': not now, a date and time as 2026-11-22T12:00:00Z, or seconds since 1970\n\nFor more information, try '--help'.\n"
+        "error: invalid value '{text}' for '--now <WHEN>': expected now, a date such as 2026-11-22T12:00:00Z, or seconds since 1970, up to the year 9999\n\nFor more information, try '--help'.\n"
     ))
 }
 
@@ -307,7 +312,11 @@ fn command_of(alloc: Global, name: &str, found: &ArgMatches<'_>) -> Result<Comma
         "message" => Ok(Command::Message(profile_of(found), inputs_of(found))),
         "keytab" => Ok(Command::Keytab),
         "ccache" => Ok(Command::Ccache(when_of(alloc, found)?)),
-        "capture" => Ok(Command::Capture(limit_of(alloc, found)?, port_of(alloc, found)?)),
+        "capture" => Ok(Command::Capture(
+            limit_of(alloc, found)?,
+            profile_of(found),
+            port_of(alloc, found)?,
+        )),
         "decode" => Ok(Command::Decode(
             limit_of(alloc, found)?,
             profile_of(found),
@@ -369,7 +378,7 @@ fn text_of(alloc: Global, error: &Error) -> Result<CommandLine, WordsFault>
         ErrorKind::DisplayHelp => Command::Help(text),
         ErrorKind::DisplayVersion => Command::Version(text),
         ErrorKind::OutOfMemory => return Err(WordsFault::Memory),
-        _ => return Err(WordsFault::Wrong(text)),
+        _ => return Err(wrong(with_tip(alloc, text.as_str()))),
     };
     Ok(CommandLine {
         command,

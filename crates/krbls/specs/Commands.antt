@@ -60,8 +60,8 @@ Does IsTold form now commands.Keytab had left written_before written_after outco
     (file : List ℕ) → had ≡ Some file → ListsRecords (keytab_listing form file) written_before written_after outcome
 Does IsTold form now (commands.Ccache when) had left written_before written_after outcome =
     (file : List ℕ) → had ≡ Some file → ListsRecords (ccache_listing form now file) written_before written_after outcome
-Does IsTold form now (commands.Capture limit port) had left written_before written_after outcome =
-    (file : List ℕ) → had ≡ Some file → ListsRecords (capture_listing (record { form = form; limit = limit; port = port }) file) written_before written_after outcome
+Does IsTold form now (commands.Capture limit profile port) had left written_before written_after outcome =
+    (file : List ℕ) → had ≡ Some file → ListsRecords (capture_listing (record { form = form; profile = profile; limit = limit; port = port }) file) written_before written_after outcome
 Does IsTold form now (commands.Decode limit profile how) had left written_before written_after outcome =
     IfOk outcome (Turns (DecodesBy how profile limit had left written_before written_after) (decode_end_line how) IsTold)
     × OnErr outcome (FailsToDecodeBy how profile limit had left written_before written_after)

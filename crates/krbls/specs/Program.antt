@@ -1,13 +1,12 @@
 -- What the program does by its words: to the standard output, to the standard error, and its status.
-use Rattle.std.specs.Prelude.{ℕ, ◌≡◌, ◌++◌, ◌⊎◌, max, Bool, true, false, if◌then◌else◌, List, length, map, Option, Some, None, Result, Ok, Err, IfOk, codes, string_bytes}
+use Rattle.std.specs.Prelude.{ℕ, ◌≡◌, ◌++◌, ◌⊎◌, ◌&&◌, max, Bool, true, false, if◌then◌else◌, List, length, map, Option, Some, None, Result, Ok, Err, IfOk, codes, string_bytes}
 use Rattle.std.specs.Io.KnownBytes.{Appends, Keeps}
 use Rattle.std.specs.List.{list_any}
 use Rattle.krb_input.specs.Hints.{hint_text}
 use Rattle.krb_input.specs.declared.hint.Hint.{Hint}
 use Rattle.krb_input.specs.declared.source_kind.SourceKind.{SourceKind}
-use Rattle.krb_record.specs.FileNames.{name_text}
 use Rattle.krb_record.specs.declared.form.Form.{Form}
-use Rattle.krb_run.specs.Faults.{IsRead, IsWrite}
+use Rattle.krb_run.specs.Faults.{IsWrite}
 use Rattle.krb_run.specs.Outputs.{head_of, is_refusal, mark_of}
 use Rattle.krb_run.specs.Sources.{ListsEach, ListsOne, Named, Outcome, Reports, Run, RunOver, names_of, unnamed}
 use Rattle.krb_run.specs.declared.naming.Naming.{Naming as Labels}
@@ -15,8 +14,10 @@ use Rattle.krb_run.specs.declared.naming.Naming.TheVariants as labels
 use Rattle.krb_run.specs.declared.output.Place.{Place}
 use Rattle.krb_run.specs.declared.run.RunFault.{RunFault}
 use Rattle.krb_run.specs.declared.run.RunFault.TheVariants as fault
+use Rattle.krb_words.specs.CacheTypes.{other_cache}
+use Rattle.krb_words.specs.Shell.{shell_word}
 use Rattle.krb_words.specs.Sources.{place_of}
-use Rattle.krb_words.specs.Tasks.{is_conversion, kind_used, text_of, when_of}
+use Rattle.krb_words.specs.Tasks.{is_conversion, kind_used, names_caches, text_of, when_of, writes_messages}
 use Rattle.krb_words.specs.Words.{IsFaultIn, IsCommandLineIn}
 use Rattle.krb_words.specs.declared.sources.Source.{Source}
 use Rattle.krb_words.specs.declared.sources.Source.TheVariants as source
@@ -47,14 +48,17 @@ IsTime around (Some when.Clock) None = ⊥
 IsTime around (Some when.Clock) (Some now) = around.IsNow now
 
 -- ---- sources
+-- it could not be opened, or there was no memory for its first piece
 abbrev pub IsUnread : Outcome → Type 0
 IsUnread (Ok ended) = ⊥
-IsUnread (Err fault) = IsRead fault
+IsUnread (Err (fault.Read error)) = Unit {0}
+IsUnread (Err (fault.Write error)) = ⊥
+IsUnread (Err fault.Memory) = Unit {0}
 
--- a hint for a source is told, if there is one; it gives the command as it was given
+-- a hint for a source is told, if there is one; it gives the command as it was given, and the name as a word of a shell
 abbrev pub IsHinted : Around → Source → Option SourceKind → Option Hint → Type 0
 IsHinted around s given None = Unit {0}
-IsHinted around s given (Some hint) = around.IsHintTold s (hint_text hint given (name_text (name_of s)))
+IsHinted around s given (Some hint) = around.IsHintTold s (hint_text hint given (shell_word (name_of s)))
 
 abbrev pub IsHintedIf : Bool → Around → Source → Option SourceKind → Option Hint → Type 0
 IsHintedIf false around s given hint = Unit {0}
@@ -109,9 +113,23 @@ labels_of command_line = labels_by command_line.naming command_line.sources.item
 abbrev pub names_for : CommandLine → ℕ → Named
 names_for command_line count = if is_conversion command_line.command then unnamed else names_of (labels_of command_line) command_line.form count
 
+-- what a name is, of a command that takes the names of caches, if it is that of a cache that is no file
+abbrev pub other_named : Command → (name : List ℕ) → Option (List ℕ)
+other_named command name = if names_caches command then other_cache name else None
+
+abbrev pub IsTold : Around → Source → Option (List ℕ) → Type 0
+IsTold around s None = Unit {0}
+IsTold around s (Some text) = around.IsHintTold s text
+
+-- The fault by which the run over a source ended is told; and of a cache that is no file, and so cannot be opened, what it is.
+abbrev pub IsFaultReported : Around → Command → Source → RunFault → Type 0
+IsFaultReported around command s (fault.Read error) = around.IsFaultTold s (fault.Read error) × IsTold around s (other_named command (name_of s))
+IsFaultReported around command s (fault.Write error) = around.IsFaultTold s (fault.Write error)
+IsFaultReported around command s fault.Memory = around.IsFaultTold s fault.Memory
+
 abbrev pub ListsSources : Around → CommandLine → Option ℕ → List Source → RunOver
 ListsSources around command_line now sources =
-    ListsEach (λ s. Reports (around.IsFaultTold s) (ListsOne command_line.form (names_for command_line (length sources)) (name_of s) (DoesFrom around command_line.form now command_line.command s))) sources
+    ListsEach (λ s. Reports (IsFaultReported around command_line.command s) (ListsOne command_line.form (names_for command_line (length sources)) (name_of s) (DoesFrom around command_line.form now command_line.command s))) sources
 
 -- The command of a command line is done with each of its sources, each cache of a directory among them, and the fault by which a run ends is told.
 pub record DoesEach (around : Around) (command_line : CommandLine) (written_before written_after : Option (List ℕ)) (status : ℕ) : Type 0 where
@@ -138,9 +156,22 @@ DoesAny around command_line written_before written_after status =
     DoesEach around command_line written_before written_after status
     ⊎ (around.IsFaultTold source.Input fault.Memory × (status ≡ 3) × (written_after ≡ written_before))
 
+-- why messages are not written to a terminal
+abbrev pub terminal_text : List ℕ
+terminal_text = codes "error: encode writes messages as they are, and octets of them may command the terminal\n\n  tip: krbls encode .. | xxd shows them, and krbls encode .. | cat writes them\n"
+
+abbrev pub DoesBy : (is_shown : Bool) → Around → CommandLine → RunOver
+DoesBy false around command_line written_before written_after status = DoesAny around command_line written_before written_after status
+DoesBy true around command_line written_before written_after status = around.AreWordsTold terminal_text × (status ≡ 2) × (written_after ≡ written_before)
+
+-- The command is done, unless messages would be written as they are to a terminal: then that is told, and nothing is read or written.
+abbrev pub DoesUnlessShown : Around → CommandLine → RunOver
+DoesUnlessShown around command_line written_before written_after status =
+    (is_terminal : Bool) × around.WritesToTerminal is_terminal × DoesBy (writes_messages command_line.command && is_terminal) around command_line written_before written_after status
+
 abbrev pub RunsCommandBy : Option (List ℕ) → Around → CommandLine → RunOver
 RunsCommandBy (Some text) around command_line written_before written_after status = Prints around text written_before written_after status
-RunsCommandBy None around command_line written_before written_after status = DoesAny around command_line written_before written_after status
+RunsCommandBy None around command_line written_before written_after status = DoesUnlessShown around command_line written_before written_after status
 
 abbrev pub RunsCommand : Around → CommandLine → RunOver
 RunsCommand around command_line written_before written_after status = RunsCommandBy (text_of command_line.command) around command_line written_before written_after status

@@ -1,25 +1,25 @@
 //! The runs over sources.
 
 ghost use Rattle.std.specs.Prelude.{◌≡◌, IfOk, OnErr, OnOk, string_bytes};
-ghost use Rattle.krb_record.specs.FileNames.{name_text};
 ghost use Rattle.krb_run.specs.Begun.{begun_remaining, first_of};
 ghost use Rattle.krb_convert.specs.Encoding.{FailsToEncode};
 ghost use Rattle.krb_run.specs.Outputs.{output_contents};
+ghost use Rattle.krb_words.specs.Shell.{shell_word};
 ghost use Rattle.krb_words.specs.Tasks.{kind_used};
 ghost use Rattle.krb_convert.specs.Conversions.{DecodesBy, EncodesBy, FailsToDecodeBy, is_framed};
 ghost use Rattle.krb_convert.specs.Ends.{decode_end_line, encode_end_line};
 ghost use Rattle.krbls.specs.Commands.{Does, TellsEnd, Turns, chosen, hint_by};
-ghost use Rattle.krbls.specs.Program.{DoesFrom, IsHinted, ListsBy, name_of};
+ghost use Rattle.krbls.specs.Program.{DoesFrom, IsFaultReported, IsHinted, IsTold, ListsBy, name_of, other_named};
 
 use krb_capture_run::run_capture;
 use krb_convert::{decode, encode, put_decode_end, put_encode_end};
 use krb_file_run::{run_ccache_in, run_keytab_in};
 use krb_host::Host;
 use krb_input::{Hint, hint_of, kind_of};
-use krb_record::{FileName, TextBuffer};
+use krb_record::TextBuffer;
 use krb_run::{Begun, ListSource, Output, RunEnd, RunFault};
 use krb_tool::{Form, Limit, Profile, run_lines_in, run_message_in, run_stream_in};
-use krb_words::{AfterRefusal, Command, Framing, Inputs, Source};
+use krb_words::{AfterRefusal, Command, Framing, Inputs, ShellWord, Source, other_cache};
 use std::alloc::{AllocError, Global};
 use std::io::{Read, Write};
 
@@ -62,9 +62,9 @@ impl<H: Host> Lister<'_, H> {
             }
             Command::Keytab => run_keytab_in(alloc, form, reader, writer),
             Command::Ccache(_) => run_ccache_in(alloc, form, reader, writer, self.time),
-            Command::Capture(limit, port) => run_capture(
-                alloc, form, reader, writer, *limit, *port,
-            ),
+            Command::Capture(limit, profile, port) => {
+                run_capture(alloc, form, *profile, reader, writer, *limit, *port)
+            }
             Command::Decode(limit, profile, framing) => {
                 self.run_decode(source, *framing, *profile, reader, writer, *limit)
             }
@@ -145,7 +145,7 @@ impl<H: Host> Lister<'_, H> {
         let Some(hint) = hint else {
             return Ok(());
         };
-        let name = shown_name(self.alloc, source)?;
+        let name = name_word(self.alloc, source)?;
         let text = hint.text(self.alloc, self.command.kind(), name.as_str())?;
         self.host.tell_hint(source, text.as_str());
         Ok(())
@@ -189,11 +189,26 @@ impl<H: Host> Lister<'_, H> {
     }
 }
 
-/// Returns the name of a source as it is shown.
-fn shown_name(alloc: Global, source: &Source) -> Result<String, AllocError>
-    ensures { IfOk result (λ name. string_bytes name ≡ name_text (name_of source.now)) }
+impl<H: Host> Lister<'_, H> {
+    /// Tells how to get a file of a credential cache that is none, if the command reads caches and the
+    /// name of a source is that of such a cache.
+    fn tell_other_cache(&self, source: &Source)
+        ensures { IsTold (H.around self.now.host.now) source.now (other_named self.now.command.now (name_of source.now)) }
+    {
+        if !self.command.names_caches() {
+            return;
+        }
+        if let Some(text) = other_cache(octets_name(source)) {
+            self.host.tell_hint(source, text);
+        }
+    }
+}
+
+/// Returns the name of a source as a word of a shell.
+fn name_word(alloc: Global, source: &Source) -> Result<String, AllocError>
+    ensures { IfOk result (λ name. string_bytes name ≡ shell_word (name_of source.now)) }
 {
-    format!(in alloc; "{}", FileName(octets_name(source)))
+    format!(in alloc; "{}", ShellWord(octets_name(source)))
 }
 
 /// Returns the name of a source.
@@ -211,7 +226,7 @@ impl<H: Host> ListSource<Source> for Lister<'_, H> {
 
     ghost Lists = { λ lister source. DoesFrom (H.around lister.host.now) lister.form lister.time lister.command.now source };
 
-    ghost IsReported = { λ lister source fault. (H.around lister.host.now).IsFaultTold source fault };
+    ghost IsReported = { λ lister source fault. IsFaultReported (H.around lister.host.now) lister.command.now source fault };
 
     fn name<'a>(&self, source: &'a Source) -> &'a [u8] {
         octets_name(source)
@@ -220,7 +235,7 @@ impl<H: Host> ListSource<Source> for Lister<'_, H> {
     fn list<W: Write>(&self, source: &Source, output: &mut Output<W>) -> Result<RunEnd, RunFault> {
         match self.host.open(source) {
             Ok(reader) => {
-                let mut begun = Begun::begin(reader, self.command.octets_awaited());
+                let mut begun = Begun::begin(self.alloc, reader, self.command.octets_awaited())?;
                 self.list_begun(source, &mut begun, output)
             }
             Err(error) => Err(RunFault::Read(error)),
@@ -229,5 +244,8 @@ impl<H: Host> ListSource<Source> for Lister<'_, H> {
 
     fn report(&self, source: &Source, fault: &RunFault) {
         self.host.tell_fault(source, fault);
+        if matches!(fault, RunFault::Read(_)) {
+            self.tell_other_cache(source);
+        }
     }
 }

@@ -30,7 +30,7 @@ use std::process::ExitCode;
 fn main(rt: HostRuntime) -> ExitCode {
     let system = System { rt: &rt };
     match system.words() {
-        Ok(words) => run_words(rt.alloc(), &system, words.as_slice(), rt.stdout()).1,
+        Ok(words) => run_words(rt.alloc(), &system, words.as_slice(), system.output()).1,
         Err(AllocError) => refuse(&system, &WordsFault::Memory),
     }
 }

@@ -4,7 +4,7 @@ ghost use Rattle.std.specs.Prelude.{◌≡◌, map};
 ghost use Rattle.std.specs.List.{list_any};
 ghost use Rattle.std.specs.Process.{exit_status};
 ghost use Rattle.krb_words.specs.Tasks.{when_of};
-ghost use Rattle.krbls.specs.Program.{RunsCommand, DoesAny, IsTime, ListsSources, Prints, Refuses, Runs, is_directory, labels_of};
+ghost use Rattle.krbls.specs.Program.{RunsCommand, DoesAny, DoesUnlessShown, IsTime, ListsSources, Prints, Refuses, Runs, is_directory, labels_of};
 
 use crate::lister::Lister;
 use krb_host::{Host, expand};
@@ -16,6 +16,13 @@ use std::process::ExitCode;
 
 /// The status of a wrong command line.
 const WRONG_COMMAND_LINE: u8 = 2;
+
+/// Why `encode` writes nothing to a terminal.
+const TERMINAL: &str = "\
+error: encode writes messages as they are, and octets of them may command the terminal
+
+  tip: krbls encode .. | xxd shows them, and krbls encode .. | cat writes them
+";
 
 /// The status of a fault before anything is read.
 const FAULT: u8 = 3;
@@ -48,8 +55,25 @@ fn run_command<H: Host, W: Write>(
 {
     match command_line.command.text() {
         Some(text) => print_text(host, text, writer),
-        None => do_each(alloc, host, command_line, writer),
+        None => do_unless_shown(alloc, host, command_line, writer),
     }
+}
+
+/// Does what a command line says, unless it writes messages as they are to a terminal, which is told.
+fn do_unless_shown<H: Host, W: Write>(
+    alloc: Global,
+    host: &H,
+    command_line: &CommandLine,
+    writer: W,
+) -> (W, ExitCode)
+    ensures { DoesUnlessShown (H.around host.now) command_line.now (W.contents writer) (W.contents result.0) (exit_status result.1) }
+{
+    let is_shown = host.writes_to_terminal();
+    if command_line.command.writes_messages() & is_shown {
+        host.tell_words(TERMINAL);
+        return (writer, ExitCode::from(WRONG_COMMAND_LINE));
+    }
+    do_each(alloc, host, command_line, writer)
 }
 
 /// Returns the time that a command compares credentials with, in seconds since 1970, if there is one:

@@ -69,6 +69,7 @@ int main(int argc, char **argv) {
     /* Numbers that are no length, and octets after those of the message. */
     uint32_t place = 5, frame_size = 5;
     uint8_t high[4] = {0x80, 0, 0, 1}, long_one[4] = {0x01, 0, 0, 1}, empty[4] = {0, 0, 0, 0}, row[4] = {0, 0, 0, 31};
+    check(krbls_version() == KRBLS_VERSION_NUMBER, "version", high, 0);
     check(krbls_judge(0, high, 0, &place) == KRBLS_EMPTY && place == 0, "empty", high, 0);
     check(krbls_front(0, 0, high, 4, &place) == KRBLS_EMPTY && place == 0, "a message of no octets", high, 4);
     check(krbls_front(0, (size_t)1 << 31, high, 4, &place) == KRBLS_TOO_LONG && place == 0, "a message too long", high, 4);

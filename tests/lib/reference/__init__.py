@@ -9,7 +9,7 @@ consist of, with the names of numbers in `registries`, and `records` their forms
 
 `inputs` has what an input of a message spells, with `dumps` and `spellings`, and `tokens` the layers round a message.
 
-`captures` has the records of captures: `capture_files` has their packets, `datagrams` what is in these for
+`captures` has the records of captures: `capture_files` has their packets, `datagrams` and `fragments` what is in these for
 UDP and TCP, `directions` the streams of TCP, and `kpasswd` the messages that change passwords.
 
 `listing` has the lines of a listing, and the status of the program; `runs` has whole command lines, with their sources, `hints`
@@ -42,6 +42,7 @@ RECORDS = {
     "keytab": keytab,
     "ccache": ccache,
     "capture": capture,
+    "capture --strict": partial(capture, messages=STRICT_MESSAGES),
 }
 
 

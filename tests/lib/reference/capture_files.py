@@ -94,7 +94,7 @@ def pcap_link(fields):
         fields.refuse("version", "Version", 4)
     for unread in ("thiszone", "sigfigs", "snaplen"):
         fields.take(unread, 4)
-    return fields.number("linktype", 4) & 0x0FFFFFFF
+    return fields.number("linktype", 4) & 0x03FFFFFF
 
 
 class Blocks:

@@ -1,11 +1,15 @@
 """The records of captures: of each Kerberos message in a pcap or pcapng as it is whole."""
 
+from functools import partial
+
 from .capture_files import packets
-from .datagrams import Fragments, Segment, Unread, internet, transport
-from .directions import Directions, lost
+from .datagrams import Internet, Segment, Unread, carried, may_be_tunnel
+from .directions import Directions, lost, unread
 from .fields import FIELDS
 from .files import FILE_REASONS
+from .fragments import Fragments
 from .frames import LIMIT, Frames
+from .grammar import MESSAGES
 from .judging import Ended, Refused
 from .kpasswd import change_password
 from .messages import record_or_refusal
@@ -16,16 +20,19 @@ PORT = 88
 CHANGE_PASSWORD_PORT = 464
 
 
-def message(octets, n):
+def message(octets, n, messages):
     """What is found in a message of n octets, of which these are there."""
-    return [record_or_refusal(octets, n)]
+    return [record_or_refusal(octets, n, messages)]
 
 
 class Capture:
     """The records of the packets of a capture, as they come."""
 
-    def __init__(self, limit, port):
+    def __init__(self, limit, port, messages):
         self.port = port
+        # What reads messages, and messages that change passwords, by the same profile.
+        self.message = partial(message, messages=messages)
+        self.change_password = partial(change_password, messages=messages)
         self.counts = dict.fromkeys(("packets", "messages", "refused", "lost", "unread"), 0)
         self.fragments = Fragments()
         self.directions = Directions(lambda of_flow: Frames(self.reading(of_flow), limit))
@@ -36,28 +43,32 @@ class Capture:
         """What reads the messages of a flow, by its ports; None if they are not of Kerberos."""
         ports = (of_flow.source.port, of_flow.target.port)
         if self.port in ports:
-            return message
-        return change_password if CHANGE_PASSWORD_PORT in ports else None
+            return self.message
+        return self.change_password if CHANGE_PASSWORD_PORT in ports else None
+
+    def is_ours(self, of_flow):
+        return self.reading(of_flow) is not None
 
     def take(self, packet):
         """The records of one more packet."""
         self.packet = packet
         self.counts["packets"] += 1
         try:
-            found = self.whole(internet(packet))
+            found = self.whole(carried(packet, self.is_ours))
         except Unread as unread:
-            self.counts["unread"] += unread.flow is None or self.reading(unread.flow) is not None
+            flow = unread.flow
+            self.counts["unread"] += flow is None or self.is_ours(flow) or may_be_tunnel(flow)
             return
         if found is None or self.reading(found.flow) is None:
             return
         due = self.directions.take(found) if isinstance(found, Segment) else self.datagram(found)
         yield from self.records(due)
 
-    def whole(self, datagram):
-        """The datagram of UDP or segment of TCP that is whole with an IP datagram or fragment, or None."""
-        if datagram is not None and datagram.fragment is not None:
-            datagram = self.fragments.take(datagram)
-        return None if datagram is None else transport(datagram)
+    def whole(self, found):
+        """The datagram of UDP or segment of TCP that is whole with what a packet carries, or None."""
+        while isinstance(found, Internet):
+            found = self.fragments.take(found, self.is_ours)
+        return found
 
     def datagram(self, datagram):
         """What is found in a datagram of UDP, which is a message; each with its flow."""
@@ -67,6 +78,7 @@ class Capture:
         except Ended as ended:
             found = [lost(len(octets), size - len(octets), ended.path)]
         found = [one.within(0, size) if isinstance(one, Refused) else one for one in found]
+        found.extend(unread(size, len(datagram.surplus), "Surplus"))
         return [(datagram.flow, one) for one in found]
 
     def records(self, due):
@@ -96,9 +108,9 @@ def shown(totals):
     return {name: number(total) for name, total in totals.items()}
 
 
-def capture(octets, limit=LIMIT, port=PORT):
+def capture(octets, limit=LIMIT, port=PORT, messages=MESSAGES):
     """The records of a capture, and the status of the program."""
-    followed = Capture(limit, port)
+    followed = Capture(limit, port, messages)
     records = []
     try:
         for packet in packets(octets):

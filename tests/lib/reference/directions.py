@@ -1,7 +1,10 @@
 """The directions of TCP connections: what comes of segments in any order, copied, cut or lost (RFC 9293)."""
 
 from .records import Record
-from .values import number, path
+from .values import number, optional, path, reason
+
+# Why octets that were captured are in no message.
+UNREAD_REASONS = "Surplus Reset Before Ahead".split()
 
 # How far after the next octet expected a segment may begin, and how many octets may wait.
 MOST_AHEAD = 1048576
@@ -13,6 +16,13 @@ MOST_DIRECTIONS = 65536
 def lost(place, octets, where):
     """Octets that are not in the capture, from a place on."""
     return Record("lost", {"place": number(place), "octets": number(octets), "in": path(where)})
+
+
+def unread(place, octets, why):
+    """So many octets from a place on that no message has, or nothing if there are none."""
+    if octets > 0:
+        shown = {"place": optional(number, place), "octets": number(octets), "why": reason(why, UNREAD_REASONS)}
+        yield Record("unread", shown)
 
 
 class Direction:
@@ -43,14 +53,19 @@ class Direction:
         """What is found with one more segment."""
         place = self.place(segment)
         end = place + segment.held.size
+        # A receiver drops a FIN with an old number.
+        is_fin = segment.fin and end >= self.due
         if segment.held.size > 0 or segment.fin:
             self.seen = max(self.seen, end)
         if place > self.due + MOST_AHEAD:
             if segment.held.octets:
                 self.far = place if self.far is None else min(self.far, place)
+            yield from unread(place, len(segment.held.octets), "Ahead")
             return
+        if not self.is_keep_alive(place, segment):
+            yield from unread(-place, min(-place, len(segment.held.octets)), "Before")
         self.keep(place, segment)
-        if segment.fin and end >= 0:
+        if is_fin:
             self.fin = end if self.fin is None else min(self.fin, end)
         yield from self.frames.take(self.taken())
         is_whole = self.fin is not None and self.fin <= self.due
@@ -62,6 +77,10 @@ class Direction:
         for octet_place, octet in enumerate(segment.held.octets, place):
             if octet_place >= self.due:
                 self.waiting.setdefault(octet_place, octet)
+
+    def is_keep_alive(self, place, segment):
+        """Whether a segment is one octet 00 right before the next one expected (RFC 9293, 3.8.4)."""
+        return place == self.due - 1 and segment.held == (b"\0", 1)
 
     def is_copy(self, segment):
         """Whether the direction had all octets of a segment; a keep-alive has one where its FIN was due."""
@@ -102,6 +121,8 @@ class Directions:
         """What is found with one more segment: each with its flow."""
         flow = segment.flow
         if segment.rst:
+            for found in unread(None, len(segment.held.octets), "Reset"):
+                yield flow, found
             yield from self.end(flow)
             return
         direction = self.kept.get(flow)

@@ -28,10 +28,11 @@ BITS_LEFT = {0: 0, 2: 0x0F, 3: 0x03}
 ESCAPE = re.compile(rb"\\x([0-9a-fA-F]{2})")
 BETWEEN_ESCAPES = BLANKS + b"\"',;"
 CONTINUED = re.compile(rb"\\(?=\r?\n)")
+END_OR_COMMENT = re.compile(rb"\}|/\*")
 TOKEN = re.compile(rb"(0[xX])?([0-9a-fA-F]*)")
 TOKENS_ALONE = re.compile(rb"(?:[0-9a-fA-F \t\r\n,;:\-\"'\[\]()]|(?<=0)[xX])*")
 HEADER = re.compile(
-    rb"(?:[<>][ \t])?(?:(?:(?:Proxy-)?Authorization|(?:WWW|Proxy)-Authenticate):[ \t\r\n]*)?(?:Negotiate|Kerberos)[ \t]",
+    rb"[ \t\r\n]*(?:[<>][ \t][ \t\r\n]*)?(?:(?:(?:Proxy-)?Authorization|(?:WWW|Proxy)-Authenticate):[ \t\r\n]*)?(?:Negotiate|Kerberos)[ \t]",
     re.IGNORECASE,
 )
 
@@ -102,33 +103,27 @@ def first_no_token(text):
 
 
 def braced(text):
-    """The octets between the first braces, as C has them."""
-    start = text.index(b"{") + 1
-    end = text.find(b"}", start)
-    if end < 0:
-        raise Misspelled("hex", len(text))
-    return at(start, between_braces, text[start:end])
+    """The octets between the first `{` and the next `}` that stands in no comment, as C has them; comments are blanks."""
+    start = place = text.index(b"{") + 1
+    block = bytearray()
+    while (found := END_OR_COMMENT.search(text, place)) is not None:
+        block += text[place : found.start()]
+        if found[0] == b"}":
+            return at(start, between_braces, bytes(block))
+        end = text.find(b"*/", found.end())
+        if end < 0:
+            raise Misspelled("hex", found.start())
+        place = end + 2
+        block += b" " * (place - found.start())
+    raise Misspelled("hex", len(text))
 
 
 def between_braces(text):
-    text = without_comments(text)
     if b"\\x" in text:
         return escapes(text)
     if TOKENS_ALONE.fullmatch(text) is None:
         raise Misspelled("hex", first_no_token(text))
     return tokens(text)
-
-
-def without_comments(text):
-    """A text with blanks in place of its comments."""
-    start = text.find(b"/*")
-    while start >= 0:
-        end = text.find(b"*/", start + 2)
-        if end < 0:
-            raise Misspelled("hex", start)
-        text = text[:start] + b" " * (end + 2 - start) + text[end + 2 :]
-        start = text.find(b"/*")
-    return text
 
 
 def escapes(text):

@@ -1,16 +1,19 @@
-"""What is in the clear inside of messages: records of the values of pre-authentication data, and of tickets.
+"""What is in the clear inside of messages: records of the values of pre-authentication data, of the data of errors, and of tickets.
 
-The types are those of RFC 4120, 5.2.7; RFC 6113, 5.4; MS-SFU, 2.2.1; MS-KILE, 2.2.3 and 2.2.10. They are judged leniently, and
-what is not all of its type has no record.
+The types are those of RFC 4120, 5.2.7 and 5.9.1; RFC 6113, 5.4; MS-SFU, 2.2.1; MS-KILE, 2.2.1 to 2.2.3 and 2.2.10. They are
+judged leniently, and what is not all of its type has no record.
 """
 
-from .fields import ap_request, method_data, name_in, options, encrypted_ticket, types
+import struct
+
+from .fields import ap_request, name_in, options, encrypted_ticket, types
 from .grammar import (
     BOOLEAN,
     CHECKSUM,
     ENCRYPTED_DATA,
     INT32,
     MESSAGES,
+    METHOD_DATA,
     OCTETS,
     PRINCIPAL_NAME,
     TEXT,
@@ -21,8 +24,20 @@ from .grammar import (
 )
 from .judging import Refused, whole
 from .records import Record, told_records
-from .registries import ENCRYPTION_TYPES, PAC_OPTIONS
-from .values import ABSENT, checksum, hexadecimal, named, number, optional, quoted, encrypted, yes_or_no
+from .registries import ENCRYPTION_TYPES, ERROR_DATA_TYPES, PA_DATA_TYPES, PAC_OPTIONS
+from .values import (
+    ABSENT,
+    checksum,
+    hexadecimal,
+    named,
+    number,
+    numbers,
+    optional,
+    quoted,
+    encrypted,
+    status,
+    yes_or_no,
+)
 
 PA_TGS_REQ = MESSAGES["AP-REQ"]
 ETYPE_INFO = ListOf(sequence((0, "etype", INT32), (1, "salt?", OCTETS)))
@@ -41,9 +56,14 @@ FAST_REQUEST = tagged(
 FAST_REPLY = tagged(0, sequence((0, "enc-fast-rep", ENCRYPTED_DATA)))
 PA_PAC_OPTIONS = sequence((0, "flags", Bits()))
 
-# The type of FAST's armor that is an AP-REQ (RFC 6113, 5.4.1.1), and the codes of errors that have METHOD-DATA.
+TYPED_DATA = ListOf(sequence((0, "data-type", INT32), (1, "data-value?", OCTETS)))
+KERB_ERROR_DATA = sequence((1, "data-type", INT32), (2, "data-value?", OCTETS))
+
+# The type of FAST's armor that is an AP-REQ (RFC 6113, 5.4.1.1), the code of errors whose own fields have the types of
+# METHOD-DATA, and the type of a value that is an extended error.
 ARMOR_AP_REQUEST = 1
-PREAUTH_FAILED, PREAUTH_REQUIRED = 24, 25
+PREAUTH_REQUIRED = 25
+EXTENDED = 3
 
 
 def value_of(item, octets):
@@ -134,11 +154,28 @@ OF_OTHERS = {**OF_ALL, 136: (FAST_REPLY, fast_reply)}
 SALT = 3
 
 
-def pa_data(item, rows):
+def extended_error(octets):
+    """The three numbers of KERB-EXT-ERROR (MS-KILE, 2.2.1), the lowest octet of each first, if these are twelve octets."""
+    return struct.unpack("<3I", octets) if len(octets) == 12 else None
+
+
+def shown_error(numbers_of_it):
+    code, reserved, flag = numbers_of_it
+    return Record("KERB-EXT-ERROR", {"status": status(code), "reserved": number(reserved), "flags": number(flag)})
+
+
+def salt(octets, of_error):
+    """A salt, or what Samba's KDC sends in its place with an error: an extended error, octets 4 to 7 of which are 00."""
+    if of_error and len(octets) == 12 and octets[4:8] == bytes(4):
+        return shown_error(extended_error(octets))
+    return Record("PA-PW-SALT", {"salt": quoted(octets)})
+
+
+def pa_data(item, rows, of_error=False):
     """The records of an item of PA-DATA."""
     kind, octets = item["padata-type"], item["padata-value"]
     if kind == SALT:
-        yield Record("PA-PW-SALT", {"salt": quoted(octets)})
+        yield salt(octets, of_error)
     elif kind in rows:
         of_type, records = rows[kind]
         value = value_of(of_type, octets)
@@ -146,9 +183,9 @@ def pa_data(item, rows):
             yield from records(value)
 
 
-def pa_data_of(items, rows):
+def pa_data_of(items, rows, of_error=False):
     for item in items or ():
-        yield from pa_data(item, rows)
+        yield from pa_data(item, rows, of_error)
 
 
 def tickets(values):
@@ -169,12 +206,40 @@ def credentials(value):
     yield from tickets(value["tickets"])
 
 
-def error(value):
-    code = value["error-code"]
-    items = method_data(value) if code in (PREAUTH_FAILED, PREAUTH_REQUIRED) else None
-    if items is not None and code == PREAUTH_FAILED:
+def extended(item):
+    """The extended error of a typed value, if it has one."""
+    found = extended_error(item.get("data-value", b"")) if item["data-type"] == EXTENDED else None
+    if found is not None:
+        yield shown_error(found)
+
+
+def methods(items, code):
+    if code != PREAUTH_REQUIRED:
         yield Record("METHOD-DATA", {"methods": types(items)})
-    yield from pa_data_of(items, OF_OTHERS)
+    yield from pa_data_of(items, OF_OTHERS, of_error=True)
+
+
+def typed(items, code):
+    yield Record("TYPED-DATA", {"types": numbers([item["data-type"] for item in items], PA_DATA_TYPES)})
+    for item in items:
+        yield from extended(item)
+
+
+def kerb_error_data(value, code):
+    yield Record("KERB-ERROR-DATA", {"type": named(value["data-type"], ERROR_DATA_TYPES)})
+    yield from extended(value)
+
+
+# What the data of an error may be; the first that all the octets are decides.
+ERROR_DATA = ((METHOD_DATA, methods), (TYPED_DATA, typed), (KERB_ERROR_DATA, kerb_error_data))
+
+
+def error(value):
+    for item, records in ERROR_DATA:
+        found = value_of(item, value.get("e-data", b""))
+        if found is not None:
+            yield from records(found, value["error-code"])
+            return
 
 
 INSIDE = {

@@ -1,6 +1,7 @@
 """Messages that change passwords (RFC 3244, 2)."""
 
 from .files import Fields
+from .grammar import MESSAGES
 from .judging import Ended, Refused
 from .messages import record_or_refusal
 from .records import Record
@@ -10,7 +11,7 @@ from .values import number
 HEADER = 6
 
 
-def change_password(octets, n):
+def change_password(octets, n, messages=MESSAGES):
     """What is found in a message of n octets, of which these are there: it is looked at once it is whole.
 
     That is the header, then an AP-REQ or AP-REP, and then a KRB-PRIV; before a KRB-ERROR there is neither of these.
@@ -25,7 +26,7 @@ def change_password(octets, n):
         return [refusal]
     rest = HEADER + ap_size
     shown = {"version": number(version), "ap": number(ap_size), "rest": number(n - rest)}
-    return [Record("KPASSWD", shown), *part(octets[HEADER:rest], HEADER), *part(octets[rest:], rest)]
+    return [Record("KPASSWD", shown), *part(octets[HEADER:rest], HEADER, messages), *part(octets[rest:], rest, messages)]
 
 
 def header(fields, n):
@@ -38,9 +39,9 @@ def header(fields, n):
     return version, ap_size
 
 
-def part(octets, place):
+def part(octets, place, messages):
     """What is found in the part of the message at a place, if there is one."""
     if not octets:
         return []
-    found = record_or_refusal(octets, len(octets))
+    found = record_or_refusal(octets, len(octets), messages)
     return [found.moved(place) if isinstance(found, Refused) else found]

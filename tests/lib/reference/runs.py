@@ -17,7 +17,7 @@ OPTIONS = {
     "message": ("--lines", "--strict"),
     "keytab": (),
     "ccache": ("--now",),
-    "capture": ("--limit", "--port"),
+    "capture": ("--limit", "--port", "--strict"),
     "list": ("--now",),
 }
 WITH_VALUES = ("--file", "--limit", "--port", "--now")
@@ -27,10 +27,23 @@ OF_FILES = ("keytab", "ccache", "list")
 OF_DIRECTORIES = ("ccache", "list")
 
 DATE = re.compile(r"(\d{4})-(\d\d)-(\d\d)T(\d\d):(\d\d):(\d\d)Z")
+# That of 9999-12-31T23:59:59Z, the last one that a date can say; a cache has times of 32 bits.
+LAST_SECOND = 253402300799
+# What is said of names of caches that are no files, by their types.
+BY_KVNO = "kvno -c NAME --out-cache FILE krbtgt/REALM (MIT)"
+BY_KCC = "kcc copy_cred_cache NAME FILE (Heimdal)"
+OTHER_CACHES = {
+    b"KCM:": f"a daemon keeps this cache; to copy it into a file: {BY_KVNO}, or {BY_KCC}",
+    b"KEYRING:": f"the kernel keeps this cache; to copy it into a file: {BY_KVNO}",
+    b"API:": f"a service of the system keeps this cache; to copy it into a file: {BY_KVNO}, or {BY_KCC}",
+    b"MEMORY:": "this cache is in the memory of the program that made it, and no other program reads it; to get one in a file: kinit -c FILE",
+}
 NO_FILE = "No such file or directory (os error 2)"
 # Names that are not UTF-8 cannot be opened.
 NO_NAME = "invalid filename"
 NOT_A_DIRECTORY = "Not a directory (os error 20)"
+NOT_REGULAR = "not a regular file"
+NO_CACHE = "this directory has no credential cache: no name in it begins with tkt"
 
 
 class WrongWords(Exception):
@@ -41,10 +54,21 @@ class Source(NamedTuple):
     # As it is shown, and as it is opened: None for the standard input.
     name: bytes
     path: bytes
-    # Whether it is of a directory, in which case it has its record even if it is the only one.
-    is_of_directory: bool = False
-    # Why it cannot be read, if it is a directory.
+    # Why it cannot be read, if that is known by its name or its kind.
     why_unread: str = None
+
+
+# What a shell takes as it is.
+BARE = re.compile(rb"[A-Za-z0-9._/+-]+")
+
+
+def shell_word(name):
+    """A name as a shell reads it: as it is, between single quotes, or, if it has what is not printed, with escapes."""
+    if BARE.fullmatch(name):
+        return name.decode()
+    if all(0x20 <= octet <= 0x7E for octet in name):
+        return "'" + name.decode().replace("'", "'\\''") + "'"
+    return "$'" + "".join(chr(octet) if 0x20 <= octet <= 0x7E and octet not in b"'\\" else f"\\x{octet:02x}" for octet in name) + "'"
 
 
 class Run(NamedTuple):
@@ -80,15 +104,15 @@ def seconds(when, clock):
         return clock
     date = DATE.fullmatch(when)
     if date is None:
-        if not when.isdecimal() or int(when) >= 2**32:
+        if not when.isdecimal() or int(when) > LAST_SECOND:
             raise WrongWords
-        return int(when)
+        return min(int(when), 2**32 - 1)
     parts = tuple(map(int, date.groups()))
     found = calendar.timegm(parts) if 1 <= parts[1] <= 12 else -1
     is_a_day = 1 <= parts[2] <= calendar.monthrange(*parts[:2])[1] if 1 <= parts[1] <= 12 else False
     if not is_a_day or parts[0] < 1970 or parts[3] > 23 or parts[4] > 59 or parts[5] > 59:
         raise WrongWords
-    return found
+    return min(found, 2**32 - 1)
 
 
 def sources_of(command, name, files):
@@ -100,10 +124,13 @@ def sources_of(command, name, files):
             if name.startswith(prefix):
                 return [Source(name, name[len(prefix) :])]
     if command in OF_DIRECTORIES and name.startswith(b"DIR::"):
-        return [Source(name, name[len(b"DIR::") :])]
-    if command in OF_DIRECTORIES and name.startswith(b"DIR:"):
-        return caches_of(name, files)
+        return [cache_of(name, name[len(b"DIR::") :], files)]
     return [Source(name, name, why_unread=None if is_utf8(name) else NO_NAME)]
+
+
+def is_directory(command, name):
+    """Whether a name stands for all caches of a directory."""
+    return command in OF_DIRECTORIES and name.startswith(b"DIR:") and not name.startswith(b"DIR::")
 
 
 def is_utf8(name):
@@ -114,18 +141,31 @@ def is_utf8(name):
     return True
 
 
+def cache_of(name, path, files):
+    """A cache of a directory, which has to be a regular file."""
+    return Source(name, path, NO_NAME if not is_utf8(path) else NOT_REGULAR if is_other(path, files) else None)
+
+
+def is_other(path, files):
+    """Whether there is something at a path that is no regular file: what is said of it is None, or it has files in it."""
+    return path in files and files[path] is None or any(other.startswith(path + b"/") for other in files)
+
+
 def caches_of(name, files):
-    """The caches of a collection in a directory, or what cannot be opened."""
+    """The caches of a collection in a directory, or what is said of it and its status if there are none."""
     directory = name[len(b"DIR:") :] + b"/"
-    found = sorted(path for path in files if path.startswith(directory + b"tkt"))
-    if not any(path.startswith(directory) for path in files):
-        why = NOT_A_DIRECTORY if directory[:-1] in files else NO_FILE
-        return [Source(name, directory, why_unread=why)]
-    return [Source(b"DIR::" + path, path, is_of_directory=True) for path in found]
+    entries = {path[len(directory) :].split(b"/")[0] for path in files if path.startswith(directory)}
+    if not entries:
+        return [], NOT_A_DIRECTORY if directory[:-1] in files else NO_FILE, 3
+    found = [directory + entry for entry in sorted(entries) if entry.startswith(b"tkt")]
+    return [cache_of(b"DIR::" + path, path, files) for path in found], None if found else NO_CACHE, 0
 
 
 def run(words, given, files, clock=0):
-    """What krbls does with words, a standard input, and files by their names."""
+    """What krbls does with words, a standard input, and files by their names.
+
+    What is no regular file has None in place of octets, and a directory with nothing in it is named with `/` at its end.
+    """
     try:
         command, flags, values, names = words_of(words)
         named = [*([values["--file"]] if "--file" in values else []), *names]
@@ -135,8 +175,17 @@ def run(words, given, files, clock=0):
     except WrongWords:
         return Run("", None, 2)
     encoded = [name.encode("utf-8", "surrogateescape") for name in named] or [b"-"]
-    sources = [source for name in encoded for source in sources_of(command, name, files)]
-    listing = Listing(command, flags, values, now, len(sources) > 1)
+    sources, errors, status = [], [], 0
+    for name in encoded:
+        if not is_directory(command, name):
+            sources += sources_of(command, name, files)
+            continue
+        found, why, fault = caches_of(name, files)
+        sources += found
+        errors += [] if why is None else [f"krbls: {file_name(name).text}: {why}\n"]
+        status = max(status, fault)
+    listing = Listing(command, flags, values, now, len(sources) > 1, any(is_directory(command, name) for name in encoded))
+    listing.errors, listing.status = errors, status
     for source in sources:
         if source.path is None:
             listing.take(source, given)
@@ -154,7 +203,7 @@ def said(command, octets):
 class Listing:
     """What is written of one source after another."""
 
-    def __init__(self, command, flags, values, now, is_many):
+    def __init__(self, command, flags, values, now, is_many, has_directory):
         self.command = command
         self.now = now
         self.forms = [flag for flag in flags if flag in ("--names", "--json")]
@@ -163,6 +212,8 @@ class Listing:
         self.options = [*options, *numbers]
         self.is_many = is_many
         self.has_names = "-H" in flags or "--with-filename" in flags
+        # Each cache of a directory has its record, even if it is the only one.
+        self.has_records = not self.has_names and (is_many or has_directory)
         self.lines, self.errors, self.status = [], [], 0
 
     def take(self, source, octets):
@@ -170,17 +221,21 @@ class Listing:
         name = source.name
         text = file_name(name).text
         said_of = "standard input" if name == b"-" else text
-        if not self.has_names and (source.is_of_directory or self.is_many and source.why_unread in (None, NO_NAME)):
+        if self.has_records:
             self.lines.append(f"{shown(file(name), self.forms)}\n")
         if octets is None:
             self.fail(3, f"{said_of}: {source.why_unread or NO_FILE}")
+            if self.command in OF_DIRECTORIES:
+                for prefix, said in OTHER_CACHES.items():
+                    if name.startswith(prefix):
+                        self.errors.append(f"krbls: {said_of}: {said}\n")
             return
         used = command_for(octets) if self.command == "list" else self.command
         found, status = records(" ".join([used, *self.options]), octets, self.now)
         for record in found:
             self.lines.append(f"{shown(self.with_name(record, name), self.forms)}\n")
         self.status = max(self.status, status)
-        said = hint(octets, used, self.command, text)
+        said = hint(octets, used, self.command, shell_word(name))
         if found[0].kind == "refused" and said is not None:
             self.errors.append(f"krbls: {said_of}: {said}\n")
 

@@ -10,6 +10,7 @@ from .registries import (
     ENCRYPTION_TYPES,
     ERROR_CODES,
     NAME_TYPES,
+    STATUSES,
     TICKET_FLAGS,
 )
 
@@ -153,6 +154,12 @@ def error_code(value):
     """C"""
     code = named(value, ERROR_CODES)
     return code._replace(text=code.text_with_names) if value in NAMED_CODES else code
+
+
+def status(value):
+    """A status of Windows in hexadecimal, with names its name or `-`."""
+    digits, name = f"{value:08x}", STATUSES.get(value)
+    return Value(digits, f"{digits}:{name or '-'}", digits, ("_name", name))
 
 
 def reason(why, reasons=REASONS):

@@ -4,6 +4,7 @@ use super::Outcome;
 use super::octets::AP_REP;
 use super::readers::faulted;
 use krb_capture::Capture;
+use krb_der::Profile;
 use krb_file::{FileFault, FileRefusal};
 use krb_flow::Direction;
 use krb_frame::Limit;
@@ -91,7 +92,7 @@ fn put_records(
 /// Lists a capture.
 pub(super) fn lists(alloc: Global, form: Form, octets: &[u8], wanted: &str) -> Outcome {
     let mut packets = Packets::new(octets);
-    let mut capture = Capture::new(alloc, form, Limit::DEFAULT, 88);
+    let mut capture = Capture::new(alloc, form, Profile::Lenient, Limit::DEFAULT, 88);
     let mut text = TextBuffer::new(alloc);
     let outcome = put_records(alloc, &mut packets, &mut capture, &mut text);
     if outcome == Outcome::Done && text.octets() != wanted.as_bytes() {

@@ -12,9 +12,9 @@ pub others-preserved : goal.others-preserved
 others-preserved c = (
   c.in-Some.ensures.0.viewed,
   leaves_more
-      (item_parts c.args.in_request (pa_data_of_view c.in-Some.seen))
-      (flat_map (item_parts c.args.in_request) (map pa_data_of (items_of pa_data c.in-Some.rest.octets.now)))
+      (item_parts c.args.carrier (pa_data_of_view c.in-Some.seen))
+      (flat_map (item_parts c.args.carrier) (map pa_data_of (items_of pa_data c.in-Some.rest.octets.now)))
       c.others.invariant.1
-      (ap (λ items. flat_map (item_parts c.args.in_request) (map pa_data_of items)) c.in-Some.ensures.0.items)
+      (ap (λ items. flat_map (item_parts c.args.carrier) (map pa_data_of items)) c.in-Some.ensures.0.items)
       (rw c.of-kind.ensures at c.in_ok-by_now.ensures),
 )

@@ -11,7 +11,7 @@ use Rattle.krb_text.proofs.padata.put_padata.Given as goal
 abbrev pub invariant-others : goal.invariant-others
 invariant-others l =
     AreViewed pa_data l.others.octets.now
-    × Leaves l.form (flat_map (item_parts l.in_request) (map pa_data_of (items_of pa_data l.initial.others.octets.now))) (flat_map (item_parts l.in_request) (map pa_data_of (items_of pa_data l.others.octets.now))) l.initial.by_now l.initial.text l.by_now l.text
+    × Leaves l.form (flat_map (item_parts l.carrier) (map pa_data_of (items_of pa_data l.initial.others.octets.now))) (flat_map (item_parts l.carrier) (map pa_data_of (items_of pa_data l.others.octets.now))) l.initial.by_now l.initial.text l.by_now l.text
 
 abbrev pub decreases-others : goal.decreases-others
 decreases-others l = length l.others.octets.now

@@ -1,12 +1,12 @@
 use Rattle.std.proofs.Common.{rules, refl, sym, ◌∙◌, ap}
-use Rattle.krb_capture.specs.Datagrams.{datagram_found}
+use Rattle.krb_capture.specs.Datagrams.{all_found}
 use Rattle.krb_capture.proofs.Following.{datagram-lists}
 use Rattle.krb_capture.proofs.Written.{name-all, on_ok-map}
 use Rattle.krb_capture.proofs.capture.Capture.take_datagram.Goals as goal
 
 pub returns : goal.returns
-returns c = on_ok-map c.list_datagram-listed.result
+returns c = on_ok-map c.list_with_surplus-listed.result
     (λ k settings progress h.
-    let same = ap (λ w. w.text_name) k ∙ name-all c.over-origin.result (datagram_found c.in-Some.service c.args.datagram.now.payload) _ in
-    datagram-lists c.args.self.now _ settings progress c.in-Some.service c.args.datagram.now c.over-origin.result c.args.text.now _ _ c.list_datagram-listed.new.listing h (sym c.between.ensures ∙ c.in-Some.is) c.over-origin.ensures k (record { form = c.into_parts-text.ensures.form; counts = c.into_parts-text.ensures.counts; is = search rules }) refl refl refl refl)
-    c.list_datagram-listed.ensures
+    let same = ap (λ w. w.text_name) k ∙ name-all c.over-origin.result (all_found c.in-Some.service c.args.datagram.now) _ in
+    datagram-lists c.args.self.now _ settings progress c.in-Some.service c.args.datagram.now c.over-origin.result c.args.text.now _ _ c.list_with_surplus-listed.new.listing h (sym c.between.ensures ∙ c.in-Some.is) c.over-origin.ensures k (record { form = c.into_parts-text.ensures.form; counts = c.into_parts-text.ensures.counts; is = search rules }) refl refl refl refl refl)
+    c.list_with_surplus-listed.ensures

@@ -1,6 +1,6 @@
-use Rattle.std.proofs.Common.{◌≡◌, sym, ◌∙◌, ap, subst}
+use Rattle.std.proofs.Common.{◌≡◌, sym, ◌∙◌, ap, ap₂, subst}
 use Rattle.std.proofs.lemmas.Result.{IfOk-weaker}
-use Rattle.krb_packet.specs.Fragments.{step}
+use Rattle.krb_packet.specs.Fragments.{contents_of_whole, nested_step}
 use Rattle.krb_capture.specs.Captures.{Progress, Taken, and_counted, completed, fragment_taken, whole_taken}
 use Rattle.krb_capture.specs.Rests.{Lists}
 use Rattle.krb_capture.proofs.capture.Capture.take_fragment.Goals as goal
@@ -8,16 +8,18 @@ use Rattle.krb_capture.proofs.capture.Capture.take_fragment.Goals as goal
 pub returns-in-Some : goal.returns-in-Some
 returns-in-Some c = IfOk-weaker c.take_whole.result _ _
     (λ rest k settings progress h.
-    let next : Progress = record progress { fragments = (step progress.fragments c.args.fragment.now).1 } in
+    let next : Progress = record progress { fragments = (nested_step settings.port progress.fragments c.args.fragment.now).1 } in
     let whole : whole_taken settings c.contents.result next ≡ fragment_taken settings c.args.fragment.now progress =
     ap {B = Taken} (λ contents. whole_taken settings contents next) c.contents.ensures
-    ∙ ap {B = Taken} (λ found. completed settings found next) (sym c.in-Some.is ∙ c.in_ok-whole.ensures.whole ∙ ap (λ held. (step held c.args.fragment.now).0) h.fragments)
+    ∙ ap {B = Taken} (λ port. whole_taken settings (contents_of_whole port c.in-Some.whole) next) h.port
+    ∙ ap {B = Taken} (λ found. completed settings found next) (sym c.in-Some.is ∙ c.in_ok-whole.ensures.whole ∙ ap₂ (λ port held. (nested_step port held c.args.fragment.now).0) h.port h.fragments)
     in
     subst (λ taken. Lists c.take_whole.new.self settings (and_counted taken) rest c.args.text.now c.take_whole.new.text) whole
     (k settings next (record {
+      profile = h.profile;
       port = h.port;
       form = h.form;
-      fragments = c.in_ok-whole.ensures.state ∙ ap (λ held. (step held c.args.fragment.now).1) h.fragments;
+      fragments = c.in_ok-whole.ensures.state ∙ ap₂ (λ port held. (nested_step port held c.args.fragment.now).1) h.port h.fragments;
       table = h.table;
       last = h.last;
       counts = h.counts;

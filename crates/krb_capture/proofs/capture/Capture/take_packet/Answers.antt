@@ -1,7 +1,7 @@
 use Rattle.std.proofs.Common.{◌∙◌, ap, subst}
 use Rattle.std.proofs.lemmas.Result.{IfOk-weaker}
 use Rattle.krb_record.specs.declared.capture.CaptureCounts.{CaptureCounts}
-use Rattle.krb_capture.specs.Captures.{Progress, and_counted, contents_taken, packet_taken, with_packet}
+use Rattle.krb_capture.specs.Captures.{Progress, and_counted, contents_in, contents_taken, packet_taken, with_packet}
 use Rattle.krb_capture.specs.Found.{and_more}
 use Rattle.krb_capture.specs.Rests.{Lists}
 use Rattle.krb_capture.proofs.capture.Capture.take_packet.Goals as goal
@@ -12,6 +12,7 @@ returns c = IfOk-weaker c.take_contents.result _ _
     (λ rest k settings progress h.
     let start : Progress = with_packet c.args.packet.now progress in
     let listed = k settings start (record {
+      profile = h.profile;
       port = h.port;
       form = ap (λ w. w.form) c.count_packet.ensures ∙ h.form;
       fragments = h.fragments;
@@ -19,5 +20,5 @@ returns c = IfOk-weaker c.take_contents.result _ _
       last = c.with-self.ensures;
       counts = ap (λ w. w.counts) c.count_packet.ensures ∙ ap {A = CaptureCounts} (λ x. record x { packets = and_more x.packets 1 }) h.counts;
     }) in
-    subst (λ contents. Lists c.take_contents.new.self settings (and_counted (contents_taken settings contents start)) rest c.args.text.now c.take_contents.new.text) c.contents_of.ensures listed)
+    subst (λ contents. Lists c.take_contents.new.self settings (and_counted (contents_taken settings contents start)) rest c.args.text.now c.take_contents.new.text) (c.contents_of.ensures ∙ ap (λ port. contents_in port c.args.packet.now) h.port) listed)
     c.take_contents.ensures

@@ -8,8 +8,8 @@ use Rattle.krb_capture.specs.Captures.{over_tcp}
 use Rattle.krb_capture.specs.Directions.{flow_cmp, of_ended}
 use Rattle.krb_capture.specs.Rests.{Follows}
 use Rattle.krb_capture.specs.Sending.{step_of}
-use Rattle.krb_capture.proofs.Follows.{follows-none}
-use Rattle.krb_capture.proofs.Tables.{ended-begins, ended-passed, ended-stays}
+use Rattle.krb_capture.proofs.Follows.{follows-none, follows-passed}
+use Rattle.krb_capture.proofs.Tables.{ended-begins, ended-passed, ended-stays, passes-none}
 use Rattle.krb_capture.proofs.directions.Directions.take_ended.Goals as goal
 
 pub returns : goal.returns
@@ -27,15 +27,15 @@ returns c = IfOk-weaker c.begin.result _ _
 pub returns-then-not-begins : goal.returns-then-not-begins
 returns-then-not-begins c = λ limit table h.
     let found = lookup (is_at (nat_cmp c.args.number)) table.ended in
-    follows-none c.args.self.now limit c.args.due (of_ended limit c.args.due.packet c.args.number found c.args.service c.args.segment.now table) table c.args.listing.now
-    (ended-passed limit c.args.due.packet c.args.service c.args.segment.now table c.args.number found (sym c.begins.ensures ∙ c.if-not-begins.true)) c.requires.none h
+    follows-passed c.args.self.now limit c.args.due (of_ended limit c.args.due.packet c.args.number found c.args.service c.args.segment.now table) c.args.segment.now table c.args.listing.now _
+    (ended-passed limit c.args.due.packet c.args.service c.args.segment.now table c.args.number found (sym c.begins.ensures ∙ c.if-not-begins.true)) c.requires.none h c.in_ok-list_passed_over.ensures
 
 pub returns-in_default : goal.returns-in_default
 returns-in_default c = λ limit table h.
     let test = is_at (nat_cmp c.args.number) in
     let none : lookup test table.ended ≡ None = ap (λ es. lookup test es) (sym h.ended) ∙ sym c.get.ensures ∙ c.in_default.is in
     follows-none c.args.self.now limit c.args.due (of_ended limit c.args.due.packet c.args.number (lookup test table.ended) c.args.service c.args.segment.now table) table c.args.listing.now
-    (ap (λ o. of_ended limit c.args.due.packet c.args.number o c.args.service c.args.segment.now table) none) c.requires.none h
+    (ap (λ o. of_ended limit c.args.due.packet c.args.number o c.args.service c.args.segment.now table) none ∙ passes-none c.args.segment.now table (sym c.begins.ensures ∙ c.if-not-begins.false)) c.requires.none h
 
 pub returns-then-not-is_followed_by : goal.returns-then-not-is_followed_by
 returns-then-not-is_followed_by c = λ limit table h.
@@ -43,4 +43,4 @@ returns-then-not-is_followed_by c = λ limit table h.
     let there : lookup test table.ended ≡ Some c.in-Some.gone = ap (λ es. lookup test es) (sym h.ended) ∙ sym c.get.ensures ∙ c.in-Some.is in
     let passed : (step_of (states.Ended c.in-Some.gone.had) c.args.segment.now).began ≡ false = sym c.is_followed_by.ensures ∙ c.if-not-is_followed_by.true in
     follows-none c.args.self.now limit c.args.due (of_ended limit c.args.due.packet c.args.number (lookup test table.ended) c.args.service c.args.segment.now table) table c.args.listing.now
-    (ap (λ o. of_ended limit c.args.due.packet c.args.number o c.args.service c.args.segment.now table) there ∙ ended-stays limit c.args.due.packet c.args.service c.args.segment.now table c.args.number c.in-Some.gone passed) c.requires.none h
+    (ap (λ o. of_ended limit c.args.due.packet c.args.number o c.args.service c.args.segment.now table) there ∙ ended-stays limit c.args.due.packet c.args.service c.args.segment.now table c.args.number c.in-Some.gone passed ∙ passes-none c.args.segment.now table (sym c.begins.ensures ∙ c.if-not-begins.false)) c.requires.none h

@@ -6,7 +6,7 @@ use Rattle.krb_flow.specs.declared.direction.State.TheVariants as states
 use Rattle.krb_capture.specs.Captures.{over_tcp}
 use Rattle.krb_capture.specs.Directions.{begun, flow_cmp, flow_of, followed, with_room}
 use Rattle.krb_capture.specs.Rests.{Follows}
-use Rattle.krb_capture.proofs.Follows.{follows-after, follows-none}
+use Rattle.krb_capture.proofs.Follows.{follows-after, follows-passed}
 use Rattle.krb_capture.proofs.Tables.{followed-begins, followed-known, followed-passed}
 use Rattle.krb_capture.proofs.directions.Directions.take_other.Goals as goal
 
@@ -31,8 +31,8 @@ returns-in_ok-insert-in-None c = IfOk-weaker c.begin.result _ _
     (k limit room.table (record { limit_is = maps.limit_is; numbers = c.in_ok-insert-in-None.ensures.entries ∙ ap (λ es. insert_entry flow_cmp es c.args.flow c.args.due.packet) maps.numbers; active = maps.active; ended = maps.ended }))))
     c.begin.ensures
 
-pub returns-in-None-2 : goal.returns-in-None-2
-returns-in-None-2 c = λ limit table h.
+pub returns-in_ok-list_passed_over-in-None-2 : goal.returns-in_ok-list_passed_over-in-None-2
+returns-in_ok-list_passed_over-in-None-2 c = λ limit table h.
     let e = ap (λ es. lookup (is_at (flow_cmp (flow_of c.args.segment.now))) es) (sym h.numbers) ∙ ap (λ f. lookup (is_at (flow_cmp f)) c.args.self.now.numbers.entries) (sym c.requires.of_segment) ∙ sym c.get.ensures.value ∙ c.in-None-2.is in
-    follows-none _ limit c.args.due (followed limit c.args.due.packet c.args.service c.args.segment.now table) table c.args.listing.now (followed-passed limit c.args.due.packet c.args.service c.args.segment.now table e (sym c.begins-may_begin.ensures ∙ c.if-may_begin-2.false)) c.requires.none
-    (record { limit_is = h.limit_is; numbers = ap (λ n. n.entries) c.get.ensures.same ∙ h.numbers; active = h.active; ended = h.ended })
+    follows-passed _ limit c.args.due (followed limit c.args.due.packet c.args.service c.args.segment.now table) c.args.segment.now table c.args.listing.now _ (followed-passed limit c.args.due.packet c.args.service c.args.segment.now table e (sym c.begins-may_begin.ensures ∙ c.if-may_begin-2.false)) c.requires.none
+    (record { limit_is = h.limit_is; numbers = ap (λ n. n.entries) c.get.ensures.same ∙ h.numbers; active = h.active; ended = h.ended }) c.in_ok-list_passed_over-in-None-2.ensures

@@ -6,6 +6,7 @@ pub returns : goal.returns
 returns c = record {
   same = c.in_ok-put_refusal.ensures.same;
   origin = c.in_ok-put_refusal.ensures.others.1;
+  profile = c.in_ok-put_refusal.ensures.others.2;
   offset = c.and_more-self.ensures ∙ ap₂ and_more c.in_ok-put_refusal.ensures.others.0 c.requires.size;
   listed = c.in_ok-put_refusal.ensures.listed;
 }

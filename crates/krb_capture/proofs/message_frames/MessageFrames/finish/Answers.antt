@@ -4,4 +4,4 @@ use Rattle.krb_capture.proofs.Over.{finish-is}
 use Rattle.krb_capture.proofs.message_frames.MessageFrames.finish.Goals as goal
 
 pub returns : goal.returns
-returns c = λ limit stream t e. c.err.ensures.value ∙ ap result_err c.finish.ensures ∙ finish-is c.args.self.now limit stream t e
+returns c = λ profile limit stream t e. c.err.ensures.value ∙ ap result_err c.finish.ensures ∙ finish-is profile c.args.self.now limit stream t e

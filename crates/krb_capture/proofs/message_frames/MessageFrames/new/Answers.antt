@@ -6,5 +6,5 @@ use Rattle.krb_capture.proofs.message_frames.MessageFrames.new.Goals as goal
 
 pub returns : goal.returns
 returns c =
-    took-new c.new.result c.new-2.result c.args.limit c.new.result.looks c.new.result.capacity c.new.ensures.nothing c.new-2.ensures.decoder
-    (λ none. c.new-2.ensures.goes_on [] [] (subst (λ d. HasDecoded (messages d.profile) c.new.result [] []) (sym c.new.ensures.nothing) c.new.ensures.decoded))
+    took-new c.args.profile c.with_profile.result c.new.result c.args.limit c.with_profile.result.looks c.with_profile.result.capacity c.with_profile.ensures.nothing c.new.ensures.decoder
+    (λ none. c.new.ensures.goes_on [] [] (subst (λ d. HasDecoded (messages d.profile) c.with_profile.result [] []) (sym c.with_profile.ensures.nothing) c.with_profile.ensures.decoded))

@@ -1,5 +1,6 @@
-use Rattle.std.proofs.Common.{List, ℕ, ◌++◌, sym, ◌∙◌, ap, subst}
+use Rattle.std.proofs.Common.{List, ℕ, ◌++◌, sym, ◌∙◌, ap, ap₂, subst}
 use Rattle.krb_flow.specs.Directions.{Outcome, outcome_of, step}
+use Rattle.krb_flow.specs.Unread.{unread_of}
 use Rattle.krb_record.specs.declared.flow.Transport.TheVariants as transports
 use Rattle.krb_capture.specs.Flows.{origin_of}
 use Rattle.krb_capture.specs.Rests.{RepresentsBut, Sends, Takes, TookSome}
@@ -17,13 +18,14 @@ returns-clause-found c = λ limit sent s.
     let same = c.in_ok-left.ensures.same in
     let made : Outcome = outcome_of c.in_ok-taken.taken c.take.new.waited.items in
     let outcome = c.in_ok-taken.ensures.outcome ∙ ap (λ st. (step st c.args.segment.now).0) s.state in
+    let unread = c.in_ok-taken.ensures.unread ∙ ap (λ st. unread_of st c.args.segment.now) s.state in
     let at = stream_at c.in_ok-taken.taken.begins sent.stream in
     let took0 = subst (λ n. Took c.args.self.now.frames n sent.stream) (sym s.limit_is) s.took in
     let took1 = c.in_ok-begin.ensures.took sent.stream took0 in
-    let takes = subst (λ (y : List ℕ). Takes c.begin.new.self.frames c.list.new.self.frames n at (record { octets = c.in_ok-taken.taken.octets.now ++ y; end = c.in_ok-taken.taken.end }) rest origin c.begin.new.listing c.list.new.listing) c.as_slice.ensures.value (c.in_ok-left.ensures.found n at took1) in
-    let listed = outcome-listed origin sent.service n sent.stream made rest c.args.self.now.frames c.begin.new.self.frames c.list.new.self.frames c.args.listing.now c.list_end.new.listing c.begin.new.listing c.list.new.listing
+    let takes = subst (λ (y : List ℕ). Takes c.begin.new.self.frames c.list.new.self.frames n at (record { octets = c.in_ok-taken.taken.octets.now ++ y; end = c.in_ok-taken.taken.end }) rest origin c.list_unread.new.listing c.list.new.listing) c.as_slice.ensures.value (c.in_ok-left.ensures.found n at took1) in
+    let listed = outcome-listed origin sent.service n sent.stream c.in_ok-taken.taken.unread made rest c.args.self.now.frames c.begin.new.self.frames c.list.new.self.frames c.args.listing.now c.list_end.new.listing c.begin.new.listing c.list_unread.new.listing c.list.new.listing
     s.frames (c.in_ok-begin.ensures.service (s.frames ∙ sym s.service) ∙ s.service)
-    (c.in_ok-list_end.ensures n sent.stream took0) c.in_ok-begin.ensures.found takes
+    (c.in_ok-list_end.ensures n sent.stream took0) c.in_ok-begin.ensures.found c.in_ok-list_unread.ensures takes
     in
     let represents : RepresentsBut c.list.new.self n (after_segment sent c.args.segment.now) rest listed.left = record {
       limit_is = ap (λ x. x.limit) same ∙ ap (λ x. x.limit) began;
@@ -38,7 +40,7 @@ returns-clause-found c = λ limit sent s.
     (record {
       listed = listed.listed;
       left = listed.left;
-      parts = ap (λ o. outcome_found sent.service n sent.stream o) (sym outcome) ∙ listed.parts;
+      parts = ap₂ (λ u o. outcome_found sent.service n sent.stream u o) (sym unread) (sym outcome) ∙ listed.parts;
       written = listed.written;
       full = takes.full;
       represents = represents;

@@ -1,20 +1,64 @@
-use Rattle.std.proofs.Common.{take, drop, refl, sym, subst, arith}
-use Rattle.std.specs.Io.KnownBytes.{Keeps, prepend_known}
+use Rattle.std.proofs.Common.{◌≡◌, ℕ, List, ◌++◌, length, take, drop, sym, ap, subst, arith, length-append, length-take}
+use Rattle.std.specs.Io.KnownBytes.{Consumes, Keeps, prepend_known}
+use Rattle.std.proofs.KnownBytes.{Consumes-kept, Consumes-nil, Consumes-trans}
 use Rattle.krb_run.specs.Begun.{others_of}
-use Rattle.krb_run.proofs.BegunReaders.{begun-none, begun-more, keeps-others}
+use Rattle.krb_run.proofs.BegunReaders.{begins-with, ended, keeps-all, keeps-others}
+use Rattle.krb_run.proofs.StreamRuns.{written-slice}
 use Rattle.krb_run.proofs.begun.Begun.begin.Goals as goal
 
 pub reads-init : goal.reads-init
-reads-init g c = begun-none _ _ refl
+reads-init g c = (c.in_ok-piece.ensures.len, rw c.new-octets.ensures.items (Consumes-nil (g.R.Read.remaining c.args.reader)))
 
 pub reads-preserved : goal.reads-preserved
-reads-preserved g c = begun-more (g.R.Read.remaining c.args.reader) (g.R.Read.remaining c.reads.reader) (g.R.Read.remaining c.read.new.self) c.reads.octets c.read.new.buf c.reads.count c.in-Ok.more c.reads.invariant c.in-Ok.ensures.bytes.0 c.in-Ok.ensures.bound.0 c.read.auto.buf
+reads-preserved g c =
+    let same : c.read.new.buf ≡ c.deref.result.now = written-slice _ _ _ _ c.deref.ensures.value (omega arith) in (
+      c.reads.invariant.0,
+      rw c.in_ok-extend_from_slice-in-Ok.ensures.items
+          (subst (λ (l : List ℕ). Consumes (g.R.Read.remaining c.args.reader) (g.R.Read.remaining c.read.new.self) (c.reads.octets.items ++ take c.in-Ok.count l)) same
+          (Consumes-trans _ _ _ _ _ c.reads.invariant.1 c.in-Ok.ensures.bytes.0)),
+    )
 
 pub reads-smaller : goal.reads-smaller
-reads-smaller g c = omega (arith, c.reads-test.true, c.min-least.ensures, c.in-Ok.more-test.1)
+reads-smaller g c =
+    omega (
+      arith,
+      c.reads-test.true,
+      c.min-least.ensures,
+      c.len.ensures,
+      c.in-Ok.count-test.1,
+      c.in-Ok.ensures.bound.0,
+      ap (λ (l : List ℕ). length l) c.in_ok-extend_from_slice-in-Ok.ensures.items,
+      ap (λ (l : List ℕ). length l) c.deref.ensures.value,
+      length-append c.reads.octets.items (take c.in-Ok.count c.deref.result.now),
+      length-take c.in-Ok.count c.deref.result.now,
+    )
+
+pub returns-in-Ok-eq0-clause-keeps : goal.returns-in-Ok-eq0-clause-keeps
+returns-in-Ok-eq0-clause-keeps g c =
+    let e = c.begun_reader.ensures in
+    subst (Keeps (g.R.Read.remaining c.args.reader)) (sym (λ i. prepend_known (drop (e.given i) ((e.octets i).items)) (others_of (e.then i) (g.R.Read.remaining (e.reader i)))))
+    (keeps-all (g.R.Read.remaining c.args.reader) (g.R.Read.remaining c.read.new.self) c.reads.octets.items
+    (ended _ _ _ _ _ c.in-Ok-eq0.field-0 (omega arith) c.reads.invariant.1 c.in-Ok-eq0.ensures.bytes.0)
+    (c.in-Ok-eq0.ensures.bytes.1 (omega arith) (omega arith)))
+
+pub returns-in-Ok-eq0-clause-begins : goal.returns-in-Ok-eq0-clause-begins
+returns-in-Ok-eq0-clause-begins g c = begins-with c.begun_reader.result.octets.items c.begun_reader.result.given _ c.begun_reader.ensures.given
+
+pub returns-in-Err-clause-keeps : goal.returns-in-Err-clause-keeps
+returns-in-Err-clause-keeps g c =
+    let e = c.begun_reader-in-Err.ensures in
+    subst (Keeps (g.R.Read.remaining c.args.reader)) (sym (λ i. prepend_known (drop (e.given i) ((e.octets i).items)) (others_of (e.then i) (g.R.Read.remaining (e.reader i)))))
+    (keeps-others (g.R.Read.remaining c.args.reader) (g.R.Read.remaining c.read.new.self) c.reads.octets.items
+    (Consumes-kept _ _ _ _ c.reads.invariant.1 c.in-Err.ensures.bytes))
+
+pub returns-in-Err-clause-begins : goal.returns-in-Err-clause-begins
+returns-in-Err-clause-begins g c = begins-with c.begun_reader-in-Err.result.octets.items c.begun_reader-in-Err.result.given _ c.begun_reader-in-Err.ensures.given
 
 pub returns-clause-keeps : goal.returns-clause-keeps
 returns-clause-keeps g c =
     let e = c.begun_reader-2.ensures in
-    subst (Keeps (g.R.Read.remaining c.args.reader)) (sym (λ i. prepend_known (drop (e.given i) (take (e.count i) (e.octets i))) (others_of (e.then i) (g.R.Read.remaining (e.reader i)))))
-    (keeps-others (g.R.Read.remaining c.args.reader) (g.R.Read.remaining c.reads.reader) c.reads.octets c.reads.count c.reads.invariant)
+    subst (Keeps (g.R.Read.remaining c.args.reader)) (sym (λ i. prepend_known (drop (e.given i) ((e.octets i).items)) (others_of (e.then i) (g.R.Read.remaining (e.reader i)))))
+    (keeps-others (g.R.Read.remaining c.args.reader) (g.R.Read.remaining c.reads.reader) c.reads.octets.items c.reads.invariant.1)
+
+pub returns-clause-begins : goal.returns-clause-begins
+returns-clause-begins g c = begins-with c.begun_reader-2.result.octets.items c.begun_reader-2.result.given _ c.begun_reader-2.ensures.given
