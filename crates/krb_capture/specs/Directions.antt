@@ -9,11 +9,12 @@ use Rattle.krb_packet.specs.declared.contents.Segment.{Segment}
 use Rattle.krb_flow.specs.declared.direction.State.{State}
 use Rattle.krb_flow.specs.declared.direction.State.TheVariants as states
 use Rattle.krb_flow.specs.declared.had.Had.{Had}
-use Rattle.krb_flow.specs.Unread.{of_reset}
+use Rattle.krb_flow.specs.Unread.{nothing, of_reset, untaken_of}
 use Rattle.krb_capture.specs.contracts.flow.FlowOrd.TheImpl as flow_order
 use Rattle.krb_capture.specs.Flows.{flow_between}
 use Rattle.krb_capture.specs.Found.{Found}
-use Rattle.krb_capture.specs.Sending.{Sent, Represents, after_segment, last_found, segment_found, sent_from, step_of, unread_found}
+use Rattle.krb_capture.specs.Sending.{Sent, Represents, after_segment, last_found, segment_found, sent_from, step_of, untaken_found}
+use Rattle.krb_capture.specs.Recent.{Remembers, still_kept}
 use Rattle.krb_capture.specs.declared.directions.Directions.{Directions}
 use Rattle.krb_capture.specs.declared.directions.Gone.{Gone}
 use Rattle.krb_capture.specs.declared.directions.Last.{Last}
@@ -26,14 +27,15 @@ use Rattle.krb_capture.specs.declared.sending.Step.{Step}
 abbrev pub flow_cmp : Flow → Flow → Ordering
 flow_cmp = flow_order.ghosts.cmp
 
--- the number of the direction of each flow; the directions that have not ended; and of those that have the flows, and what they had
+-- the number of the direction of each flow; the directions that have not ended; of those that have the flows, what they had, and how many ended before each; and what each direction that ended took, in the order in which they ended
 pub record Table : Type 0 where
   pub numbers : List (Flow × ℕ)
   pub active : List (ℕ × Sent)
   pub ended : List (ℕ × Gone)
+  pub streams : List (List ℕ)
 
 abbrev pub no_directions : Table
-no_directions = record { numbers = []; active = []; ended = [] }
+no_directions = record { numbers = []; active = []; ended = []; streams = [] }
 
 -- what is found in flows, and what is kept then
 pub record Followed : Type 0 where
@@ -54,15 +56,20 @@ abbrev pub active_with : Option Had → ℕ → Sent → List (ℕ × Sent) → 
 active_with None number sent active = insert_entry nat_cmp active number sent
 active_with (Some had) number sent active = active
 
-abbrev pub ended_with : Option Had → ℕ → Flow → List (ℕ × Gone) → List (ℕ × Gone)
-ended_with None number flow ended = ended
-ended_with (Some had) number flow ended = insert_entry nat_cmp ended number (record { flow = flow; had = had })
+abbrev pub ended_with : Option Had → ℕ → Flow → ℕ → List (ℕ × Gone) → List (ℕ × Gone)
+ended_with None number flow nth ended = ended
+ended_with (Some had) number flow nth ended = insert_entry nat_cmp ended number (record { flow = flow; had = had; nth = nth })
+
+abbrev pub streams_with : Option Had → List ℕ → List (List ℕ) → List (List ℕ)
+streams_with None stream streams = streams
+streams_with (Some had) stream streams = streams ++ stream ∷ []
 
 abbrev pub kept : Flow → ℕ → Step → Sent → Table → Table
 kept flow number step sent table = record {
   numbers = if step.began then insert_entry flow_cmp table.numbers flow number else table.numbers;
   active = active_with step.ended number sent table.active;
-  ended = ended_with step.ended number flow table.ended;
+  ended = ended_with step.ended number flow (length table.streams) table.ended;
+  streams = streams_with step.ended sent.stream table.streams;
 }
 
 -- what a direction came to that is not kept, by what it had if it ended
@@ -113,7 +120,7 @@ after_found found followed = record followed { found = found ++ followed.found }
 
 -- one that begins nothing: octets that it has are not taken
 abbrev pub passed_over : Segment → Table → Followed
-passed_over segment table = record { found = in_flow (flow_of segment) (unread_found (of_reset segment)); table = table }
+passed_over segment table = record { found = in_flow (flow_of segment) (untaken_found (record nothing { apart = of_reset segment })); table = table }
 
 -- of a flow with no segments yet
 abbrev pub of_new : ℕ → ℕ → Service → Segment → Table → Followed
@@ -122,13 +129,17 @@ of_new limit packet service segment table =
     then (let room = with_room limit table in after_found room.found (begun limit packet service states.Fresh segment room.table))
     else passed_over segment table
 
+-- of a direction that ended, if it begins nothing: octets that it has are not taken, and copies are compared with what that took as long as it is kept
+abbrev pub copied : Gone → Segment → Table → Followed
+copied gone segment table = record { found = in_flow (flow_of segment) (untaken_found (untaken_of (states.Ended gone.had) (still_kept table.streams gone.nth) segment)); table = table }
+
 -- of one whose direction ended: a SYN begins it anew, and so do data, unless they are copies
 abbrev pub of_ended : ℕ → ℕ → ℕ → Option Gone → Service → Segment → Table → Followed
 of_ended limit packet number None service segment table = passed_over segment table
 of_ended limit packet number (Some gone) service segment table =
     if (step_of (states.Ended gone.had) segment).began
     then begun limit packet service (states.Ended gone.had) segment (record table { ended = remove_entry (is_at (nat_cmp number)) table.ended })
-    else passed_over segment table
+    else copied gone segment table
 
 abbrev pub of_known : ℕ → ℕ → ℕ → Option Sent → Service → Segment → Table → Followed
 of_known limit packet number (Some sent) service segment table = gone_on limit packet number sent segment table
@@ -160,6 +171,7 @@ pub record HoldsMaps (directions : Directions) (limit : ℕ) (table : Table) : T
   pub numbers : directions.numbers.entries ≡ table.numbers
   pub active : AllRepresented limit directions.active.entries table.active
   pub ended : directions.ended.entries ≡ table.ended
+  pub recent : Remembers directions.recent table.streams
 
 -- what is known of a direction that is to be kept: if it begins its number is that of its flow, and else it is found by a flow already
 abbrev pub IsKnown : Bool → Flow → Last → List (Flow × ℕ) → Type 0

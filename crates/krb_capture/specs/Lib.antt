@@ -8,6 +8,7 @@ pub mod Taken
 pub mod Listed
 pub mod Passed
 pub mod Sending
+pub mod Recent
 pub mod Ended
 pub mod Numbers
 pub mod Directions

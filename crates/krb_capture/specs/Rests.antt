@@ -2,6 +2,7 @@
 use Rattle.std.specs.Prelude.{ℕ, ◌≡◌, List, [], ◌++◌, Option, Some, None, Box}
 use Rattle.std.specs.declared.alloc.Global.{Global}
 use Rattle.krb_record.specs.declared.capture_origin.CaptureOrigin.{CaptureOrigin}
+use Rattle.krb_flow.specs.Window.{Keeps}
 use Rattle.krb_capture.specs.Captures.{Finding, Progress, Settings, Taken, counted_each, lines_of, over_tcp, with_each}
 use Rattle.krb_capture.specs.Directions.{HoldsMaps, HoldsTable, IsKnown, Table, in_flow, kept}
 use Rattle.krb_capture.specs.Found.{Found, IsFullIf, Written, with_all}
@@ -51,6 +52,7 @@ pub record RepresentsBut (kept : Sending) (limit : ℕ) (sent : Sent) (octets : 
   pub service : kept.service ≡ sent.service
   pub frames : service_of kept.frames ≡ sent.service
   pub state : kept.direction.state ≡ sent.state
+  pub keeps : Keeps kept.direction sent.stream
   pub took : TookSome kept.frames limit sent.stream octets left
 
 pub record Sends (kept : Sending) (limit : ℕ) (sent : Sent) (octets : Option Unlisted) (origin : CaptureOrigin) (found : List Found) (before after : Written) : Type 0 where

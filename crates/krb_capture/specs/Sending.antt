@@ -2,13 +2,15 @@
 use Rattle.std.specs.Prelude.{ℕ, ◌≡◌, List, [], ◌∷◌, ◌++◌, Option, Some, None, is_some}
 use Rattle.krb_packet.specs.declared.contents.Segment.{Segment}
 use Rattle.krb_flow.specs.Directions.{Outcome, end_of, had_of, step}
-use Rattle.krb_flow.specs.Unread.{unread_of}
+use Rattle.krb_flow.specs.Unread.{untaken_of}
+use Rattle.krb_flow.specs.Window.{Keeps, stream_at, stream_with}
 use Rattle.krb_flow.specs.declared.direction.Beginning.{Beginning}
 use Rattle.krb_flow.specs.declared.direction.Beginning.TheVariants as beginnings
 use Rattle.krb_flow.specs.declared.direction.State.{State}
 use Rattle.krb_flow.specs.declared.direction.State.TheVariants as states
 use Rattle.krb_flow.specs.declared.stream.End.{End}
 use Rattle.krb_flow.specs.declared.unread.Unread.{Unread as Octets}
+use Rattle.krb_flow.specs.declared.unread.Untaken.{Untaken}
 use Rattle.krb_capture.specs.Found.{Found, Joined, Unread}
 use Rattle.krb_capture.specs.Streams.{end_found, found_with}
 use Rattle.krb_capture.specs.Taken.{Took, service_of}
@@ -42,32 +44,29 @@ beginning_found None = []
 beginning_found (Some beginnings.Syn) = []
 beginning_found (Some beginnings.Joined) = Joined ∷ []
 
--- the octets before those that are taken: none of a direction that begins
-abbrev pub stream_at : Option Beginning → List ℕ → List ℕ
-stream_at None stream = stream
-stream_at (Some beginning) stream = []
-
 -- octets that are not taken, and are no copies
 abbrev pub unread_found : Option Octets → List Found
 unread_found None = []
 unread_found (Some octets) = Unread octets.place octets.octets octets.why ∷ []
 
+-- in order: those that are compared with no others, copies of octets that are no longer kept, and copies that differ
+abbrev pub untaken_found : Untaken → List Found
+untaken_found untaken = unread_found untaken.apart ++ (unread_found untaken.old ++ unread_found untaken.differs)
+
 -- in order: how what was there ends, how the direction begins, the octets that are not taken, the frames that are whole or refused with those that are, and how it ends
-abbrev pub outcome_found : Service → ℕ → List ℕ → Option Octets → Outcome → List Found
-outcome_found service limit stream unread outcome =
+abbrev pub outcome_found : Service → ℕ → List ℕ → Untaken → Outcome → List Found
+outcome_found service limit stream untaken outcome =
     end_if service limit stream outcome.before
     ++ (beginning_found outcome.begins
-    ++ (unread_found unread
+    ++ (untaken_found untaken
     ++ (found_with service limit (stream_at outcome.begins stream) outcome.octets
     ++ end_if service limit (stream_at outcome.begins stream ++ outcome.octets) outcome.end)))
 
 abbrev pub segment_found : ℕ → Sent → Segment → List Found
-segment_found limit sent segment = outcome_found sent.service limit sent.stream (unread_of sent.state segment) (step sent.state segment).0
+segment_found limit sent segment = outcome_found sent.service limit sent.stream (untaken_of sent.state sent.stream segment) (step sent.state segment).0
 
 abbrev pub after_segment : Sent → Segment → Sent
-after_segment sent segment =
-    let stepped = step sent.state segment in
-    record sent { state = stepped.1; stream = stream_at stepped.0.begins sent.stream ++ stepped.0.octets }
+after_segment sent segment = record sent { state = (step sent.state segment).1; stream = stream_with sent.state sent.stream segment }
 
 -- what became of it: whether it began, and what it had if it ended
 abbrev pub step_of : State → Segment → Step
@@ -86,4 +85,5 @@ pub record Represents (kept : Sending) (limit : ℕ) (sent : Sent) : Type 0 wher
   pub service : kept.service ≡ sent.service
   pub frames : service_of kept.frames ≡ sent.service
   pub state : kept.direction.state ≡ sent.state
+  pub keeps : Keeps kept.direction sent.stream
   pub took : Took kept.frames limit sent.stream

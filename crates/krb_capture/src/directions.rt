@@ -1,6 +1,6 @@
 //! The directions of TCP connections, by their flows.
 
-ghost use Rattle.std.specs.Prelude.{◌≡◌, ◌<◌, ℕ, true, List, None, Some, if◌then◌else◌, is_some, length, IfOk, OnOk, IfSome, IfNone};
+ghost use Rattle.std.specs.Prelude.{◌≡◌, ◌<◌, ℕ, true, List, [], None, Some, if◌then◌else◌, is_some, length, IfOk, OnOk, IfSome, IfNone};
 ghost use Rattle.std.specs.BTreeMap.{insert_entry, is_at};
 ghost use Rattle.std.specs.Map.{lookup};
 ghost use Rattle.std.specs.Ordering.{eq_by_cmp, nat_cmp};
@@ -9,17 +9,19 @@ ghost use Rattle.krb_capture.specs.Directions.{HoldsMaps, HoldsTable, IsKnown, T
 ghost use Rattle.krb_capture.specs.Flows.{origin_of};
 ghost use Rattle.krb_capture.specs.Found.{Found, with_all};
 ghost use Rattle.krb_capture.specs.Rests.{Follows, HoldsBut, HoldsSome, RepresentsBut};
-ghost use Rattle.krb_capture.specs.Sending.{Sent, Represents, step_of, unread_found};
-ghost use Rattle.krb_flow.specs.Unread.{of_reset};
+ghost use Rattle.krb_capture.specs.Sending.{Sent, Represents, step_of, untaken_found};
+ghost use Rattle.krb_flow.specs.Unread.{nothing, of_reset};
+ghost use Rattle.krb_flow.specs.Window.{Keeps};
 ghost use Rattle.krb_record.specs.declared.flow.Transport.TheVariants as transports;
 
 use crate::ended::Ended;
 use crate::flow::{Due, Flow, Service};
 use crate::listing::Listing;
 use crate::numbers::Numbers;
-use crate::sending::{Sending, Step, Stepped, Unlisted, list_unread};
+use crate::recent::Recent;
+use crate::sending::{Sending, Step, Stepped, Unlisted, list_untaken};
 use krb_der::Memory;
-use krb_flow::{Direction, Had, Unread};
+use krb_flow::{Direction, Had, Unread, Untaken};
 use krb_frame::Limit;
 use krb_packet::Segment;
 use krb_record::Transport;
@@ -47,6 +49,8 @@ pub(crate) struct Gone {
     flow: Flow,
     /// What it had.
     had: Had,
+    /// How many ended before it.
+    nth: u64,
 }
 
 /// What is left of a packet whose records are not all listed: the direction whose segment it is,
@@ -75,6 +79,8 @@ pub(crate) struct Directions {
     last: Option<Last>,
     /// Those that ended.
     ended: Ended,
+    /// The last octets of those that ended last.
+    recent: Recent,
     /// Octets that waited.
     waited: Vec<u8>,
 }
@@ -87,12 +93,13 @@ fn begins(segment: &Segment<'_>) -> bool
 }
 
 /// Returns a direction with no octets yet, or one that ended and had this.
-fn direction_after(had: Option<Had>) -> Direction
-    ensures { result.state ≡ state_after had }
+fn direction_after(alloc: Global, had: Option<Had>) -> Direction
+    ensures state { result.state ≡ state_after had }
+    ensures keeps { Keeps result [] }
 {
     match had {
-        None => Direction::new(),
-        Some(had) => Direction::ended(had),
+        None => Direction::new(alloc),
+        Some(had) => Direction::ended(alloc, had),
     }
 }
 
@@ -116,10 +123,11 @@ fn list_passed_over(
     due: Due,
     listing: &mut Listing<'_>,
 ) -> Result<(), Memory>
-    ensures { OnOk result (listing.new ≡ with_all (origin_of due transports.Tcp segment.now.source segment.now.target) (unread_found (of_reset segment.now)) listing.old) }
+    ensures { OnOk result (listing.new ≡ with_all (origin_of due transports.Tcp segment.now.source segment.now.target) (untaken_found (record nothing { apart = of_reset segment.now })) listing.old) }
 {
     let origin = due.over(Transport::Tcp, segment.source, segment.target);
-    list_unread(Unread::of_reset(segment), &origin, listing)
+    let untaken = Untaken::apart(Unread::of_reset(segment));
+    list_untaken(untaken, &origin, listing)
 }
 
 impl Directions {
@@ -134,6 +142,7 @@ impl Directions {
             active: BTreeMap::new(alloc),
             last: None,
             ended: Ended::new(alloc),
+            recent: Recent::new(alloc),
             waited: Vec::new(alloc),
         }
     }
@@ -287,6 +296,9 @@ impl Directions {
             return Ok(None);
         };
         if !gone.had.is_followed_by(segment) {
+            let untaken = gone.had.untaken(self.recent.get(gone.nth), segment);
+            let origin = due.over(Transport::Tcp, segment.source, segment.target);
+            list_untaken(untaken, &origin, listing)?;
             return Ok(None);
         }
         self.ended.remove(number);
@@ -333,7 +345,7 @@ impl Directions {
         requires known { lookup (is_at (flow_cmp flow)) self.old.numbers.entries ≡ Some due.packet }
         ensures { IfOk result (λ rest. (limit : ℕ) (table : Table) → HoldsMaps self.old limit (record table { numbers = insert_entry flow_cmp table.numbers flow due.packet }) → Follows self.new limit (begun limit due.packet service (state_after had) segment.now table).table due rest (over_tcp due (begun limit due.packet service (state_after had) segment.now table).found) listing.old listing.new) }
     {
-        let direction = direction_after(had);
+        let direction = direction_after(self.alloc, had);
         let mut sending = Sending::new(self.alloc, self.limit, flow, service, direction);
         let mut stepped = sending.take(segment, due, &mut self.waited, listing)?;
         let kept = Last {
@@ -402,7 +414,9 @@ impl Directions {
     {
         self.keep_number(flow, last.number, step.began)?;
         if let Some(had) = step.ended {
-            self.ended.insert(last.number, Gone { flow, had })?;
+            let octets = Box::into_inner(last.sending).into_last_octets()?;
+            let nth = self.recent.push(octets)?;
+            self.ended.insert(last.number, Gone { flow, had, nth })?;
         } else if self.active.contains_key(&last.number) {
             self.active.insert(last.number, last.sending)?;
         } else {

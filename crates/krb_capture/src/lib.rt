@@ -30,6 +30,7 @@ mod message_frames;
 mod numbers;
 mod password;
 mod password_frames;
+mod recent;
 mod sending;
 
 pub use capture::Capture;

@@ -1,18 +1,19 @@
 //! What one end of a TCP connection sends.
 
-ghost use Rattle.std.specs.Prelude.{◌≡◌, ◌≤◌, ℕ, List, ◌++◌, drop, length, Some, IfOk, OnOk};
+ghost use Rattle.std.specs.Prelude.{◌≡◌, ◌≤◌, ℕ, List, [], ◌++◌, drop, length, Some, IfOk, OnOk};
 ghost use Rattle.krb_record.specs.declared.flow.Transport.TheVariants as transports;
 ghost use Rattle.krb_capture.specs.Flows.{origin_of};
 ghost use Rattle.krb_capture.specs.Found.{Found, with_all};
 ghost use Rattle.krb_capture.specs.Rests.{RepresentsBut, Sends, Takes};
-ghost use Rattle.krb_capture.specs.Sending.{Sent, Represents, after_segment, beginning_found, end_if, last_found, segment_found, sent_from, step_of, stream_at, unread_found};
+ghost use Rattle.krb_capture.specs.Sending.{Sent, Represents, after_segment, beginning_found, end_if, last_found, segment_found, sent_from, step_of, unread_found, untaken_found};
 ghost use Rattle.krb_capture.specs.Taken.{Took, service_of};
+ghost use Rattle.krb_flow.specs.Window.{Keeps, kept_in, stream_at};
 
 use crate::flow::{Due, Flow, Service};
 use crate::frames::Frames;
 use crate::listing::Listing;
 use krb_der::Memory;
-use krb_flow::{Beginning, Direction, End, Had, Unread};
+use krb_flow::{Beginning, Direction, End, Had, Unread, Untaken};
 use krb_frame::Limit;
 use krb_packet::Segment;
 use krb_record::{CaptureOrigin, Transport};
@@ -102,7 +103,7 @@ impl Unlisted {
 }
 
 /// Lists octets that are not taken, if there are any.
-pub(crate) fn list_unread(
+fn list_unread(
     unread: Option<Unread>,
     origin: &CaptureOrigin,
     listing: &mut Listing<'_>,
@@ -113,6 +114,19 @@ pub(crate) fn list_unread(
         None => Ok(()),
         Some(unread) => listing.put_unread(origin, unread),
     }
+}
+
+/// Lists all octets that are not taken.
+pub(crate) fn list_untaken(
+    untaken: Untaken,
+    origin: &CaptureOrigin,
+    listing: &mut Listing<'_>,
+) -> Result<(), Memory>
+    ensures { OnOk result (listing.new ≡ with_all origin.now (untaken_found untaken) listing.old) }
+{
+    list_unread(untaken.apart, origin, listing)?;
+    list_unread(untaken.old, origin, listing)?;
+    list_unread(untaken.differs, origin, listing)
 }
 
 /// What came of a segment.
@@ -144,6 +158,7 @@ impl Sending {
         service: Service,
         direction: Direction,
     ) -> Sending
+        requires { Keeps direction [] }
         ensures { Represents result limit (sent_from flow service direction.state) }
     {
         Sending {
@@ -163,6 +178,13 @@ impl Sending {
         self.flow
     }
 
+    /// Returns the last octets that it took, as far as they are kept.
+    pub(crate) fn into_last_octets(self) -> Result<Vec<u8>, Memory>
+        ensures { IfOk result (λ octets. octets.items ≡ kept_in self.direction.window) }
+    {
+        self.direction.into_last_octets(self.alloc)
+    }
+
     /// Takes a segment, and lists what is found with it until the listing is full. Octets that
     /// waited for it go through `waited`.
     pub(crate) fn take(
@@ -180,7 +202,7 @@ impl Sending {
         let taken = self.direction.take(self.alloc, segment, waited)?;
         self.list_end(taken.before, &origin, listing)?;
         self.begin(taken.begins, &origin, listing)?;
-        list_unread(taken.unread, &origin, listing)?;
+        list_untaken(taken.untaken, &origin, listing)?;
         let octets = taken.octets;
         let left = self.list(octets, waited.as_slice(), taken.end, &origin, listing)?;
         Ok(Stepped {

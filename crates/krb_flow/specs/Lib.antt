@@ -2,6 +2,8 @@ pub mod Serial
 pub mod Waiting
 pub mod Progress
 pub mod Directions
+pub mod Window
+pub mod Copies
 pub mod Unread
 pub mod inner
 pub mod Laws

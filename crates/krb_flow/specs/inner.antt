@@ -1,2 +1,4 @@
 pub mod Runs
 pub mod Stretches
+pub mod Unequal
+pub mod Founds

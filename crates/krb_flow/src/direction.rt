@@ -1,13 +1,15 @@
 //! A direction of a TCP connection: what one end sends to the other, from SYN to SYN.
 
-ghost use Rattle.std.specs.Prelude.{◌≡◌, ◌++◌, true, is_some, IfOk, OnOk, OnErr};
-ghost use Rattle.krb_flow.specs.Directions.{begins, end_of, ended, goes_on, had_of, is_first, may_join, outcome_of, step};
-ghost use Rattle.krb_flow.specs.Unread.{unread_at, unread_of};
+ghost use Rattle.std.specs.Prelude.{◌≡◌, ◌++◌, [], ℕ, List, true, is_some, IfOk, OnOk, OnErr};
+ghost use Rattle.krb_flow.specs.Directions.{begins, deliver, end_of, ended, goes_on, had_of, is_first, may_join, outcome_of, step};
+ghost use Rattle.krb_flow.specs.Unread.{untaken_at, untaken_of};
+ghost use Rattle.krb_flow.specs.Window.{Keeps, kept_in, last, stream_at, stream_with};
 ghost use Rattle.krb_flow.specs.declared.direction.State.TheVariants as states;
 
 use crate::had::{Had, first_number};
 use crate::stream::{End, Stream};
-use crate::unread::Unread;
+use crate::unread::{Unread, Untaken};
+use crate::window::Window;
 use krb_der::Memory;
 use krb_packet::Segment;
 use std::alloc::Global;
@@ -40,7 +42,7 @@ pub struct Taken<'a> {
     /// How the direction began, if it did.
     pub begins: Option<Beginning>,
     /// Those of the segment's octets that are not delivered, and are no copies.
-    pub unread: Option<Unread>,
+    pub untaken: Untaken,
     /// Those of the segment's octets that are taken at once.
     pub octets: &'a [u8],
     /// How the direction ended, if it did, after these octets and those that waited.
@@ -59,29 +61,58 @@ impl Had {
     }
 }
 
-/// A direction of a TCP connection. It allocates for the octets that wait alone, at most two octets
-/// for each, and some for each run of them; after each call at most 1048576 wait.
+/// Takes a segment, as [`Stream::take`] does, and keeps the octets that are taken.
+fn take_and_keep<'a>(
+    alloc: Global,
+    stream: &mut Stream,
+    window: &mut Window,
+    segment: &Segment<'a>,
+    waited: &mut Vec<u8>,
+) -> Result<&'a [u8], Memory>
+    ensures octets { IfOk result (λ prefix. prefix.now ++ waited.new.items ≡ (deliver stream.old segment.now).0) }
+    ensures state { OnOk result (stream.new ≡ (deliver stream.old segment.now).1) }
+    ensures most { window.new.most ≡ window.old.most }
+    ensures kept { OnOk result (kept_in window.new ≡ last window.old.most (kept_in window.old ++ (deliver stream.old segment.now).0)) }
+{
+    let octets = stream.take(segment, waited)?;
+    window.push(alloc, octets)?;
+    window.push(alloc, waited.as_slice())?;
+    Ok(octets)
+}
+
+/// A direction of a TCP connection. It allocates for the octets that wait, at most two octets
+/// for each, and some for each run of them; after each call at most 1048576 wait. And it allocates
+/// for the last 65536 octets that it took, at most twice as much, or once it ended for the last 4096
+/// of them.
 #[derive(Drop)]
 pub struct Direction {
     state: State,
+    /// The last octets that it took.
+    window: Window,
 }
 
 impl Direction {
     /// Creates a direction with no segments yet.
-    pub fn new() -> Direction
-        ensures { result.state ≡ states.Fresh }
+    pub fn new(alloc: Global) -> Direction
+        ensures state { result.state ≡ states.Fresh }
+        ensures keeps { Keeps result [] }
     {
         Direction {
             state: State::Fresh,
+            window: Window::new(alloc),
         }
     }
 
-    /// Creates a direction that ended, and had this.
-    pub fn ended(had: Had) -> Direction
-        ensures { result.state ≡ states.Ended had }
+    /// Creates a direction that ended, and had this. None of its octets is kept.
+    pub fn ended(alloc: Global, had: Had) -> Direction
+        ensures state { result.state ≡ states.Ended had }
+        ensures keeps { Keeps result [] }
     {
+        let mut window = Window::new(alloc);
+        window.end();
         Direction {
             state: State::Ended(had),
+            window,
         }
     }
 
@@ -95,6 +126,14 @@ impl Direction {
         }
     }
 
+    /// Returns the last octets that it took since it began: at most 65536, and at most 4096 if it
+    /// ended.
+    pub fn into_last_octets(self, alloc: Global) -> Result<Vec<u8>, Memory>
+        ensures { IfOk result (λ octets. octets.items ≡ kept_in self.window) }
+    {
+        self.window.into_octets(alloc)
+    }
+
     /// Takes a segment of the direction. The octets that are taken are those of the result, and
     /// then those that `waited` has, whatever it had before. Out of memory, the direction has
     /// ended.
@@ -104,9 +143,10 @@ impl Direction {
         segment: &Segment<'a>,
         waited: &mut Vec<u8>,
     ) -> Result<Taken<'a>, Memory>
-        ensures unread { IfOk result (λ delivered. delivered.unread ≡ unread_of self.old.state segment.now) }
+        ensures untaken { IfOk result (λ delivered. (stream : List ℕ) → Keeps self.old stream → delivered.untaken ≡ untaken_of self.old.state stream segment.now) }
         ensures outcome { IfOk result (λ delivered. outcome_of delivered waited.new.items ≡ (step self.old.state segment.now).0) }
         ensures state { OnOk result (self.new.state ≡ (step self.old.state segment.now).1) }
+        ensures keeps { OnOk result ((stream : List ℕ) → Keeps self.old stream → Keeps self.new (stream_with self.old.state stream segment.now)) }
         ensures memory { OnErr result (is_some (had_of self.new.state) ≡ true) }
     {
         if segment.rst {
@@ -115,18 +155,18 @@ impl Direction {
             return Ok(Taken {
                 before: None,
                 begins: None,
-                unread: Unread::of_reset(segment),
+                untaken: Untaken::apart(Unread::of_reset(segment)),
                 octets: &[],
                 end,
             });
         }
         let (before, begins) = self.begin(alloc, segment);
-        let unread = self.unread(segment);
-        let (octets, end) = self.go_on(segment, waited)?;
+        let untaken = self.untaken(segment);
+        let (octets, end) = self.go_on(alloc, segment, waited)?;
         Ok(Taken {
             before,
             begins,
-            unread,
+            untaken,
             octets,
             end,
         })
@@ -136,11 +176,13 @@ impl Direction {
     pub fn end(&mut self) -> Option<End>
         ensures end { result ≡ end_of self.old.state }
         ensures state { self.new.state ≡ ended self.old.state }
+        ensures keeps { (stream : List ℕ) → Keeps self.old stream → Keeps self.new stream }
     {
         match &self.state {
             State::Open(stream) => {
                 let end = stream.end();
                 self.state = State::Ended(stream.had());
+                self.window.end();
                 Some(end)
             }
             State::Fresh | State::Ended(_) => None,
@@ -175,14 +217,17 @@ impl Direction {
         ensures before { result.0 ≡ (begins self.old.state segment.now).0 }
         ensures begins { result.1 ≡ (begins self.old.state segment.now).1 }
         ensures state { self.new.state ≡ (begins self.old.state segment.now).2 }
+        ensures keeps { (stream : List ℕ) → Keeps self.old stream → Keeps self.new (stream_at result.1 stream) }
     {
         let first = first_number(segment);
         if segment.syn && !self.is_first(first) {
             let before = self.end();
             self.state = State::Open(Stream::new(alloc, first));
+            self.window = Window::new(alloc);
             (before, Some(Beginning::Syn))
         } else if self.may_join(segment) && segment.payload.size() > 0 {
             self.state = State::Open(Stream::new(alloc, first));
+            self.window = Window::new(alloc);
             (None, Some(Beginning::Joined))
         } else {
             (None, None)
@@ -190,37 +235,42 @@ impl Direction {
     }
 
     /// Returns those octets of a segment that are not delivered, and are no copies.
-    fn unread(&self, segment: &Segment<'_>) -> Option<Unread>
-        ensures { result ≡ unread_at self.now.state segment.now }
+    fn untaken(&self, segment: &Segment<'_>) -> Untaken
+        ensures { result ≡ untaken_at self.now.state (kept_in self.now.window) segment.now }
     {
+        let kept = self.window.as_slice();
         match &self.state {
-            State::Open(stream) => stream.unread(segment),
-            State::Fresh | State::Ended(_) => None,
+            State::Fresh => Untaken::none(),
+            State::Open(stream) => stream.untaken(kept, segment),
+            State::Ended(had) => had.untaken(kept, segment),
         }
     }
 
     /// Takes the octets of a segment, if the direction is open.
     fn go_on<'a>(
         &mut self,
+        alloc: Global,
         segment: &Segment<'a>,
         waited: &mut Vec<u8>,
     ) -> Result<(&'a [u8], Option<End>), Memory>
         ensures octets { IfOk result (λ gone. gone.0.now ++ waited.new.items ≡ (goes_on self.old.state segment.now).0) }
         ensures end { IfOk result (λ gone. gone.1 ≡ (goes_on self.old.state segment.now).1) }
         ensures state { OnOk result (self.new.state ≡ (goes_on self.old.state segment.now).2) }
+        ensures keeps { OnOk result ((stream : List ℕ) → Keeps self.old stream → Keeps self.new (stream ++ (goes_on self.old.state segment.now).0)) }
         ensures memory { OnErr result (is_some (had_of self.new.state) ≡ true) }
     {
         let State::Open(stream) = &mut self.state else {
             waited.clear();
             return Ok((&[], None));
         };
-        let Ok(octets) = stream.take(segment, waited) else {
+        let Ok(octets) = take_and_keep(alloc, stream, &mut self.window, segment, waited) else {
             self.state = State::Ended(stream.had());
             return Err(Memory);
         };
         if stream.is_over() {
             let end = stream.end();
             self.state = State::Ended(stream.had());
+            self.window.end();
             Ok((octets, Some(end)))
         } else {
             Ok((octets, None))

@@ -1,8 +1,9 @@
 //! What one end of a connection sends, after it began.
 
+use crate::copies::{Compared, compare_taken};
 use crate::had::{Had, first_number, number_at};
 use crate::serial::Distance;
-use crate::unread::{Unread, is_keep_alive};
+use crate::unread::{Unread, Untaken, is_keep_alive};
 use crate::waiting::Runs;
 use krb_der::Memory;
 use krb_packet::Segment;
@@ -56,10 +57,11 @@ impl Model for Stream {
     ghost view = { λ stream. record { first = stream.first; expected = stream.expected; waiting = stream.waiting; seen = stream.seen; far = stream.far; fin = stream.fin } };
 }
 
-ghost use Rattle.std.specs.Prelude.{◌≡◌, ◌+◌, ◌++◌, ◌<◌, ◌^◌, ◌||◌, ◌==◌, length, IfOk, OnOk};
+ghost use Rattle.std.specs.Prelude.{◌≡◌, ◌+◌, ◌++◌, ◌<◌, ◌≤◌, ◌⊎◌, ◌^◌, ◌||◌, ◌==◌, false, length, IfOk, OnOk};
 ghost use Rattle.krb_der.specs.Octets.{when};
 ghost use Rattle.krb_flow.specs.Progress.{begun};
-ghost use Rattle.krb_flow.specs.Unread.{unread_in};
+ghost use Rattle.krb_flow.specs.Copies.{differing, old_of, summary};
+ghost use Rattle.krb_flow.specs.Unread.{differs_in, is_keep_alive, untaken_in, untaken_near};
 ghost use Rattle.krb_flow.specs.Directions.{distance_to, earlier, end_place, ending, glimpsed, had, if_later, is_over, later, next_place, passes_all, unless_old, advanced, delivered, deliver};
 
 /// Returns the place after a segment of `size` octets, unless that is before octet 0.
@@ -163,25 +165,72 @@ impl Stream {
         self.expected.saturating_add(segment.payload.size()) >= MOST_OCTETS
     }
 
-    /// Returns those octets of a segment that are not taken, and are no copies: those before octet
-    /// 0, or all of a segment that begins too far ahead.
-    pub(crate) fn unread(&self, segment: &Segment<'_>) -> Option<Unread>
-        ensures { result ≡ unread_in self.now segment.now }
+    /// Returns those octets of a segment that are not taken, and are no copies. The last octets that
+    /// were taken are `kept`.
+    pub(crate) fn untaken(&self, kept: &[u8], segment: &Segment<'_>) -> Untaken
+        ensures { result ≡ untaken_in kept.now self.now segment.now }
     {
         if self.passes_all(segment) {
-            return None;
+            return Untaken::none();
         }
         let distance = self.distance_to(segment);
-        let captured = segment.payload.octets().len() as u64;
         if MOST_AHEAD < distance.ahead() {
             let place = self.expected + u64::from(distance.ahead());
-            return Unread::if_any(Some(place), captured, UnreadWhy::Ahead);
+            let captured = segment.payload.octets().len() as u64;
+            let far = Unread::if_any(Some(place), captured, UnreadWhy::Ahead);
+            return Untaken::apart(far);
         }
         if is_keep_alive(distance, &segment.payload) {
-            return None;
+            return Untaken::none();
         }
+        self.untaken_near(kept, segment, distance)
+    }
+
+    /// Returns those octets of a segment that is neither too far ahead nor a keep-alive: those before
+    /// octet 0, and copies.
+    fn untaken_near(&self, kept: &[u8], segment: &Segment<'_>, distance: Distance) -> Untaken
+        requires distance { distance ≡ distance_to self.now segment.now }
+        requires near { self.now.expected + segment.now.payload.size < MOST_OCTETS }
+        requires no_keep_alive { is_keep_alive distance segment.now.payload ≡ false }
+        ensures { result ≡ untaken_near kept.now self.now segment.now }
+    {
+        let octets = segment.payload.octets();
         let before = u64::from(distance.behind()).saturating_sub(self.expected);
-        Unread::if_any(Some(before), before.min(captured), UnreadWhy::Before)
+        let captured = before.min(octets.len() as u64);
+        let octets = &octets[captured as usize..];
+        let behind = u64::from(distance.behind()) - before;
+        let place = self.expected + u64::from(distance.ahead()) - behind;
+        let compared = self.compare(kept, place, behind, octets);
+        Untaken {
+            apart: Unread::if_any(Some(before), captured, UnreadWhy::Before),
+            old: Unread::if_any(Some(place), compared.old, UnreadWhy::Old),
+            differs: Unread::differing(compared.differing),
+        }
+    }
+
+    /// Compares octets that begin `behind` octets before the next one that is due, or at a place after
+    /// it, with those that were taken or wait there.
+    fn compare(&self, kept: &[u8], place: u64, behind: u64, octets: &[u8]) -> Compared
+        requires near { self.now.expected + length octets.now < MOST_OCTETS }
+        requires within { behind ≤ self.now.expected }
+        requires place { (place + behind ≡ self.now.expected) ⊎ ((behind ≡ 0) × (self.now.expected ≤ place)) }
+        requires fits { place + length octets.now < 2 ^ 63 }
+        ensures old { result.old ≡ old_of kept.now self.now.expected place octets.now }
+        ensures differing { result.differing ≡ summary (differing (differs_in kept.now self.now) place octets.now) }
+    {
+        let (copies, early) = octets.split_at(octets.len().min(behind as usize));
+        let compared = if copies.is_empty() {
+            Compared::none()
+        } else {
+            compare_taken(kept, self.expected, place, copies)
+        };
+        let waiting = self
+            .waiting
+            .differing(place + copies.len() as u64, early);
+        Compared {
+            old: compared.old,
+            differing: compared.differing.and(waiting),
+        }
     }
 
     /// Takes a segment. Returns those of its octets that are taken at once, borrowed; those that

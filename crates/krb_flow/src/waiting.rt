@@ -7,8 +7,11 @@ ghost use Rattle.std.specs.Option.{option_map};
 ghost use Rattle.std.specs.Ordering.{nat_cmp};
 ghost use Rattle.krb_flow.specs.inner.Runs.{AreApart, AreFree, waiting_in};
 ghost use Rattle.krb_flow.specs.inner.Stretches.{IsStretch, KeepsSome};
+ghost use Rattle.krb_flow.specs.Copies.{differing, differs_waiting, summary};
 ghost use Rattle.krb_flow.specs.Waiting.{early, keep, ready};
+ghost use Rattle.krb_flow.specs.inner.Founds.{IsFound};
 
+use crate::copies::{Differing, compare};
 use krb_der::Memory;
 use std::alloc::Global;
 use std::collections::BTreeMap;
@@ -50,6 +53,15 @@ enum Stretch {
     Free(u64),
 }
 
+/// What waits at a place and at those after it.
+#[derive(Clone, Copy)]
+enum Found<'a> {
+    /// These octets.
+    Octets(&'a [u8]),
+    /// Nothing, at so many places.
+    Nothing(u64),
+}
+
 /// How many of some octets were looked at, and how many of these were kept.
 #[derive(Clone, Copy)]
 struct Kept {
@@ -74,6 +86,49 @@ fn stretch_at(runs: &BTreeMap<u64, Vec<u8>>, place: u64) -> Stretch
         }
         None => Stretch::Free(u64::MAX - place),
     }
+}
+
+/// Returns what waits at a place and at those after it, up to where a run begins or ends.
+fn found_at(runs: &BTreeMap<u64, Vec<u8>>, place: u64) -> Found<'_>
+    requires apart { AreApart 0 runs.now.entries }
+    requires fits { place < 2 ^ 64 - 1 }
+    ensures { IsFound place runs.now.entries result }
+{
+    match runs.range(place + 1..).next() {
+        Some((&end, run)) => {
+            let first = end - run.len() as u64;
+            if first <= place {
+                Found::Octets(&run[(place - first) as usize..])
+            } else {
+                Found::Nothing(first - place)
+            }
+        }
+        None => Found::Nothing(u64::MAX - place),
+    }
+}
+
+/// Returns the places of those octets from a place on at which another octet waits.
+fn differing_in(runs: &BTreeMap<u64, Vec<u8>>, place: u64, octets: &[u8]) -> Differing
+    requires apart { AreApart 0 runs.now.entries }
+    requires fits { place + length octets.now < 2 ^ 64 }
+    ensures { result ≡ summary (differing (differs_waiting (waiting_in runs.now.entries)) place octets.now) }
+{
+    let mut place = place;
+    let mut octets = octets;
+    let mut all = Differing::none();
+    while !octets.is_empty() {
+        let seen = match found_at(runs, place) {
+            Found::Octets(others) => {
+                let seen = octets.len().min(others.len());
+                all = all.and(compare(place, &octets[..seen], &others[..seen]));
+                seen
+            }
+            Found::Nothing(count) => octets.len().min(count as usize),
+        };
+        octets = &octets[seen..];
+        place += seen as u64;
+    }
+    all
 }
 
 /// Inserts a run that ends at a place. The run that begins there is joined with it, if it is short.
@@ -192,6 +247,17 @@ impl Runs {
     {
         let (end, run) = self.runs.first_key_value()?;
         Some(*end - run.len() as u64)
+    }
+
+    /// Returns the places of those octets from a place on at which another octet waits.
+    pub(crate) fn differing(&self, place: u64, octets: &[u8]) -> Differing
+        requires { place + length octets.now < 2 ^ 64 }
+        ensures { result ≡ summary (differing (differs_waiting self.now) place octets.now) }
+    {
+        if self.octets == 0 {
+            return Differing::none();
+        }
+        differing_in(&self.runs, place, octets)
     }
 
     /// Keeps octets from a place on, each where no octet waits yet. Out of memory, no octet waits

@@ -15,9 +15,14 @@ pub enum UnreadWhy {
     Before,
     /// Their segment begins more than 1048576 octets ahead.
     Ahead,
+    /// They are copies of octets that are no longer kept, so that they are not compared.
+    Old,
+    /// They are copies that are not the octets that were taken, or that wait, at their places.
+    Differs,
 }
 
-/// Returns the number of a reason: 1 (`Surplus`), 2 (`Reset`), 3 (`Before`) or 4 (`Ahead`).
+/// Returns the number of a reason: 1 (`Surplus`), 2 (`Reset`), 3 (`Before`), 4 (`Ahead`), 5 (`Old`)
+/// or 6 (`Differs`).
 pub fn unread_why_number(why: UnreadWhy) -> u8
     ensures { result ≡ unread_reason_number why }
 {
@@ -26,6 +31,8 @@ pub fn unread_why_number(why: UnreadWhy) -> u8
         UnreadWhy::Reset => 2,
         UnreadWhy::Before => 3,
         UnreadWhy::Ahead => 4,
+        UnreadWhy::Old => 5,
+        UnreadWhy::Differs => 6,
     }
 }
 
@@ -38,5 +45,7 @@ pub fn unread_why_text(why: UnreadWhy) -> &'static str
         UnreadWhy::Reset => "Reset",
         UnreadWhy::Before => "Before",
         UnreadWhy::Ahead => "Ahead",
+        UnreadWhy::Old => "Old",
+        UnreadWhy::Differs => "Differs",
     }
 }

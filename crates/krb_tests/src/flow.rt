@@ -83,7 +83,7 @@ fn segments_are_put_together(rt: HostRuntime) {
         ),
         (Sent(5, Flag::None, "k", 1), Wanted(None, None, "", None)),
     ];
-    let mut direction = Direction::new();
+    let mut direction = Direction::new(rt.alloc());
     for (sent, wanted) in &rows {
         assert!(rt; comes_to(rt.alloc(), &mut direction, sent, wanted));
     }
@@ -122,7 +122,7 @@ fn missing_octets_are_reported(rt: HostRuntime) {
         ),
         (Sent(52, Flag::None, "b", 1), Wanted(None, None, "b", None)),
     ];
-    let mut direction = Direction::new();
+    let mut direction = Direction::new(rt.alloc());
     for (sent, wanted) in &rows {
         assert!(rt; comes_to(rt.alloc(), &mut direction, sent, wanted));
     }

@@ -1,16 +1,22 @@
 """The directions of TCP connections: what comes of segments in any order, copied, cut or lost (RFC 9293)."""
 
+from collections import deque
+
 from .records import Record
 from .values import number, optional, path, reason
 
 # Why octets that were captured are in no message.
-UNREAD_REASONS = "Surplus Reset Before Ahead".split()
+UNREAD_REASONS = "Surplus Reset Before Ahead Old Differs".split()
 
 # How far after the next octet expected a segment may begin, and how many octets may wait.
 MOST_AHEAD = 1048576
 
 # How many directions are kept.
 MOST_DIRECTIONS = 65536
+
+# How many of the last octets that were taken copies are compared with; the same after the end of a direction, and of how
+# many directions that ended.
+MOST_KEPT, MOST_KEPT_AFTER, MOST_ENDED = 65536, 4096, 4096
 
 
 def lost(place, octets, where):
@@ -34,6 +40,8 @@ class Direction:
         self.frames = frames
         # The place of the next octet expected: all before it are delivered.
         self.due = 0
+        # The octets before it that copies are compared with: the last ones.
+        self.recent = bytearray()
         # The octets that came early, by their places.
         self.waiting = {}
         # The place after the last octet, captured or not.
@@ -62,8 +70,7 @@ class Direction:
                 self.far = place if self.far is None else min(self.far, place)
             yield from unread(place, len(segment.held.octets), "Ahead")
             return
-        if not self.is_keep_alive(place, segment):
-            yield from unread(-place, min(-place, len(segment.held.octets)), "Before")
+        yield from self.copies(place, segment)
         self.keep(place, segment)
         if is_fin:
             self.fin = end if self.fin is None else min(self.fin, end)
@@ -79,8 +86,32 @@ class Direction:
                 self.waiting.setdefault(octet_place, octet)
 
     def is_keep_alive(self, place, segment):
-        """Whether a segment is one octet 00 right before the next one expected (RFC 9293, 3.8.4)."""
-        return place == self.due - 1 and segment.held == (b"\0", 1)
+        """Whether a segment is one octet 00 right before the next one expected, or where the FIN was due (RFC 9293, 3.8.4)."""
+        is_there = place == self.due - 1 or self.has_ended and place == self.due == self.fin
+        return is_there and segment.held == (b"\0", 1)
+
+    def copies(self, place, segment):
+        """Octets before octet 0, copies of octets that are no longer kept, and copies that differ."""
+        if self.is_keep_alive(place, segment):
+            return
+        octets = segment.held.octets
+        places = range(place, place + len(octets))
+        first_kept = self.due - len(self.recent)
+        yield from unread(-place, sum(there < 0 for there in places), "Before")
+        old = [there for there in places if 0 <= there < first_kept]
+        yield from unread(min(old, default=None), len(old), "Old")
+        differs = [there for there, octet in zip(places, octets) if there >= first_kept and there >= 0 and self.differs(there, octet)]
+        yield from unread(min(differs, default=None), len(differs), "Differs")
+
+    def differs(self, place, octet):
+        """Whether another octet was taken or waits at a place, or none was taken where the FIN of an ended direction is."""
+        if place < self.due:
+            return self.recent[place - self.due] != octet
+        return self.has_ended or self.waiting.get(place, octet) != octet
+
+    def forget(self):
+        """Lets go of the octets that copies are compared with."""
+        self.recent.clear()
 
     def is_copy(self, segment):
         """Whether the direction had all octets of a segment; a keep-alive has one where its FIN was due."""
@@ -93,11 +124,14 @@ class Direction:
         while self.due in self.waiting:
             octets.append(self.waiting.pop(self.due))
             self.due += 1
+        self.recent += octets
+        del self.recent[:-MOST_KEPT]
         return bytes(octets)
 
     def end(self):
         """What is found at the end of the direction: nothing after a frame whose length is not known."""
         self.has_ended = True
+        del self.recent[:-MOST_KEPT_AFTER]
         if self.frames.is_over():
             return []
         captured = list(self.waiting)
@@ -116,6 +150,8 @@ class Directions:
         # Gives the frames of a flow.
         self.frames = frames
         self.kept = {}
+        # Those that ended last, whose octets copies are still compared with.
+        self.ended = deque()
 
     def take(self, segment):
         """What is found with one more segment: each with its flow."""
@@ -123,7 +159,11 @@ class Directions:
         if segment.rst:
             for found in unread(None, len(segment.held.octets), "Reset"):
                 yield flow, found
+            direction = self.kept.get(flow)
+            is_open = direction is not None and not direction.has_ended
             yield from self.end(flow)
+            if is_open:
+                self.note_end(direction)
             return
         direction = self.kept.get(flow)
         if segment.syn and (direction is None or direction.first != segment.first()):
@@ -132,9 +172,26 @@ class Directions:
             yield from self.begin(segment)
             yield flow, Record("joined", {})
         direction = self.kept.get(flow)
-        if direction is not None and not direction.has_ended:
-            for found in direction.take(segment):
-                yield flow, found
+        if direction is None:
+            return
+        if direction.has_ended:
+            found_here = direction.copies(direction.place(segment), segment)
+        else:
+            found_here = self.going_on(direction, segment)
+        for found in found_here:
+            yield flow, found
+
+    def going_on(self, direction, segment):
+        """What is found with a segment of a direction that is open, which may end with it."""
+        yield from direction.take(segment)
+        if direction.has_ended:
+            self.note_end(direction)
+
+    def note_end(self, direction):
+        """Lets go of what the direction took that ended 4096 before this one."""
+        self.ended.append(direction)
+        if len(self.ended) > MOST_ENDED:
+            self.ended.popleft().forget()
 
     def begin(self, segment):
         """Begins a direction with a segment, again or in place of another one if there are too many."""

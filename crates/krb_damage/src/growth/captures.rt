@@ -180,7 +180,7 @@ const SEGMENTS: [Sent; 3] = [
 
 /// Takes the segments of a direction. Out of memory, it has ended.
 pub(super) fn goes_on(alloc: Global) -> Outcome {
-    let mut direction = Direction::new();
+    let mut direction = Direction::new(alloc);
     let mut waited = Vec::new(alloc);
     for Sent(sequence, syn, octets, now, then) in &SEGMENTS {
         match direction.take(alloc, &segment(*sequence, *syn, octets), &mut waited) {
