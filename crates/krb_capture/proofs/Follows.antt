@@ -1,19 +1,20 @@
 -- Directions of which one has a segment that is not listed to its end.
-use Rattle.std.proofs.Common.{◌≡◌, ℕ, Bool, true, false, List, [], ◌++◌, Option, Some, None, Box, Result, Ok, Err, IfOk, refl, sym, ◌∙◌, ap, subst, append_assoc, append-nil}
+use Rattle.std.proofs.Common.{◌≡◌, ℕ, Bool, true, false, List, [], ◌++◌, length, Option, Some, None, Box, Result, Ok, Err, IfOk, refl, sym, ◌∙◌, ap, subst, append_assoc, append-nil}
 use Rattle.std.specs.declared.alloc.Global.{Global}
 use Rattle.std.specs.BTreeMap.{insert_entry, is_at}
 use Rattle.std.specs.Prelude.{if◌then◌else◌, is_some}
 use Rattle.std.specs.Map.{lookup}
 use Rattle.std.proofs.lemmas.List.{map-append}
 use Rattle.krb_packet.specs.declared.contents.Segment.{Segment}
-use Rattle.krb_flow.specs.Unread.{of_reset}
+use Rattle.krb_flow.specs.Unread.{nothing, of_reset}
+use Rattle.krb_flow.specs.declared.unread.Untaken.{Untaken}
 use Rattle.krb_record.specs.declared.flow.Transport.TheVariants as transports
 use Rattle.krb_capture.specs.Captures.{Finding, over_tcp, with_each}
-use Rattle.krb_capture.specs.Directions.{Followed, HoldsMaps, IsKnown, Table, active_with, after_found, ended_with, flow_cmp, flow_of, in_flow, kept, nothing_found, passed_over}
+use Rattle.krb_capture.specs.Directions.{Followed, HoldsMaps, IsKnown, Table, active_with, after_found, ended_with, flow_cmp, flow_of, in_flow, kept, nothing_found, passed_over, streams_with}
 use Rattle.krb_capture.specs.Flows.{origin_of}
 use Rattle.krb_capture.specs.Found.{Found, IsFullIf, Written, with_all}
 use Rattle.krb_capture.specs.Rests.{Follows, HoldsSome, RepresentsBut, Sends, TookSome}
-use Rattle.krb_capture.specs.Sending.{Sent, Represents, unread_found}
+use Rattle.krb_capture.specs.Sending.{Sent, Represents, untaken_found}
 use Rattle.krb_capture.specs.Unlisted.{Unlisted}
 use Rattle.krb_capture.specs.declared.directions.Directions.{Directions}
 use Rattle.krb_capture.specs.declared.directions.Last.{Last}
@@ -36,13 +37,13 @@ kept-same d limit due rest left flow flow' number number' step step' sent table 
 pub kept-begun : (d : Directions) (limit : ℕ) (due : Due) (rest : Option (Box Rest Global)) (left : List Finding) (flow flow' : Flow) (number : ℕ) (step step' : Step) (sent : Sent) (table : Table) → flow ≡ flow' → step ≡ step' → step'.began ≡ true → HoldsSome d limit (kept flow number (record { began = false; ended = step.ended }) sent (record table { numbers = insert_entry flow_cmp table.numbers flow number })) due rest left → HoldsSome d limit (kept flow' number step' sent table) due rest left
 kept-begun d limit due rest left flow flow' number step step' sent table f e b h =
     kept-same d limit due rest left flow flow' number number step step' sent table f refl e
-    (subst (λ x. HoldsSome d limit (record { numbers = if x then insert_entry flow_cmp table.numbers flow number else table.numbers; active = active_with step.ended number sent table.active; ended = ended_with step.ended number flow table.ended }) due rest left) (sym (ap (λ s. s.began) e ∙ b)) h)
+    (subst (λ x. HoldsSome d limit (record { numbers = if x then insert_entry flow_cmp table.numbers flow number else table.numbers; active = active_with step.ended number sent table.active; ended = ended_with step.ended number flow (length table.streams) table.ended; streams = streams_with step.ended sent.stream table.streams }) due rest left) (sym (ap (λ s. s.began) e ∙ b)) h)
 
 -- nothing is left of its octets
 pub represents-all : (one : Sending) (limit : ℕ) (sent : Sent) (octets : Option Unlisted) (left : List Found) → octets ≡ None → RepresentsBut one limit sent octets left → Represents one limit sent × (left ≡ [])
 represents-all one limit sent octets left e r =
     let took = subst (λ o. TookSome one.frames limit sent.stream o left) e r.took in
-    (record { limit_is = r.limit_is; flow = r.flow; service = r.service; frames = r.frames; state = r.state; took = took.0 }, took.1)
+    (record { limit_is = r.limit_is; flow = r.flow; service = r.service; frames = r.frames; state = r.state; keeps = r.keeps; took = took.0 }, took.1)
 
 -- what is known of it is by its flow and number
 pub known-same : (b : Bool) (flow : Flow) (one other : Last) (numbers numbers' : List (Flow × ℕ)) → one.flow ≡ other.flow → one.number ≡ other.number → numbers ≡ numbers' → IsKnown b flow one numbers → IsKnown b flow other numbers'
@@ -79,18 +80,22 @@ follows-none d limit due followed table written e n h =
     subst (λ f. Follows d limit f.table due None (over_tcp due f.found) written written) (sym e)
     (record { listed = []; left = []; parts = refl; written = refl; holds = (holds-none d limit table n h, refl); full = tt })
 
--- or the octets of a segment that begins nothing
-pub follows-passed : (d : Directions) (limit : ℕ) (due : Due) (followed : Followed) (segment : Segment) (table : Table) (before after : Written) → followed ≡ passed_over segment table → d.last ≡ None → HoldsMaps d limit table → after ≡ with_all (origin_of due transports.Tcp segment.source segment.target) (unread_found (of_reset segment)) before → Follows d limit followed.table due None (over_tcp due followed.found) before after
-follows-passed d limit due followed segment table before after e n h w =
+-- or octets of a segment that are not taken
+pub follows-untaken : (d : Directions) (limit : ℕ) (due : Due) (followed : Followed) (segment : Segment) (untaken : Untaken) (table : Table) (before after : Written) → followed ≡ record { found = in_flow (flow_of segment) (untaken_found untaken); table = table } → d.last ≡ None → HoldsMaps d limit table → after ≡ with_all (origin_of due transports.Tcp segment.source segment.target) (untaken_found untaken) before → Follows d limit followed.table due None (over_tcp due followed.found) before after
+follows-untaken d limit due followed segment untaken table before after e n h w =
     subst (λ f. Follows d limit f.table due None (over_tcp due f.found) before after) (sym e)
     (record {
-      listed = over_tcp due (in_flow (flow_of segment) (unread_found (of_reset segment)));
+      listed = over_tcp due (in_flow (flow_of segment) (untaken_found untaken));
       left = [];
-      parts = sym (append-nil (over_tcp due (in_flow (flow_of segment) (unread_found (of_reset segment)))));
-      written = w ∙ sym (with_each-flow due (flow_of segment) (unread_found (of_reset segment)) before);
+      parts = sym (append-nil (over_tcp due (in_flow (flow_of segment) (untaken_found untaken))));
+      written = w ∙ sym (with_each-flow due (flow_of segment) (untaken_found untaken) before);
       holds = (holds-none d limit table n h, refl);
       full = tt;
     })
+
+-- if it begins nothing
+pub follows-passed : (d : Directions) (limit : ℕ) (due : Due) (followed : Followed) (segment : Segment) (table : Table) (before after : Written) → followed ≡ passed_over segment table → d.last ≡ None → HoldsMaps d limit table → after ≡ with_all (origin_of due transports.Tcp segment.source segment.target) (untaken_found (record nothing { apart = of_reset segment })) before → Follows d limit followed.table due None (over_tcp due followed.found) before after
+follows-passed d limit due followed segment table before after e n h w = follows-untaken d limit due followed segment (record nothing { apart = of_reset segment }) table before after e n h w
 
 -- ---- after what was found before
 pub follows-after : (d : Directions) (limit : ℕ) (due : Due) (rest : Option (Box Rest Global)) (room : List (Flow × Found)) (begun : Followed) (l0 l1 l2 : Written) → l1 ≡ with_each (over_tcp due room) l0 → Follows d limit begun.table due rest (over_tcp due begun.found) l1 l2 → Follows d limit (after_found room begun).table due rest (over_tcp due (after_found room begun).found) l0 l2

@@ -17,6 +17,7 @@ pub mod Read
 mod Rests
 mod Sendings
 pub mod Tables
+pub mod Untaken
 mod Taken
 mod Whole
 mod Written

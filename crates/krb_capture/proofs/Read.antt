@@ -1,5 +1,5 @@
 -- What is found in a stream is none of octets that no message has.
-use Rattle.std.proofs.Common.{◌≡◌, ℕ, zero, suc, ◌+◌, Bool, true, false, List, [], ◌∷◌, ◌++◌, length, take, drop, Option, Some, None, refl, ap, ◌∙◌}
+use Rattle.std.proofs.Common.{◌≡◌, ℕ, zero, suc, ◌+◌, Bool, true, false, List, [], ◌∷◌, ◌++◌, length, take, drop, Option, Some, None, refl, ap, ap₂, ◌∙◌}
 use Rattle.std.specs.Prelude.{cond, if◌then◌else◌, nat_lt, Result, Ok, Err}
 use Rattle.std.specs.List.{AllByRecursion}
 use Rattle.std.proofs.lemmas.List.Elements.{filter-append}
@@ -17,12 +17,13 @@ use Rattle.krb_flow.specs.declared.direction.Beginning.TheVariants as beginnings
 use Rattle.krb_flow.specs.declared.stream.End.{End}
 use Rattle.krb_flow.specs.declared.stream.End.TheVariants as ends
 use Rattle.krb_flow.specs.declared.unread.Unread.{Unread as Octets}
+use Rattle.krb_flow.specs.declared.unread.Untaken.{Untaken}
 use Rattle.krb_record.specs.declared.extent.Extent.{Extent}
 use Rattle.krb_capture.specs.Found.{Found}
 use Rattle.krb_capture.specs.Laws.{but_unread, is_read}
 use Rattle.krb_capture.specs.Messages.{found_unless, message_found}
 use Rattle.krb_capture.specs.Passwords.{header, part_found, parts_found, password_found}
-use Rattle.krb_capture.specs.Sending.{beginning_found, end_if, unread_found}
+use Rattle.krb_capture.specs.Sending.{beginning_found, end_if, unread_found, untaken_found}
 use Rattle.krb_capture.specs.Streams.{Framed, after_entry, cut_refusal, end_found, entries_found, found_with, framed, known_end, messages_framed, not_cut, password_frame_by, password_frames, passwords_framed, refusal_found}
 use Rattle.krb_capture.specs.declared.flow.Service.{Service}
 use Rattle.krb_capture.specs.declared.flow.Service.TheVariants as services
@@ -127,6 +128,11 @@ beginning_read (Some beginnings.Syn) = tt
 beginning_read (Some beginnings.Joined) = (refl, tt)
 
 -- and of octets that no message has nothing is left
-pub none_left : (unread : Option Octets) → but_unread (unread_found unread) ≡ []
+none_left : (unread : Option Octets) → but_unread (unread_found unread) ≡ []
 none_left None = refl
 none_left (Some octets) = refl
+
+pub none_left_of : (untaken : Untaken) → but_unread (untaken_found untaken) ≡ []
+none_left_of untaken =
+    unread_parts (unread_found untaken.apart) (unread_found untaken.old ++ unread_found untaken.differs)
+    ∙ ap₂ (λ (x y : List Found). x ++ y) (none_left untaken.apart) (unread_parts (unread_found untaken.old) (unread_found untaken.differs) ∙ ap₂ (λ (x y : List Found). x ++ y) (none_left untaken.old) (none_left untaken.differs))

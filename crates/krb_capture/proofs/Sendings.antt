@@ -1,11 +1,12 @@
 -- What is listed with a segment of a direction.
 use Rattle.std.proofs.Common.{◌≡◌, ℕ, List, ◌++◌, Option, sym, ◌∙◌, ap, append_assoc}
 use Rattle.krb_flow.specs.Directions.{Outcome}
-use Rattle.krb_flow.specs.declared.unread.Unread.{Unread as Octets}
+use Rattle.krb_flow.specs.declared.unread.Untaken.{Untaken}
+use Rattle.krb_flow.specs.Window.{stream_at}
 use Rattle.krb_record.specs.declared.capture_origin.CaptureOrigin.{CaptureOrigin}
 use Rattle.krb_capture.specs.Found.{Found, Written, with_all}
 use Rattle.krb_capture.specs.Rests.{Takes, TookSome, unlisted_found}
-use Rattle.krb_capture.specs.Sending.{beginning_found, end_if, outcome_found, stream_at, unread_found}
+use Rattle.krb_capture.specs.Sending.{beginning_found, end_if, outcome_found, untaken_found}
 use Rattle.krb_capture.specs.Unlisted.{Unlisted}
 use Rattle.krb_capture.specs.declared.flow.Service.{Service}
 use Rattle.krb_capture.specs.declared.frames.Frames.{Frames}
@@ -17,21 +18,21 @@ abbrev pub octets_of : Outcome → Unlisted
 octets_of outcome = record { octets = outcome.octets; end = outcome.end }
 
 -- of what is found with a segment, the first findings were listed
-pub record ListsOutcome (new : Frames) (service : Service) (limit : ℕ) (stream : List ℕ) (unread : Option Octets) (outcome : Outcome) (rest : Option Unlisted) (origin : CaptureOrigin) (before after : Written) : Type 0 where
+pub record ListsOutcome (new : Frames) (service : Service) (limit : ℕ) (stream : List ℕ) (untaken : Untaken) (outcome : Outcome) (rest : Option Unlisted) (origin : CaptureOrigin) (before after : Written) : Type 0 where
   pub listed : List Found
   pub left : List Found
-  pub parts : outcome_found service limit stream unread outcome ≡ listed ++ left
+  pub parts : outcome_found service limit stream untaken outcome ≡ listed ++ left
   pub written : after ≡ with_all origin listed before
   pub took : TookSome new limit (stream_at outcome.begins stream ++ outcome.octets) rest left
 
-pub outcome-listed : (origin : CaptureOrigin) (service : Service) (limit : ℕ) (stream : List ℕ) (unread : Option Octets) (outcome : Outcome) (rest : Option Unlisted) (f0 f1 f2 : Frames) (l0 l1 l2 l3 l4 : Written)
+pub outcome-listed : (origin : CaptureOrigin) (service : Service) (limit : ℕ) (stream : List ℕ) (untaken : Untaken) (outcome : Outcome) (rest : Option Unlisted) (f0 f1 f2 : Frames) (l0 l1 l2 l3 l4 : Written)
     → service_of f0 ≡ service → service_of f1 ≡ service
     → l1 ≡ with_all origin (end_if (service_of f0) limit stream outcome.before) l0
     → l2 ≡ with_all origin (beginning_found outcome.begins) l1
-    → l3 ≡ with_all origin (unread_found unread) l2
+    → l3 ≡ with_all origin (untaken_found untaken) l2
     → Takes f1 f2 limit (stream_at outcome.begins stream) (octets_of outcome) rest origin l3 l4
-    → ListsOutcome f2 service limit stream unread outcome rest origin l0 l4
-outcome-listed origin service limit stream unread outcome rest f0 f1 f2 l0 l1 l2 l3 l4 s0 s1 h1 h2 h3 t = record {
+    → ListsOutcome f2 service limit stream untaken outcome rest origin l0 l4
+outcome-listed origin service limit stream untaken outcome rest f0 f1 f2 l0 l1 l2 l3 l4 s0 s1 h1 h2 h3 t = record {
   listed = before ++ (begun ++ (told ++ t.listed));
   left = t.left;
   parts =
@@ -56,4 +57,4 @@ outcome-listed origin service limit stream unread outcome rest f0 f1 f2 l0 l1 l2
     begun = beginning_found outcome.begins
 
     told : List Found
-    told = unread_found unread
+    told = untaken_found untaken

@@ -1,5 +1,5 @@
 -- Directions that are kept by their numbers, and the table that they represent.
-use Rattle.std.proofs.Common.{◌≡◌, ℕ, Bool, true, false, List, [], ◌∷◌, length, Option, Some, None, Box, refl, sym, ◌∙◌, ap, subst}
+use Rattle.std.proofs.Common.{◌≡◌, ℕ, Bool, true, false, List, [], ◌∷◌, length, Option, Some, None, Box, refl, sym, ◌∙◌, ap, ap₂, subst}
 use Rattle.std.specs.Prelude.{cond, not, ◌&&◌, ◌||◌, if◌then◌else◌, nat_lt}
 use Rattle.std.specs.declared.alloc.Global.{Global}
 use Rattle.std.specs.declared.cmp.Ordering.{Ordering}
@@ -9,11 +9,13 @@ use Rattle.std.proofs.lemmas.Cmp.{nat_cmp_total, tied_itself}
 use Rattle.krb_capture.specs.contracts.flow.FlowOrd.TheImpl.Laws as flow_laws
 use Rattle.std.specs.Map.{lookup, remove_entry}
 use Rattle.std.specs.BTreeMap.{insert_entry, is_at}
-use Rattle.krb_capture.specs.Directions.{AllRepresented, HoldsMaps, HoldsTable, HoldsWith, IsAmong, IsKnown, Table, after_found, begins, begun, by_number, flow_cmp, flow_of, followed, forgotten, active_with, ended_with, gone_on, in_flow, kept, last_of, nothing_found, of_ended, of_known, passed_over, with_one_less, with_room, without, Followed}
-use Rattle.krb_capture.specs.Sending.{Sent, Represents, last_found, sent_from, step_of, unread_found}
+use Rattle.krb_capture.specs.Directions.{AllRepresented, HoldsMaps, HoldsTable, HoldsWith, IsAmong, IsKnown, Table, after_found, begins, begun, by_number, flow_cmp, flow_of, followed, forgotten, active_with, ended_with, gone_on, in_flow, kept, last_of, nothing_found, of_ended, of_known, copied, passed_over, streams_with, with_one_less, with_room, without, Followed}
+use Rattle.krb_capture.specs.Sending.{Sent, Represents, last_found, sent_from, step_of, untaken_found}
+use Rattle.krb_capture.specs.Recent.{Remembers, still_kept}
 use Rattle.krb_der.specs.Octets.{when}
 use Rattle.krb_source.specs.declared.unread_why.UnreadWhy.TheVariants as why
-use Rattle.krb_flow.specs.Unread.{if_any}
+use Rattle.krb_flow.specs.Unread.{if_any, nothing, untaken_after, untaken_of}
+use Rattle.krb_flow.specs.Window.{last}
 use Rattle.krb_flow.specs.declared.direction.State.{State}
 use Rattle.krb_flow.specs.declared.direction.State.TheVariants as states
 use Rattle.krb_flow.specs.declared.had.Had.{Had}
@@ -23,6 +25,8 @@ use Rattle.krb_capture.specs.Captures.{over_tcp, with_each}
 use Rattle.krb_capture.specs.Flows.{origin_of}
 use Rattle.krb_capture.specs.Found.{Written, with_all}
 use Rattle.krb_capture.specs.declared.flow.Due.{Due}
+use Rattle.krb_flow.specs.declared.unread.Untaken.{Untaken}
+use Rattle.krb_capture.proofs.Untaken.{untaken-none}
 use Rattle.krb_capture.proofs.Maps.{lookup-inserted, lookup-tied, tied}
 use Rattle.krb_capture.proofs.Written.{flow-found, over_tcp-append, with_each-append}
 use Rattle.krb_capture.specs.declared.directions.Directions.{Directions}
@@ -85,12 +89,13 @@ abbrev pub kept_with : Option Had → ℕ → Kept → List (ℕ × Kept) → Li
 kept_with None number one active = insert_entry nat_cmp active number one
 kept_with (Some had) number one active = active
 
-pub HoldsMaps-kept : (old new : Directions) (limit number : ℕ) (flow : Flow) (step : Step) (table : Table) (one : Kept) (sent : Sent) → HoldsMaps old limit table → Represents one.value limit sent → new.limit ≡ old.limit → new.numbers.entries ≡ (if step.began then insert_entry flow_cmp old.numbers.entries flow number else old.numbers.entries) → new.active.entries ≡ kept_with step.ended number one old.active.entries → new.ended.entries ≡ ended_with step.ended number flow old.ended.entries → HoldsMaps new limit (kept flow number step sent table)
-HoldsMaps-kept old new limit number flow step table one sent h s l n a d = record {
+pub HoldsMaps-kept : (old new : Directions) (limit number : ℕ) (flow : Flow) (step : Step) (table : Table) (one : Kept) (sent : Sent) → HoldsMaps old limit table → Represents one.value limit sent → new.limit ≡ old.limit → new.numbers.entries ≡ (if step.began then insert_entry flow_cmp old.numbers.entries flow number else old.numbers.entries) → new.active.entries ≡ kept_with step.ended number one old.active.entries → new.ended.entries ≡ ended_with step.ended number flow old.recent.count old.ended.entries → Remembers new.recent (streams_with step.ended sent.stream table.streams) → HoldsMaps new limit (kept flow number step sent table)
+HoldsMaps-kept old new limit number flow step table one sent h s l n a d r = record {
   limit_is = l ∙ h.limit_is;
   numbers = n ∙ ap (λ es. if step.began then insert_entry flow_cmp es flow number else es) h.numbers;
   active = subst (λ es. AllRepresented limit es (active_with step.ended number sent table.active)) (sym a) (by step.ended);
-  ended = d ∙ ap (λ es. ended_with step.ended number flow es) h.ended;
+  ended = d ∙ ap₂ (λ (k : ℕ) (es : List (ℕ × Gone)). ended_with step.ended number flow k es) h.recent.count h.ended;
+  recent = r;
 }
   where
     by : (o : Option Had) → AllRepresented limit (kept_with o number one old.active.entries) (active_with o number sent table.active)
@@ -106,12 +111,13 @@ holds-none d limit table e m = subst (λ o. HoldsWith o d limit table) (sym e) m
 pub is-among : (d : Directions) (limit : ℕ) (table : Table) (last : Last) → d.last ≡ Some last → HoldsTable d limit table → IsAmong last d limit table
 is-among d limit table last e h = subst (λ o. HoldsWith o d limit table) e h
 
-pub maps-back : (old new : Directions) (limit : ℕ) (table : Table) (last : Last) → IsAmong last old limit table → new.limit ≡ old.limit → new.numbers.entries ≡ old.numbers.entries → new.active.entries ≡ insert_entry nat_cmp old.active.entries last.number last.sending → new.ended.entries ≡ old.ended.entries → HoldsMaps new limit table
-maps-back old new limit table last h l n a d = record {
+pub maps-back : (old new : Directions) (limit : ℕ) (table : Table) (last : Last) → IsAmong last old limit table → new.limit ≡ old.limit → new.numbers.entries ≡ old.numbers.entries → new.active.entries ≡ insert_entry nat_cmp old.active.entries last.number last.sending → new.ended.entries ≡ old.ended.entries → new.recent ≡ old.recent → HoldsMaps new limit table
+maps-back old new limit table last h l n a d r = record {
   limit_is = l ∙ h.maps.limit_is;
   numbers = n ∙ h.maps.numbers;
   active = subst (λ es. AllRepresented limit es table.active) (sym a) (subst (λ ss. AllRepresented limit (insert_entry nat_cmp old.active.entries last.number last.sending) ss) (sym h.active) (represented-insert limit last.number old.active.entries h.others last.sending h.sent h.represents h.maps.active));
   ended = d ∙ h.maps.ended;
+  recent = subst (λ x. Remembers x table.streams) (sym r) h.maps.recent;
 }
 
 -- it is found again
@@ -195,14 +201,14 @@ pub room-first : (limit : ℕ) (table : Table) (s : ℕ × Sent) (ss : List (ℕ
 room-first limit table s ss n d a = rw (n, d, a) refl
 
 -- ---- a segment that begins nothing
-not_rst : (r s : Bool) → (not r && s) ≡ true → r ≡ false
+pub not_rst : (r s : Bool) → (not r && s) ≡ true → r ≡ false
 not_rst true s e = absurd (no-true e)
 not_rst false s e = refl
 
 -- one that might begin a direction has no RST
 pub passes-none : (segment : Segment) (table : Table) → begins segment ≡ true → passed_over segment table ≡ nothing_found table
 passes-none segment table b =
-    ap (λ (r : Bool). record { found = in_flow (flow_of segment) (unread_found (when r (λ _. if_any None (length segment.payload.octets) why.Reset) (λ _. None))); table = table })
+    ap (λ (r : Bool). record { found = in_flow (flow_of segment) (untaken_found (record nothing { apart = when r (λ _. if_any None (length segment.payload.octets) why.Reset) (λ _. None) })); table = table })
     (not_rst segment.rst (segment.syn || nat_lt 0 segment.payload.size) b)
 
 -- ---- what is found with a segment, by what is known of its flow
@@ -230,15 +236,15 @@ module _ (limit packet : ℕ) (service : Service) (segment : Segment) (table : T
 
   -- one that ended, by what is kept of it
   pub ended-begins : (number : ℕ) (gone : Gone) → (step_of (states.Ended gone.had) segment).began ≡ true → of_ended limit packet number (Some gone) service segment table ≡ begun_again number gone.had
-  ended-begins number gone b = ap (λ x. if x then begun_again number gone.had else passed_over segment table) b
+  ended-begins number gone b = ap (λ x. if x then begun_again number gone.had else copied gone segment table) b
 
-  -- neither a SYN nor data
-  pub ended-stays : (number : ℕ) (gone : Gone) → (step_of (states.Ended gone.had) segment).began ≡ false → of_ended limit packet number (Some gone) service segment table ≡ passed_over segment table
-  ended-stays number gone b = ap (λ x. if x then begun_again number gone.had else passed_over segment table) b
+  -- copies, and neither a SYN nor data
+  pub ended-stays : (number : ℕ) (gone : Gone) → (step_of (states.Ended gone.had) segment).began ≡ false → of_ended limit packet number (Some gone) service segment table ≡ copied gone segment table
+  ended-stays number gone b = ap (λ x. if x then begun_again number gone.had else copied gone segment table) b
 
-  pub ended-passed : (number : ℕ) (found : Option Gone) → begins segment ≡ false → of_ended limit packet number found service segment table ≡ passed_over segment table
-  ended-passed number None b = refl
-  ended-passed number (Some gone) b = ended-stays number gone (not-begun gone.had segment b)
+  pub ended-passed : (number : ℕ) (found : Option Gone) → length segment.payload.octets ≤ segment.payload.size → begins segment ≡ false → of_ended limit packet number found service segment table ≡ passed_over segment table
+  ended-passed number None few b = refl
+  ended-passed number (Some gone) few b = ended-stays number gone (not-begun gone.had segment b) ∙ ap (λ (x : Untaken). record { found = in_flow (flow_of segment) (untaken_found x); table = table }) (untaken-none gone.had (still_kept table.streams gone.nth) segment few (not-begun gone.had segment b) b)
 
 -- ---- the last direction, by its flow
 pub same-lookup : (f g : Flow) (es : List (Flow × ℕ)) → eq_by_cmp flow_cmp f g ≡ true → lookup (is_at (flow_cmp f)) es ≡ lookup (is_at (flow_cmp g)) es

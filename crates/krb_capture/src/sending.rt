@@ -7,7 +7,7 @@ ghost use Rattle.krb_capture.specs.Found.{Found, with_all};
 ghost use Rattle.krb_capture.specs.Rests.{RepresentsBut, Sends, Takes};
 ghost use Rattle.krb_capture.specs.Sending.{Sent, Represents, after_segment, beginning_found, end_if, last_found, segment_found, sent_from, step_of, unread_found, untaken_found};
 ghost use Rattle.krb_capture.specs.Taken.{Took, service_of};
-ghost use Rattle.krb_flow.specs.Window.{Keeps, kept_in, stream_at};
+ghost use Rattle.krb_flow.specs.Window.{Keeps, last, stream_at};
 
 use crate::flow::{Due, Flow, Service};
 use crate::frames::Frames;
@@ -178,9 +178,9 @@ impl Sending {
         self.flow
     }
 
-    /// Returns the last octets that it took, as far as they are kept.
+    /// Returns the last octets that it took since it began, at most 4096 of them.
     pub(crate) fn into_last_octets(self) -> Result<Vec<u8>, Memory>
-        ensures { IfOk result (λ octets. octets.items ≡ kept_in self.direction.window) }
+        ensures { IfOk result (λ octets. (limit : ℕ) (sent : Sent) → Represents self limit sent → octets.items ≡ last 4096 sent.stream) }
     {
         self.direction.into_last_octets(self.alloc)
     }

@@ -1,2 +1,5 @@
 pub mod Places
 pub mod Runs
+pub mod Windows
+pub mod Differences
+pub mod Founds

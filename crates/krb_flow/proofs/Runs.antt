@@ -323,10 +323,10 @@ joined low end (first ∷ runs) others next run both found here is apart =
 abbrev pub is_past : ℕ → ℕ × Vec ℕ → Bool
 is_past place run = range_contains nat_cmp (Included (place + 1)) Unbounded run.0
 
-past : (place : ℕ) (run : ℕ × Vec ℕ) → is_past place run ≡ true → place < run.0
+pub past : (place : ℕ) (run : ℕ × Vec ℕ) → is_past place run ≡ true → place < run.0
 past place run is = grind (arith, nat_tests)
 
-not_past : (place : ℕ) (run : ℕ × Vec ℕ) → is_past place run ≡ false → run.0 ≤ place
+pub not_past : (place : ℕ) (run : ℕ × Vec ℕ) → is_past place run ≡ false → run.0 ≤ place
 not_past place run is = grind (arith, nat_tests)
 
 pub record IsFirstPast (place : ℕ) (runs : Runs) (run : ℕ × Vec ℕ) : Type 0 where

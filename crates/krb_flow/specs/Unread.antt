@@ -1,5 +1,5 @@
 -- Octets of a segment that were captured and are not delivered, and are no copies of others.
-use Rattle.std.specs.Prelude.{ℕ, ◌+◌, ◌-◌, min, nat_lt, if◌then◌else◌, Bool, true, false, ◌&&◌, ◌||◌, ◌==◌, Option, Some, None, List, [], ◌∷◌, length, drop, slice_get}
+use Rattle.std.specs.Prelude.{ℕ, ◌+◌, ◌-◌, ◌%◌, ◌^◌, min, nat_lt, if◌then◌else◌, Bool, true, false, ◌&&◌, ◌||◌, ◌==◌, Option, Some, None, List, [], ◌∷◌, length, drop, slice_get}
 use Rattle.krb_der.specs.Octets.{when}
 use Rattle.krb_packet.specs.Payloads.{Captured}
 use Rattle.krb_packet.specs.declared.contents.Segment.{Segment}

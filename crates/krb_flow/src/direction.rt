@@ -126,12 +126,14 @@ impl Direction {
         }
     }
 
-    /// Returns the last octets that it took since it began: at most 65536, and at most 4096 if it
-    /// ended.
+    /// Returns the last octets that it took since it began, at most 4096 of them, and lets go of all
+    /// others.
     pub fn into_last_octets(self, alloc: Global) -> Result<Vec<u8>, Memory>
-        ensures { IfOk result (λ octets. octets.items ≡ kept_in self.window) }
+        ensures { IfOk result (λ octets. (stream : List ℕ) → Keeps self stream → octets.items ≡ last 4096 stream) }
     {
-        self.window.into_octets(alloc)
+        let mut window = self.window;
+        window.end();
+        window.into_octets(alloc)
     }
 
     /// Takes a segment of the direction. The octets that are taken are those of the result, and

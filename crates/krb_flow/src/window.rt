@@ -49,9 +49,20 @@ impl Window {
     {
         let octets = &octets[octets.len().saturating_sub(self.most)..];
         if self.octets.len().saturating_add(octets.len()) > 2 * MOST_KEPT {
-            self.octets = Vec::from_slice(alloc, self.as_slice())?;
+            self.trim(alloc)?;
+            self.octets.extend_from_slice(octets)?;
+            return Ok(());
         }
         self.octets.extend_from_slice(octets)?;
+        Ok(())
+    }
+
+    /// Lets go of the octets that are no longer kept.
+    fn trim(&mut self, alloc: Global) -> Result<(), Memory>
+        ensures most { self.new.most ≡ self.old.most }
+        ensures octets { OnOk result (self.new.octets.items ≡ kept_in self.old) }
+    {
+        self.octets = Vec::from_slice(alloc, self.as_slice())?;
         Ok(())
     }
 

@@ -22,6 +22,6 @@ returns c = IfOk-weaker c.keep_or_wait.result _ _
     (c.flow-flow.ensures ∙ ap (λ x. x.flow) c.deref.ensures ∙ sends.represents.flow)
     (c.number_after.ensures ∙ ap (λ x. if x.began then c.args.due.packet else c.args.last.number) step)
     step
-    (k.1 limit (without c.args.last.number table) after c.args.due sends.left (record { limit_is = h.limit_is; numbers = h.numbers; active = h.active; ended = h.ended })
+    (k.1 limit (without c.args.last.number table) after c.args.due sends.left (record { limit_is = h.limit_is; numbers = h.numbers; active = h.active; ended = h.ended; recent = h.recent })
     (known-after stepped.step c.flow-flow.result c.args.last _ c.args.due.packet c.args.self.now.numbers.entries c.flow_after.ensures c.number_after.ensures known) sends.represents)))
     (both-ok _ _ c.keep_or_wait.result c.keep_or_wait.ensures.waits c.keep_or_wait.ensures.kept)

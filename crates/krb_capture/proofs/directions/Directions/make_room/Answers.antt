@@ -16,12 +16,13 @@ returns-in_ok-finish-clause-table c = λ limit table h.
     let none = c.in_default.ensures.none in
     let full = ap (λ n. nat_lt n 65536) (ap (λ l. length l) (sym h.numbers)) ∙ ap (λ n. nat_lt n 65536) (sym c.len.ensures) ∙ le-ltb c.len.result 65536 c.if-len-lt-MOST_DIRECTIONS.false in
     let gone = c.flow.ensures ∙ ap (λ x. x.flow) c.deref.ensures ∙ c.in_ok-finish.ensures.flow ∙ ap (λ x. x.flow) c.deref_mut.ensures.value ∙ first.represents.flow in
-    subst (λ f. HoldsMaps (record { alloc = c.args.self.now.alloc; limit = c.args.self.now.limit; numbers = c.remove-in-Some-pop_first.new.self; active = c.pop_first-in_default.new.self; last = c.args.self.now.last; ended = c.pop_first.new.self; waited = c.args.self.now.waited }) limit f.table) (sym (room-first limit table first.sent first.rest full (sym h.ended ∙ none) first.is))
+    subst (λ f. HoldsMaps (record { alloc = c.args.self.now.alloc; limit = c.args.self.now.limit; numbers = c.remove-in-Some-pop_first.new.self; active = c.pop_first-in_default.new.self; last = c.args.self.now.last; ended = c.pop_first.new.self; recent = c.args.self.now.recent; waited = c.args.self.now.waited }) limit f.table) (sym (room-first limit table first.sent first.rest full (sym h.ended ∙ none) first.is))
     (record {
       limit_is = h.limit_is;
       numbers = c.remove-in-Some-pop_first.ensures ∙ ap (λ f. remove_entry (is_at (flow_cmp f)) c.args.self.now.numbers.entries) gone ∙ ap (λ es. remove_entry (is_at (flow_cmp first.sent.1.flow)) es) h.numbers;
       active = first.all;
       ended = c.in_default.ensures.unchanged ∙ h.ended;
+      recent = h.recent;
     })
 
 pub returns-in_ok-finish-clause-found : goal.returns-in_ok-finish-clause-found

@@ -16,7 +16,7 @@ returns-in-Some c = IfOk-weaker c.go_on.result _ _
     let t = takes-last c.in-Some.last c.args.self.now limit c.args.due.packet c.args.service c.args.segment.now table (is-among c.args.self.now limit table c.in-Some.last c.in-Some.ensures.last.0 h) same in
     subst (λ f. Follows c.go_on.new.self limit f.table c.args.due rest (over_tcp c.args.due f.found) c.args.listing.now c.go_on.new.listing) (sym t.followed_is)
     (k limit table t.sent
-    (subst (λ d. HoldsMaps d limit (without c.in-Some.last.number table)) (sym c.in-Some.ensures.left) (record { limit_is = t.maps.limit_is; numbers = t.maps.numbers; active = t.maps.active; ended = t.maps.ended }))
+    (subst (λ d. HoldsMaps d limit (without c.in-Some.last.number table)) (sym c.in-Some.ensures.left) (record { limit_is = t.maps.limit_is; numbers = t.maps.numbers; active = t.maps.active; ended = t.maps.ended; recent = t.maps.recent }))
     (ap (λ d. lookup (is_at (flow_cmp c.in-Some.last.flow)) d.numbers.entries) c.in-Some.ensures.left ∙ t.known)
     t.represents))
     c.go_on.ensures

@@ -1,15 +1,18 @@
-use Rattle.std.proofs.Common.{◌≡◌, true, false, Some, None, sym, ◌∙◌, ap, subst}
+use Rattle.std.proofs.Common.{◌≡◌, ℕ, List, true, false, Some, None, sym, ◌∙◌, ap, subst}
 use Rattle.std.proofs.lemmas.Result.{IfOk-weaker}
 use Rattle.std.specs.BTreeMap.{insert_entry, is_at}
 use Rattle.std.specs.Map.{lookup, remove_entry}
 use Rattle.std.specs.Ordering.{nat_cmp}
 use Rattle.krb_flow.specs.declared.direction.State.TheVariants as states
+use Rattle.krb_flow.specs.Unread.{untaken_after, untaken_of}
+use Rattle.krb_capture.specs.Recent.{still_kept}
 use Rattle.krb_capture.specs.Captures.{over_tcp}
 use Rattle.krb_capture.specs.Directions.{flow_cmp, of_ended}
 use Rattle.krb_capture.specs.Rests.{Follows}
 use Rattle.krb_capture.specs.Sending.{step_of}
-use Rattle.krb_capture.proofs.Follows.{follows-none, follows-passed}
-use Rattle.krb_capture.proofs.Tables.{ended-begins, ended-passed, ended-stays, passes-none}
+use Rattle.krb_capture.proofs.Follows.{follows-none, follows-passed, follows-untaken}
+use Rattle.krb_capture.proofs.Tables.{ended-begins, ended-passed, ended-stays, not_rst, passes-none}
+use Rattle.krb_capture.proofs.Untaken.{untaken-copied}
 use Rattle.krb_capture.proofs.directions.Directions.take_ended.Goals as goal
 
 pub returns : goal.returns
@@ -28,7 +31,7 @@ pub returns-then-not-begins : goal.returns-then-not-begins
 returns-then-not-begins c = λ limit table h.
     let found = lookup (is_at (nat_cmp c.args.number)) table.ended in
     follows-passed c.args.self.now limit c.args.due (of_ended limit c.args.due.packet c.args.number found c.args.service c.args.segment.now table) c.args.segment.now table c.args.listing.now _
-    (ended-passed limit c.args.due.packet c.args.service c.args.segment.now table c.args.number found (sym c.begins.ensures ∙ c.if-not-begins.true)) c.requires.none h c.in_ok-list_passed_over.ensures
+    (ended-passed limit c.args.due.packet c.args.service c.args.segment.now table c.args.number found c.octets.ensures.few (sym c.begins.ensures ∙ c.if-not-begins.true)) c.requires.none h c.in_ok-list_passed_over.ensures
 
 pub returns-in_default : goal.returns-in_default
 returns-in_default c = λ limit table h.
@@ -37,10 +40,15 @@ returns-in_default c = λ limit table h.
     follows-none c.args.self.now limit c.args.due (of_ended limit c.args.due.packet c.args.number (lookup test table.ended) c.args.service c.args.segment.now table) table c.args.listing.now
     (ap (λ o. of_ended limit c.args.due.packet c.args.number o c.args.service c.args.segment.now table) none ∙ passes-none c.args.segment.now table (sym c.begins.ensures ∙ c.if-not-begins.false)) c.requires.none h
 
-pub returns-then-not-is_followed_by : goal.returns-then-not-is_followed_by
-returns-then-not-is_followed_by c = λ limit table h.
+pub returns-in_ok-list_untaken-then-not-is_followed_by : goal.returns-in_ok-list_untaken-then-not-is_followed_by
+returns-in_ok-list_untaken-then-not-is_followed_by c = λ limit table h.
     let test = is_at (nat_cmp c.args.number) in
-    let there : lookup test table.ended ≡ Some c.in-Some.gone = ap (λ es. lookup test es) (sym h.ended) ∙ sym c.get.ensures ∙ c.in-Some.is in
-    let passed : (step_of (states.Ended c.in-Some.gone.had) c.args.segment.now).began ≡ false = sym c.is_followed_by.ensures ∙ c.if-not-is_followed_by.true in
-    follows-none c.args.self.now limit c.args.due (of_ended limit c.args.due.packet c.args.number (lookup test table.ended) c.args.service c.args.segment.now table) table c.args.listing.now
-    (ap (λ o. of_ended limit c.args.due.packet c.args.number o c.args.service c.args.segment.now table) there ∙ ended-stays limit c.args.due.packet c.args.service c.args.segment.now table c.args.number c.in-Some.gone passed ∙ passes-none c.args.segment.now table (sym c.begins.ensures ∙ c.if-not-begins.false)) c.requires.none h
+    let gone = c.in-Some.gone in
+    let there : lookup test table.ended ≡ Some gone = ap (λ es. lookup test es) (sym h.ended) ∙ sym c.get.ensures ∙ c.in-Some.is in
+    let passed : (step_of (states.Ended gone.had) c.args.segment.now).began ≡ false = sym c.is_followed_by.ensures ∙ c.if-not-is_followed_by.true in
+    let stream = still_kept table.streams gone.nth in
+    let kept = c.get-2.ensures table.streams h.recent in
+    let untaken = untaken-copied gone.had stream c.args.segment.now (not_rst c.args.segment.now.rst _ (sym c.begins.ensures ∙ c.if-not-begins.false)) passed ∙ ap (λ (l : List ℕ). untaken_after l gone.had c.args.segment.now) (sym kept) ∙ sym c.untaken-untaken.ensures in
+    follows-untaken c.args.self.now limit c.args.due (of_ended limit c.args.due.packet c.args.number (lookup test table.ended) c.args.service c.args.segment.now table) c.args.segment.now (untaken_of (states.Ended gone.had) stream c.args.segment.now) table c.args.listing.now _
+    (ap (λ o. of_ended limit c.args.due.packet c.args.number o c.args.service c.args.segment.now table) there ∙ ended-stays limit c.args.due.packet c.args.service c.args.segment.now table c.args.number gone passed) c.requires.none h
+    (rw (c.over-origin.ensures, untaken) c.in_ok-list_untaken.ensures)

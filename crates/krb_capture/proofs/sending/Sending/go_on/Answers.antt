@@ -1,5 +1,6 @@
 use Rattle.std.proofs.Common.{◌∙◌, ap, subst}
 use Rattle.std.proofs.lemmas.Result.{IfOk-weaker}
+use Rattle.krb_flow.specs.Window.{Keeps}
 use Rattle.krb_capture.specs.Rests.{Sends, TookSome}
 use Rattle.krb_capture.proofs.sending.Sending.go_on.Goals as goal
 
@@ -21,6 +22,7 @@ returns-clause-found c = IfOk-weaker c.list_left.result _ _
         service = ap (λ x. x.service) same ∙ r.service;
         frames = t.service ∙ r.frames;
         state = ap (λ x. x.direction.state) same ∙ r.state;
+        keeps = subst (λ d. Keeps d sent.stream) (sym (ap (λ x. x.direction) same)) r.keeps;
         took = subst (λ s. TookSome c.list_left.new.self.frames limit s rest t.left) r.took.parts t.took;
       };
     }))
