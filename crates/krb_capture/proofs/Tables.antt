@@ -242,9 +242,9 @@ module _ (limit packet : ℕ) (service : Service) (segment : Segment) (table : T
   pub ended-stays : (number : ℕ) (gone : Gone) → (step_of (states.Ended gone.had) segment).began ≡ false → of_ended limit packet number (Some gone) service segment table ≡ copied gone segment table
   ended-stays number gone b = ap (λ x. if x then begun_again number gone.had else copied gone segment table) b
 
-  pub ended-passed : (number : ℕ) (found : Option Gone) → length segment.payload.octets ≤ segment.payload.size → begins segment ≡ false → of_ended limit packet number found service segment table ≡ passed_over segment table
-  ended-passed number None few b = refl
-  ended-passed number (Some gone) few b = ended-stays number gone (not-begun gone.had segment b) ∙ ap (λ (x : Untaken). record { found = in_flow (flow_of segment) (untaken_found x); table = table }) (untaken-none gone.had (still_kept table.streams gone.nth) segment few (not-begun gone.had segment b) b)
+  pub ended-passed : (number : ℕ) (found : Option Gone) → begins segment ≡ false → of_ended limit packet number found service segment table ≡ passed_over segment table
+  ended-passed number None b = refl
+  ended-passed number (Some gone) b = ended-stays number gone (not-begun gone.had segment b) ∙ ap (λ (x : Untaken). record { found = in_flow (flow_of segment) (untaken_found x); table = table }) (untaken-none gone.had (still_kept table.streams gone.nth) segment (not-begun gone.had segment b) b)
 
 -- ---- the last direction, by its flow
 pub same-lookup : (f g : Flow) (es : List (Flow × ℕ)) → eq_by_cmp flow_cmp f g ≡ true → lookup (is_at (flow_cmp f)) es ≡ lookup (is_at (flow_cmp g)) es

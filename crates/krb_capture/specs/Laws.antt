@@ -1,24 +1,38 @@
 -- The law of the directions of TCP.
-use Rattle.std.specs.Prelude.{◌≡◌, ℕ, List, [], ◌∷◌, ◌++◌, Some, Bool, true, false}
+use Rattle.std.specs.Prelude.{◌≡◌, ℕ, List, [], ◌∷◌, ◌++◌, Some, Bool, true, false, if◌then◌else◌}
 use Rattle.std.specs.List.{filter}
 use Rattle.krb_packet.specs.declared.contents.Segment.{Segment}
 use Rattle.krb_msg.specs.Grammar.{messages}
 use Rattle.krb_frame.specs.GoingOn.{entries}
 use Rattle.krb_flow.specs.Arrivals.{AreAllOf}
+use Rattle.krb_flow.specs.Directions.{step}
 use Rattle.krb_flow.specs.Laws.{Piece, segments_of}
+use Rattle.krb_flow.specs.Unread.{untaken_of}
+use Rattle.krb_flow.specs.declared.direction.State.{State}
+use Rattle.krb_flow.specs.declared.direction.State.TheVariants as states
 use Rattle.krb_flow.specs.declared.direction.Beginning.{Beginning}
 use Rattle.krb_flow.specs.declared.stream.End.TheVariants as ends
 use Rattle.krb_capture.specs.Found.{Found, Unread}
-use Rattle.krb_capture.specs.Sending.{Sent, after_segment, beginning_found, last_found, nothing_sent, segment_found}
+use Rattle.krb_capture.specs.Sending.{Sent, after_segment, beginning_found, last_found, nothing_sent, outcome_found}
 use Rattle.krb_capture.specs.Streams.{end_found, entries_found, framed}
 use Rattle.krb_capture.specs.declared.flow.Flow.{Flow}
 use Rattle.krb_capture.specs.declared.flow.Service.{Service}
 use Rattle.krb_capture.specs.declared.flow.Service.TheVariants as services
 
--- what is found in a direction: with each of its segments, in order, and at the end
-abbrev pub direction_found : ℕ → Sent → List Segment → List Found
-direction_found limit sent [] = last_found limit sent
-direction_found limit sent (segment ∷ segments) = segment_found limit sent segment ++ direction_found limit (after_segment sent segment) segments
+-- what copies are compared with: after the end of a direction only as long as what it took is kept
+abbrev pub compared : Bool → State → List ℕ → List ℕ
+compared kept states.Fresh stream = stream
+compared kept (states.Open progress) stream = stream
+compared kept (states.Ended had) stream = if kept then stream else []
+
+abbrev pub found_if : ℕ → Sent → Bool → Segment → List Found
+found_if limit sent kept segment = outcome_found sent.service limit sent.stream (untaken_of sent.state (compared kept sent.state sent.stream) segment) (step sent.state segment).0
+
+-- What is found in a direction: with each of its segments, in order, and at the end. Of each it is known whether what the direction took would still be kept, had it ended; of the last ones it would.
+abbrev pub direction_found : ℕ → Sent → List Bool → List Segment → List Found
+direction_found limit sent kept [] = last_found limit sent
+direction_found limit sent [] (segment ∷ segments) = found_if limit sent true segment ++ direction_found limit (after_segment sent segment) [] segments
+direction_found limit sent (one ∷ kept) (segment ∷ segments) = found_if limit sent one segment ++ direction_found limit (after_segment sent segment) kept segments
 
 -- What is found in a stream. In one of messages that is each of its frames, as they are listed if one goes on after a refusal.
 abbrev pub stream_found : Service → ℕ → List ℕ → List Found
@@ -35,4 +49,4 @@ but_unread found = filter is_read found
 
 -- Whatever way a stream is cut into segments, in whatever order and how often these are captured: what is found in the direction, but for octets that no message has, is what is found in the stream, after `Joined` if its SYN does not come first.
 abbrev pub RecordsAreOfTheStream : Type 0
-RecordsAreOfTheStream = (limit : ℕ) (flow : Flow) (service : Service) (stream : List ℕ) (how : Beginning) (pieces : List Piece) → AreAllOf stream how pieces → but_unread (direction_found limit (nothing_sent flow service) (segments_of pieces)) ≡ beginning_found (Some how) ++ stream_found service limit stream
+RecordsAreOfTheStream = (limit : ℕ) (flow : Flow) (service : Service) (stream : List ℕ) (how : Beginning) (pieces : List Piece) (kept : List Bool) → AreAllOf stream how pieces → but_unread (direction_found limit (nothing_sent flow service) kept (segments_of pieces)) ≡ beginning_found (Some how) ++ stream_found service limit stream

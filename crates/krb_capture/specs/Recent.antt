@@ -1,5 +1,6 @@
 -- The last octets of directions that ended.
-use Rattle.std.specs.Prelude.{ℕ, ◌≡◌, ◌+◌, ◌%◌, ◌<◌, ◌≤◌, nat_lt, min, if◌then◌else◌, List, [], length, slice_get, slice_index_or, IfSome}
+use Rattle.std.specs.Prelude.{ℕ, ◌≡◌, ◌+◌, ◌%◌, ◌<◌, ◌≤◌, nat_lt, min, if◌then◌else◌, List, [], length, slice_index_or}
+use Rattle.std.specs.Global.{Vec}
 use Rattle.krb_flow.specs.Window.{last}
 use Rattle.krb_capture.specs.declared.recent.Recent.{Recent}
 
@@ -7,8 +8,11 @@ use Rattle.krb_capture.specs.declared.recent.Recent.{Recent}
 abbrev pub still_kept : List (List ℕ) → ℕ → List ℕ
 still_kept streams nth = if nat_lt (length streams) (nth + 4097) then slice_index_or streams nth [] else []
 
--- These are the last 4096 octets of each of the 4096 directions that ended last.
+-- the last 4096 octets of each of the 4096 directions that ended last, each at its number modulo 4096
+pub record AreLast (slots : List (Vec ℕ)) (streams : List (List ℕ)) : Type 0 where
+  pub room : length slots ≡ min (length streams) 4096
+  pub each : (nth : ℕ) (none : Vec ℕ) → nth < length streams → length streams ≤ nth + 4096 → (slice_index_or slots (nth % 4096) none).items ≡ last 4096 (slice_index_or streams nth [])
+
 pub record Remembers (recent : Recent) (streams : List (List ℕ)) : Type 0 where
   pub count : recent.count ≡ length streams
-  pub slots : length recent.slots.items ≡ min (length streams) 4096
-  pub each : (nth : ℕ) → nth < length streams → length streams ≤ nth + 4096 → IfSome (slice_get recent.slots.items (nth % 4096)) (λ octets. octets.items ≡ last 4096 (slice_index_or streams nth []))
+  pub slots : AreLast recent.slots.items streams

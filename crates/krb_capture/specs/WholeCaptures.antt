@@ -23,7 +23,7 @@ use Rattle.krb_capture.specs.Datagrams.{all_found}
 use Rattle.krb_capture.specs.Flows.{flow_between, service_of}
 use Rattle.krb_capture.specs.Found.{Found}
 use Rattle.krb_capture.specs.Laws.{but_unread, direction_found, stream_found}
-use Rattle.krb_capture.specs.Sending.{beginning_found, nothing_sent}
+use Rattle.krb_capture.specs.Sending.{Sent, beginning_found, nothing_sent}
 use Rattle.krb_capture.specs.declared.flow.Flow.{Flow}
 use Rattle.krb_capture.specs.declared.flow.Service.{Service}
 
@@ -108,9 +108,14 @@ PacketsAreNumbered = (file : List ℕ) → AreNumbered 0 (packets file).items
 abbrev pub flows_in : Profile → ℕ → List Contents → List Flow
 flows_in profile port all = map (λ segment. flow_between segment.source segment.target) (filter (λ segment. is_some (service_of profile port segment.source segment.target)) (segments_in all))
 
+-- What is found is what is found in a direction, whose octets may be let go once it has ended.
+pub record IsOfDirection (limit : ℕ) (sent : Sent) (segments : List Segment) (found : List Found) : Type 0 where
+  pub kept : List Bool
+  pub is : found ≡ direction_found limit sent kept segments
+
 -- Whatever else a capture has, if there are segments of no more different flows than are kept: what is found from a source to a target over TCP is what is found in the direction of these segments alone.
 abbrev pub DirectionsAreApart : Type 0
-DirectionsAreApart = (settings : Settings) (packets : List Packet) (different : List Flow) (source target : Endpoint) (service : Service) → AreNumbered 0 packets → length different ≤ 65536 → All (Contains different) (flows_in settings.profile settings.port (carried settings.port packets)) → service_of settings.profile settings.port source target ≡ Some service → found_between transports.Tcp source target (capture_found settings packets) ≡ direction_found settings.limit (nothing_sent (flow_between source target) service) (segments_between source target (carried settings.port packets))
+DirectionsAreApart = (settings : Settings) (packets : List Packet) (different : List Flow) (source target : Endpoint) (service : Service) → AreNumbered 0 packets → length different ≤ 65536 → All (Contains different) (flows_in settings.profile settings.port (carried settings.port packets)) → service_of settings.profile settings.port source target ≡ Some service → IsOfDirection settings.limit (nothing_sent (flow_between source target) service) (segments_between source target (carried settings.port packets)) (found_between transports.Tcp source target (capture_found settings packets))
 
 -- So if these are the segments of a stream, it is what is found in the stream, but for octets that no message has.
 abbrev pub CapturesListStreams : Type 0

@@ -70,3 +70,11 @@ pushed n old octets = last-then n old octets ∙ sym (last-kept n old octets)
 
 pub pushed_after : (n : ℕ) (old octets : List ℕ) → last n (last n old ++ last n octets) ≡ last n (last n old ++ octets)
 pushed_after n old octets = last-then n (last n old) octets
+
+-- ---- lists whose last octets are the same
+
+pub last_same : (n m : ℕ) (xs ys : List ℕ) → m ≤ n → last n xs ≡ last n ys → last m xs ≡ last m ys
+last_same n m xs ys le e = sym (last-fewer n m xs le) ∙ ap (last m) e ∙ last-fewer n m ys le
+
+pub last_more : (n : ℕ) (kept stream more : List ℕ) → kept ≡ last n stream → last n (kept ++ more) ≡ last n (stream ++ more)
+last_more n kept stream more e = ap (λ (l : List ℕ). last n (l ++ more)) e ∙ last-kept n stream more

@@ -112,9 +112,9 @@ untaken_copy kept had segment =
       differs = of_differing (differing (differs_after kept had) place segment.payload.octets);
     })
 
--- copies of octets that it had are compared
+-- a segment with data that is a copy of octets that it had is compared with them
 abbrev pub untaken_after : List ℕ → Had → Segment → Untaken
-untaken_after kept had segment = when (is_copy_of had segment) (λ _. untaken_copy kept had segment) (λ _. nothing)
+untaken_after kept had segment = when (is_copy_of had segment && nat_lt 0 segment.payload.size) (λ _. untaken_copy kept had segment) (λ _. nothing)
 
 -- ---- a direction
 

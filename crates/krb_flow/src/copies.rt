@@ -1,6 +1,6 @@
 //! Octets that come again, compared with those that were taken or wait.
 
-ghost use Rattle.std.specs.Prelude.{◌≡◌, ◌+◌, ◌<◌, ◌≤◌, ◌^◌, ℕ, List, [], ◌∷◌, ◌++◌, length};
+ghost use Rattle.std.specs.Prelude.{◌≡◌, ◌+◌, ◌<◌, ◌≤◌, ◌^◌, ◌-◌, ◌==◌, if◌then◌else◌, ℕ, List, [], ◌∷◌, ◌++◌, length};
 ghost use Rattle.krb_flow.specs.Copies.{differing, differs_taken, old_of, summary};
 ghost use Rattle.krb_flow.specs.inner.Unequal.{unequal};
 
@@ -34,14 +34,28 @@ impl Differing {
         }
     }
 
+    /// Returns these places, and one after them if an octet there differs from another one.
+    fn with(self, place: u64, octet: u8, other: u8) -> Differing
+        requires few { self.count < 2 ^ 64 - 1 }
+        ensures places { (first : List ℕ) → self ≡ summary first → result ≡ summary (first ++ (if octet == other then [] else place ∷ [])) }
+        ensures few { result.count ≤ self.count + 1 }
+    {
+        if octet == other {
+            self
+        } else {
+            self.and(Differing::at(place))
+        }
+    }
+
     /// Returns these places, and others after them.
-    pub(crate) fn and(self, then: Differing) -> Differing
-        requires few { self.count + then.count < 2 ^ 64 }
-        ensures { (first last : List ℕ) → self ≡ summary first → then ≡ summary last → result ≡ summary (first ++ last) }
+    pub(crate) fn and(self, more: Differing) -> Differing
+        requires few { self.count + more.count < 2 ^ 64 }
+        ensures places { (first last : List ℕ) → self ≡ summary first → more ≡ summary last → result ≡ summary (first ++ last) }
+        ensures count { result.count ≡ self.count + more.count }
     {
         Differing {
-            first: self.first.or(then.first),
-            count: self.count + then.count,
+            first: self.first.or(more.first),
+            count: self.count + more.count,
         }
     }
 }
@@ -50,16 +64,15 @@ impl Differing {
 pub(crate) fn compare(place: u64, octets: &[u8], others: &[u8]) -> Differing
     requires same { length octets.now ≡ length others.now }
     requires fits { place + length octets.now < 2 ^ 64 }
-    ensures { result ≡ summary (unequal place octets.now others.now) }
+    ensures places { result ≡ summary (unequal place octets.now others.now) }
+    ensures few { result.count ≤ length octets.now }
 {
     let mut differing = Differing::none();
     if octets == others {
         return differing;
     }
     for i in 0..octets.len() {
-        if octets[i] != others[i] {
-            differing = differing.and(Differing::at(place + i as u64));
-        }
+        differing = differing.with(place + i as u64, octets[i], others[i]);
     }
     differing
 }
@@ -91,6 +104,7 @@ pub(crate) fn compare_taken(kept: &[u8], expected: u64, place: u64, octets: &[u8
     requires before { place + length octets.now ≤ expected }
     ensures old { result.old ≡ old_of kept.now expected place octets.now }
     ensures differing { result.differing ≡ summary (differing (differs_taken kept.now expected) place octets.now) }
+    ensures few { result.differing.count ≤ length octets.now }
 {
     let first = expected.saturating_sub(kept.len() as u64);
     let old = first.saturating_sub(place).min(octets.len() as u64);

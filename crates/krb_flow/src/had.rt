@@ -101,7 +101,8 @@ impl Had {
     {
         let distance = self.distance_to(segment);
         let payload = &segment.payload;
-        if !self.is_copy(segment) || self.is_keep_alive(distance, payload) {
+        let is_copy = self.is_copy(segment) && payload.size() > 0;
+        if !is_copy || self.is_keep_alive(distance, payload) {
             return Untaken::none();
         }
         let behind = u64::from(distance.behind());

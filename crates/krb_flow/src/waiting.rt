@@ -1,6 +1,6 @@
 //! Octets that came early, in runs of octets that follow each other.
 
-ghost use Rattle.std.specs.Prelude.{◌≡◌, ◌+◌, ◌-◌, ◌++◌, ◌<◌, ◌≤◌, ◌^◌, [], All, length, slice_get, IfOk, IfSome, OnOk};
+ghost use Rattle.std.specs.Prelude.{◌≡◌, ◌+◌, ◌-◌, ◌++◌, ◌<◌, ◌≤◌, ◌^◌, [], All, length, slice_get, take, IfOk, IfSome, OnOk};
 ghost use Rattle.std.specs.Map.{keys_of};
 ghost use Rattle.std.specs.BTreeMap.{insert_entry};
 ghost use Rattle.std.specs.Option.{option_map};
@@ -98,7 +98,8 @@ fn found_at(runs: &BTreeMap<u64, Vec<u8>>, place: u64) -> Found<'_>
         Some((&end, run)) => {
             let first = end - run.len() as u64;
             if first <= place {
-                Found::Octets(&run[(place - first) as usize..])
+                let octets = &run[(place - first) as usize..];
+                Found::Octets(octets)
             } else {
                 Found::Nothing(first - place)
             }
@@ -107,26 +108,55 @@ fn found_at(runs: &BTreeMap<u64, Vec<u8>>, place: u64) -> Found<'_>
     }
 }
 
+/// How many of some octets were compared with those that wait, and the places at which these
+/// differ.
+#[derive(Clone, Copy)]
+struct Seen {
+    seen: usize,
+    differing: Differing,
+}
+
+/// Compares the first of octets from a place on with what waits there, up to where a run begins or
+/// ends.
+fn differing_first(runs: &BTreeMap<u64, Vec<u8>>, place: u64, octets: &[u8]) -> Seen
+    requires apart { AreApart 0 runs.now.entries }
+    requires some { 0 < length octets.now }
+    requires fits { place + length octets.now < 2 ^ 64 }
+    ensures one { 0 < result.seen }
+    ensures within { result.seen ≤ length octets.now }
+    ensures few { result.differing.count ≤ result.seen }
+    ensures differing { result.differing ≡ summary (differing (differs_waiting (waiting_in runs.now.entries)) place (take result.seen octets.now)) }
+{
+    match found_at(runs, place) {
+        Found::Octets(others) => {
+            let seen = octets.len().min(others.len());
+            Seen {
+                seen,
+                differing: compare(place, &octets[..seen], &others[..seen]),
+            }
+        }
+        Found::Nothing(count) => Seen {
+            seen: octets.len().min(count as usize),
+            differing: Differing::none(),
+        },
+    }
+}
+
 /// Returns the places of those octets from a place on at which another octet waits.
 fn differing_in(runs: &BTreeMap<u64, Vec<u8>>, place: u64, octets: &[u8]) -> Differing
     requires apart { AreApart 0 runs.now.entries }
     requires fits { place + length octets.now < 2 ^ 64 }
-    ensures { result ≡ summary (differing (differs_waiting (waiting_in runs.now.entries)) place octets.now) }
+    ensures few { result.count ≤ length octets.now }
+    ensures differing { result ≡ summary (differing (differs_waiting (waiting_in runs.now.entries)) place octets.now) }
 {
     let mut place = place;
     let mut octets = octets;
     let mut all = Differing::none();
     while !octets.is_empty() {
-        let seen = match found_at(runs, place) {
-            Found::Octets(others) => {
-                let seen = octets.len().min(others.len());
-                all = all.and(compare(place, &octets[..seen], &others[..seen]));
-                seen
-            }
-            Found::Nothing(count) => octets.len().min(count as usize),
-        };
-        octets = &octets[seen..];
-        place += seen as u64;
+        let first = differing_first(runs, place, octets);
+        octets = &octets[first.seen..];
+        place += first.seen as u64;
+        all = all.and(first.differing);
     }
     all
 }
@@ -252,7 +282,8 @@ impl Runs {
     /// Returns the places of those octets from a place on at which another octet waits.
     pub(crate) fn differing(&self, place: u64, octets: &[u8]) -> Differing
         requires { place + length octets.now < 2 ^ 64 }
-        ensures { result ≡ summary (differing (differs_waiting self.now) place octets.now) }
+        ensures few { result.count ≤ length octets.now }
+        ensures differing { result ≡ summary (differing (differs_waiting self.now) place octets.now) }
     {
         if self.octets == 0 {
             return Differing::none();

@@ -31,7 +31,7 @@ pub returns-then-not-begins : goal.returns-then-not-begins
 returns-then-not-begins c = λ limit table h.
     let found = lookup (is_at (nat_cmp c.args.number)) table.ended in
     follows-passed c.args.self.now limit c.args.due (of_ended limit c.args.due.packet c.args.number found c.args.service c.args.segment.now table) c.args.segment.now table c.args.listing.now _
-    (ended-passed limit c.args.due.packet c.args.service c.args.segment.now table c.args.number found c.octets.ensures.few (sym c.begins.ensures ∙ c.if-not-begins.true)) c.requires.none h c.in_ok-list_passed_over.ensures
+    (ended-passed limit c.args.due.packet c.args.service c.args.segment.now table c.args.number found (sym c.begins.ensures ∙ c.if-not-begins.true)) c.requires.none h c.in_ok-list_passed_over.ensures
 
 pub returns-in_default : goal.returns-in_default
 returns-in_default c = λ limit table h.
