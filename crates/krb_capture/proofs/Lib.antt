@@ -14,6 +14,7 @@ mod Passed
 mod PasswordEnds
 pub mod Prefixes
 pub mod Read
+mod Recents
 mod Rests
 mod Sendings
 pub mod Tables

@@ -1,6 +1,6 @@
 //! The last octets of directions that ended.
 
-ghost use Rattle.std.specs.Prelude.{◌≡◌, ◌<◌, ◌%◌, ℕ, List, [], ◌∷◌, ◌++◌, length, slice_set, IfOk};
+ghost use Rattle.std.specs.Prelude.{◌≡◌, ℕ, List, [], ◌∷◌, ◌++◌, length, IfOk};
 ghost use Rattle.krb_capture.specs.Recent.{Remembers, still_kept};
 ghost use Rattle.krb_flow.specs.Window.{last};
 
@@ -36,24 +36,18 @@ impl Recent {
         ensures { IfOk result (λ nth. (streams : List (List ℕ)) (stream : List ℕ) → Remembers self.old streams → octets.items ≡ last 4096 stream → (nth ≡ length streams) × Remembers self.new (streams ++ stream ∷ [])) }
     {
         let nth = self.count;
-        let count = nth.checked_add(1).ok_or(Memory)?;
-        if nth < MOST_ENDED {
-            self.slots.push(octets)?;
+        let Some(count) = nth.checked_add(1) else {
+            return Err(Memory);
+        };
+        let place = (nth % MOST_ENDED) as usize;
+        if place < self.slots.len() {
+            self.slots[place] = octets;
             self.count = count;
             return Ok(nth);
         }
-        self.put(nth, octets);
+        self.slots.push(octets)?;
         self.count = count;
         Ok(nth)
-    }
-
-    /// Keeps octets in place of others.
-    fn put(&mut self, nth: u64, octets: Vec<u8>)
-        requires { nth % 4096 < length self.old.slots.items }
-        ensures slots { self.new.slots.items ≡ slice_set self.old.slots.items (nth % 4096) octets }
-        ensures count { self.new.count ≡ self.old.count }
-    {
-        self.slots[(nth % MOST_ENDED) as usize] = octets;
     }
 
     /// Returns the last octets of the direction before which so many ended, if they are still kept.

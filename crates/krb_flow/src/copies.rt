@@ -85,23 +85,10 @@ pub(crate) struct Compared {
     pub(crate) differing: Differing,
 }
 
-impl Compared {
-    /// Returns that there are none.
-    pub(crate) fn none() -> Compared
-        ensures old { result.old ≡ 0 }
-        ensures differing { result.differing ≡ summary [] }
-    {
-        Compared {
-            old: 0,
-            differing: Differing::none(),
-        }
-    }
-}
-
-/// Compares octets from a place on, all before the one that is due, with the last ones that were
-/// taken, which are kept.
+/// Compares octets from a place on, if there are any all before the one that is due, with the last
+/// ones that were taken, which are kept.
 pub(crate) fn compare_taken(kept: &[u8], expected: u64, place: u64, octets: &[u8]) -> Compared
-    requires before { place + length octets.now ≤ expected }
+    requires before { 0 < length octets.now → place + length octets.now ≤ expected }
     ensures old { result.old ≡ old_of kept.now expected place octets.now }
     ensures differing { result.differing ≡ summary (differing (differs_taken kept.now expected) place octets.now) }
     ensures few { result.differing.count ≤ length octets.now }

@@ -219,11 +219,7 @@ impl Stream {
         ensures differing { result.differing ≡ summary (differing (differs_in kept.now self.now) place octets.now) }
     {
         let (copies, early) = octets.split_at(octets.len().min(behind as usize));
-        let compared = if copies.is_empty() {
-            Compared::none()
-        } else {
-            compare_taken(kept, self.expected, place, copies)
-        };
+        let compared = compare_taken(kept, self.expected, place, copies);
         let waiting = self
             .waiting
             .differing(place + copies.len() as u64, early);

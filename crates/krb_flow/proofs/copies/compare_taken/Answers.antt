@@ -25,4 +25,4 @@ returns-clause-differing c =
     let some : 0 < length (take (length octets - old) (drop old octets)) = grind (arith, nat_tests, c.is_empty.ensures, c.if-is_empty.false) in
     let left = rw (take_rest octets old) at some in
     let compared = rw (take_rest octets old, take_rest kept first) at c.compare-differing.ensures.places in
-    compared ∙ ap summary (unequal_taken (c.args.place + old) (drop old octets) (drop first kept) ∙ sym (taken_differing kept c.args.expected c.args.place old octets c.requires.before old_is (omega (arith, left, length-drop old octets))))
+    compared ∙ ap summary (unequal_taken (c.args.place + old) (drop old octets) (drop first kept) ∙ sym (taken_differing kept c.args.expected c.args.place old octets (c.requires.before (omega (arith, left, length-drop old octets))) old_is (omega (arith, left, length-drop old octets))))
