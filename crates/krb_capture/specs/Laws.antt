@@ -1,5 +1,5 @@
 -- The law of the directions of TCP.
-use Rattle.std.specs.Prelude.{◌≡◌, ℕ, List, [], ◌∷◌, ◌++◌, Some, Bool, true, false, if◌then◌else◌}
+use Rattle.std.specs.Prelude.{◌≡◌, ℕ, List, [], ◌∷◌, ◌++◌, Some, Bool, true, false, drop, if◌then◌else◌}
 use Rattle.std.specs.List.{filter}
 use Rattle.krb_packet.specs.declared.contents.Segment.{Segment}
 use Rattle.krb_msg.specs.Grammar.{messages}
@@ -28,11 +28,15 @@ compared kept (states.Ended had) stream = if kept then stream else []
 abbrev pub found_if : ℕ → Sent → Bool → Segment → List Found
 found_if limit sent kept segment = outcome_found sent.service limit sent.stream (untaken_of sent.state (compared kept sent.state sent.stream) segment) (step sent.state segment).0
 
--- What is found in a direction: with each of its segments, in order, and at the end. Of each it is known whether what the direction took would still be kept, had it ended; of the last ones it would.
+-- of the next segment
+abbrev pub still : List Bool → Bool
+still [] = true
+still (kept ∷ others) = kept
+
+-- What is found in a direction: with each of its segments, in order, and at the end. Of each it is said whether what the direction took would still be kept, had it ended.
 abbrev pub direction_found : ℕ → Sent → List Bool → List Segment → List Found
 direction_found limit sent kept [] = last_found limit sent
-direction_found limit sent [] (segment ∷ segments) = found_if limit sent true segment ++ direction_found limit (after_segment sent segment) [] segments
-direction_found limit sent (one ∷ kept) (segment ∷ segments) = found_if limit sent one segment ++ direction_found limit (after_segment sent segment) kept segments
+direction_found limit sent kept (segment ∷ segments) = found_if limit sent (still kept) segment ++ direction_found limit (after_segment sent segment) (drop 1 kept) segments
 
 -- What is found in a stream. In one of messages that is each of its frames, as they are listed if one goes on after a refusal.
 abbrev pub stream_found : Service → ℕ → List ℕ → List Found

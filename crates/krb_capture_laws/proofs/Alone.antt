@@ -1,6 +1,6 @@
 -- A flow among others: what is kept of it, and what is found in it, are those of its segments alone.
-use Rattle.std.proofs.Common.{◌≡◌, ℕ, ◌<◌, ◌≤◌, ◌⊎◌, inl, inr, Bool, true, false, List, length, Option, Some, None, refl, sym, ◌∙◌, ap, subst, arith}
-use Rattle.std.specs.Prelude.{if◌then◌else◌, nat_lt}
+use Rattle.std.proofs.Common.{◌≡◌, ℕ, zero, suc, ◌+◌, ◌<◌, ◌≤◌, ◌⊎◌, inl, inr, Bool, true, false, List, [], ◌∷◌, ◌++◌, length, Option, Some, None, refl, sym, ◌∙◌, ap, subst, arith}
+use Rattle.std.specs.Prelude.{if◌then◌else◌, nat_lt, slice_get}
 use Rattle.std.specs.declared.cmp.Ordering.{Ordering}
 use Rattle.std.specs.declared.cmp.Ordering.TheVariants.{Less, Equal, Greater}
 use Rattle.std.specs.Ordering.{is_eq, nat_cmp}
@@ -8,20 +8,23 @@ use Rattle.std.specs.Cmp.{IsTotalOrder}
 use Rattle.std.specs.Map.{keys_of, lookup, remove_entry}
 use Rattle.std.specs.BTreeMap.{insert_entry, is_at}
 use Rattle.std.proofs.lemmas.Bool.{true≢false}
-use Rattle.std.proofs.lemmas.Option.{none-some, same_Some}
+use Rattle.std.proofs.lemmas.Option.{get_or_from_slice_get, none-some, same_Some}
 use Rattle.std.proofs.lemmas.Cmp.{nat_cmp_total, tied_itself}
 use Rattle.std.proofs.lemmas.Map.Lookups.{exact_unsigned}
 use Rattle.krb_packet.specs.declared.contents.Segment.{Segment}
 use Rattle.krb_flow.specs.Directions.{end_of, had_of}
-use Rattle.krb_flow.specs.Unread.{of_reset}
+use Rattle.krb_flow.specs.Unread.{nothing as no_octets, of_reset, untaken_of}
+use Rattle.krb_flow.specs.declared.unread.Untaken.{Untaken}
 use Rattle.krb_flow.specs.declared.direction.State.{State}
 use Rattle.krb_flow.specs.declared.direction.State.TheVariants as states
 use Rattle.krb_flow.specs.declared.had.Had.{Had}
 use Rattle.krb_capture.specs.contracts.flow.FlowOrd.TheImpl.Laws as flow_laws
-use Rattle.krb_capture.specs.Directions.{Followed, Table, active_with, after_found, begins, begun, by_number, ended_with, flow_cmp, flow_of, followed, gone_on, in_flow, kept, nothing_found, of_ended, of_known, passed_over, with_one_less, with_room}
+use Rattle.krb_capture.specs.Directions.{Followed, Table, active_with, after_found, begins, begun, by_number, copied, ended_with, flow_cmp, flow_of, followed, gone_on, in_flow, kept, nothing_found, of_ended, of_known, passed_over, streams_with, with_one_less, with_room}
+use Rattle.krb_capture.specs.Laws.{compared, found_if}
+use Rattle.krb_capture.specs.Recent.{still_kept}
 use Rattle.krb_capture.specs.Flows.{flow_between}
 use Rattle.krb_capture.specs.Found.{Found}
-use Rattle.krb_capture.specs.Sending.{Sent, after_segment, segment_found, sent_from, step_of, unread_found}
+use Rattle.krb_capture.specs.Sending.{Sent, after_segment, segment_found, sent_from, step_of, untaken_found}
 use Rattle.krb_capture.specs.declared.directions.Gone.{Gone}
 use Rattle.krb_capture.specs.declared.flow.Flow.{Flow}
 use Rattle.krb_capture.specs.declared.flow.Service.{Service}
@@ -29,7 +32,7 @@ use Rattle.krb_capture.specs.declared.sending.Step.{Step}
 use Rattle.krb_capture_laws.proofs.Flows.{exact}
 use Rattle.krb_capture.proofs.Maps.{Ascend, Ascend-inserted, Ascend-removed, lookup-inserted, lookup-inserted_other, lookup-removed, lookup-removed_other}
 use Rattle.krb_capture.proofs.Tables.{began-first}
-use Rattle.krb_capture_laws.proofs.Steps.{Same, Ended-from_had_of, begins_anew, passed-found, passed-state, passes_ended, passes_fresh, unread_ended, unread_fresh}
+use Rattle.krb_capture_laws.proofs.Steps.{Same, Ended-from_had_of, begins_anew, found_kept, passed-found, passed-state, passed-stream, passes_ended, passes_fresh, untaken_fresh}
 
 pub flow_total : IsTotalOrder flow_cmp
 flow_total = flow_laws.total-law
@@ -92,7 +95,8 @@ pub record Changed (flow : Flow) (new : ℕ) (ended : Option Had) (sent : Sent) 
   pub here : number_of flow table ≡ Some new
   pub others : (f : Flow) → is_eq (flow_cmp f flow) ≡ false → number_of f table ≡ number_of f old
   pub active_here : at new table.active ≡ active_after ended sent
-  pub ended_here : (had : Had) → ended ≡ Some had → at new table.ended ≡ Some (record { flow = flow; had = had })
+  pub ended_here : (had : Had) → ended ≡ Some had → at new table.ended ≡ Some (record { flow = flow; had = had; nth = length old.streams })
+  pub streams : table.streams ≡ streams_with ended sent.stream old.streams
   pub active_others : (n : ℕ) → is_eq (nat_cmp n new) ≡ false → (number_of flow old ≡ Some n → ⊥) → at n table.active ≡ at n old.active
   pub ended_others : (n : ℕ) → is_eq (nat_cmp n new) ≡ false → (number_of flow old ≡ Some n → ⊥) → at n table.ended ≡ at n old.ended
   pub left : (n : ℕ) → number_of flow old ≡ Some n → is_eq (nat_cmp n new) ≡ false → at n table.active ≡ None
@@ -110,6 +114,7 @@ module _ (flow : Flow) (new : ℕ) (step : Step) (sent : Sent) (old : Table) (ac
     others = λ f a. others f a step.began;
     active_here = active_here step.ended;
     ended_here = ended_here step.ended;
+    streams = refl;
     active_others = λ n a o. active_other n a step.ended ∙ active_others n o;
     ended_others = λ n a o. ended_other n a step.ended ∙ ended_others n o;
     left = λ n o a. active_other n a step.ended ∙ gone n o;
@@ -135,36 +140,55 @@ module _ (flow : Flow) (new : ℕ) (step : Step) (sent : Sent) (old : Table) (ac
       active_here None = lookup-inserted nat_cmp_total new sent active
       active_here (Some had) = free
 
-      ended_here : (o : Option Had) (had : Had) → o ≡ Some had → at new (ended_with o new flow ended) ≡ Some (record { flow = flow; had = had })
+      ended_here : (o : Option Had) (had : Had) → o ≡ Some had → at new (ended_with o new flow (length old.streams) ended) ≡ Some (record { flow = flow; had = had; nth = length old.streams })
       ended_here None had e = absurd cc
       ended_here (Some h) had e =
           let same : h ≡ had = cc in
-          lookup-inserted nat_cmp_total new (record { flow = flow; had = h }) ended ∙ ap (λ (x : Had). Some (record { flow = flow; had = x })) same
+          lookup-inserted nat_cmp_total new (record { flow = flow; had = h; nth = length old.streams }) ended ∙ ap (λ (x : Had). Some (record { flow = flow; had = x; nth = length old.streams })) same
 
       active_other : (n : ℕ) → is_eq (nat_cmp n new) ≡ false → (o : Option Had) → at n (active_with o new sent active) ≡ at n active
       active_other n a None = lookup-inserted_other nat_cmp_total n new sent active a
       active_other n a (Some had) = refl
 
-      ended_other : (n : ℕ) → is_eq (nat_cmp n new) ≡ false → (o : Option Had) → at n (ended_with o new flow ended) ≡ at n ended
+      ended_other : (n : ℕ) → is_eq (nat_cmp n new) ≡ false → (o : Option Had) → at n (ended_with o new flow (length old.streams) ended) ≡ at n ended
       ended_other n a None = refl
-      ended_other n a (Some had) = lookup-inserted_other nat_cmp_total n new (record { flow = flow; had = had }) ended a
+      ended_other n a (Some had) = lookup-inserted_other nat_cmp_total n new (record { flow = flow; had = had; nth = length old.streams }) ended a
+
+-- ---- what directions that ended took
+stays : {X : Type 0} (xs ys : List X) (n : ℕ) (y : X) → slice_get xs n ≡ Some y → slice_get (xs ++ ys) n ≡ Some y
+stays [] ys n y e = absurd cc
+stays (x ∷ xs) ys zero y e = e
+stays (x ∷ xs) ys (suc n) y e = stays xs ys n y e
+
+comes_last : {X : Type 0} (xs : List X) (y : X) → slice_get (xs ++ y ∷ []) (length xs) ≡ Some y
+comes_last [] y = refl
+comes_last (x ∷ xs) y = comes_last xs y
+
+stays_with : (ended : Option Had) (stream : List ℕ) (streams : List (List ℕ)) (n : ℕ) (one : List ℕ) → slice_get streams n ≡ Some one → slice_get (streams_with ended stream streams) n ≡ Some one
+stays_with None stream streams n one e = e
+stays_with (Some had) stream streams n one e = stays streams (stream ∷ []) n one e
 
 -- ---- what is kept of a flow, as that of its segments alone
-abbrev pub KeptAt : Option Sent → Option Gone → Sent → Type 0
-KeptAt (Some sent) ended own = sent ≡ own
-KeptAt None (Some gone) own = own.state ≡ states.Ended gone.had
-KeptAt None None own = ⊥
+abbrev pub KeptAt : List (List ℕ) → Option Sent → Option Gone → Sent → Type 0
+KeptAt streams (Some sent) ended own = sent ≡ own
+KeptAt streams None (Some gone) own = (own.state ≡ states.Ended gone.had) × (slice_get streams gone.nth ≡ Some own.stream)
+KeptAt streams None None own = ⊥
+
+kept_longer : (ended : Option Had) (stream : List ℕ) (streams : List (List ℕ)) (active : Option Sent) (gone : Option Gone) (own : Sent) → KeptAt streams active gone own → KeptAt (streams_with ended stream streams) active gone own
+kept_longer ended stream streams (Some sent) gone own k = k
+kept_longer ended stream streams None (Some gone) own k = (k.0, stays_with ended stream streams gone.nth own.stream k.1)
+kept_longer ended stream streams None None own k = k
 
 abbrev pub KeptBy : Option ℕ → Table → Sent → Type 0
 KeptBy None table own = own.state ≡ states.Fresh
-KeptBy (Some n) table own = KeptAt (at n table.active) (at n table.ended) own
+KeptBy (Some n) table own = KeptAt table.streams (at n table.active) (at n table.ended) own
 
 abbrev pub Keeps : Flow → Table → Sent → Type 0
 Keeps flow table own = KeptBy (number_of flow table) table own
 
 -- What a segment comes to: nothing, or that its direction goes on.
 pub data Went (limit packet : ℕ) (service : Service) (segment : Segment) (table : Table) (followed : Followed) : Type 0 where
-  Passes : followed ≡ passed_over segment table → ((own : Sent) → Keeps (flow_of segment) table own → (segment_found limit own segment ≡ unread_found (of_reset segment)) × Keeps (flow_of segment) table (after_segment own segment)) → Went limit packet service segment table followed
+  Passes : (told : Untaken) (still_there : Bool) → followed ≡ record { found = in_flow (flow_of segment) (untaken_found told); table = table } → ((own : Sent) → Keeps (flow_of segment) table own → (found_if limit own still_there segment ≡ untaken_found told) × Keeps (flow_of segment) table (after_segment own segment)) → Went limit packet service segment table followed
   Goes : (new : ℕ) (sent : Sent) → (new ≡ packet) ⊎ (number_of (flow_of segment) table ≡ Some new) → sent.flow ≡ flow_of segment → followed.found ≡ in_flow (flow_of segment) (segment_found limit sent segment) → Changed (flow_of segment) new (had_of (after_segment sent segment).state) (after_segment sent segment) table followed.table → ((own : Sent) → own.flow ≡ flow_of segment → own.service ≡ service → Keeps (flow_of segment) table own → Same limit sent own segment) → Went limit packet service segment table followed
 
 module _ (limit packet : ℕ) (service : Service) (segment : Segment) (bound : ℕ) (table : Table) (sound : Sound bound table) (later : bound < packet) where
@@ -213,36 +237,39 @@ module _ (limit packet : ℕ) (service : Service) (segment : Segment) (bound : �
           apart (inr a) = a
       free false within removed = removed
 
-      same_sent : (own : Sent) → KeptAt (at number table.active) (at number table.ended) own → Same limit sent own segment
+      same_sent : (own : Sent) → KeptAt table.streams (at number table.active) (at number table.ended) own → Same limit sent own segment
       same_sent own k =
-          let e : sent ≡ own = subst (λ o. KeptAt o (at number table.ended) own) is k in
-          record { found = ap (λ (x : Sent). segment_found limit x segment) e; after = ap (λ (x : Sent). after_segment x segment) e }
+          let e : sent ≡ own = subst (λ o. KeptAt table.streams o (at number table.ended) own) is k in
+          record { found = ap (λ (x : Sent). segment_found limit x segment) e ∙ sym (found_kept limit own segment); after = ap (λ (x : Sent). after_segment x segment) e }
 
   -- one that ended
   ended-went : (number : ℕ) → number_of (flow_of segment) table ≡ Some number → at number table.active ≡ None → Went limit packet service segment table (of_ended limit packet number (at number table.ended) service segment table)
   ended-went number known none = by (at number table.ended) refl
     where
       -- what is kept then
-      is : (own : Sent) → Keeps (flow_of segment) table own → KeptAt None (at number table.ended) own
-      is own k = subst (λ o. KeptAt o (at number table.ended) own) none (subst (λ o. KeptBy o table own) known k)
+      is : (own : Sent) → Keeps (flow_of segment) table own → KeptAt table.streams None (at number table.ended) own
+      is own k = subst (λ o. KeptAt table.streams o (at number table.ended) own) none (subst (λ o. KeptBy o table own) known k)
 
-      again : (gone : Gone) → at number table.ended ≡ Some gone → (b : Bool) → (step_of (states.Ended gone.had) segment).began ≡ b → Went limit packet service segment table (if b then begun limit packet service (states.Ended gone.had) segment (record table { ended = remove_entry (is_at (nat_cmp number)) table.ended }) else passed_over segment table)
+      again : (gone : Gone) → at number table.ended ≡ Some gone → (b : Bool) → (step_of (states.Ended gone.had) segment).began ≡ b → Went limit packet service segment table (if b then begun limit packet service (states.Ended gone.had) segment (record table { ended = remove_entry (is_at (nat_cmp number)) table.ended }) else copied gone segment table)
       again gone e true b =
           begun-went (states.Ended gone.had) (remove_entry (is_at (nat_cmp number)) table.ended) refl b
           (λ n o. subst (λ m. at m table.active ≡ None) (same_Some number n (sym known ∙ o)) none)
           (λ n o. lookup-removed_other nat_cmp_total n number table.ended (another number known n o))
-          (λ own k. subst (λ o. KeptAt None o own) e (is own k))
+          (λ own k. (subst (λ o. KeptAt table.streams None o own) e (is own k)).0)
       again gone e false b =
-          Passes refl (λ own k.
-          let t : own.state ≡ states.Ended gone.had = subst (λ o. KeptAt None o own) e (is own k) in
+          Passes (untaken_of (states.Ended gone.had) (still_kept table.streams gone.nth) segment) (nat_lt (length table.streams) (gone.nth + 4097)) refl (λ own k.
+          let here = subst (λ o. KeptAt table.streams None o own) e (is own k) in
           let passes = passes_ended gone.had segment b in
-          let told = unread_ended gone.had segment b in (
-            passed-found limit (states.Ended gone.had) own segment t passes told,
-            subst (λ o. KeptBy o table (after_segment own segment)) (sym known) (subst (λ o. KeptAt o (at number table.ended) (after_segment own segment)) (sym none) (subst (λ o. KeptAt None o (after_segment own segment)) (sym e) (passed-state limit (states.Ended gone.had) own segment t passes told))),
+          let left : Bool = nat_lt (length table.streams) (gone.nth + 4097) in
+          let told =
+              ap (λ (x : State). untaken_of x (compared left x own.stream) segment) here.0
+              ∙ ap (λ (l : List ℕ). untaken_of (states.Ended gone.had) (if left then l else []) segment) (sym (get_or_from_slice_get table.streams gone.nth own.stream [] here.1)) in (
+            passed-found limit (states.Ended gone.had) own segment here.0 passes left (untaken_of (states.Ended gone.had) (still_kept table.streams gone.nth) segment) told,
+            subst (λ o. KeptBy o table (after_segment own segment)) (sym known) (subst (λ o. KeptAt table.streams o (at number table.ended) (after_segment own segment)) (sym none) (subst (λ o. KeptAt table.streams None o (after_segment own segment)) (sym e) (passed-state limit (states.Ended gone.had) own segment here.0 passes, here.1 ∙ ap Some (sym (passed-stream limit (states.Ended gone.had) own segment here.0 passes))))),
           ))
 
       by : (o : Option Gone) → at number table.ended ≡ o → Went limit packet service segment table (of_ended limit packet number o service segment table)
-      by None e = Passes refl (λ own k. absurd (subst (λ o. KeptAt None o own) e (is own k)))
+      by None e = Passes (record no_octets { apart = of_reset segment }) true refl (λ own k. absurd (subst (λ o. KeptAt table.streams None o own) e (is own k)))
       by (Some gone) e = again gone e (step_of (states.Ended gone.had) segment).began refl
 
   known-went : (number : ℕ) → number_of (flow_of segment) table ≡ Some number → (o : Option Sent) → at number table.active ≡ o → Went limit packet service segment table (of_known limit packet number o service segment table)
@@ -257,11 +284,11 @@ module _ (limit packet : ℕ) (service : Service) (segment : Segment) (bound : �
         subst (λ (r : Followed). Went limit packet service segment table (after_found r.found (begun limit packet service states.Fresh segment r.table))) (sym has_room)
         (begun-went states.Fresh table.ended refl (began-first segment b) (λ n o. absurd (none-some n (sym none ∙ o))) (λ n o. refl) (λ own k. subst (λ o. KeptBy o table own) none k))
     new-went none false b =
-        Passes refl (λ own k.
+        Passes (record no_octets { apart = of_reset segment }) true refl (λ own k.
         let t : own.state ≡ states.Fresh = subst (λ o. KeptBy o table own) none k in
         let passes = passes_fresh segment b in
-        let told = unread_fresh segment b in
-        (passed-found limit states.Fresh own segment t passes told, subst (λ o. KeptBy o table (after_segment own segment)) (sym none) (passed-state limit states.Fresh own segment t passes told)))
+        let told = ap (λ (x : State). untaken_of x (compared true x own.stream) segment) t ∙ untaken_fresh own.stream segment b in
+        (passed-found limit states.Fresh own segment t passes true (record no_octets { apart = of_reset segment }) told, subst (λ o. KeptBy o table (after_segment own segment)) (sym none) (passed-state limit states.Fresh own segment t passes)))
 
     pub followed-went : Went limit packet service segment table (followed limit packet service segment table)
     unfolding followed
@@ -287,29 +314,37 @@ later-sound bound packet table sound later = record {
 module _ (limit packet : ℕ) (service : Service) (segment : Segment) (bound : ℕ) (table : Table) (sound : Sound bound table) (later : bound < packet) (followed : Followed) where
   -- of its own flow
   pub record Own (own : Sent) : Type 0 where
-    pub found : followed.found ≡ in_flow (flow_of segment) (segment_found limit own segment)
+    pub still_there : Bool
+    pub found : followed.found ≡ in_flow (flow_of segment) (found_if limit own still_there segment)
     pub keeps : Keeps (flow_of segment) followed.table (after_segment own segment)
 
   pub went-own : Went limit packet service segment table followed → (own : Sent) → own.flow ≡ flow_of segment → own.service ≡ service → Keeps (flow_of segment) table own → Own own
-  went-own (Passes is passes) own f s k = record {
+  went-own (Passes told there is passes) own f s k = record {
+    still_there = there;
     found = ap (λ (x : Followed). x.found) is ∙ ap (in_flow (flow_of segment)) (sym (passes own k).0);
     keeps = subst (λ (x : Followed). Keeps (flow_of segment) x.table (after_segment own segment)) (sym is) (passes own k).1;
   }
   went-own (Goes new sent at_new flow found changed same) own f s k = record {
+    still_there = true;
     found = found ∙ ap (in_flow (flow_of segment)) (same own f s k).found;
     keeps = subst (λ o. KeptBy o followed.table (after_segment own segment)) (sym changed.here) (by (had_of (after_segment sent segment).state) refl changed.active_here);
   }
     where
-      by : (o : Option Had) → had_of (after_segment sent segment).state ≡ o → at new followed.table.active ≡ active_after o (after_segment sent segment) → KeptAt (at new followed.table.active) (at new followed.table.ended) (after_segment own segment)
-      by None e active = subst (λ a. KeptAt a (at new followed.table.ended) (after_segment own segment)) (sym active) (same own f s k).after
+      by : (o : Option Had) → had_of (after_segment sent segment).state ≡ o → at new followed.table.active ≡ active_after o (after_segment sent segment) → KeptAt followed.table.streams (at new followed.table.active) (at new followed.table.ended) (after_segment own segment)
+      by None e active = subst (λ a. KeptAt followed.table.streams a (at new followed.table.ended) (after_segment own segment)) (sym active) (same own f s k).after
       by (Some had) e active =
-          subst (λ a. KeptAt a (at new followed.table.ended) (after_segment own segment)) (sym active)
-          (subst (λ g. KeptAt None g (after_segment own segment)) (sym (changed.ended_here had e))
-          (ap (λ (x : Sent). x.state) (sym (same own f s k).after) ∙ Ended-from_had_of (after_segment sent segment).state had e))
+          subst (λ a. KeptAt followed.table.streams a (at new followed.table.ended) (after_segment own segment)) (sym active)
+          (subst (λ g. KeptAt followed.table.streams None g (after_segment own segment)) (sym (changed.ended_here had e))
+          (
+            ap (λ (x : Sent). x.state) (sym (same own f s k).after) ∙ Ended-from_had_of (after_segment sent segment).state had e,
+            ap (λ (l : List (List ℕ)). slice_get l (length table.streams)) (changed.streams ∙ ap (λ (o : Option Had). streams_with o (after_segment sent segment).stream table.streams) e)
+            ∙ comes_last table.streams (after_segment sent segment).stream
+            ∙ ap (λ (x : Sent). Some x.stream) (same own f s k).after,
+          ))
 
   -- of another flow
   pub went-other : Went limit packet service segment table followed → (f : Flow) (own : Sent) → is_eq (flow_cmp f (flow_of segment)) ≡ false → Keeps f table own → Keeps f followed.table own
-  went-other (Passes is passes) f own a k = subst (λ (x : Followed). Keeps f x.table own) (sym is) k
+  went-other (Passes told there is passes) f own a k = subst (λ (x : Followed). Keeps f x.table own) (sym is) k
   went-other (Goes new sent at_new flow found changed same) f own a k = subst (λ o. KeptBy o followed.table own) (sym (changed.others f a)) (by (number_of f table) refl k)
     where
       not_old : (n : ℕ) → number_of f table ≡ Some n → number_of (flow_of segment) table ≡ Some n → ⊥
@@ -326,12 +361,14 @@ module _ (limit packet : ℕ) (service : Service) (segment : Segment) (bound : �
       by : (o : Option ℕ) → number_of f table ≡ o → KeptBy o table own → KeptBy o followed.table own
       by None e k = k
       by (Some n) e k =
-          subst (λ x. KeptAt x (at n followed.table.ended) own) (sym (changed.active_others n (not_new n e at_new) (not_old n e)))
-          (subst (λ x. KeptAt (at n table.active) x own) (sym (changed.ended_others n (not_new n e at_new) (not_old n e))) k)
+          subst (λ l. KeptAt l (at n followed.table.active) (at n followed.table.ended) own) (sym changed.streams)
+          (kept_longer (had_of (after_segment sent segment).state) (after_segment sent segment).stream table.streams (at n followed.table.active) (at n followed.table.ended) own
+          (subst (λ x. KeptAt table.streams x (at n followed.table.ended) own) (sym (changed.active_others n (not_new n e at_new) (not_old n e)))
+          (subst (λ x. KeptAt table.streams (at n table.active) x own) (sym (changed.ended_others n (not_new n e at_new) (not_old n e))) k)))
 
   -- the numbers stay those of packets
   pub went-known : Went limit packet service segment table followed → (f : Flow) (n : ℕ) → number_of f followed.table ≡ Some n → (f ≡ flow_of segment) ⊎ (number_of f table ≡ Some n)
-  went-known (Passes is passes) f n e = inr (ap (λ (x : Followed). number_of f x.table) (sym is) ∙ e)
+  went-known (Passes told there is passes) f n e = inr (ap (λ (x : Followed). number_of f x.table) (sym is) ∙ e)
   went-known (Goes new sent at_new flow found changed same) f n e = by (same_or_apart f (flow_of segment))
     where
       by : (f ≡ flow_of segment) ⊎ (is_eq (flow_cmp f (flow_of segment)) ≡ false) → (f ≡ flow_of segment) ⊎ (number_of f table ≡ Some n)
@@ -339,7 +376,7 @@ module _ (limit packet : ℕ) (service : Service) (segment : Segment) (bound : �
       by (inr a) = inr (sym (changed.others f a) ∙ e)
 
   pub went-sound : Went limit packet service segment table followed → Sound packet followed.table
-  went-sound (Passes is passes) = subst (λ (x : Followed). Sound packet x.table) (sym is) (later-sound bound packet table sound later)
+  went-sound (Passes told there is passes) = subst (λ (x : Followed). Sound packet x.table) (sym is) (later-sound bound packet table sound later)
   went-sound (Goes new sent at_new flow found changed same) = record {
     numbers_ascend = changed.numbers_ascend;
     active_ascend = changed.active_ascend;
@@ -417,5 +454,5 @@ module _ (limit packet : ℕ) (service : Service) (segment : Segment) (bound : �
     pub is : followed.found ≡ in_flow (flow_of segment) all
 
   pub went-found : Went limit packet service segment table followed → OfFlow
-  went-found (Passes is passes) = record { all = unread_found (of_reset segment); is = ap (λ (x : Followed). x.found) is }
+  went-found (Passes told there is passes) = record { all = untaken_found told; is = ap (λ (x : Followed). x.found) is }
   went-found (Goes new sent at_new flow found changed same) = record { all = segment_found limit sent segment; is = found }

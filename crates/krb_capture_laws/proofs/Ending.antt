@@ -103,13 +103,13 @@ module _ (limit : ℕ) (test : Flow → Bool) where
     pub last-own : (own : Sent) → Keeps flow table own → of_flow test (last_of limit table.active) ≡ last_found limit own
     last-own own k = by (number_of flow table) refl k
       where
-        at_number : (n : ℕ) → number_of flow table ≡ Some n → (s : Option Sent) → at n table.active ≡ s → (g : Option Gone) → KeptAt s g own → of_flow test (last_of limit table.active) ≡ last_found limit own
+        at_number : (n : ℕ) → number_of flow table ≡ Some n → (s : Option Sent) → at n table.active ≡ s → (g : Option Gone) → KeptAt table.streams s g own → of_flow test (last_of limit table.active) ≡ last_found limit own
         at_number n known (Some sent) a g k =
             one_of n sent table.active sound.active_ascend (all_numbered n known table.active each) a (ap (λ (x : Flow). test x) (sound.apart sent.flow flow n (sound.owned n sent a) known) ∙ yes)
             ∙ ap (last_found limit) k
         at_number n known None a (Some gone) k =
             none_of table.active (all_others (λ m sent is f. none-some sent (sym a ∙ ap (λ x. at x table.active) (same_Some n m (sym known ∙ ap (λ x. number_of x table) (sym f) ∙ sound.owned m sent is)) ∙ is)) table.active each)
-            ∙ sym (no_last own (ap end_of k))
+            ∙ sym (no_last own (ap end_of k.0))
         at_number n known None a None k = absurd k
 
         by : (o : Option ℕ) → number_of flow table ≡ o → KeptBy o table own → of_flow test (last_of limit table.active) ≡ last_found limit own

@@ -6,8 +6,9 @@ use Rattle.krb_der.specs.Octets.{when}
 use Rattle.krb_packet.specs.declared.contents.Segment.{Segment}
 use Rattle.krb_flow.specs.Directions.{Begun, Outcome, end_of, ended as ended_after, first_number, goes_on, had_of, is_first, joined, may_join, step}
 use Rattle.krb_flow.specs.Progress.{begun}
-use Rattle.krb_flow.specs.Unread.{if_any, of_reset, unread_at, unread_of}
-use Rattle.krb_flow.specs.declared.unread.Unread.{Unread as Octets}
+use Rattle.krb_flow.specs.Unread.{if_any, nothing as no_octets, of_reset, untaken_at, untaken_of}
+use Rattle.krb_flow.specs.Window.{recent, stream_at, stream_with}
+use Rattle.krb_flow.specs.declared.unread.Untaken.{Untaken}
 use Rattle.krb_source.specs.declared.unread_why.UnreadWhy.TheVariants as why
 use Rattle.krb_flow.specs.declared.direction.Beginning.{Beginning}
 use Rattle.krb_flow.specs.declared.direction.Beginning.TheVariants as beginnings
@@ -17,7 +18,8 @@ use Rattle.krb_flow.specs.declared.had.Had.{Had}
 use Rattle.krb_flow.specs.declared.stream.End.{End}
 use Rattle.krb_capture.specs.Directions.{begins}
 use Rattle.krb_capture.specs.Found.{Found}
-use Rattle.krb_capture.specs.Sending.{Sent, after_segment, beginning_found, end_if, outcome_found, segment_found, sent_from, stream_at, unread_found}
+use Rattle.krb_capture.specs.Laws.{compared, found_if}
+use Rattle.krb_capture.specs.Sending.{Sent, after_segment, beginning_found, end_if, outcome_found, segment_found, sent_from, untaken_found}
 use Rattle.krb_capture.specs.Streams.{found_with}
 use Rattle.krb_capture.specs.declared.flow.Flow.{Flow}
 use Rattle.krb_capture.specs.declared.flow.Service.{Service}
@@ -72,30 +74,41 @@ passes_fresh segment e = by segment.rst segment.syn (nat_lt 0 segment.payload.si
     by false false true e = absurd (true≢false e)
     by false false false e = refl
 
--- ---- the octets that are not taken, of a segment that begins nothing where none is open: those of a RST
-abbrev reset_by : Segment → Bool → Option Octets
-reset_by segment rst = when rst (λ _. if_any None (length segment.payload.octets) why.Reset) (λ _. None)
+-- ---- the octets that are not taken
+abbrev reset_by : Segment → Bool → Untaken
+reset_by segment rst = record no_octets { apart = when rst (λ _. if_any None (length segment.payload.octets) why.Reset) (λ _. None) }
 
-abbrev unread_by : State → Segment → Bool → Bool → Bool → Option Octets
-unread_by state segment rst syn joins = when rst (λ _. reset_by segment rst) (λ _. unread_at (begun_by state segment syn joins).2 segment)
+abbrev untaken_by : State → List ℕ → Segment → Bool → Bool → Bool → Untaken
+untaken_by state stream segment rst syn joins = when rst (λ _. reset_by segment rst) (λ _. untaken_at (begun_by state segment syn joins).2 (recent (begun_by state segment syn joins).2 (stream_at (begun_by state segment syn joins).1 stream)) segment)
 
-pub unread_ended : (had : Had) (segment : Segment) → is_some (step (states.Ended had) segment).0.begins ≡ false → unread_of (states.Ended had) segment ≡ of_reset segment
-unread_ended had segment e = by segment.rst (is_new (states.Ended had) segment) (joins (states.Ended had) segment) e
+-- of a segment that begins nothing where nothing came, they are those of a RST
+pub untaken_fresh : (stream : List ℕ) (segment : Segment) → begins segment ≡ false → untaken_of states.Fresh stream segment ≡ record no_octets { apart = of_reset segment }
+untaken_fresh stream segment e = by segment.rst segment.syn (nat_lt 0 segment.payload.size) e
   where
-    by : (r s j : Bool) → is_some (stepped_by (states.Ended had) segment r s j).0.begins ≡ false → unread_by (states.Ended had) segment r s j ≡ reset_by segment r
-    by true s j e = refl
-    by false true j e = absurd (true≢false e)
-    by false false true e = absurd (true≢false e)
-    by false false false e = refl
-
-pub unread_fresh : (segment : Segment) → begins segment ≡ false → unread_of states.Fresh segment ≡ of_reset segment
-unread_fresh segment e = by segment.rst segment.syn (nat_lt 0 segment.payload.size) e
-  where
-    by : (r s n : Bool) → (not r && (s || n)) ≡ false → unread_by states.Fresh segment r (s && true) (true && n) ≡ reset_by segment r
+    by : (r s n : Bool) → (not r && (s || n)) ≡ false → untaken_by states.Fresh stream segment r (s && true) (true && n) ≡ reset_by segment r
     by true s n e = refl
     by false true n e = absurd (true≢false e)
     by false false true e = absurd (true≢false e)
     by false false false e = refl
+
+-- of one that begins the direction, what was taken before does not matter
+pub untaken_anew : (state : State) (one other : List ℕ) (segment : Segment) → is_some (step state segment).0.begins ≡ true → untaken_of state one segment ≡ untaken_of state other segment
+untaken_anew state one other segment e = by segment.rst (is_new state segment) (joins state segment) e
+  where
+    by : (r s j : Bool) → is_some (stepped_by state segment r s j).0.begins ≡ true → untaken_by state one segment r s j ≡ untaken_by state other segment r s j
+    by true s j e = refl
+    by false true j e = refl
+    by false false true e = refl
+    by false false false e = absurd (false≢true e)
+
+-- all is compared if it is kept
+compared_all : (state : State) (stream : List ℕ) → compared true state stream ≡ stream
+compared_all states.Fresh stream = refl
+compared_all (states.Open progress) stream = refl
+compared_all (states.Ended had) stream = refl
+
+pub found_kept : (limit : ℕ) (own : Sent) (segment : Segment) → found_if limit own true segment ≡ segment_found limit own segment
+found_kept limit own segment = ap (λ (l : List ℕ). outcome_found own.service limit own.stream (untaken_of own.state l segment) (step own.state segment).0) (compared_all own.state own.stream)
 
 pub Ended-from_had_of : (state : State) (had : Had) → had_of state ≡ Some had → state ≡ states.Ended had
 Ended-from_had_of states.Fresh had e = absurd cc
@@ -104,13 +117,13 @@ Ended-from_had_of (states.Ended h) had e = let same : h ≡ had = cc in ap state
 
 -- ---- what is found with a segment of a direction, and what is kept of it then, are those of another
 pub record Same (limit : ℕ) (sent own : Sent) (segment : Segment) : Type 0 where
-  pub found : segment_found limit sent segment ≡ segment_found limit own segment
+  pub found : segment_found limit sent segment ≡ found_if limit own true segment
   pub after : after_segment sent segment ≡ after_segment own segment
 
 -- if it begins, the octets that were taken before do not matter
-module _ (limit : ℕ) (service : Service) (unread : Option Octets) (octets : List ℕ) (end : Option End) (stream : List ℕ) where
+module _ (limit : ℕ) (service : Service) (untaken : Untaken) (octets : List ℕ) (end : Option End) (stream : List ℕ) where
   abbrev found_by : List ℕ → Option End → Option Beginning → List Found
-  found_by stream before how = end_if service limit stream before ++ (beginning_found how ++ (unread_found unread ++ (found_with service limit (stream_at how stream) octets ++ end_if service limit (stream_at how stream ++ octets) end)))
+  found_by stream before how = end_if service limit stream before ++ (beginning_found how ++ (untaken_found untaken ++ (found_with service limit (stream_at how stream) octets ++ end_if service limit (stream_at how stream ++ octets) end)))
 
   found_anew : (before : Option End) (how : Option Beginning) → before ≡ None → is_some how ≡ true → found_by [] before how ≡ found_by stream before how
   found_anew None (Some how) b h = refl
@@ -126,21 +139,28 @@ begins_anew limit flow service state own segment f s t none b =
     let o : Outcome = (step state segment).0 in
     let is : own ≡ record { flow = flow; service = service; state = state; stream = own.stream } = λ i. record { flow = f i; service = s i; state = t i; stream = own.stream } in
     record {
-      found = found_anew limit service (unread_of state segment) o.octets o.end own.stream o.before o.begins (before-none state segment none) b ∙ sym (ap (λ (x : Sent). segment_found limit x segment) is);
+      found =
+          ap (λ (u : Untaken). outcome_found service limit [] u o) (untaken_anew state [] own.stream segment b)
+          ∙ found_anew limit service (untaken_of state own.stream segment) o.octets o.end own.stream o.before o.begins (before-none state segment none) b
+          ∙ sym (ap (λ (x : Sent). segment_found limit x segment) is)
+          ∙ sym (found_kept limit own segment);
       after = ap (λ (l : List ℕ). record { flow = flow; service = service; state = (step state segment).1; stream = l ++ o.octets }) (stream_anew o.begins own.stream b) ∙ sym (ap (λ (x : Sent). after_segment x segment) is);
     }
 
 -- one that is passed over
-module _ (limit : ℕ) (state : State) (own : Sent) (segment : Segment) (is : own.state ≡ state) (passes : step state segment ≡ (nothing, state)) (told : unread_of state segment ≡ of_reset segment) where
+module _ (limit : ℕ) (state : State) (own : Sent) (segment : Segment) (is : own.state ≡ state) (passes : step state segment ≡ (nothing, state)) where
   whole : step own.state segment ≡ (nothing, state)
   whole = ap (λ (x : State). step x segment) is ∙ passes
 
-  pub passed-found : segment_found limit own segment ≡ unread_found (of_reset segment)
-  passed-found =
-      ap (λ (went : Outcome × State). outcome_found own.service limit own.stream (unread_of own.state segment) went.0) whole
-      ∙ ap (λ (l : List Found). unread_found (unread_of own.state segment) ++ (l ++ [])) (found_with-none own.service limit own.stream)
-      ∙ append-nil (unread_found (unread_of own.state segment))
-      ∙ ap unread_found (ap (λ (x : State). unread_of x segment) is ∙ told)
+  pub passed-found : (kept : Bool) (told : Untaken) → untaken_of own.state (compared kept own.state own.stream) segment ≡ told → found_if limit own kept segment ≡ untaken_found told
+  passed-found kept told e =
+      ap (λ (went : Outcome × State). outcome_found own.service limit own.stream (untaken_of own.state (compared kept own.state own.stream) segment) went.0) whole
+      ∙ ap (λ (l : List Found). untaken_found (untaken_of own.state (compared kept own.state own.stream) segment) ++ (l ++ [])) (found_with-none own.service limit own.stream)
+      ∙ append-nil (untaken_found (untaken_of own.state (compared kept own.state own.stream) segment))
+      ∙ ap untaken_found e
 
   pub passed-state : (after_segment own segment).state ≡ state
   passed-state = ap (λ (went : Outcome × State). went.1) whole
+
+  pub passed-stream : (after_segment own segment).stream ≡ own.stream
+  passed-stream = ap (λ (went : Outcome × State). stream_at went.0.begins own.stream ++ went.0.octets) whole ∙ append-nil own.stream

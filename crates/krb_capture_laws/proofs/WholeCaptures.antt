@@ -1,5 +1,5 @@
 -- What is found from one end to another in a whole capture, packet by packet.
-use Rattle.std.proofs.Common.{◌≡◌, ℕ, ◌<◌, ◌≤◌, ◌⊎◌, inl, inr, Bool, true, false, List, [], ◌∷◌, ◌++◌, length, map, Option, Some, None, cond, refl, sym, ◌∙◌, ap, ap₂, subst, append_assoc, append-nil}
+use Rattle.std.proofs.Common.{◌≡◌, ℕ, ◌<◌, ◌≤◌, ◌⊎◌, inl, inr, Bool, true, false, List, [], ◌∷◌, ◌++◌, drop, length, map, Option, Some, None, cond, refl, sym, ◌∙◌, ap, ap₂, arith, subst, append_assoc, append-nil}
 use Rattle.std.specs.Prelude.{is_some}
 use Rattle.std.specs.List.{AllByRecursion, Contains, filter}
 use Rattle.std.proofs.lemmas.List.{map-append}
@@ -21,9 +21,9 @@ use Rattle.krb_capture.specs.Datagrams.{all_found}
 use Rattle.krb_capture.specs.Directions.{Followed, Table, flow_of, followed, last_of, no_directions}
 use Rattle.krb_capture.specs.Flows.{flow_between, origin_of, service_of}
 use Rattle.krb_capture.specs.Found.{Found}
-use Rattle.krb_capture.specs.Laws.{but_unread, direction_found}
-use Rattle.krb_capture.specs.Sending.{Sent, after_segment, nothing_sent, segment_found}
-use Rattle.krb_capture.specs.WholeCaptures.{AreNumbered, CapturesListStreams, DirectionsAreApart, are_ends, carried, carried_after, completed_contents, contents_after, flows_in, found_after, found_between, is_from, segments_between, segments_in}
+use Rattle.krb_capture.specs.Laws.{but_unread, direction_found, found_if, still}
+use Rattle.krb_capture.specs.Sending.{Sent, after_segment, nothing_sent}
+use Rattle.krb_capture.specs.WholeCaptures.{AreNumbered, CapturesListStreams, DirectionsAreApart, IsOfDirection, are_ends, carried, carried_after, completed_contents, contents_after, flows_in, found_after, found_between, is_from, segments_between, segments_in}
 use Rattle.krb_capture.specs.declared.flow.Due.{Due}
 use Rattle.krb_capture.specs.declared.flow.Flow.{Flow}
 use Rattle.krb_capture.specs.declared.flow.Service.{Service}
@@ -86,17 +86,21 @@ flows_in-append profile port xs ys =
 
 -- ---- some segments of a direction
 module _ (limit : ℕ) where
-  abbrev pub steps_found : Sent → List Segment → List Found
-  steps_found own [] = []
-  steps_found own (segment ∷ segments) = segment_found limit own segment ++ steps_found (after_segment own segment) segments
+  abbrev pub steps_found : Sent → List Bool → List Segment → List Found
+  steps_found own kept [] = []
+  steps_found own kept (segment ∷ segments) = found_if limit own (still kept) segment ++ steps_found (after_segment own segment) (drop 1 kept) segments
 
   abbrev pub steps_after : Sent → List Segment → Sent
   steps_after own [] = own
   steps_after own (segment ∷ segments) = steps_after (after_segment own segment) segments
 
-  pub direction_found-append : (own : Sent) (xs ys : List Segment) → direction_found limit own (xs ++ ys) ≡ steps_found own xs ++ direction_found limit (steps_after own xs) ys
-  direction_found-append own [] ys = refl
-  direction_found-append own (x ∷ xs) ys = ap (λ l. segment_found limit own x ++ l) (direction_found-append (after_segment own x) xs ys) ∙ sym (append_assoc (segment_found limit own x) (steps_found (after_segment own x) xs) (direction_found limit (steps_after (after_segment own x) xs) ys))
+  pub direction_found-append : (own : Sent) (kept more : List Bool) (xs ys : List Segment) → length kept ≡ length xs → direction_found limit own (kept ++ more) (xs ++ ys) ≡ steps_found own kept xs ++ direction_found limit (steps_after own xs) more ys
+  direction_found-append own [] more [] ys e = refl
+  direction_found-append own (k ∷ kept) more [] ys e = absurd (omega arith)
+  direction_found-append own [] more (x ∷ xs) ys e = absurd (omega arith)
+  direction_found-append own (k ∷ kept) more (x ∷ xs) ys e =
+      ap (λ l. found_if limit own k x ++ l) (direction_found-append (after_segment own x) kept more xs ys (omega arith))
+      ∙ sym (append_assoc (found_if limit own k x) (steps_found (after_segment own x) kept xs) (direction_found limit (steps_after (after_segment own x) xs) more ys))
 
 -- ---- over TCP
 module _ (settings : Settings) (source target : Endpoint) (service : Service) (different : List Flow) (few : length different ≤ 65536) (serves : service_of settings.profile settings.port source target ≡ Some service) where
@@ -116,12 +120,14 @@ module _ (settings : Settings) (source target : Endpoint) (service : Service) (d
 
   -- what is found with some segments, and what is kept then
   pub record Takes (packet : ℕ) (own : Sent) (segments : List Segment) (found : List Finding) (table : Table) : Type 0 where
-    pub found_is : found_between transports.Tcp source target found ≡ steps_found settings.limit own segments
+    pub kept : List Bool
+    pub as_many : length kept ≡ length segments
+    pub found_is : found_between transports.Tcp source target found ≡ steps_found settings.limit own kept segments
     pub holds : Holds packet table (steps_after settings.limit own segments)
 
   -- of nothing
   takes_none : (bound packet : ℕ) (own : Sent) (found : List Finding) (table : Table) → Holds bound table own → bound < packet → found_between transports.Tcp source target found ≡ [] → Takes packet own [] found table
-  takes_none bound packet own found table h later none = record { found_is = none; holds = later-holds bound packet table own h later }
+  takes_none bound packet own found table h later none = record { kept = []; as_many = refl; found_is = none; holds = later-holds bound packet table own h later }
 
   module _ (bound : ℕ) (progress : Progress) (own : Sent) (later : bound < progress.last.packet) (h : Holds bound progress.table own) where
     -- a segment of a flow of Kerberos
@@ -146,11 +152,13 @@ module _ (settings : Settings) (source target : Endpoint) (service : Service) (d
       takes_own same serves_too =
           let goes = went-own settings.limit progress.last.packet other segment bound progress.table h.sound later gone went own (h.flow_is ∙ sym same) (h.service_is ∙ sym serves_too) (subst (λ f. Keeps f progress.table own) (sym same) h.keeps) in
           record {
+            kept = goes.still_there ∷ [];
+            as_many = refl;
             found_is =
                 found_between-tcp source target progress.last gone.found
                 ∙ ap (of_flow (between source target)) goes.found
-                ∙ of_flow-same (between source target) (flow_of segment) (segment_found settings.limit own segment) (ap (λ (f : Flow). between source target f) same ∙ are_ends-itself source target)
-                ∙ sym (append-nil (segment_found settings.limit own segment));
+                ∙ of_flow-same (between source target) (flow_of segment) (found_if settings.limit own goes.still_there segment) (ap (λ (f : Flow). between source target f) same ∙ are_ends-itself source target)
+                ∙ sym (append-nil (found_if settings.limit own goes.still_there segment));
             holds = record {
               sound = sound_then;
               known = known_then;
@@ -164,6 +172,8 @@ module _ (settings : Settings) (source target : Endpoint) (service : Service) (d
       takes_other apart =
           let all = went-found settings.limit progress.last.packet other segment bound progress.table h.sound later gone went in
           record {
+            kept = [];
+            as_many = refl;
             found_is =
                 found_between-tcp source target progress.last gone.found
                 ∙ ap (of_flow (between source target)) all.is
@@ -270,10 +280,13 @@ module _ (settings : Settings) (source target : Endpoint) (service : Service) (d
   only : (f : Flow) → IsBetween f → between source target f ≡ true → f ≡ flow_between source target
   only f is b = let ends = ends-from_are source target f.source f.target b in is ∙ ap₂ flow_between ends.source_is ends.target_is
 
-  packets-found : (packets : List Packet) (bound : ℕ) (own : Sent) (progress : Progress) → AreNumbered bound packets → Holds settings source target service different few serves bound progress.table own → AllByRecursion (λ f. IsOneOf f different) (flows_in settings.profile settings.port (carried_after settings.port progress.fragments packets)) → found_between transports.Tcp source target (found_after settings progress packets) ≡ direction_found settings.limit own (segments_between source target (carried_after settings.port progress.fragments packets))
-  packets-found [] bound own progress numbered h ones =
-      found_between-tcp source target progress.last (last_of settings.limit progress.table.active)
-      ∙ last-own settings.limit (between source target) (flow_between source target) (are_ends-itself source target) only bound progress.table h.sound own h.keeps
+  packets-found : (packets : List Packet) (bound : ℕ) (own : Sent) (progress : Progress) → AreNumbered bound packets → Holds settings source target service different few serves bound progress.table own → AllByRecursion (λ f. IsOneOf f different) (flows_in settings.profile settings.port (carried_after settings.port progress.fragments packets)) → IsOfDirection settings.limit own (segments_between source target (carried_after settings.port progress.fragments packets)) (found_between transports.Tcp source target (found_after settings progress packets))
+  packets-found [] bound own progress numbered h ones = record {
+    kept = [];
+    is =
+        found_between-tcp source target progress.last (last_of settings.limit progress.table.active)
+        ∙ last-own settings.limit (between source target) (flow_between source target) (are_ends-itself source target) only bound progress.table h.sound own h.keeps;
+  }
   packets-found (packet ∷ packets) bound own progress numbered h ones =
       let read = contents_after settings.port progress.fragments (contents_in settings.port packet) in
       let taken = packet_taken settings packet progress in
@@ -281,12 +294,17 @@ module _ (settings : Settings) (source target : Endpoint) (service : Service) (d
       let split = all_split (λ f. IsOneOf f different) (flows_in settings.profile settings.port read.0) (flows_in settings.profile settings.port (carried_after settings.port read.1 packets)) (subst (AllByRecursion (λ f. IsOneOf f different)) (flows_in-append settings.profile settings.port read.0 (carried_after settings.port read.1 packets)) ones) in
       let takes = packet-takes bound own packet progress numbered.0 h split.0 in
       let fragments : taken.progress.fragments ≡ read.1 = packet-fragments settings packet progress in
-      found_between-append transports.Tcp source target taken.found (found_after settings taken.progress packets)
-      ∙ ap₂ (λ (x y : List Found). x ++ y) takes.found_is
-      (packets-found packets packet.number (steps_after settings.limit own own_segments) taken.progress numbered.1 takes.holds (subst (λ t. AllByRecursion (λ f. IsOneOf f different) (flows_in settings.profile settings.port (carried_after settings.port t packets))) (sym fragments) split.1)
-      ∙ ap (λ t. direction_found settings.limit (steps_after settings.limit own own_segments) (segments_between source target (carried_after settings.port t packets))) fragments)
-      ∙ sym (direction_found-append settings.limit own own_segments (segments_between source target (carried_after settings.port read.1 packets)))
-      ∙ ap (direction_found settings.limit own) (sym (segments_between-append source target read.0 (carried_after settings.port read.1 packets)))
+      let later = packets-found packets packet.number (steps_after settings.limit own own_segments) taken.progress numbered.1 takes.holds (subst (λ t. AllByRecursion (λ f. IsOneOf f different) (flows_in settings.profile settings.port (carried_after settings.port t packets))) (sym fragments) split.1) in
+      record {
+        kept = takes.kept ++ later.kept;
+        is =
+            found_between-append transports.Tcp source target taken.found (found_after settings taken.progress packets)
+            ∙ ap₂ (λ (x y : List Found). x ++ y) takes.found_is
+            (later.is
+            ∙ ap (λ t. direction_found settings.limit (steps_after settings.limit own own_segments) later.kept (segments_between source target (carried_after settings.port t packets))) fragments)
+            ∙ sym (direction_found-append settings.limit own takes.kept later.kept own_segments (segments_between source target (carried_after settings.port read.1 packets)) takes.as_many)
+            ∙ ap (direction_found settings.limit own (takes.kept ++ later.kept)) (sym (segments_between-append source target read.0 (carried_after settings.port read.1 packets)));
+      }
 
   -- of no packets yet
   none_held : Holds settings source target service different few serves 0 no_directions (nothing_sent (flow_between source target) service)
@@ -313,7 +331,6 @@ directions_are_apart settings packets different source target service numbered f
 
 pub captures_list_streams : CapturesListStreams
 captures_list_streams settings packets different source target service stream how pieces numbered few all serves are stream_all =
-    ap but_unread
-    (directions_are_apart settings packets different source target service numbered few all serves
-    ∙ ap (direction_found settings.limit (nothing_sent (flow_between source target) service)) are)
-    ∙ records_are_of_the_stream settings.limit (flow_between source target) service stream how pieces stream_all
+    let apart = directions_are_apart settings packets different source target service numbered few all serves in
+    ap but_unread (apart.is ∙ ap (direction_found settings.limit (nothing_sent (flow_between source target) service) apart.kept) are)
+    ∙ records_are_of_the_stream settings.limit (flow_between source target) service stream how pieces apart.kept stream_all
