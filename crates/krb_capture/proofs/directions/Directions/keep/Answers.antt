@@ -24,7 +24,7 @@ returns-in_ok-insert c = λ limit table sent h k s.
     (c.in_ok-insert.ensures
     ∙ ap₂ (λ (n : ℕ) (es : List (ℕ × Gone)). insert_entry nat_cmp es number (record { flow = flow; had = c.in-Some.had; nth = n })) (pushed.0 ∙ sym h.recent.count) (ap (λ d. d.ended.entries) same)
     ∙ sym (ap (λ (o : Option Had). ended_with o number flow c.args.self.now.recent.count c.args.self.now.ended.entries) c.in-Some.is))
-    (subst (λ (o : Option Had). Remembers _ (streams_with o sent.stream table.streams)) (sym c.in-Some.is) pushed.1))
+    (subst (λ (o : Option Had). Remembers c.push.new.self (streams_with o sent.stream table.streams)) (sym c.in-Some.is) pushed.1))
 
 pub returns-in_ok-insert-2 : goal.returns-in_ok-insert-2
 returns-in_ok-insert-2 c = λ limit table sent h k s.
@@ -34,4 +34,4 @@ returns-in_ok-insert-2 c = λ limit table sent h k s.
     c.in_ok-keep_number.ensures.numbers
     (c.in_ok-insert-2.ensures.entries ∙ rw (c.in_default.is, c.in_ok-keep_number.ensures.same) refl)
     (ap (λ d. d.ended.entries) c.in_ok-keep_number.ensures.same ∙ rw c.in_default.is refl)
-    (rw c.in_default.is (subst (λ d. Remembers d.recent table.streams) (sym c.in_ok-keep_number.ensures.same) h.recent)))
+    (subst (λ (o : Option Had). Remembers c.keep_number.new.self.recent (streams_with o sent.stream table.streams)) (sym c.in_default.is) (subst (λ d. Remembers d.recent table.streams) (sym c.in_ok-keep_number.ensures.same) h.recent)))

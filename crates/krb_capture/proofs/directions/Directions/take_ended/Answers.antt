@@ -24,7 +24,7 @@ returns c = IfOk-weaker c.begin.result _ _
     let left = record table { ended = remove_entry test table.ended } in
     let whole = ap (λ o. of_ended limit c.args.due.packet c.args.number o c.args.service c.args.segment.now table) there ∙ ended-begins limit c.args.due.packet c.args.service c.args.segment.now table c.args.number c.in-Some.gone began in
     subst (λ f. Follows c.begin.new.self limit f.table c.args.due rest (over_tcp c.args.due f.found) c.args.listing.now c.begin.new.listing) (sym whole)
-    (k limit left (record { limit_is = h.limit_is; numbers = c.in_ok-insert.ensures.entries ∙ ap (λ es. insert_entry flow_cmp es c.args.flow c.args.due.packet) h.numbers; active = h.active; ended = c.remove.ensures ∙ ap (λ es. remove_entry test es) h.ended })))
+    (k limit left (record { limit_is = h.limit_is; numbers = c.in_ok-insert.ensures.entries ∙ ap (λ es. insert_entry flow_cmp es c.args.flow c.args.due.packet) h.numbers; active = h.active; ended = c.remove.ensures ∙ ap (λ es. remove_entry test es) h.ended; recent = h.recent })))
     c.begin.ensures
 
 pub returns-then-not-begins : goal.returns-then-not-begins
@@ -40,8 +40,8 @@ returns-in_default c = λ limit table h.
     follows-none c.args.self.now limit c.args.due (of_ended limit c.args.due.packet c.args.number (lookup test table.ended) c.args.service c.args.segment.now table) table c.args.listing.now
     (ap (λ o. of_ended limit c.args.due.packet c.args.number o c.args.service c.args.segment.now table) none ∙ passes-none c.args.segment.now table (sym c.begins.ensures ∙ c.if-not-begins.false)) c.requires.none h
 
-pub returns-in_ok-list_untaken-then-not-is_followed_by : goal.returns-in_ok-list_untaken-then-not-is_followed_by
-returns-in_ok-list_untaken-then-not-is_followed_by c = λ limit table h.
+pub returns-then-not-is_followed_by : goal.returns-then-not-is_followed_by
+returns-then-not-is_followed_by c = λ limit table h.
     let test = is_at (nat_cmp c.args.number) in
     let gone = c.in-Some.gone in
     let there : lookup test table.ended ≡ Some gone = ap (λ es. lookup test es) (sym h.ended) ∙ sym c.get.ensures ∙ c.in-Some.is in
