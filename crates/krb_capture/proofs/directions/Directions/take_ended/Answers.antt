@@ -47,7 +47,7 @@ returns-then-not-is_followed_by c = λ limit table h.
     let there : lookup test table.ended ≡ Some gone = ap (λ es. lookup test es) (sym h.ended) ∙ sym c.get.ensures ∙ c.in-Some.is in
     let passed : (step_of (states.Ended gone.had) c.args.segment.now).began ≡ false = sym c.is_followed_by.ensures ∙ c.if-not-is_followed_by.true in
     let stream = still_kept table.streams gone.nth in
-    let kept = c.get-2.ensures table.streams h.recent in
+    let kept = c.get-then-not-is_followed_by.ensures table.streams h.recent in
     let untaken = untaken-copied gone.had stream c.args.segment.now (not_rst c.args.segment.now.rst _ (sym c.begins.ensures ∙ c.if-not-begins.false)) passed ∙ ap (λ (l : List ℕ). untaken_after l gone.had c.args.segment.now) (sym kept) ∙ sym c.untaken-untaken.ensures in
     follows-untaken c.args.self.now limit c.args.due (of_ended limit c.args.due.packet c.args.number (lookup test table.ended) c.args.service c.args.segment.now table) c.args.segment.now (untaken_of (states.Ended gone.had) stream c.args.segment.now) table c.args.listing.now _
     (ap (λ o. of_ended limit c.args.due.packet c.args.number o c.args.service c.args.segment.now table) there ∙ ended-stays limit c.args.due.packet c.args.service c.args.segment.now table c.args.number gone passed) c.requires.none h
