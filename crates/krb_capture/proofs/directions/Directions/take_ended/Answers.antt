@@ -1,15 +1,18 @@
-use Rattle.std.proofs.Common.{◌≡◌, ℕ, List, true, false, Some, None, sym, ◌∙◌, ap, subst}
+use Rattle.std.proofs.Common.{◌≡◌, ℕ, List, true, false, Some, None, sym, ◌∙◌, ap, ap₂, subst}
 use Rattle.std.proofs.lemmas.Result.{IfOk-weaker}
 use Rattle.std.specs.BTreeMap.{insert_entry, is_at}
 use Rattle.std.specs.Map.{lookup, remove_entry}
 use Rattle.std.specs.Ordering.{nat_cmp}
 use Rattle.krb_flow.specs.declared.direction.State.TheVariants as states
 use Rattle.krb_flow.specs.Unread.{untaken_after, untaken_of}
+use Rattle.krb_flow.specs.declared.unread.Untaken.{Untaken}
+use Rattle.krb_record.specs.declared.capture_origin.CaptureOrigin.{CaptureOrigin}
+use Rattle.krb_capture.specs.Found.{with_all}
 use Rattle.krb_capture.specs.Recent.{still_kept}
 use Rattle.krb_capture.specs.Captures.{over_tcp}
 use Rattle.krb_capture.specs.Directions.{flow_cmp, of_ended}
 use Rattle.krb_capture.specs.Rests.{Follows}
-use Rattle.krb_capture.specs.Sending.{step_of}
+use Rattle.krb_capture.specs.Sending.{step_of, untaken_found}
 use Rattle.krb_capture.proofs.Follows.{follows-none, follows-passed, follows-untaken}
 use Rattle.krb_capture.proofs.Tables.{ended-begins, ended-passed, ended-stays, not_rst, passes-none}
 use Rattle.krb_capture.proofs.Untaken.{untaken-copied}
@@ -51,4 +54,4 @@ returns-then-not-is_followed_by c = λ limit table h.
     let untaken = untaken-copied gone.had stream c.args.segment.now (not_rst c.args.segment.now.rst _ (sym c.begins.ensures ∙ c.if-not-begins.false)) passed ∙ ap (λ (l : List ℕ). untaken_after l gone.had c.args.segment.now) (sym kept) ∙ sym c.untaken-untaken.ensures in
     follows-untaken c.args.self.now limit c.args.due (of_ended limit c.args.due.packet c.args.number (lookup test table.ended) c.args.service c.args.segment.now table) c.args.segment.now (untaken_of (states.Ended gone.had) stream c.args.segment.now) table c.args.listing.now _
     (ap (λ o. of_ended limit c.args.due.packet c.args.number o c.args.service c.args.segment.now table) there ∙ ended-stays limit c.args.due.packet c.args.service c.args.segment.now table c.args.number gone passed) c.requires.none h
-    (rw (c.over-origin.ensures, untaken) c.in_ok-list_untaken.ensures)
+    (c.in_ok-list_untaken.ensures ∙ ap₂ (λ (o : CaptureOrigin) (u : Untaken). with_all o (untaken_found u) c.args.listing.now) c.over-origin.ensures (sym untaken))
