@@ -55,6 +55,7 @@ module _ (slots : List (Vec ℕ)) (streams : List (List ℕ)) (octets : Vec ℕ)
     where
       inside : count % 4096 < length slots
       inside = omega (arith, are.room, mod-add-div count 4096, mod-lt count (let p : 0 < 4096 = omega arith in p))
+
       by : (nth : ℕ) (none : Vec ℕ) → nth < length (streams ++ stream ∷ []) → length (streams ++ stream ∷ []) ≤ nth + 4096 → (nth < length streams) ⊎ (length streams ≤ nth) → (get_or (set slots (count % 4096) octets) (nth % 4096) none).items ≡ last 4096 (get_or (streams ++ stream ∷ []) nth [])
       by nth none within near (inl before) =
           let apart : nth % 4096 ≡ count % 4096 → ⊥ = λ e. same_place nth count e (omega arith) (omega (arith, longer)) in
@@ -83,16 +84,22 @@ module _ (old new : Recent) (streams : List (List ℕ)) (octets : Vec ℕ) (stre
   next = omega (arith, count, r.count, length-append streams (stream ∷ []))
 
   pub put_there : old.count % 4096 < length old.slots.items → new.slots.items ≡ set old.slots.items (old.count % 4096) octets → (old.count ≡ length streams) × Remembers new (streams ++ stream ∷ [])
-  put_there below items = (r.count, record {
-    count = next;
-    slots = subst (λ (l : List (Vec ℕ)). AreLast l (streams ++ stream ∷ [])) (sym items) (pushed_in_place old.slots.items streams octets stream r.slots is old.count r.count (many old.slots.items streams old.count r.slots r.count below));
-  })
+  put_there below items = (
+    r.count,
+    record {
+      count = next;
+      slots = subst (λ (l : List (Vec ℕ)). AreLast l (streams ++ stream ∷ [])) (sym items) (pushed_in_place old.slots.items streams octets stream r.slots is old.count r.count (many old.slots.items streams old.count r.slots r.count below));
+    },
+  )
 
   pub put_last : length old.slots.items ≤ old.count % 4096 → new.slots.items ≡ old.slots.items ++ octets ∷ [] → (old.count ≡ length streams) × Remembers new (streams ++ stream ∷ [])
-  put_last above items = (r.count, record {
-    count = next;
-    slots = subst (λ (l : List (Vec ℕ)). AreLast l (streams ++ stream ∷ [])) (sym items) (pushed_first old.slots.items streams octets stream r.slots is (few old.slots.items streams old.count r.slots r.count above));
-  })
+  put_last above items = (
+    r.count,
+    record {
+      count = next;
+      slots = subst (λ (l : List (Vec ℕ)). AreLast l (streams ++ stream ∷ [])) (sym items) (pushed_first old.slots.items streams octets stream r.slots is (few old.slots.items streams old.count r.slots r.count above));
+    },
+  )
 
 -- ---- what is still kept of one
 pub kept_of : (recent : Recent) (streams : List (List ℕ)) (nth : ℕ) (none : Vec ℕ) → Remembers recent streams → nth < recent.count → recent.count ≤ nth + 4096 → (get_or recent.slots.items (nth % 4096) none).items ≡ last 4096 (still_kept streams nth)

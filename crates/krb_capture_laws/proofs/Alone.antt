@@ -262,8 +262,8 @@ module _ (limit packet : ℕ) (service : Service) (segment : Segment) (bound : �
           let passes = passes_ended gone.had segment b in
           let left : Bool = nat_lt (length table.streams) (gone.nth + 4097) in
           let told =
-              ap (λ (x : State). untaken_of x (compared left x own.stream) segment) here.0
-              ∙ ap (λ (l : List ℕ). untaken_of (states.Ended gone.had) (if left then l else []) segment) (sym (get_or_from_slice_get table.streams gone.nth own.stream [] here.1)) in (
+          ap (λ (x : State). untaken_of x (compared left x own.stream) segment) here.0
+          ∙ ap (λ (l : List ℕ). untaken_of (states.Ended gone.had) (if left then l else []) segment) (sym (get_or_from_slice_get table.streams gone.nth own.stream [] here.1)) in (
             passed-found limit (states.Ended gone.had) own segment here.0 passes left (untaken_of (states.Ended gone.had) (still_kept table.streams gone.nth) segment) told,
             subst (λ o. KeptBy o table (after_segment own segment)) (sym known) (subst (λ o. KeptAt table.streams o (at number table.ended) (after_segment own segment)) (sym none) (subst (λ o. KeptAt table.streams None o (after_segment own segment)) (sym e) (passed-state limit (states.Ended gone.had) own segment here.0 passes, here.1 ∙ ap Some (sym (passed-stream limit (states.Ended gone.had) own segment here.0 passes))))),
           ))
@@ -334,12 +334,11 @@ module _ (limit packet : ℕ) (service : Service) (segment : Segment) (bound : �
       by None e active = subst (λ a. KeptAt followed.table.streams a (at new followed.table.ended) (after_segment own segment)) (sym active) (same own f s k).after
       by (Some had) e active =
           subst (λ a. KeptAt followed.table.streams a (at new followed.table.ended) (after_segment own segment)) (sym active)
-          (subst (λ g. KeptAt followed.table.streams None g (after_segment own segment)) (sym (changed.ended_here had e))
-          (
+          (subst (λ g. KeptAt followed.table.streams None g (after_segment own segment)) (sym (changed.ended_here had e)) (
             ap (λ (x : Sent). x.state) (sym (same own f s k).after) ∙ Ended-from_had_of (after_segment sent segment).state had e,
             ap (λ (l : List (List ℕ)). slice_get l (length table.streams)) (changed.streams ∙ ap (λ (o : Option Had). streams_with o (after_segment sent segment).stream table.streams) e)
-            ∙ comes_last table.streams (after_segment sent segment).stream
-            ∙ ap (λ (x : Sent). Some x.stream) (same own f s k).after,
+                ∙ comes_last table.streams (after_segment sent segment).stream
+                ∙ ap (λ (x : Sent). Some x.stream) (same own f s k).after,
           ))
 
   -- of another flow

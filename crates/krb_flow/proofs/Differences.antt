@@ -151,9 +151,9 @@ pub differs_more : (differs : Test) (place seen : ℕ) (octets whole : List ℕ)
 differs_more differs place seen octets whole all found next within so_far is both =
     let here = differing differs place (take seen octets) in
     let split : differing differs place octets ≡ here ++ differing differs (place + seen) (drop seen octets) =
-        ap (differing differs place) (sym (take-append-drop seen octets))
-        ∙ differing-append differs place (take seen octets) (drop seen octets)
-        ∙ ap (λ (n : ℕ). here ++ differing differs (place + n) (drop seen octets)) (let e : length (take seen octets) ≡ seen = omega (arith, length-take seen octets) in e)
+    ap (differing differs place) (sym (take-append-drop seen octets))
+    ∙ differing-append differs place (take seen octets) (drop seen octets)
+    ∙ ap (λ (n : ℕ). here ++ differing differs (place + n) (drop seen octets)) (let e : length (take seen octets) ≡ seen = omega (arith, length-take seen octets) in e)
     in record {
       done = so_far.done ++ here;
       is = both so_far.done here so_far.is is;

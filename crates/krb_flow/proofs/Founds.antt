@@ -94,8 +94,10 @@ found_in place low (one ∷ runs) others run apart is first =
   where
     room : low + length one.1.items ≤ one.0
     room = apart.1
+
     here : place < one.0 → one.0 - length one.1.items ≤ place → (octets : List ℕ) → place + length octets ≤ one.0 → differing (differs_waiting (waiting_in (one ∷ runs))) place octets ≡ unequal place octets (drop (place - (one.0 - length one.1.items)) one.1.items)
     here past from octets few = within_run (waiting_in runs) (one.0 - length one.1.items) place (place - (one.0 - length one.1.items)) one.1.items octets from refl (omega (arith, room))
+
     later : one.0 ≤ place → FoundIn place run runs → (octets : List ℕ) → place + length octets ≤ run.0 → differing (differs_waiting (waiting_in (one ∷ runs))) place octets ≡ unequal place octets (drop (place - (run.0 - length run.1.items)) run.1.items)
     later before next octets few =
         differing_same (differs_waiting (waiting_in (one ∷ runs))) (differs_waiting (waiting_in runs)) place octets (λ there octet after within. ap (λ (o : Option ℕ). is_other o octet) (found_past (one.0 - length one.1.items) there one.1.items (waiting_in runs) (omega (arith, room))))

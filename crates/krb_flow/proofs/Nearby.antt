@@ -44,16 +44,22 @@ near_is kept progress segment distance before captured place octets compared apa
   where
     alive : is_keep_alive (distance_to progress segment) segment.payload ≡ false
     alive = ap (λ (x : Distance). is_keep_alive x segment.payload) (sym d) ∙ no_alive
+
     before_is : before ≡ before_first progress segment
     before_is = b ∙ ap (λ (x : Distance). behind x - progress.expected) d
+
     place_is : place ≡ place_in progress segment
     place_is = p ∙ same_place progress.expected before distance b ∙ ap (λ (x : Distance). progress.expected + ahead x - behind x) d
+
     octets_is : octets ≡ octets_in progress segment
     octets_is = o ∙ ap (λ (n : ℕ). drop n segment.payload.octets) c ∙ drop_min before segment.payload.octets ∙ ap (λ (n : ℕ). drop n segment.payload.octets) before_is
+
     apart_is : apart ≡ of_before progress segment
     apart_is = a ∙ ap₂ (λ (n m : ℕ). if_any (Some n) m why.Before) before_is (c ∙ ap (λ (n : ℕ). min n (length segment.payload.octets)) before_is)
+
     old_is : old ≡ if_any (Some (place_in progress segment)) (old_of kept progress.expected (place_in progress segment) (octets_in progress segment)) why.Old
     old_is = e ∙ ap (λ (n : ℕ). if_any (Some place) n why.Old) w ∙ ap₂ (λ (n : ℕ) (l : List ℕ). if_any (Some n) (old_of kept progress.expected n l) why.Old) place_is octets_is
+
     differs_is : differs ≡ of_differing (differing (differs_in kept progress) (place_in progress segment) (octets_in progress segment))
     differs_is = t (differing (differs_in kept progress) place octets) f ∙ ap₂ (λ (n : ℕ) (l : List ℕ). of_differing (differing (differs_in kept progress) n l)) place_is octets_is
 
@@ -69,12 +75,15 @@ compared_in kept progress place behind m octets is within at =
   where
     front : length (take m octets) ≡ m
     front = omega (arith, length-take m octets)
+
     back : length (drop m octets) ≡ length octets - m
     back = length-drop m octets
+
     before : (there octet : ℕ) → place ≤ there → there < place + length (take m octets) → differs_in kept progress there octet ≡ differs_taken kept progress.expected there octet
-    before there octet from to = rw (lt-ltb there progress.expected (elim at [ | inl exact ↦ omega (arith, front) | inr none ↦ absurd (omega (arith, front, none.0)) ])) refl
+    before there octet from to = rw (lt-ltb there progress.expected (elim at [ inl exact ↦ omega (arith, front) | inr none ↦ absurd (omega (arith, front, none.0)) ])) refl
+
     after : (there octet : ℕ) → place + m ≤ there → there < place + m + length (drop m octets) → differs_in kept progress there octet ≡ differs_waiting progress.waiting there octet
-    after there octet from to = rw (le-ltb there progress.expected (elim at [ | inl exact ↦ omega (arith, back) | inr none ↦ omega (arith, none.1) ])) refl
+    after there octet from to = rw (le-ltb there progress.expected (elim at [ inl exact ↦ omega (arith, back) | inr none ↦ omega (arith, none.1) ])) refl
 
 -- or, after the end, the one at the place of the FIN
 one_left : (kept : List ℕ) (had : Had) (place : ℕ) (octets : List ℕ) → length octets ≡ 1 → had.expected ≤ place → differing (differs_after kept had) place octets ≡ place ∷ []

@@ -28,6 +28,7 @@ last-kept n xs ys = by (cases_lt (length xs) n)
         let here : length (last n xs) ≡ n = length-last n xs enough in
         sym (last_of_more n (take (length xs - n) xs) (last n xs ++ ys) (omega (arith, here, length-append (last n xs) ys)))
         ∙ ap (last n) (sym (append_assoc (take (length xs - n) xs) (last n xs) ys) ∙ ap (λ (l : List ℕ). l ++ ys) whole)
+
     by : (length xs < n) ⊎ (n ≤ length xs) → last n (last n xs ++ ys) ≡ last n (xs ++ ys)
     by (inl few) = ap (λ (l : List ℕ). last n (l ++ ys)) (last_few n xs (omega arith))
     by (inr enough) = more enough
@@ -53,6 +54,7 @@ last-fewer n m xs le = by (cases_lt (length xs) n)
         let here : length (last n xs) ≡ n = length-last n xs enough in
         sym (last_of_more m (take (length xs - n) xs) (last n xs) (omega (arith, here)))
         ∙ ap (last m) (take-append-drop (length xs - n) xs)
+
     by : (length xs < n) ⊎ (n ≤ length xs) → last m (last n xs) ≡ last m xs
     by (inl few) = ap (last m) (last_few n xs (omega arith))
     by (inr enough) = more enough

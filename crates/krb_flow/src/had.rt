@@ -51,10 +51,7 @@ impl Had {
     fn distance_to(self, segment: &Segment<'_>) -> Distance
         ensures { result ≡ distance_after self segment.now }
     {
-        Distance::between(
-            number_at(self.first, self.expected),
-            first_number(segment),
-        )
+        Distance::between(number_at(self.first, self.expected), first_number(segment))
     }
 
     /// Returns whether the octets of a segment are all among those that the direction had.
@@ -109,11 +106,7 @@ impl Had {
         let compared = self.compare(kept, behind, payload.octets());
         Untaken {
             apart: None,
-            old: Unread::if_any(
-                Some(self.expected - behind),
-                compared.old,
-                UnreadWhy::Old,
-            ),
+            old: Unread::if_any(Some(self.expected - behind), compared.old, UnreadWhy::Old),
             differs: Unread::differing(compared.differing),
         }
     }

@@ -220,9 +220,7 @@ impl Stream {
     {
         let (copies, early) = octets.split_at(octets.len().min(behind as usize));
         let compared = compare_taken(kept, self.expected, place, copies);
-        let waiting = self
-            .waiting
-            .differing(place + copies.len() as u64, early);
+        let waiting = self.waiting.differing(place + copies.len() as u64, early);
         Compared {
             old: compared.old,
             differing: compared.differing.and(waiting),

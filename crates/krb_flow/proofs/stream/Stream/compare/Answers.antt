@@ -20,8 +20,8 @@ returns-clause-differing c =
     let waiting = ap (λ (p : Progress). p.waiting) c.self.view_is in
     let first = c.compare_taken-compared.ensures.differing ∙ ap₂ (λ (e : ℕ) (l : List ℕ). summary (differing (differs_taken kept e) place l)) expected c.split_at.ensures.front in
     let second =
-        c.differing-waiting.ensures.differing
-        ∙ ap (λ (w : Waiting). summary (differing (differs_waiting w) (place + length copies) early)) waiting
-        ∙ ap₂ (λ (n : ℕ) (l : List ℕ). summary (differing (differs_waiting progress.waiting) (place + n) l)) c.split_at.ensures.front_len c.split_at.ensures.back in
+    c.differing-waiting.ensures.differing
+    ∙ ap (λ (w : Waiting). summary (differing (differs_waiting w) (place + length copies) early)) waiting
+    ∙ ap₂ (λ (n : ℕ) (l : List ℕ). summary (differing (differs_waiting progress.waiting) (place + n) l)) c.split_at.ensures.front_len c.split_at.ensures.back in
     c.and.ensures.places (differing (differs_taken kept progress.expected) place (take m octets)) (differing (differs_waiting progress.waiting) (place + m) (drop m octets)) first second
     ∙ ap summary (sym (compared_in kept progress place c.args.behind m octets m_is c.requires.within c.requires.place))
