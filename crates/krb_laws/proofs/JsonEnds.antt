@@ -12,7 +12,7 @@ use Rattle.krb_source.specs.declared.spelling.Spelling.{Spelling}
 use Rattle.krb_source.specs.declared.spelling.Spelling.TheVariants as spellings
 use Rattle.krb_msg.specs.Stream.{End, Boundary, Within, Refused}
 use Rattle.krb_source.specs.declared.timestamp.Timestamp.{Timestamp}
-use Rattle.krb_record.specs.Captures.{capture_refused_record, count_fields, lost_record, origin_fields, password_record}
+use Rattle.krb_record.specs.Captures.{capture_refused_record, captured, count_fields, lost_record, origin_fields, password_record, time_fields}
 use Rattle.krb_record.specs.Files.{file_record}
 use Rattle.krb_record.specs.Inputs.{input_refused_record, input_word}
 use Rattle.krb_record.specs.Origins.{message_origin}
@@ -20,7 +20,7 @@ use Rattle.krb_record.specs.Refusals.{extent_in, file_refused_record, message_re
 use Rattle.krb_text.specs.StreamEnds.{end_record}
 use Rattle.krb_record.specs.Streams.{counted_end_record, refused_frame, refused_record}
 use Rattle.krb_record.specs.Text.{IsPrintable}
-use Rattle.krb_record.specs.Time.{timestamp_text}
+use Rattle.krb_record.specs.Time.{microseconds, timestamp_text}
 use Rattle.krb_record.specs.Values.{Field, Number, String, Word, if_there, printed, with_origin}
 use Rattle.krb_record.specs.declared.extent.Extent.{Extent}
 use Rattle.krb_record.specs.declared.form.Form.TheVariants as forms
@@ -32,16 +32,16 @@ use Rattle.krb_record.proofs.Reasons as reasons
 use Rattle.krb_record.proofs.Times.{timestamp}
 use Rattle.krb_text_laws.proofs.Tuples.{◌&◌}
 use Rattle.krb_laws.specs.JsonLaws.{CapturesAreJson, EndsAreJson, IsEnd, IsExtent, IsFlowOrigin, PrintsJson, ValueFits, are_different, is_plain}
-use Rattle.krb_laws.proofs.JsonMessages.{its_origin, message_from}
+use Rattle.krb_laws.proofs.JsonMessages.{its_origin, message_with}
 use Rattle.krb_laws.proofs.JsonRecords.{ValuesFit, names_are_plain, record_is_json}
-use Rattle.krb_laws.proofs.JsonShown.{IsOrigin, from_origin, names_of, no_origin, origin_names}
+use Rattle.krb_laws.proofs.JsonShown.{IsLast, IsOrigin, from_origin, last_names, names_of, no_last, no_origin, origin_names}
 use Rattle.krb_laws.proofs.JsonValues.{small_reason}
 
 -- a record without parts: the names of its members are plain and differ, from each origin too
-from : (origin : List Field) (kind : List ℕ) (fields : List Field) → IsOrigin origin → is_plain kind ≡ true → names_are_plain fields ≡ true → are_different (codes "kind" ∷ (origin_names ++ (names_of fields ++ []))) ≡ true → ValuesFit fields → PrintsJson (with_origin origin (printed kind fields))
-from origin kind fields o k n a v = record_is_json _ (from_origin origin kind fields None o (record { kind_plain = k; plain = n; apart = a; values = v; parts = tt }))
+from : (origin : List Field) (kind : List ℕ) (fields : List Field) → IsOrigin origin → is_plain kind ≡ true → names_are_plain fields ≡ true → are_different ((codes "kind" ∷ (origin_names ++ (names_of fields ++ []))) ++ last_names) ≡ true → ValuesFit fields → PrintsJson (with_origin origin (printed kind fields))
+from origin kind fields o k n a v = record_is_json _ (from_origin origin kind fields None [] o no_last (record { kind_plain = k; plain = n; apart = a; values = v; parts = tt }))
 
-pub alone : (kind : List ℕ) (fields : List Field) → is_plain kind ≡ true → names_are_plain fields ≡ true → are_different (codes "kind" ∷ (origin_names ++ (names_of fields ++ []))) ≡ true → ValuesFit fields → PrintsJson (printed kind fields)
+pub alone : (kind : List ℕ) (fields : List Field) → is_plain kind ≡ true → names_are_plain fields ≡ true → are_different ((codes "kind" ∷ (origin_names ++ (names_of fields ++ []))) ++ last_names) ≡ true → ValuesFit fields → PrintsJson (printed kind fields)
 alone kind fields k n a v = from [] kind fields no_origin k n a v
 
 -- ---- what is told of a refusal
@@ -118,17 +118,25 @@ flow_origin origin h = record {
   values = h.packet & its_time origin.time h.in_range.time & ((h.in_range.source, omega (arith, h.source)), (h.in_range.target, omega (arith, h.target))) & tt;
 }
 
-captured : (origin : CaptureOrigin) (kind : List ℕ) (fields : List Field) → IsFlowOrigin origin → is_plain kind ≡ true → names_are_plain fields ≡ true → are_different (codes "kind" ∷ (origin_names ++ (names_of fields ++ []))) ≡ true → ValuesFit fields → PrintsJson (with_origin (origin_fields origin) (printed kind fields))
-captured origin kind fields o k n a v = from (origin_fields origin) kind fields (flow_origin origin o) k n a v
+its_microseconds : (time : Option Timestamp) → IfSome time (λ time. time.seconds < 2 ^ 32) → ValueFits (if_there (λ time. Number (pos (microseconds time.seconds time.nanoseconds))) time)
+its_microseconds None h = tt
+its_microseconds (Some time) h = omega (arith, h)
+
+flow_last : (origin : CaptureOrigin) → IsFlowOrigin origin → IsLast (time_fields origin)
+flow_last origin h = record { plain = refl; fewer = λ names e. e; values = (its_microseconds origin.time h.in_range.time, tt) }
+
+of_capture : (origin : CaptureOrigin) (kind : List ℕ) (fields : List Field) → IsFlowOrigin origin → is_plain kind ≡ true → names_are_plain fields ≡ true → are_different ((codes "kind" ∷ (origin_names ++ (names_of fields ++ []))) ++ last_names) ≡ true → ValuesFit fields → PrintsJson (captured origin (printed kind fields))
+of_capture origin kind fields o k n a v =
+    record_is_json _ (from_origin (origin_fields origin) kind fields None (time_fields origin) (flow_origin origin o) (flow_last origin o) (record { kind_plain = k; plain = n; apart = a; values = v; parts = tt }))
 
 pub captures_are_json : CapturesAreJson
 captures_are_json = record {
-  message = λ origin m o good. message_from (origin_fields origin) m (flow_origin origin o) good;
+  message = λ origin m o good. message_with (origin_fields origin) (time_fields origin) m (flow_origin origin o) (flow_last origin o) good;
   refusal = λ origin refusal path extent o h e.
-      captured origin (codes "refused") (refusal_record refusal (path_in forms.Json path ++ extent_in forms.Json extent)).fields o refl refl refl (h & its_reason refusal.why & its_extent path extent e);
-  joined = λ origin o. captured origin (codes "joined") [] o refl refl refl tt;
-  lost = λ origin place octets path o h k. captured origin (codes "lost") (lost_record forms.Json place octets path).fields o refl refl refl (h & k & its_path path & tt);
-  password = λ origin version ap rest o v a r. captured origin (codes "KPASSWD") (password_record version ap rest).fields o refl refl refl (omega (arith, v) & omega (arith, a) & r & tt);
+      of_capture origin (codes "refused") (refusal_record refusal (path_in forms.Json path ++ extent_in forms.Json extent)).fields o refl refl refl (h & its_reason refusal.why & its_extent path extent e);
+  joined = λ origin o. of_capture origin (codes "joined") [] o refl refl refl tt;
+  lost = λ origin place octets path o h k. of_capture origin (codes "lost") (lost_record forms.Json place octets path).fields o refl refl refl (h & k & its_path path & tt);
+  password = λ origin version ap rest o v a r. of_capture origin (codes "KPASSWD") (password_record version ap rest).fields o refl refl refl (omega (arith, v) & omega (arith, a) & r & tt);
   end = λ counts h. alone (codes "end") (count_fields counts) refl refl refl (h.packets & h.messages & h.refused & h.lost & h.unread & tt);
   file = λ counts place reason path extent h p e.
       alone (codes "refused") (capture_refused_record forms.Json counts place reason path extent).fields refl refl refl

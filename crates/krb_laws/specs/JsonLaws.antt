@@ -20,7 +20,7 @@ use Rattle.krb_msg.specs.Types.{ticket_value}
 use Rattle.krb_msg.specs.Views.{IsInProfile}
 use Rattle.krb_msg.specs.declared.message.Message.{Message}
 use Rattle.krb_msg.specs.declared.ticket.Ticket.{Ticket}
-use Rattle.krb_record.specs.Captures.{capture_refused_record, count_fields, lost_record, origin_fields, password_record}
+use Rattle.krb_record.specs.Captures.{capture_refused_record, captured, count_fields, lost_record, password_record}
 use Rattle.krb_record.specs.Files.{file_record}
 use Rattle.krb_record.specs.Forms.{record_text}
 use Rattle.krb_record.specs.Inputs.{input_refused_record}
@@ -96,13 +96,15 @@ abbrev pub inside_name : Option (List Part) → List (List ℕ)
 inside_name None = []
 inside_name (Some parts) = codes "inside" ∷ []
 
--- So it is of a record, and what is inside fits.
+-- So it is of a record, and what is inside and what is last fit.
 pub record FitsJson (r : Printed) : Type 0 where
   pub kind : is_plain r.kind ≡ true
   pub names : list_all (λ (f : Field). is_plain f.name) (r.origin ++ r.fields) ≡ true
-  pub apart : are_different (codes "kind" ∷ (flat_map (λ f. member_names f.name) (r.origin ++ r.fields) ++ inside_name r.inside)) ≡ true
+  pub apart : are_different (codes "kind" ∷ (flat_map (λ f. member_names f.name) (r.origin ++ r.fields) ++ (inside_name r.inside ++ flat_map (λ f. member_names f.name) r.last))) ≡ true
   pub values : AllByRecursion (λ (f : Field). ValueFits f.value) (r.origin ++ r.fields)
   pub inside : IfSome r.inside (AllByRecursion PartFits)
+  pub last_names : list_all (λ (f : Field). is_plain f.name) r.last ≡ true
+  pub last_values : AllByRecursion (λ (f : Field). ValueFits f.value) r.last
 
 -- the text of a record is its object
 abbrev pub PrintsJson : Printed → Type 0
@@ -160,10 +162,10 @@ pub record AreCounts (counts : CaptureCounts) : Type 0 where
 
 -- of what is found in a capture, and of its end or its refusal
 pub record CapturesAreJson : Type 0 where
-  pub message : (origin : CaptureOrigin) (m : Message) → IsFlowOrigin origin → IsInProfile profiles.Lenient m → PrintsJson (with_origin (origin_fields origin) (message_record m))
-  pub refusal : (origin : CaptureOrigin) (refusal : Refusal) (path : Option (List ℕ)) (extent : Extent) → IsFlowOrigin origin → refusal.place < 2 ^ 63 → IsExtent extent → PrintsJson (with_origin (origin_fields origin) (refusal_record refusal (path_in forms.Json path ++ extent_in forms.Json extent)))
-  pub joined : (origin : CaptureOrigin) → IsFlowOrigin origin → PrintsJson (with_origin (origin_fields origin) (printed (codes "joined") []))
-  pub lost : (origin : CaptureOrigin) (place octets : ℕ) (path : Option (List ℕ)) → IsFlowOrigin origin → place < 2 ^ 63 → octets < 2 ^ 63 → PrintsJson (with_origin (origin_fields origin) (lost_record forms.Json place octets path))
-  pub password : (origin : CaptureOrigin) (version ap rest : ℕ) → IsFlowOrigin origin → version < 2 ^ 16 → ap < 2 ^ 16 → rest < 2 ^ 63 → PrintsJson (with_origin (origin_fields origin) (password_record version ap rest))
+  pub message : (origin : CaptureOrigin) (m : Message) → IsFlowOrigin origin → IsInProfile profiles.Lenient m → PrintsJson (captured origin (message_record m))
+  pub refusal : (origin : CaptureOrigin) (refusal : Refusal) (path : Option (List ℕ)) (extent : Extent) → IsFlowOrigin origin → refusal.place < 2 ^ 63 → IsExtent extent → PrintsJson (captured origin (refusal_record refusal (path_in forms.Json path ++ extent_in forms.Json extent)))
+  pub joined : (origin : CaptureOrigin) → IsFlowOrigin origin → PrintsJson (captured origin (printed (codes "joined") []))
+  pub lost : (origin : CaptureOrigin) (place octets : ℕ) (path : Option (List ℕ)) → IsFlowOrigin origin → place < 2 ^ 63 → octets < 2 ^ 63 → PrintsJson (captured origin (lost_record forms.Json place octets path))
+  pub password : (origin : CaptureOrigin) (version ap rest : ℕ) → IsFlowOrigin origin → version < 2 ^ 16 → ap < 2 ^ 16 → rest < 2 ^ 63 → PrintsJson (captured origin (password_record version ap rest))
   pub end : (counts : CaptureCounts) → AreCounts counts → PrintsJson (printed (codes "end") (count_fields counts))
   pub file : (counts : CaptureCounts) (place : ℕ) (reason : FileWhy) (path : Option (List ℕ)) (extent : Extent) → AreCounts counts → place < 2 ^ 63 → IsExtent extent → PrintsJson (capture_refused_record forms.Json counts place reason path extent)
