@@ -112,7 +112,7 @@ named_inside old {l₁} {l₂} {l₃} {place} {count} parts h₁ at tells h₃ =
     let all : l₃ ≡ l₁ ++ (decimal count ++ rest) = h₃.0 ∙ append_assoc (take place l₂) (decimal count) (drop place l₂) ∙ ap₂ (λ (front back : List ℕ). front ++ (decimal count ++ back)) front back in
     let size : length l₃ ≡ length l₁ + (length (decimal count) + length rest) = ap length all ∙ length-append l₁ (decimal count ++ rest) ∙ ap (λ n. length l₁ + n) (length-append (decimal count) rest) in
     let many : count ≡ length parts = tells.by_now ∙ counted_all 0 parts (omega (arith, few_parts false parts, h₃.1, size)) ∙ omega arith in
-    all ∙ rw (h₁, many, named_parts false parts) (simp (append_assoc, append-nil))
+    all ∙ rw (h₁, many, named_parts false parts) (simp append_assoc)
 
 -- the place of the number has text before it
 pub before_parts : {parts : List Part} {place count : ℕ} (l₁ l₂ : List ℕ) → place ≡ length l₁ → IsUtf8 l₁ → Tells form.NamedLines parts 0 l₁ count l₂ → (place ≤ length l₂) × IsUtf8 (take place l₂)
