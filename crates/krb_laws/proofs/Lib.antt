@@ -3,11 +3,12 @@ pub mod Pairs
 pub mod Printed
 pub mod Hexadecimal
 pub mod Rows
+pub mod Characters
+pub mod Offsets
 pub mod DumpRows
 pub mod Dumps
 pub mod Layouts
 pub mod Octets
-pub mod Characters
 pub mod Blanks
 pub mod Base64
 pub mod Base64Alone
