@@ -24,6 +24,7 @@ pub mod TokenFields
 pub mod TokenGss
 pub mod TokenOpened
 pub mod TokenTickets
+pub mod JsonDecimals
 pub mod JsonPieces
 pub mod JsonStrings
 pub mod JsonNames

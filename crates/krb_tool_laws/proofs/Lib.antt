@@ -4,5 +4,9 @@ pub mod DecodedTexts
 pub mod EncodedMessages
 pub mod HoleOctets
 pub mod KeyOctets
+pub mod Lines
+pub mod ListedFiles
+pub mod ListedStreams
+pub mod PathOctets
 pub mod RoundTrips
 pub mod Upgrades

@@ -2,4 +2,5 @@
 //! show. Each is the contract of a function that does nothing. No crate stands on this one.
 #![tactic(auto)]
 
+pub mod listings;
 pub mod runs;
