@@ -1,5 +1,5 @@
 -- Octets that are spelled in each form, by their first octet, one that is no text, and a character of their base64.
-use Rattle.std.proofs.Common.{ℕ, ◌<◌, ◌^◌, ◌==◌, ◌≡◌, true, false, List, ◌∷◌, length, arith}
+use Rattle.std.proofs.Common.{ℕ, ◌==◌, ◌≡◌, true, false, List, ◌∷◌, arith}
 use Rattle.std.specs.List.{list_any}
 use Rattle.std.specs.Option.{is_some}
 use Rattle.krb_der.specs.Octets.{AreOctets}

@@ -1,5 +1,5 @@
 -- Each message and each Ticket is spelled in each form.
-use Rattle.std.proofs.Common.{ℕ, ◌==◌, ◌≡◌, ◌||◌, not, true, false, List, ◌∷◌, length, sym, subst, ap, arith}
+use Rattle.std.proofs.Common.{ℕ, ◌==◌, ◌≡◌, ◌||◌, not, true, false, List, ◌∷◌, sym, subst, ap, arith}
 use Rattle.std.proofs.lemmas.Bool.{or_left, or_right}
 use Rattle.std.proofs.lemmas.Bool.Decides.{nat_tests}
 use Rattle.std.specs.Option.{is_some}

@@ -1,15 +1,14 @@
 -- Blanks and escapes change nothing of what a line spells.
-use Rattle.std.proofs.Common.{◌≡◌, ◌⊎◌, ℕ, Bool, true, false, cond, ◌==◌, ◌&&◌, ◌||◌, nat_lt, not, if◌then◌else◌, arith, List, [], ◌∷◌, ◌++◌, map, Option, Some, None, is_some, option_map, option_and_then, refl, sym, ap, ap₂, subst, ◌∙◌, append_assoc, inl, inr}
-use Rattle.std.proofs.lemmas.Bool.{and_parts, eqb-true, ne_eqb, true≢false}
-use Rattle.std.proofs.lemmas.Grind.{flat_map-append}
+use Rattle.std.proofs.Common.{◌≡◌, ◌⊎◌, ℕ, Bool, true, false, cond, ◌==◌, ◌&&◌, ◌||◌, nat_lt, if◌then◌else◌, arith, List, [], ◌∷◌, ◌++◌, map, Option, Some, None, is_some, option_map, option_and_then, refl, sym, ap, ap₂, subst, ◌∙◌, append_assoc, inl, inr}
+use Rattle.std.proofs.lemmas.Bool.{and_parts, ne_eqb, true≢false}
 use Rattle.std.proofs.lemmas.Bool.Decides.{nat_tests}
 use Rattle.std.specs.Char.{encode_utf8, is_digit}
 use Rattle.std.specs.List.{flat_map}
 use Rattle.std.specs.Str.{is_utf8}
 use Rattle.json.specs.Json.{Json, document, if_last, max_depth, value}
-use Rattle.json.specs.Lex.{Class, Lexeme, Mode, backslash, between, fresh, in_string, in_word, lex, lex_byte, operator, operator_lexeme, other, punctuate, quote, space, string_token, token}
+use Rattle.json.specs.Lex.{Lexeme, Mode, between, fresh, in_string, lex, lex_byte, operator, operator_lexeme, other, punctuate, space, string_token, token}
 use Rattle.json.specs.Print.{token_text}
-use Rattle.json.specs.Text.{after_high, code_unit, content, is_high_surrogate, is_low_surrogate, plain, prepend, short_escape, surrogate_pair}
+use Rattle.json.specs.Text.{code_unit, content, is_high_surrogate, is_low_surrogate, plain, prepend, short_escape, surrogate_pair}
 use Rattle.json.specs.Token.{Token, boolean, null, number, string, bad}
 use Rattle.json.specs.Word.{ends_word, is_operator, is_space, word}
 use Rattle.json.proofs.Printed.Numbers.{in_word-ended, lex-number}

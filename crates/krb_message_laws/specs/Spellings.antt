@@ -5,7 +5,7 @@ use Rattle.std.specs.List.{flat_map}
 use Rattle.std.specs.Str.{is_utf8}
 use Rattle.json.specs.Print.{IsNumber, token_text}
 use Rattle.json.specs.Text.{code_unit, short_escape, is_high_surrogate, is_low_surrogate, surrogate_pair}
-use Rattle.json.specs.Token.{Token, begin_object, end_object, begin_array, end_array, key, string, number, boolean, null, bad}
+use Rattle.json.specs.Token.{Token, number, boolean, null}
 use Rattle.json.specs.Word.{is_operator, is_space}
 use Rattle.krb_der.specs.declared.profile.Profile.{Profile}
 use Rattle.krb_json.specs.Lines.{line_spells}

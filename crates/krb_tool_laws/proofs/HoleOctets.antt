@@ -11,12 +11,12 @@ use Rattle.krb_file.specs.Fields.{signed, Source, Fault, limited, and_then, with
 use Rattle.krb_file.specs.Items.{with_first}
 use Rattle.krb_file.specs.declared.field_name.FieldName.TheVariants as fields
 use Rattle.krb_source.specs.declared.file_why.FileWhy.TheVariants as why
-use Rattle.krb_file.proofs.Fields.{at, done, Reads-signed}
+use Rattle.krb_file.proofs.Fields.{at, Reads-signed}
 use Rattle.krb_file_laws.proofs.FileLimits.{bounded}
 use Rattle.krb_file_laws.proofs.KeytabKeyOctets.{whole_record_at, record_at-some, Stable-some, items-opened}
 use Rattle.krb_file_laws.proofs.Stable.{IsReadBefore, Read, Fails}
 use Rattle.krb_keytab.specs.Reading.{Records, items, items_from, items_within, record_at, record_of}
-use Rattle.krb_keytab.specs.Spelling.{RecordsSpell, negated}
+use Rattle.krb_keytab.specs.Spelling.{RecordSpells, RecordsSpell}
 use Rattle.krb_keytab.specs.declared.reading.Next.{Next}
 use Rattle.krb_keytab.specs.declared.reading.Next.TheVariants as nexts
 use Rattle.krb_keytab.specs.declared.value.Record.{Record}
@@ -55,11 +55,12 @@ abbrev hole_in : ℕ → List ℕ → Record
 hole_in size octets = records.Hole (record { size = size; clean = are_zero (take size octets) })
 
 -- what is read at a hole of n + 1 octets, of which too few may be there
+abbrev octets_taken : (n place : ℕ) → (short : Bool) → List ℕ → Result (List ℕ × Source) Fault
+octets_taken n place short octets = when short (λ _. refused (at (place + 4) octets) why.Truncated) (λ _. Ok (take (suc n) octets, at (place + 4 + suc n) (drop (suc n) octets)))
+
 abbrev taken : (n place : ℕ) → (short : Bool) → List ℕ → Result (Next × Source) Fault
 taken n place short octets =
-    begun_at place
-    (and_then (refused_at (with_name fields.Hole) (when short (λ _. refused (at (place + 4) octets) why.Truncated) (λ _. done (take (suc n) octets, at (place + 4 + suc n) (drop (suc n) octets)))))
-    (λ p. done (nexts.Item (records.Hole (record { size = suc n; clean = are_zero p.0 })), p.1)))
+    begun_at place (and_then (refused_at (with_name fields.Hole) (octets_taken n place short octets)) (λ p. Ok (nexts.Item (records.Hole (record { size = suc n; clean = are_zero p.0 })), p.1)))
 
 hole-read : (limit : Option ℕ) (n place : ℕ) (octets : List ℕ) → suc n ≤ 2 ^ 31 → record_at (limited limit) (at place (signed w32 (negsuc n) ++ octets)) ≡ taken n place (nat_lt (length octets) (suc n)) octets
 hole-read limit n place octets le =
@@ -96,19 +97,12 @@ module _ (n : ℕ) (le : suc n ≤ 2 ^ 31) (limit : Option ℕ) (octets other : 
       same-as (items_from (taken n place short octets) others) (items_from (taken n place short other) others) _ _ (ap (λ r. items_from r others) (hole-read limit n place octets le))
       (ap (λ r. items_from r others) (hole-read limit n place other le ∙ ap (λ k. taken n place (nat_lt k (suc n)) other) (sym long))) (hole-taken place others short)
 
-  -- after records
-  after-records : (found : List Record) (bound place : ℕ) (body : List ℕ) → RecordsSpell found body → Same (items_within bound limit (at place (from body octets))) (items_within bound limit (at place (from body other)))
-  after-records found zero place body spelled = inl refl
-  after-records [] (suc bound) place body spelled =
-      subst (λ b. Same (items_within (suc bound) limit (at place (from b octets))) (items_within (suc bound) limit (at place (from b other)))) (sym spelled) (at-hole (suc bound) place)
-  after-records (r ∷ found) (suc bound) place body spelled = by (Stable-some.stable None limit place prefix (nexts.Item r) (at next []) read)
+  -- after a record
+  one_more : (r : Record) (bound place : ℕ) (body prefix suffix : List ℕ) → body ≡ prefix ++ suffix → RecordSpells r prefix
+      → Same (items_within bound limit (at (place + length prefix) (from suffix octets))) (items_within bound limit (at (place + length prefix) (from suffix other)))
+      → Same (items_within (suc bound) limit (at place (from body octets))) (items_within (suc bound) limit (at place (from body other)))
+  one_more r bound place body prefix suffix parts spelled later = by (Stable-some.stable None limit place prefix (nexts.Item r) (at next []) read)
     where
-      prefix : List ℕ
-      prefix = spelled.0
-
-      suffix : List ℕ
-      suffix = spelled.1
-
       next : ℕ
       next = place + length prefix
 
@@ -116,14 +110,14 @@ module _ (n : ℕ) (le : suc n ≤ 2 ^ 31) (limit : Option ℕ) (octets other : 
       others = items_within bound limit
 
       some : 0 < length prefix
-      some = spelled-some r prefix spelled.3
+      some = spelled-some r prefix spelled
 
       read : whole_record_at (limited None) (at place prefix) ≡ Ok (nexts.Item r, at next [])
-      read = ap (λ x. whole_record_at (limited None) (at place x)) (sym (append-nil prefix)) ∙ sym (record_at-some (limited None) place prefix [] some) ∙ record-again r prefix place [] spelled.3
+      read = ap (λ x. whole_record_at (limited None) (at place x)) (sym (append-nil prefix)) ∙ sym (record_at-some (limited None) place prefix [] some) ∙ record-again r prefix place [] spelled
 
       first : (rest : List ℕ) → items_within (suc bound) limit (at place (body ++ rest)) ≡ items_from (whole_record_at (limited limit) (at place (prefix ++ (suffix ++ rest)))) others
       first rest =
-          ap (λ x. items_from (record_at (limited limit) (at place x)) others) (ap (λ x. x ++ rest) spelled.2 ∙ append_assoc prefix suffix rest)
+          ap (λ x. items_from (record_at (limited limit) (at place x)) others) (ap (λ x. x ++ rest) parts ∙ append_assoc prefix suffix rest)
           ∙ ap (λ x. items_from x others) (record_at-some (limited limit) place prefix (suffix ++ rest) some)
 
       by : IsReadBefore whole_record_at (bounded None limit) place prefix (nexts.Item r) (at next []) → Same (items_within (suc bound) limit (at place (from body octets))) (items_within (suc bound) limit (at place (from body other)))
@@ -132,7 +126,15 @@ module _ (n : ℕ) (le : suc n ≤ 2 ^ 31) (limit : Option ℕ) (octets other : 
       by (Read e) =
           same-as (with_first r (others (at next (from suffix octets)))) (with_first r (others (at next (from suffix other)))) _ _ (first (from [] octets) ∙ ap (λ x. items_from x others) (e (from suffix octets)))
           (first (from [] other) ∙ ap (λ x. items_from x others) (e (from suffix other)))
-          (but-first r (hole_in (suc n) octets) (hole_in (suc n) other) (others (at next (from suffix octets))) (others (at next (from suffix other))) (after-records found bound next suffix spelled.4))
+          (but-first r (hole_in (suc n) octets) (hole_in (suc n) other) (others (at next (from suffix octets))) (others (at next (from suffix other))) later)
+
+  -- and after records
+  after-records : (found : List Record) (bound place : ℕ) (body : List ℕ) → RecordsSpell found body → Same (items_within bound limit (at place (from body octets))) (items_within bound limit (at place (from body other)))
+  after-records found zero place body spelled = inl refl
+  after-records [] (suc bound) place body spelled =
+      subst (λ b. Same (items_within (suc bound) limit (at place (from b octets))) (items_within (suc bound) limit (at place (from b other)))) (sym spelled) (at-hole (suc bound) place)
+  after-records (r ∷ found) (suc bound) place body spelled =
+      one_more r bound place body spelled.0 spelled.1 spelled.2 spelled.3 (after-records found bound (place + length spelled.0) spelled.1 spelled.4)
 
 -- ---- a file
 -- octets that begin with those of a hole, or with a part of them, are as many after it

@@ -1,11 +1,13 @@
 -- Each line of the listing of a keytab or of a cache is one.
-use Rattle.std.proofs.Common.{◌≡◌, ◌⊎◌, inl, inr, ℕ, ◌+◌, ◌<◌, ◌^◌, List, [], ◌∷◌, ◌++◌, length, map, Option, Some, None, Result, Ok, Err, IfSome, codes, refl, sym, ◌∙◌, ap, ap₂, subst, append-nil, append_assoc}
+use Rattle.std.proofs.Common.{◌≡◌, ◌⊎◌, inl, inr, ℕ, zero, suc, ◌<◌, ◌≤◌, ◌^◌, Bool, true, false, arith, List, [], ◌∷◌, ◌++◌, length, map, Option, Some, None, Result, Ok, Err, IfSome, codes, refl, sym, ◌∙◌, ap, ap₂, subst, append-nil, append_assoc}
 use Rattle.std.proofs.lemmas.Grind.{flat_map-append}
 use Rattle.std.specs.List.{AllByRecursion, flat_map}
 use Rattle.std.specs.Int.{Width}
-use Rattle.krb_der.specs.Octets.{AreOctets}
+use Rattle.krb_der.specs.Octets.{AreOctets, when}
 use Rattle.krb_der.specs.inner.Numbers.{AreOctets-append}
-use Rattle.krb_file.specs.Fields.{Fault, IsCounted, AreNames, Names, Source}
+use Rattle.krb_file.specs.Fields.{Fault, IsCounted, Reader, Source, is_empty, limited, source_of, version_at}
+use Rattle.krb_file.specs.Items.{no_items}
+use Rattle.krb_file.proofs.Steps.{Moved-shorter, Steps-version}
 use Rattle.krb_file.specs.Names.{field_text, in_part_text, item_text, name_text, numbered, part_text, path_text, record_text}
 use Rattle.krb_file.specs.declared.field_name.FieldName.{FieldName}
 use Rattle.krb_file.specs.declared.field_name.FieldName.TheVariants as fields
@@ -15,32 +17,41 @@ use Rattle.krb_file.specs.declared.field_name.FileField.{FileField}
 use Rattle.krb_file.specs.declared.field_path.FileItem.{FileItem}
 use Rattle.krb_file.specs.declared.field_path.FileItem.TheVariants as places
 use Rattle.krb_keytab.specs.Laws.{RecordsAreSpelled}
-use Rattle.krb_keytab.specs.Reading.{Records, items as keytab_records}
-use Rattle.krb_keytab.specs.Spelling.{EntryFits, RecordSpells, RecordsSpell}
+use Rattle.krb_keytab.specs.Reading.{Records, after_version, items as keytab_records, items_after, items_from, items_within, record_at}
+use Rattle.krb_keytab.specs.declared.reading.Next.{Next}
+use Rattle.krb_keytab.specs.declared.reading.Next.TheVariants as nexts
+use Rattle.krb_keytab.specs.Spelling.{RecordSpells, RecordsSpell}
 use Rattle.krb_keytab.specs.declared.value.Record.{Record}
 use Rattle.krb_keytab.specs.declared.value.Record.TheVariants as records
 use Rattle.krb_keytab.specs.declared.value.Stop.{Stop}
-use Rattle.krb_ccache.specs.Laws.{CredentialsAreSpelled, SpellsContents, contents}
-use Rattle.krb_ccache.specs.Reading.{CacheItems}
-use Rattle.krb_ccache.specs.Spelling.{Credential3Fits, CredentialFits, PrincipalFits, upgraded}
-use Rattle.krb_ccache.specs.Streaming.{credentials, file_start}
+use Rattle.krb_ccache.specs.Laws.{CredentialsAreSpelled, SpellsContents}
+use Rattle.krb_ccache.specs.Reading.{CacheItems, credential_at, item_and, items_within as cache_items_within, one_enctype}
+use Rattle.krb_ccache.specs.Spelling.{Credential3Fits, CredentialFits, HeaderFits, PrincipalFits, no_header}
+use Rattle.krb_ccache.specs.Streaming.{credentials, credentials_of, file_start}
+use Rattle.krb_ccache.proofs.Faults.{Steps-start}
 use Rattle.krb_ccache.specs.declared.reading.Start.{Start}
 use Rattle.krb_ccache.specs.declared.value.Ccache.{Ccache}
 use Rattle.krb_ccache.specs.declared.value.Cache3.{Cache3}
 use Rattle.krb_ccache.specs.declared.value.Credential.{Credential}
 use Rattle.krb_ccache.specs.declared.value.Credential3.{Credential3}
 use Rattle.krb_ccache.specs.declared.value.FilePrincipal.{FilePrincipal}
+use Rattle.krb_list.specs.Ccaches.{cache_end, cache_record, credential_record}
+use Rattle.krb_list.specs.Keytabs.{keytab_end, printed_record}
 use Rattle.krb_list.specs.Laws.{CacheEndIsOneLine, CacheIsOneLine, CredentialIsOfOctets, CredentialIsOneLine, KeytabEndIsOneLine, PrincipalIsOfOctets, RecordIsOfOctets, RecordIsOneLine}
+use Rattle.krb_laws.specs.JsonFiles.{FilesAreJson, IsRecord}
+use Rattle.krb_laws.specs.JsonLaws.{PrintsJson}
 use Rattle.krb_laws.proofs.JsonStrings.{all-append}
 use Rattle.krb_record.specs.Laws.{FileRefusalIsOneLine, IsOneLine}
 use Rattle.krb_record.specs.Text.{AllAreOctets, IsPrintable, line_feed}
 use Rattle.krb_record.specs.declared.form.Form.{Form}
 use Rattle.krb_run.specs.Extents.{extent_of, fault_line}
 use Rattle.krb_run.specs.Paths.{file_path}
-use Rattle.krb_run.specs.Records.{RecordListing, after_line, refused_listing, text_of}
-use Rattle.krb_file_run.specs.Files.{cache_listing, ccache_last, ccache_listing, credentials_listing, field_limit, items_listing, keytab_last, keytab_listing, last_of, records_listing}
+use Rattle.krb_run.specs.Records.{RecordListing, end_of, text_of}
+use Rattle.krb_run.specs.declared.run.RunEnd.TheVariants as run
+use Rattle.krb_file_run.specs.Files.{cache_listing, ccache_last, ccache_listing, credentials_listing, field_limit, keytab_last, keytab_listing, records_listing}
 use Rattle.krb_file_run.specs.Lines.{cache_line, credential_line, record_line}
-use Rattle.krb_tool_laws.specs.Listings.{ArePrintedLines}
+use Rattle.krb_tool_laws.specs.Listings.{AreLinesBut, AreLinesOf, ArePrintedLines, AreRead}
+use Rattle.krb_tool_laws.proofs.Lines.{a_line as a_line_of, and_lines as and_lines_of, each_line as each_line_of, no_lines as no_lines_of}
 use Rattle.krb_tool_laws.proofs.PathOctets.{index_octets, octets_of}
 
 -- ---- lines
@@ -187,3 +198,125 @@ module _ (refused : FileRefusalIsOneLine) (cache_one : CacheIsOneLine) (credenti
   unfolding ccache_listing
   cache_printed spelled file are =
       started (file_start field_limit file) (credentials field_limit file) (λ start after e. let all = spelled field_limit file start after are e in contents_are start (credentials field_limit file).items _ all.1.spelled)
+
+-- ---- in the form Json, too
+record_fits : (r : Record) (octets : List ℕ) → RecordSpells r octets → RecordIsOfOctets r × IsRecord r
+record_fits (records.Entry e) octets spelled = (record_is (records.Entry e) octets spelled, spelled.0)
+record_fits (records.Hole hole) octets spelled = (tt, spelled.1.range)
+
+records_fit : (found : List Record) (octets : List ℕ) → RecordsSpell found octets → AllByRecursion (λ r. RecordIsOfOctets r × IsRecord r) found
+records_fit [] octets spelled = tt
+records_fit (r ∷ found) octets spelled = (record_fits r spelled.0 spelled.3, records_fit found spelled.1 spelled.4)
+
+-- there are no more items than octets
+few_records : (bound : ℕ) (limit : Option ℕ) (s : Source) → length (items_within bound limit s).items ≤ bound
+few_records zero limit s = omega arith
+few_records (suc bound) limit s = by (record_at (limited limit) s)
+  where
+    by : (r : Result (Next × Source) Fault) → length (items_from r (items_within bound limit)).items ≤ suc bound
+    by (Err f) = omega arith
+    by (Ok (nexts.Done stop, t)) = omega arith
+    by (Ok (nexts.Item item, t)) = omega (arith, few_records bound limit t)
+
+few_of_version : (limit : Option ℕ) (most : ℕ) (r : Result (ℕ × Source) Fault) → ((version : ℕ) (t : Source) → r ≡ Ok (version, t) → length t.octets ≤ most) → length (after_version r (items_after limit)).items ≤ most
+few_of_version limit most (Err f) shorter = omega arith
+few_of_version limit most (Ok (version, t)) shorter = omega (arith, few_records (length t.octets) limit t, shorter version t refl)
+
+few_in_keytab : (limit : Option ℕ) (file : List ℕ) → length (keytab_records limit file).items ≤ length file
+few_in_keytab limit file =
+    few_of_version limit (length file) (version_at (2 ∷ []) (limited limit) (source_of file)) (λ version t e. Moved-shorter (source_of file) t ((Steps-version (2 ∷ [])).moves (limited limit) (source_of file) version t e))
+
+few_credentials : (item_at : Reader Credential) (bound : ℕ) (limit : Option ℕ) (s : Source) → length (cache_items_within bound item_at limit s).items ≤ bound
+few_credentials item_at zero limit s = omega arith
+few_credentials item_at (suc bound) limit s = by (is_empty s.octets) (item_at (limited limit) s)
+  where
+    read : (r : Result (Credential × Source) Fault) → length (item_and r (cache_items_within bound item_at limit)).items ≤ suc bound
+    read (Err f) = omega arith
+    read (Ok (c, t)) = omega (arith, few_credentials item_at bound limit t)
+
+    by : (empty : Bool) (r : Result (Credential × Source) Fault) → length (when empty (λ _. let it : CacheItems Credential = no_items (Ok s.place) in it) (λ _. item_and r (cache_items_within bound item_at limit))).items ≤ suc bound
+    by true r = omega arith
+    by false r = read r
+
+few_of_start : (limit : Option ℕ) (most : ℕ) (r : Result (Start × Source) Fault) → ((start : Start) (t : Source) → r ≡ Ok (start, t) → length t.octets ≤ most) → length (credentials_of limit r).items ≤ most
+few_of_start limit most (Err f) shorter = omega arith
+few_of_start limit most (Ok (start, t)) shorter = omega (arith, few_credentials (credential_at one_enctype start.version) (length t.octets) limit t, shorter start t refl)
+
+few_in_cache : (limit : Option ℕ) (file : List ℕ) → length (credentials limit file).items ≤ length file
+few_in_cache limit file =
+    few_of_start limit (length file) (file_start limit file) (λ start t e. Moved-shorter (source_of file) t ((Steps-start (3 ∷ 4 ∷ [])).moves (limited limit) (source_of file) start t e))
+
+-- ---- keytabs
+module _ (json : FilesAreJson) (record_one : RecordIsOneLine) (end_one : KeytabEndIsOneLine) (form : Form) where
+  fit_lines : (found : List Record) → AllByRecursion (λ r. RecordIsOfOctets r × IsRecord r) found → AreLinesOf form (flat_map (record_line form) found)
+  fit_lines found are = each_line_of form (λ r. RecordIsOfOctets r × IsRecord r) (record_line form) (λ r is. a_line_of form (printed_record r) (record_one form r is.0) (λ _. json.of_record r is.1)) found are
+
+  fit_end : (count : ℕ) (end : Result (Stop × ℕ) Fault) → count < 10 ^ 64 → end_of end ≡ run.Clean → AreLinesOf form (keytab_last form count end)
+  fit_end count (Ok end) few clean = a_line_of form (keytab_end count end.0) (end_one form count end.0) (λ _. json.end_of_keytab count end.0 few)
+  fit_end count (Err fault) few clean = absurd cc
+
+  pub keytab_lines_of : RecordsAreSpelled → (file : List ℕ) → AreRead file → AreLinesBut form (keytab_listing form file)
+  unfolding keytab_listing
+  keytab_lines_of spelled file are = record {
+    records = lines;
+    whole = λ clean. and_lines_of form (flat_map (record_line form) found.items) (keytab_last form (length found.items) found.end) lines (fit_end (length found.items) found.end (omega (arith, few_in_keytab field_limit file, are.1)) clean);
+  }
+    where
+      found : Records
+      found = keytab_records field_limit file
+
+      by : (found.items ≡ []) ⊎ _ → AllByRecursion (λ r. RecordIsOfOctets r × IsRecord r) found.items
+      by (inl none) = subst (AllByRecursion (λ r. RecordIsOfOctets r × IsRecord r)) (sym none) tt
+      by (inr some) = records_fit found.items some.1.spelled.0 some.1.spelled.1
+
+      lines : AreLinesOf form (flat_map (record_line form) found.items)
+      lines = fit_lines found.items (by (spelled field_limit file are.0))
+
+-- ---- caches
+-- what is read fits, and is of octets
+record Fit (start : Start) (found : List Credential) : Type 0 where
+  header : HeaderFits start.header
+  principal : PrincipalFits start.principal
+  each : AllByRecursion CredentialFits found
+
+all3 : (found : List Credential3) → AllByRecursion Credential3Fits found → AllByRecursion CredentialFits (map (λ c. c.credential) found)
+all3 [] fit = tt
+all3 (c ∷ found) fit = (fit.0.credential, all3 found fit.1)
+
+contents_fit : (start : Start) (found : List Credential) (octets : List ℕ) → SpellsContents start found octets → Fit start found
+contents_fit start found octets (inl (version, spelled)) = record { header = spelled.fits.header; principal = spelled.fits.principal; each = spelled.fits.credentials }
+contents_fit start found octets (inr (version, v, spelled, same)) =
+    let header : HeaderFits no_header = record { each = tt; short = omega arith } in
+    record {
+      header = subst (λ (c : Ccache). HeaderFits c.header) same header;
+      principal = subst (λ (c : Ccache). PrincipalFits c.principal) same spelled.fits.principal;
+      each = subst (λ (c : Ccache). AllByRecursion CredentialFits c.credentials) same (all3 v.credentials spelled.fits.credentials);
+    }
+
+module _ (json : FilesAreJson) (cache_one : CacheIsOneLine) (credential_one : CredentialIsOneLine) (end_one : CacheEndIsOneLine) (form : Form) (now : Option ℕ) where
+  fit_credentials : (found : List Credential) → AllByRecursion CredentialFits found → AreLinesOf form (flat_map (credential_line form now) found)
+  fit_credentials found fit =
+      each_line_of form CredentialFits (credential_line form now)
+      (λ c fits. a_line_of form (credential_record form now c) (credential_one form now c (credential_is c fits)) (λ is. subst (λ f. PrintsJson (credential_record f now c)) (sym is) (json.credential now c fits))) found fit
+
+  fit_cache_end : (count : ℕ) (end : Result ℕ Fault) → count < 10 ^ 64 → end_of end ≡ run.Clean → AreLinesOf form (ccache_last form count end)
+  fit_cache_end count (Ok size) few clean = a_line_of form (cache_end count) (end_one form count) (λ _. json.end_of_cache count few)
+  fit_cache_end count (Err fault) few clean = absurd cc
+
+  started_lines : (r : Result (Start × Source) Fault) (found : CacheItems Credential) → length found.items < 10 ^ 64 → ((start : Start) (after : Source) → r ≡ Ok (start, after) → Fit start found.items) → AreLinesBut form (cache_listing form now r found)
+  started_lines (Err fault) found few fit = record { records = no_lines_of form; whole = λ clean. absurd cc }
+  started_lines (Ok (start, after)) found few fit =
+      let its = fit start after refl in
+      let line : List ℕ = cache_line form start.header start.principal in
+      let first = a_line_of form (cache_record start.header start.principal) (cache_one form start.header start.principal (principal_is start.principal its.principal)) (λ _. json.cache start.header start.principal its.header its.principal) in
+      let lines = and_lines_of form line (flat_map (credential_line form now) found.items) first (fit_credentials found.items its.each) in
+      record {
+        records = lines;
+        whole = λ clean. and_lines_of form (line ++ flat_map (credential_line form now) found.items) (ccache_last form (length found.items) found.end) lines (fit_cache_end (length found.items) found.end few clean);
+      }
+
+  pub cache_lines_of : CredentialsAreSpelled → (file : List ℕ) → AreRead file → AreLinesBut form (ccache_listing form now file)
+  unfolding ccache_listing
+  cache_lines_of spelled file are =
+      started_lines (file_start field_limit file) (credentials field_limit file) (omega (arith, few_in_cache field_limit file, are.1))
+      (λ start after e. let all = spelled field_limit file start after are.0 e in contents_fit start (credentials field_limit file).items _ all.1.spelled)

@@ -28,8 +28,8 @@ hole_line form size clean = record_line form (records.Hole (record { size = size
 pub record DifferInLine (line other : List ℕ) (one another : RecordListing) : Type 0 where
   pub before : List ℕ
   pub after : List ℕ
-  pub lines : one.lines ≡ before ++ line ++ after
-  pub others : another.lines ≡ before ++ other ++ after
+  pub lines : one.lines ≡ before ++ (line ++ after)
+  pub others : another.lines ≡ before ++ (other ++ after)
   pub last : one.last ≡ another.last
   pub end : one.end ≡ another.end
 

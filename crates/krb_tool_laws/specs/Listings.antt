@@ -9,7 +9,8 @@ use Rattle.krb_laws.specs.JsonLaws.{IsJson}
 use Rattle.krb_record.specs.Text.{IsPrintable, line_feed}
 use Rattle.krb_record.specs.declared.form.Form.{Form}
 use Rattle.krb_record.specs.declared.form.Form.TheVariants as forms
-use Rattle.krb_run.specs.Records.{text_of}
+use Rattle.krb_run.specs.Records.{RecordListing, text_of}
+use Rattle.krb_run.specs.declared.run.RunEnd.TheVariants as run
 use Rattle.krb_tool.specs.GoingOn.{AreCountedLines, IsCountedListing}
 use Rattle.krb_tool.specs.Listing.{AreLines, IsListing}
 
@@ -44,3 +45,14 @@ KeytabsArePrinted = (form : Form) (file : List ℕ) → AreOctets file → ArePr
 
 abbrev pub CachesArePrinted : Type 0
 CachesArePrinted = (form : Form) (now : Option ℕ) (file : List ℕ) → AreOctets file → ArePrintedLines (text_of (ccache_listing form now file))
+
+-- The listing of a file is lines in its form, but for the line of a refusal: the lines of its records, and all of it if nothing is refused.
+pub record AreLinesBut (form : Form) (listing : RecordListing) : Type 0 where
+  pub records : AreLinesOf form listing.lines
+  pub whole : listing.end ≡ run.Clean → AreLinesOf form (text_of listing)
+
+abbrev pub KeytabsAreLines : Type 0
+KeytabsAreLines = (form : Form) (file : List ℕ) → AreRead file → AreLinesBut form (keytab_listing form file)
+
+abbrev pub CachesAreLines : Type 0
+CachesAreLines = (form : Form) (now : Option ℕ) (file : List ℕ) → AreRead file → AreLinesBut form (ccache_listing form now file)

@@ -1,11 +1,11 @@
 //! Laws of whole listings. Each is the contract of a function that does nothing.
 
-ghost use Rattle.krb_tool_laws.specs.Listings.{CachesArePrinted, KeytabsArePrinted, StreamsAreLines};
+ghost use Rattle.krb_tool_laws.specs.Listings.{CachesAreLines, CachesArePrinted, KeytabsAreLines, KeytabsArePrinted, StreamsAreLines};
 
 use krb_file_laws::ccache::credentials_are_spelled;
 use krb_file_laws::keytab::records_are_spelled;
 use krb_frame::law::refusals_are_inside;
-use krb_laws::objects::{ends_are_json, messages_are_json};
+use krb_laws::objects::{ends_are_json, files_are_json, messages_are_json};
 use krb_msg::law::{der_is_prefix_free, strict_is_narrower};
 use krb_text_laws::list::{ccache_is_one_line_each, keytab_is_one_line_each};
 use krb_text_laws::text::{end_is_one_line, message_is_one_line};
@@ -36,4 +36,18 @@ pub fn files_are_printed()
     keytab_is_one_line_each();
     ccache_is_one_line_each();
     end_is_one_line();
+}
+
+/// In the form Json each of these lines is one JSON text in which no object has a name twice, but
+/// that of a refusal, of which [`ends_are_json`](krb_laws::objects::ends_are_json) says it of numbers
+/// of at most 64 digits: those of all records, and all of them if nothing is refused.
+pub fn files_are_lines()
+    ensures keytab { KeytabsAreLines }
+    ensures ccache { CachesAreLines }
+{
+    records_are_spelled();
+    credentials_are_spelled();
+    keytab_is_one_line_each();
+    ccache_is_one_line_each();
+    files_are_json();
 }
