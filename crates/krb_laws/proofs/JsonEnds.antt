@@ -49,7 +49,7 @@ its_path : (path : Option (List ℕ)) → ValueFits (if_there String path)
 its_path None = tt
 its_path (Some path) = tt
 
-optional_number : (n : Option ℕ) → IfSome n (λ n. n < 2 ^ 63) → ValueFits (if_there (λ n. Number (pos n)) n)
+optional_number : (n : Option ℕ) → IfSome n (λ n. n < 10 ^ 64) → ValueFits (if_there (λ n. Number (pos n)) n)
 optional_number None h = tt
 optional_number (Some n) h = h
 
@@ -65,14 +65,14 @@ optional_spelling None = tt
 optional_spelling (Some s) = (spelled s).all
 
 -- ---- reasons
-its_reason : (why : Why) → (reason_number why < 2 ^ 64) × IsPrintable (reason_name why)
+its_reason : (why : Why) → (reason_number why < 10 ^ 64) × IsPrintable (reason_name why)
 its_reason why = (omega (arith, small_reason why), (reasons.name why).all)
 
 small_file_reason : (why : FileWhy) → nat_le (file_reason_number why) 255 ≡ true
 small_file_reason files.Magic = refl
 small_file_reason other = refl
 
-its_file_reason : (why : FileWhy) → (file_reason_number why < 2 ^ 64) × IsPrintable (file_reason_name why)
+its_file_reason : (why : FileWhy) → (file_reason_number why < 10 ^ 64) × IsPrintable (file_reason_name why)
 its_file_reason why = (omega (arith, leb-true (file_reason_number why) 255 (small_file_reason why)), (reasons.file_name why).all)
 
 worded : (fault : InputFault) → Prints (input_word fault)
@@ -80,11 +80,11 @@ worded (faults.Misspelled s) = spelled s
 worded other = word _ refl
 
 -- ---- refusals and ends
-frame_refused : (messages place : ℕ) (reason : Why) (path : Option (List ℕ)) (extent : Extent) → messages < 2 ^ 63 → place < 2 ^ 63 → IsExtent extent → PrintsJson (refused_record forms.Json messages place reason path extent)
+frame_refused : (messages place : ℕ) (reason : Why) (path : Option (List ℕ)) (extent : Extent) → messages < 10 ^ 64 → place < 10 ^ 64 → IsExtent extent → PrintsJson (refused_record forms.Json messages place reason path extent)
 frame_refused messages place reason path extent m h e =
     alone (codes "refused") (refused_record forms.Json messages place reason path extent).fields refl refl refl (m & h & its_reason reason & its_extent path extent e)
 
-end_of_stream : (messages : ℕ) (end : End) (path : Option (List ℕ)) (extent : Extent) → messages < 2 ^ 63 → IsEnd end → IsExtent extent → PrintsJson (end_record forms.Json messages end path extent)
+end_of_stream : (messages : ℕ) (end : End) (path : Option (List ℕ)) (extent : Extent) → messages < 10 ^ 64 → IsEnd end → IsExtent extent → PrintsJson (end_record forms.Json messages end path extent)
 end_of_stream messages Boundary path extent m h e = alone (codes "end") (end_record forms.Json messages Boundary path extent).fields refl refl refl (m & tt)
 end_of_stream messages (Within present) path extent m h e = frame_refused messages present whys.Truncated path extent m h e
 end_of_stream messages (Refused place reason) path extent m h e = frame_refused messages place reason path extent m h e

@@ -16,15 +16,15 @@ IsCounted (Number n) = IsSmall n
 IsCounted (Named registry n) = IsSmall n
 IsCounted (Numbers registry ns) = AllByRecursion IsSmall ns
 IsCounted (ErrorCode code) = IsSmall code
-IsCounted (Reason n name) = n < 2 ^ 64
-IsCounted (Flags registry bits) = 8 * length bits.1 < 2 ^ 64
-IsCounted (Encrypted etype kvno size) = IsSmall etype × IfSome kvno IsSmall × (size < 2 ^ 64)
+IsCounted (Reason n name) = n < 10 ^ 64
+IsCounted (Flags registry bits) = 8 * length bits.1 < 10 ^ 64
+IsCounted (Encrypted etype kvno size) = IsSmall etype × IfSome kvno IsSmall × (size < 10 ^ 64)
 IsCounted (Principal name_type components realm) = IsSmall name_type
 IsCounted (Address addr_type octets) = IsSmall addr_type
-IsCounted (Digest cksumtype size) = IsSmall cksumtype × (size < 2 ^ 64)
+IsCounted (Digest cksumtype size) = IsSmall cksumtype × (size < 10 ^ 64)
 IsCounted (Offset seconds microseconds) = IsSmall seconds × IsSmall microseconds
-IsCounted (RefusedTicket refusal) = refusal.place < 2 ^ 64
-IsCounted (Flow transport source target) = (source.port < 2 ^ 64) × (target.port < 2 ^ 64)
+IsCounted (RefusedTicket refusal) = refusal.place < 10 ^ 64
+IsCounted (Flow transport source target) = (source.port < 10 ^ 64) × (target.port < 10 ^ 64)
 IsCounted value = Unit {0}
 
 fits : (value : Value) → IsShown value → IsCounted value → ValueFits value

@@ -3,6 +3,7 @@ ghost use Rattle.krb_capture_run.specs.Laws.{CapturesAreListed};
 ghost use Rattle.krb_file_run.specs.Laws.{KeysAreNotListed, SessionKeysAreNotListed, UpgradeIsListedAlike};
 ghost use Rattle.krb_convert.specs.Laws.{DecodedComesBack, DecodedIsLines, EncodedIsMessages, UnencryptedIsNotDecoded};
 ghost use Rattle.krb_tool.specs.Laws.{RefusalsAreAtOffsets};
+ghost use Rattle.krb_tool_laws.specs.Holes.{HolesAreNotListed};
 
 use krb_file_laws::ccache::{session_keys_change_nothing_else, upgrade_holds_the_same};
 use krb_file_laws::keytab::keys_change_nothing_else;
@@ -33,9 +34,12 @@ pub fn decoded_comes_back()
 }
 
 /// Two files that differ in octets of one key alone have one listing in each form, up to the same
-/// end or the same refusal with the same path: keytabs, and caches of version 4 or 3.
+/// end or the same refusal with the same path: keytabs, and caches of version 4 or 3. Keytabs that
+/// differ in octets of one hole, which may be those of an old key, have one listing but for the
+/// hole's line: that tells how many octets there are, and whether all of them are 00.
 pub fn keys_are_not_listed()
     ensures keytab { KeysAreNotListed }
+    ensures hole { HolesAreNotListed }
     ensures ccache { SessionKeysAreNotListed }
 {
     keys_change_nothing_else();
