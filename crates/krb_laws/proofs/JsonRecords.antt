@@ -101,10 +101,9 @@ record Cover (names : List (List ℕ)) (ms : List (List ℕ × Json)) : Type 0 w
 no_names : Cover [] []
 no_names = record { others = λ name h. h; apart = distinct [] }
 
--- those of fields, before others
-and_fields : (names : List (List ℕ)) (more : List (List ℕ × Json)) (fields : List Field) → Cover names more → Cover (flat_map (λ f. member_names f.name) fields ++ names) (flat_map field_members fields ++ more)
-and_fields names more [] c = c
-and_fields names more (first ∷ rest) c = record {
+-- those of a field, and of fields, before others
+and_field : (names : List (List ℕ)) (more : List (List ℕ × Json)) (first : Field) (rest : List Field) → Cover (flat_map (λ f. member_names f.name) rest ++ names) (flat_map field_members rest ++ more) → Cover (flat_map (λ f. member_names f.name) (first ∷ rest) ++ names) (flat_map field_members (first ∷ rest) ++ more)
+and_field names more first rest after = record {
   others = λ other h. (
     h.0,
     subst (λ ms. AllOthers other (keys (members_of ms))) (sym (append_assoc (names_of_value name first.value) (flat_map field_members rest) more))
@@ -129,8 +128,9 @@ and_fields names more (first ∷ rest) c = record {
     members : List (List ℕ × Json)
     members = flat_map field_members rest ++ more
 
-    after : Cover later members
-    after = and_fields names more rest c
+and_fields : (names : List (List ℕ)) (more : List (List ℕ × Json)) (fields : List Field) → Cover names more → Cover (flat_map (λ f. member_names f.name) fields ++ names) (flat_map field_members fields ++ more)
+and_fields names more [] c = c
+and_fields names more (first ∷ rest) c = and_field names more first rest (and_fields names more rest c)
 
 -- that of what is inside, before others
 and_inside : (names : List (List ℕ)) (more : List (List ℕ × Json)) (inside : Option (List Part)) → Cover names more → Cover (inside_name inside ++ names) (inside_members inside ++ more)

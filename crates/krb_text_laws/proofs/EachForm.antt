@@ -18,7 +18,7 @@ use Rattle.krb_record.specs.declared.form.Form.{Form}
 use Rattle.krb_record.specs.declared.form.Form.TheVariants as form
 use Rattle.krb_record.specs.Errors.{code_name, code_suffix, code_text}
 use Rattle.krb_record.specs.FileNames.{is_plain_in_name, name_octet, name_text}
-use Rattle.krb_record.specs.Forms.{four_octets, plus_text, unnamed, unnamed_from, named_in, is_set, set_names, named_flags_text, number_text, status_text, flags_text, refused_ticket_text, value_text, json_character, json_string, shown_octet, octets_string, or_null, name_string, flags_object, encrypted_object, principal_object, address_object, digest_object, offset_object, refused_object, true_or_false, json_value, names_member, members, labelled, field, opening, closing, fields_text, origin_text, opening_from, heading, part_text, inside_text, parts_text, in_object, last_text, ending, record_text}
+use Rattle.krb_record.specs.Forms.{four_octets, plus_text, unnamed, unnamed_from, named_in, is_set, set_names, named_flags_text, number_text, status_text, flags_text, refused_ticket_text, value_text, json_character, json_string, shown_octet, octets_string, or_null, name_string, flags_object, encrypted_object, principal_object, address_object, digest_object, offset_object, refused_object, true_or_false, json_value, names_member, members, labelled, field, opening, closing, fields_text, origin_text, opening_from, heading, part_text, inside_text, parts_text, in_object as in_object_alone, last_text, ending, record_text}
 use Rattle.krb_record.specs.Text.{AllAreOctets, IsPrintable, principal_text, two_hex, yes_or_no}
 use Rattle.krb_record.specs.TicketFlags.{flag_name, set_flags, names_text, other_flags, eight_hex, others_text, ticket_flags_text}
 use Rattle.krb_record.specs.Values.{Value, Absent, NoTicket, Number, Named, Numbers, ErrorCode, Status, Reason, NoReason, String, Quoted, FileName, Word, Hex, Flags, TicketFlags, Encrypted, Principal, Address, Digest, YesNo, Offset, RefusedTicket, Flow, Layers, Field, Part, Printed}
@@ -412,7 +412,7 @@ parts_if f (Some parts) h = parts_print f parts h
 abbrev pub ArePlain : List Field → Type 0
 ArePlain fields = (names_are_plain fields ≡ true) × AreShown fields
 
-object_alone : (f : Form) {text : List ℕ} → Prints text → Prints (in_object f text)
+object_alone : (f : Form) {text : List ℕ} → Prints text → Prints (in_object_alone f text)
 object_alone form.Lines h = word [] refl
 object_alone form.NamedLines h = word [] refl
 object_alone form.Json h = h
