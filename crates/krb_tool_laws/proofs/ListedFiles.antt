@@ -16,7 +16,7 @@ use Rattle.krb_file.specs.declared.field_name.FilePart.TheVariants as parts
 use Rattle.krb_file.specs.declared.field_name.FileField.{FileField}
 use Rattle.krb_file.specs.declared.field_path.FileItem.{FileItem}
 use Rattle.krb_file.specs.declared.field_path.FileItem.TheVariants as places
-use Rattle.krb_keytab.specs.Laws.{RecordsAreSpelled}
+use Rattle.krb_keytab.specs.Laws.{AreBefore, AreFirst, RecordsAreSpelled}
 use Rattle.krb_keytab.specs.Reading.{Records, after_version, items as keytab_records, items_after, items_from, items_within, record_at}
 use Rattle.krb_keytab.specs.declared.reading.Next.{Next}
 use Rattle.krb_keytab.specs.declared.reading.Next.TheVariants as nexts
@@ -140,7 +140,7 @@ module _ (refused : FileRefusalIsOneLine) (record_one : RecordIsOneLine) (end_on
   unfolding keytab_listing
   keytab_printed spelled file are = found_lines (keytab_records field_limit file) (by (spelled field_limit file are))
     where
-      by : ((keytab_records field_limit file).items ≡ []) ⊎ _ → AllByRecursion RecordIsOfOctets (keytab_records field_limit file).items
+      by : ((keytab_records field_limit file).items ≡ []) ⊎ ((size : ℕ) × AreFirst file (keytab_records field_limit file).items size × AreBefore size (keytab_records field_limit file).end) → AllByRecursion RecordIsOfOctets (keytab_records field_limit file).items
       by (inl none) = subst (AllByRecursion RecordIsOfOctets) (sym none) tt
       by (inr some) = records_are (keytab_records field_limit file).items some.1.spelled.0 some.1.spelled.1
 
@@ -209,14 +209,14 @@ records_fit [] octets spelled = tt
 records_fit (r ∷ found) octets spelled = (record_fits r spelled.0 spelled.3, records_fit found spelled.1 spelled.4)
 
 -- there are no more items than octets
+one_record_more : (bound : ℕ) (others : Source → Records) (r : Result (Next × Source) Fault) → ((t : Source) → length (others t).items ≤ bound) → length (items_from r others).items ≤ suc bound
+one_record_more bound others (Err f) few = omega arith
+one_record_more bound others (Ok (nexts.Done stop, t)) few = omega arith
+one_record_more bound others (Ok (nexts.Item item, t)) few = omega (arith, few t)
+
 few_records : (bound : ℕ) (limit : Option ℕ) (s : Source) → length (items_within bound limit s).items ≤ bound
 few_records zero limit s = omega arith
-few_records (suc bound) limit s = by (record_at (limited limit) s)
-  where
-    by : (r : Result (Next × Source) Fault) → length (items_from r (items_within bound limit)).items ≤ suc bound
-    by (Err f) = omega arith
-    by (Ok (nexts.Done stop, t)) = omega arith
-    by (Ok (nexts.Item item, t)) = omega (arith, few_records bound limit t)
+few_records (suc bound) limit s = one_record_more bound (items_within bound limit) (record_at (limited limit) s) (few_records bound limit)
 
 few_of_version : (limit : Option ℕ) (most : ℕ) (r : Result (ℕ × Source) Fault) → ((version : ℕ) (t : Source) → r ≡ Ok (version, t) → length t.octets ≤ most) → length (after_version r (items_after limit)).items ≤ most
 few_of_version limit most (Err f) shorter = omega arith
@@ -226,17 +226,18 @@ few_in_keytab : (limit : Option ℕ) (file : List ℕ) → length (keytab_record
 few_in_keytab limit file =
     few_of_version limit (length file) (version_at (2 ∷ []) (limited limit) (source_of file)) (λ version t e. Moved-shorter (source_of file) t ((Steps-version (2 ∷ [])).moves (limited limit) (source_of file) version t e))
 
+one_more_read : (bound : ℕ) (others : Source → CacheItems Credential) (r : Result (Credential × Source) Fault) → ((t : Source) → length (others t).items ≤ bound) → length (item_and r others).items ≤ suc bound
+one_more_read bound others (Err f) few = omega arith
+one_more_read bound others (Ok (c, t)) few = omega (arith, few t)
+
+one_credential_more : (bound place : ℕ) (others : Source → CacheItems Credential) (empty : Bool) (r : Result (Credential × Source) Fault) → ((t : Source) → length (others t).items ≤ bound)
+    → length (when empty (λ _. let it : CacheItems Credential = no_items (Ok place) in it) (λ _. item_and r others)).items ≤ suc bound
+one_credential_more bound place others true r few = omega arith
+one_credential_more bound place others false r few = one_more_read bound others r few
+
 few_credentials : (item_at : Reader Credential) (bound : ℕ) (limit : Option ℕ) (s : Source) → length (cache_items_within bound item_at limit s).items ≤ bound
 few_credentials item_at zero limit s = omega arith
-few_credentials item_at (suc bound) limit s = by (is_empty s.octets) (item_at (limited limit) s)
-  where
-    read : (r : Result (Credential × Source) Fault) → length (item_and r (cache_items_within bound item_at limit)).items ≤ suc bound
-    read (Err f) = omega arith
-    read (Ok (c, t)) = omega (arith, few_credentials item_at bound limit t)
-
-    by : (empty : Bool) (r : Result (Credential × Source) Fault) → length (when empty (λ _. let it : CacheItems Credential = no_items (Ok s.place) in it) (λ _. item_and r (cache_items_within bound item_at limit))).items ≤ suc bound
-    by true r = omega arith
-    by false r = read r
+few_credentials item_at (suc bound) limit s = one_credential_more bound s.place (cache_items_within bound item_at limit) (is_empty s.octets) (item_at (limited limit) s) (few_credentials item_at bound limit)
 
 few_of_start : (limit : Option ℕ) (most : ℕ) (r : Result (Start × Source) Fault) → ((start : Start) (t : Source) → r ≡ Ok (start, t) → length t.octets ≤ most) → length (credentials_of limit r).items ≤ most
 few_of_start limit most (Err f) shorter = omega arith
@@ -265,7 +266,7 @@ module _ (json : FilesAreJson) (record_one : RecordIsOneLine) (end_one : KeytabE
       found : Records
       found = keytab_records field_limit file
 
-      by : (found.items ≡ []) ⊎ _ → AllByRecursion (λ r. RecordIsOfOctets r × IsRecord r) found.items
+      by : (found.items ≡ []) ⊎ ((size : ℕ) × AreFirst file found.items size × AreBefore size found.end) → AllByRecursion (λ r. RecordIsOfOctets r × IsRecord r) found.items
       by (inl none) = subst (AllByRecursion (λ r. RecordIsOfOctets r × IsRecord r)) (sym none) tt
       by (inr some) = records_fit found.items some.1.spelled.0 some.1.spelled.1
 

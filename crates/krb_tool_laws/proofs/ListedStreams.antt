@@ -24,7 +24,7 @@ use Rattle.krb_frame.specs.GoingOn.{Contents, Entry, Fault, after_contents, entr
 use Rattle.krb_frame.specs.Laws.{RefusalsAreInside}
 use Rattle.krb_laws.specs.JsonLaws.{EndsAreJson, IsEnd, IsExtent, MessagesAreJson, PrintsJson}
 use Rattle.krb_laws.proofs.JsonStrings.{all-append}
-use Rattle.krb_record.specs.Streams.{counted_end_record, refused_line, refused_record}
+use Rattle.krb_record.specs.Streams.{counted_end_line, counted_end_record, refused_line, refused_record}
 use Rattle.krb_record.specs.declared.form.Form.{Form}
 use Rattle.krb_record.specs.declared.form.Form.TheVariants as forms
 use Rattle.krb_record.specs.declared.extent.Extent.{Extent}
@@ -161,7 +161,7 @@ pub record Premises : Type 0 where
 
 in_lenient : StrictIsNarrower → (profile : Profile) (m : Message) → IsInProfile profile m → IsInProfile profiles.Lenient m
 in_lenient narrower profiles.Lenient m is = is
-in_lenient narrower profiles.Strict m is = (narrower m).0 is .0
+in_lenient narrower profiles.Strict m is = ((narrower m).0 is).0
 
 module _ (p : Premises) (form : Form) (profile : Profile) (limit : ℕ) where
   in_profile : (m : Message) → IsGood profile limit (message_der m) → IsInProfile profiles.Lenient m
