@@ -1,5 +1,5 @@
 -- Each line of the listing of a keytab or of a cache is one.
-use Rattle.std.proofs.Common.{◌≡◌, ◌⊎◌, inl, inr, ℕ, zero, suc, ◌<◌, ◌≤◌, ◌^◌, Bool, true, false, arith, List, [], ◌∷◌, ◌++◌, length, map, Option, Some, None, Result, Ok, Err, IfSome, codes, refl, sym, ◌∙◌, ap, ap₂, subst, append-nil, append_assoc}
+use Rattle.std.proofs.Common.{◌≡◌, ◌⊎◌, inl, inr, ℕ, zero, suc, ◌<◌, ◌≤◌, ◌^◌, Bool, true, false, arith, List, [], ◌∷◌, ◌++◌, length, map, Option, Some, None, Result, Ok, Err, IfSome, codes, refl, sym, ◌∙◌, ap₂, subst, append-nil, append_assoc}
 use Rattle.std.proofs.lemmas.Grind.{flat_map-append}
 use Rattle.std.specs.List.{AllByRecursion, flat_map}
 use Rattle.std.specs.Int.{Width}
@@ -8,7 +8,7 @@ use Rattle.krb_der.specs.inner.Numbers.{AreOctets-append}
 use Rattle.krb_file.specs.Fields.{Fault, IsCounted, Reader, Source, is_empty, limited, source_of, version_at}
 use Rattle.krb_file.specs.Items.{no_items}
 use Rattle.krb_file.proofs.Steps.{Moved-shorter, Steps-version}
-use Rattle.krb_file.specs.Names.{field_text, in_part_text, item_text, name_text, numbered, part_text, path_text, record_text}
+use Rattle.krb_file.specs.Names.{field_text, in_part_text, item_text, name_text, numbered, part_text, record_text}
 use Rattle.krb_file.specs.declared.field_name.FieldName.{FieldName}
 use Rattle.krb_file.specs.declared.field_name.FieldName.TheVariants as fields
 use Rattle.krb_file.specs.declared.field_name.FilePart.{FilePart}
@@ -31,7 +31,6 @@ use Rattle.krb_ccache.specs.Streaming.{credentials, credentials_of, file_start}
 use Rattle.krb_ccache.proofs.Faults.{Steps-start}
 use Rattle.krb_ccache.specs.declared.reading.Start.{Start}
 use Rattle.krb_ccache.specs.declared.value.Ccache.{Ccache}
-use Rattle.krb_ccache.specs.declared.value.Cache3.{Cache3}
 use Rattle.krb_ccache.specs.declared.value.Credential.{Credential}
 use Rattle.krb_ccache.specs.declared.value.Credential3.{Credential3}
 use Rattle.krb_ccache.specs.declared.value.FilePrincipal.{FilePrincipal}

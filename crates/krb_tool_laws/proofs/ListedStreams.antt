@@ -1,5 +1,5 @@
 -- Each line of the listing of a stream is one.
-use Rattle.std.proofs.Common.{◌≡◌, ℕ, zero, suc, ◌+◌, ◌*◌, ◌^◌, ◌<◌, ◌≤◌, ◌==◌, nat_lt, nat_le, Bool, true, false, if◌then◌else◌, List, [], ◌∷◌, ◌++◌, length, map, take, drop, Option, Some, None, IfSome, refl, sym, ◌∙◌, ap, subst, arith, append-nil, length-append, length-drop}
+use Rattle.std.proofs.Common.{◌≡◌, ℕ, zero, suc, ◌+◌, ◌*◌, ◌^◌, ◌<◌, ◌≤◌, ◌==◌, nat_lt, nat_le, Bool, true, false, if◌then◌else◌, List, [], ◌∷◌, ◌++◌, length, map, take, drop, Some, None, IfSome, refl, sym, ◌∙◌, ap, subst, arith, append-nil, length-append, length-drop}
 use Rattle.std.specs.List.{AllByRecursion, flat_map}
 use Rattle.std.proofs.lemmas.List.Sums.{sum_by-cons}
 use Rattle.krb_der.specs.Octets.{AreOctets, number}
@@ -11,7 +11,7 @@ use Rattle.krb_der.specs.declared.why.Why.TheVariants as why
 use Rattle.krb_msg.specs.Grammar.{messages}
 use Rattle.krb_msg.specs.Judgement.{Bad, Done, Open, Outcome, message_outcome, verdict_of}
 use Rattle.krb_msg.specs.Laws.{AreMessage, DerIsPrefixFree, StrictIsNarrower}
-use Rattle.krb_msg.specs.Stream.{Boundary, End, Frames, Refused, Within, ends, frame_and, frames, frames_within, length_and, with_first}
+use Rattle.krb_msg.specs.Stream.{Boundary, End, Frames, Refused, Within, ends, frame_and, frames, frames_within, length_and}
 use Rattle.krb_msg.specs.Term.{Term}
 use Rattle.krb_msg.specs.Views.{IsInProfile, message_der}
 use Rattle.krb_msg.specs.declared.message.Message.{Message}
@@ -20,21 +20,19 @@ use Rattle.krb_msg.proofs.Streams.{IsMessage, IsParse, frames-parse}
 use Rattle.krb_frame.specs.Decoded.{frames_size}
 use Rattle.krb_frame.specs.Decoding.{announced}
 use Rattle.krb_frame.specs.Frame.{framed}
-use Rattle.krb_frame.specs.GoingOn.{Contents, Entry, Fault, after_contents, entries, entries_after, entries_of, entries_within, entry_size, last_entry, next_entries}
+use Rattle.krb_frame.specs.GoingOn.{Contents, Entry, Fault, after_contents, entries, entries_after, entries_within, last_entry}
 use Rattle.krb_frame.specs.Laws.{RefusalsAreInside}
 use Rattle.krb_laws.specs.JsonLaws.{EndsAreJson, IsEnd, IsExtent, MessagesAreJson, PrintsJson}
 use Rattle.krb_laws.proofs.JsonStrings.{all-append}
 use Rattle.krb_record.specs.Streams.{counted_end_line, counted_end_record, refused_line, refused_record}
 use Rattle.krb_record.specs.declared.form.Form.{Form}
-use Rattle.krb_record.specs.declared.form.Form.TheVariants as forms
-use Rattle.krb_record.specs.declared.extent.Extent.{Extent}
 use Rattle.krb_text.specs.Laws.{MessageIsOneLine, StreamEndIsOneLine}
-use Rattle.krb_record.specs.Laws.{CountedStreamEndIsOneLine, IsOneLine}
+use Rattle.krb_record.specs.Laws.{CountedStreamEndIsOneLine}
 use Rattle.krb_text.specs.Messages.{message_line, message_record}
 use Rattle.krb_text.specs.StreamEnds.{end_line, end_record}
 use Rattle.krb_tool.specs.GoingOn.{AreCountedLines, Faulty, IsCountedListing, Listed, Whole, entry_of, lines_after, messages_in, refused_in}
 use Rattle.krb_tool.specs.Listing.{AreLines, IsListing, end_of}
-use Rattle.krb_tool.specs.Paths.{end_extent, end_path, found_path, frame_extent, frame_path, last_octets}
+use Rattle.krb_tool.specs.Paths.{end_extent, end_path, frame_extent, frame_path, last_octets}
 use Rattle.krb_tool_laws.specs.Listings.{AreLinesOf, AreRead, StreamsAreLines}
 use Rattle.krb_tool_laws.proofs.Lines.{a_line, and_lines, each_line, no_lines}
 use Rattle.krb_tool_laws.proofs.PathOctets.{frame_octets}
@@ -284,7 +282,7 @@ module _ (inside : RefusalsAreInside) (profile : Profile) (limit : ℕ) where
       let after : List ℕ = after_contents found stream in
       let others = entries_after found.end (entries_within bound (messages profile) limit) after in
       let rest = few_after (bound * 2 ^ 65) found.end (entries_within bound (messages profile) limit) after
-          (λ rest rest_are le. few_entries bound rest rest_are (omega (arith, few, le, length-drop (frames_size found.contents) stream))) (AreOctets-drop (frames_size found.contents) stream are) in
+      (λ rest rest_are le. few_entries bound rest rest_are (omega (arith, few, le, length-drop (frames_size found.contents) stream))) (AreOctets-drop (frames_size found.contents) stream are) in
       omega (arith, rest, few, one_last found.end after, as_contents found.contents, few_contents profile limit found.contents, (parsed profile limit stream are).size, length-append (map Contents found.contents) (last_entry found.end after ++ others), length-append (last_entry found.end after) others)
 
 -- ---- their lines
