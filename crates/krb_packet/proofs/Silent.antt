@@ -1,16 +1,14 @@
 -- What is passed over was so by a number that is listed: header by header, and then along the walk.
-use Rattle.std.proofs.Common.{◌≡◌, ℕ, suc, zero, ◌+◌, ◌*◌, ◌-◌, ◌<◌, ◌≤◌, ◌⊎◌, ◌/◌, ◌%◌, ◌^◌, inl, inr, Bool, true, false, Option, Some, None, refl, ap, arith}
+use Rattle.std.proofs.Common.{◌≡◌, ℕ, suc, zero, ◌+◌, ◌*◌, ◌<◌, ◌≤◌, ◌⊎◌, ◌/◌, ◌%◌, ◌^◌, inl, inr, Bool, true, false, Option, Some, None, refl, ap, arith}
 use Rattle.std.specs.Prelude.{◌==◌, ◌||◌, ◌&&◌, bit_and, nat_le, nat_lt, IsSomeAnd, length}
 use Rattle.std.proofs.lemmas.Bool.{eqb-true, leb-true, leb-false, ltb-true}
 use Rattle.std.specs.declared.net.ip_addr.IpAddr.{IpAddr}
 use Rattle.std.specs.declared.net.ip_addr.IpAddr.TheVariants as ip
-use Rattle.krb_packet.specs.Contents.{addresses4, addresses6, after_headers, announced, authentication, bsd_loopback, contents_of, cooked, cooked_type, datagram, datagram_or_tunnel, ends, ethernet, extensions, fragment, frame, in_either_order, ipv4, ipv6, is_followed, is_tag, logical_link, may_lead_on, of_family, of_fragment, of_other_protocol, of_protocol, of_type, of_type_or_length, onwards, openbsd_loopback, or_unread, or_unread_between, payload_between, payload_of, raw_ip, segment, snap, snap_type, step, tag, tcp, udp, walk}
+use Rattle.krb_packet.specs.Contents.{addresses4, addresses6, after_headers, announced, authentication, bsd_loopback, cooked, cooked_type, datagram, datagram_or_tunnel, ends, ethernet, extensions, fragment, frame, in_either_order, ipv4, ipv6, is_followed, is_tag, logical_link, may_lead_on, of_family, of_fragment, of_other_protocol, of_protocol, of_type, of_type_or_length, onwards, openbsd_loopback, or_unread, or_unread_between, payload_between, payload_of, raw_ip, segment, snap, snap_type, step, tag, tcp, udp, walk}
 use Rattle.krb_packet.specs.Envelopes.{after_labels, gre, label, long_ppp, mirrored2, mirrored3, of_frame_kind, of_gre, of_ppp, pseudowire, session}
 use Rattle.krb_packet.specs.Passed.{is_passed_protocol, is_passed_type}
 use Rattle.krb_packet.specs.Payloads.{Captured, ◌>>=◌, field, number8, number16, number32, after, beyond}
 use Rattle.krb_packet.specs.Silence.{IsAccountedFor, IsBesideEsp, IsChannel, IsPassedCooked, IsPassedEthernet, IsPassedFamily, IsPassedFrame, IsPassedHeader, IsPassedIp, IsPassedLink, IsPassedOver, IsPassedPacket, IsPassedPayload, IsPassedProtocol, IsPassedSnap, IsPassedTunnel, IsPassedType, IsPassedTypeOrLength, NothingIsSilent, at_once, has_bridged, has_types, here, is_ip, is_snap, later, ppp_number, protocol4, protocol6, protocol_after, within}
-use Rattle.krb_packet.specs.Silence as silence
-use Rattle.krb_packet.specs.Steps.{found}
 use Rattle.krb_packet.specs.Tunnels.{beside_esp, geneve, is_served, is_tunnel, keep_alive, key_exchange, of_port, or_answer, payload, tunnel, vxlan}
 use Rattle.krb_packet.specs.declared.contents.Contents.{Contents}
 use Rattle.krb_packet.specs.declared.contents.Contents.TheVariants as contents

@@ -1,5 +1,5 @@
 -- A packet that is passed over, and the number or the ports that say so: the walk comes to them, and no packet of IP is in what follows.
-use Rattle.std.specs.Prelude.{◌≡◌, ℕ, ◌+◌, ◌<◌, ◌≤◌, ◌⊎◌, ◌/◌, ◌%◌, ◌^◌, ◌||◌, ◌&&◌, ◌==◌, Bool, true, false, Option, Some, IsSomeAnd, length}
+use Rattle.std.specs.Prelude.{◌≡◌, ℕ, ◌+◌, ◌<◌, ◌≤◌, ◌⊎◌, ◌/◌, ◌%◌, ◌||◌, ◌&&◌, ◌==◌, Bool, true, false, Option, Some, IsSomeAnd, length}
 use Rattle.krb_der.specs.Octets.{when}
 use Rattle.krb_packet.specs.Contents.{announced, contents_of, ends, extensions, frame, in_either_order, step}
 use Rattle.krb_packet.specs.Passed.{is_passed_protocol, is_passed_type}
@@ -10,7 +10,6 @@ use Rattle.krb_packet.specs.declared.contents.Contents.TheVariants as contents
 use Rattle.krb_packet.specs.declared.header.Addresses.{Addresses}
 use Rattle.krb_packet.specs.declared.header.Header.{Header}
 use Rattle.krb_packet.specs.declared.header.Header.TheVariants as headers
-use Rattle.krb_packet.specs.declared.header.Step.{Step}
 use Rattle.krb_packet.specs.declared.header.Step.TheVariants as steps
 use Rattle.krb_packet.specs.declared.packet.LinkType.{LinkType}
 use Rattle.krb_packet.specs.declared.packet.LinkType.TheVariants as links
