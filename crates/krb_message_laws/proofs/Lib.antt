@@ -6,3 +6,4 @@ pub mod ValueMarks
 pub mod Masks
 pub mod OtherCases
 pub mod Reorders
+pub mod Lengths
