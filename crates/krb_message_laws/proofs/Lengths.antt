@@ -38,7 +38,7 @@ use Rattle.krb_json.proofs.Messages.{json-in, short-in}
 use Rattle.krb_json.proofs.Printable.{IsPrintable, printable-hex, printable-shown, printable-time}
 
 -- ---- what is printed of tokens
-comma : (b : Bool) → length (cond b (44 ∷ []) []) ≤ 1
+comma : (b : Bool) → length {A = ℕ} (cond b (44 ∷ []) []) ≤ 1
 comma true = omega arith
 comma false = omega arith
 
@@ -190,8 +190,9 @@ optional-room term names index ms few one (Some value) fit short =
     omega (arith, member-room names index (json term (field_at names index).inside value) ms, one value fit short, few)
 
 mutual
+  unfolding is_slim are_slim more more_fields less less_fields
+
   term-room : (term : Term) (names : Names) → is_named term names ≡ true → is_slim term names ≡ true → (value : Value term) → Fits term value → IsShort term value → HasRoom term names value
-  unfolding is_slim more less
   term-room (Integer low high) names named light value fit short =
       let text = length_signed_le 19 value (omega (arith, magnitude low high value named fit.0 fit.1)) (magnitude low high value named fit.0 fit.1) in
       omega (arith, text, item_long 0x02 (integer_octets value), shortest_some (integer_octets value) (IsShortestInteger-integer_octets value))
@@ -217,7 +218,6 @@ mutual
       omega (arith, term-room term names named light value fit (omega (arith, item-longer (0x60 + number) (der term value), short)), item_long (0x60 + number) (der term value))
 
   fields-room : (fields : Fields) (names : Names) (index : ℕ) → are_named fields names index ≡ true → are_slim fields names index ≡ true → (values : Values fields) → AllFit fields values → length (der_of_fields fields values) < 2 ^ 31 → room (members_tokens (members_of fields names index values)) + less_fields fields ≤ 8 * length (der_of_fields fields values) + more_fields fields names index + 2
-  unfolding are_slim more_fields less_fields
   fields-room End names index named light values fit short = omega arith
   fields-room (Required term fields) names index named light values fit short =
       let f : First names index term fields = first term fields names index named in
