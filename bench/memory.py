@@ -1,17 +1,22 @@
 """Says how much memory bin/krbls has on what costs it most: captures of 65536 directions of connections that each
-have the first octets of a frame, a stream of one frame of 16 MiB, of the smallest items, strings without octets, and a
-capture of one packet of 16 MiB of frames without octets."""
+have the first octets of a frame, a stream of one frame of 16 MiB, of the smallest items, strings without octets, a
+capture of one packet of 16 MiB of frames without octets, and captures of packets in packets. And of 1 GiB of connections that end."""
 
+import itertools
 import struct
 import tempfile
 
-from capture import ACK, CAPTURE, ETHERNET, MIB, STREAM, SYN, ends, segment
+import envelopes
+from capture import ACK, CAPTURE, ETHERNET, MIB, STREAM, SYN, Connections, ends, segment
+from frames import real_frames
 from timing import most_octets
 
 DIRECTIONS = 65536
 PRESENT = (512, 1024, 2048)
 FRAME = 16 * MIB
 STRING = b"\x1b\0"
+# How many messages each connection that ends has, and the octets of all: some 70,000 connections.
+MESSAGES, ALL = 20, 1024 * MIB
 # Where an Ethernet packet has the total length of IPv4.
 TOTAL_LENGTH = 16
 
@@ -57,6 +62,22 @@ def empty_frames():
     yield packet[:TOTAL_LENGTH] + bytes(2) + packet[TOTAL_LENGTH + 2 :] + bytes(FRAME - len(packet))
 
 
+def ended_connections():
+    """The packets of connections that each send messages and end."""
+    connections = Connections(MESSAGES)
+    for number, frame in enumerate(itertools.cycle(real_frames())):
+        yield from connections(number, frame)
+
+
+def within(parts, size):
+    """Parts, until they have so many octets or some more."""
+    for part in parts:
+        yield part
+        size -= len(part)
+        if size <= 0:
+            return
+
+
 def whole_frame():
     """A stream of one frame, which is refused at its end, since the fields after the name are missing."""
     first = names(FRAME)
@@ -80,6 +101,9 @@ def main():
     print_memory("a frame of strings without octets", STREAM, whole_frame())
     for form in ([], ["--json"]):
         print_memory(" ".join(["a packet of frames without octets", *form]), [*CAPTURE, *form], capture(empty_frames()))
+    for name, packets in envelopes.PACKETS.items():
+        print_memory(name, CAPTURE, within(capture(packets(FRAME), envelopes.RAW), FRAME))
+    print_memory("connections that end", CAPTURE, within(capture(ended_connections()), ALL))
 
 
 if __name__ == "__main__":

@@ -4,18 +4,16 @@ import itertools
 import random
 import struct
 
-from capture import ACK, CAPTURE, FIRST_PORT, KERBEROS, PORTS, RST, SYN, TCP, UDP, ends, internet, segment
+import envelopes
+from capture import ACK, CAPTURE, PORTS, RST, SYN, TCP, UDP, ends, internet, segment
+from envelopes import FRAMING, RAW, again, datagram, udp
 from memory import capture, names
 from worst_streams import SMALL, repeated
 
-# Packets begin with their IP header, so that they are small.
-RAW = 101
-FRAMING = 14
 IPV6_OPTIONS = 60
 PASSWORDS = 464
 SECONDS = 1795000000
 PIECE = 1460
-CLIENT = b"\x0a\0\0\1"
 
 # How many octets a packet of a segment of one octet is in a capture.
 LEAST = 57
@@ -28,14 +26,6 @@ def tcp(place, octets=b"", flags=ACK, number=0):
 
 def begin(number=0, place=0):
     return tcp(place - 1, flags=SYN, number=number)
-
-
-def datagram(octets, port=KERBEROS):
-    return struct.pack(">HHHH", FIRST_PORT, port, 8 + len(octets), 0) + octets
-
-
-def udp(octets, port=KERBEROS):
-    return internet(CLIENT, UDP, datagram(octets, port))[FRAMING:]
 
 
 def fragment(number, place, octets):
@@ -165,10 +155,6 @@ def copies(before, pieces):
     return packets
 
 
-def again(packet):
-    return lambda size: itertools.repeat(packet)
-
-
 FRAME = names(60000)
 FRAME += repeated(b"\x1b\0", 2900 - len(FRAME))
 
@@ -236,7 +222,7 @@ def taken(parts, size):
 
 def cases(size):
     """Each with a name, a command, and what makes its octets."""
-    for name, packets in PACKETS.items():
+    for name, packets in {**PACKETS, **envelopes.PACKETS}.items():
         yield f"capture of {name}", CAPTURE[1:], lambda: taken(capture(packets(size), RAW, SECONDS), size)
     for name, unit in BLOCKS.items():
         yield f"pcapng of {name}", CAPTURE[1:], lambda: SECTION + block(1, INTERFACE) + repeated(unit, size)

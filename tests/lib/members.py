@@ -4,6 +4,7 @@ A table is one of the kinds that the heading before it names, or has the kind of
 Each of its rows has fields and their values, and a kind may have several tables: the end of a stream and that of
 a keytab have other fields. The table of the heading Origin has the fields that come before those of its kind in a
 record of a capture, and that of the heading What a message is in those of an input of `message`, if they are there.
+The table of what is Last has the members that come after all else in an object of a capture.
 The kinds of the headings What is inside and What is inside of errors are those of records inside of others, and of these alone.
 """
 
@@ -125,6 +126,9 @@ def tables():
         elif header[:2] == ["Field", "Value"] and not line.startswith("|---"):
             names, values = cells(line)[:2]
             yield heading, heading.split(", ") if previous.startswith("|---") else [], fields_of(names, values)
+        elif header[:2] == ["Last", "Value"] and not line.startswith("|---"):
+            names, values = cells(line)[:2]
+            yield heading, ["Last"], fields_of(names, values)
         elif header[:3] == ["Line", "Field", "Value"] and not line.startswith("|---"):
             kinds, names, values = cells(line)[:3]
             yield heading, QUOTED.findall(kinds), fields_of(names, values)
@@ -149,6 +153,7 @@ KINDS = kinds_of_records(False)
 PARTS = kinds_of_records(True)
 [ORIGIN] = KINDS.pop("Origin")
 [LAYERS] = KINDS.pop("What a message is in")
+[LAST] = KINDS.pop("Last")
 
 
 def members_after_kind(fields, record):
@@ -172,6 +177,7 @@ def has_members_of(kinds, record, before=(), after=()):
 
 def is_as_listed(record):
     """Whether an object of a listing has the members that the tables say."""
-    before = ORIGIN if "packet" in record else [field for field in LAYERS if field[0] in record]
-    after = [("file", "file name")] if "file" in record else []
+    in_capture = "packet" in record
+    before = ORIGIN if in_capture else [field for field in LAYERS if field[0] in record]
+    after = [*(LAST if in_capture else []), *([("file", "file name")] if "file" in record else [])]
     return has_members_of(KINDS, record, before, after)

@@ -21,7 +21,7 @@ sys.path.insert(0, str(PACKAGE / "tools"))
 
 BASE = {"kind": "refused", "place": 3, "why": 12, "why_name": "Range", "in": None, "at": 0, "length": None}
 ENDS = {"source": {"address": "::1", "port": 1}, "target": {"address": "::1", "port": 88}}
-ORIGIN = {"packet": 1, "t": None, "flow": {"over": "udp", **ENDS}}
+ORIGIN = {"packet": 1, "t": None, "flow": {"over": "udp", **ENDS}, "t_us": None}
 COUNTS = {"packets": 1, "messages": 0, "refused": 0, "lost": 0, "unread": 0}
 
 
@@ -63,14 +63,14 @@ class ToldApart(unittest.TestCase):
     def test_wrong(self):
         import check_schema
 
-        wrong = ({**BASE, "packet": 1}, {**BASE, "place": "3"}, {**BASE, "why": None}, {"kind": "refused"}, {**BASE, "in": 7})
+        wrong = ({**BASE, "packet": 1}, {**BASE, **ORIGIN, "t_us": "5"}, {**BASE, "place": "3"}, {**BASE, "why": None}, {"kind": "refused"}, {**BASE, "in": 7})
         for record in wrong:
             self.assertEqual(check_schema.names_of(record), [], json.dumps(record))
 
     def test_members_of_a_later_version(self):
         import check_schema
 
-        self.assertEqual(check_schema.names_of({**BASE, **ORIGIN, "t_us": 5, "of": 3}), ["refused"])
+        self.assertEqual(check_schema.names_of({**BASE, **ORIGIN, "of": 3, "after": 5}), ["refused"])
 
 
 if __name__ == "__main__":

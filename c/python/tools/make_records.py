@@ -17,7 +17,7 @@ INSIDE = [one["$ref"].rsplit("/", 1)[1] for one in DEFS["inside"]["oneOf"]]
 
 HEAD = '''"""The types of records: each object of `krbls --json`, as docs/LISTING.md of krbls says.
 
-`packet`, `t` and `flow` are in the records of a capture, `line` and `via` in those of `message`, `file` in those of
+`packet`, `t`, `flow` and `t_us` are in the records of a capture, `line` and `via` in those of `message`, `file` in those of
 several files. tools/make_records.py makes this of krbls.schema.json; not to be edited."""
 
 from typing import List, Literal, Optional, TypedDict, Union

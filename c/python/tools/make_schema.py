@@ -105,7 +105,7 @@ def kinds_of_captures():
     for heading, kinds, _ in members.tables():
         for kind in kinds:
             headings.setdefault(kind, set()).add(heading)
-    return {kind for kind, found in headings.items() if found == {"Origin"}} - {"Origin"}
+    return {kind for kind, found in headings.items() if found == {"Origin"}} - {"Origin", "Last"}
 
 
 def or_null(shape):
@@ -186,10 +186,11 @@ def where():
         name: or_null(SHAPES["instant"]) if name == "t" else SHAPES[value.removesuffix(members.OPTIONAL)]
         for name, value in [*members.ORIGIN, *members.LAYERS, ("file", "file name")]
     }
-    origin = [name for name, _ in members.ORIGIN]
+    properties |= {name: or_null(SHAPES[value.removesuffix(members.OPTIONAL)]) for name, value in members.LAST}
+    origin = [name for name, _ in [*members.ORIGIN, *members.LAST]]
     return {
-        "description": "Where a record is from: the packet that completes it, its time and its flow (captures), the line and the "
-        "layers (messages), the file (-H).",
+        "description": "Where a record is from: the packet that completes it, its time, in microseconds too, and its flow (captures), "
+        "the line and the layers (messages), the file (-H).",
         "properties": properties,
         "dependentRequired": {name: [other for other in origin if other != name] for name in origin},
     }

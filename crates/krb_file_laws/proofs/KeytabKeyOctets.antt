@@ -83,10 +83,10 @@ items_from-masked (Ok (nexts.Done stop, t)) others = refl
 items_from-masked (Ok (nexts.Item r, t)) others = refl
 
 -- a record, if there is an octet of it
-abbrev whole_record_at : Reader Next
+abbrev pub whole_record_at : Reader Next
 whole_record_at = one_part (called fields.Length (signed_at w32) >>= record_of)
 
-record_at-some : (bounds : Bounds) (place : ℕ) (octets others : List ℕ) → 0 < length octets → record_at bounds (at place (octets ++ others)) ≡ whole_record_at bounds (at place (octets ++ others))
+pub record_at-some : (bounds : Bounds) (place : ℕ) (octets others : List ℕ) → 0 < length octets → record_at bounds (at place (octets ++ others)) ≡ whole_record_at bounds (at place (octets ++ others))
 record_at-some bounds place [] others some = absurd (omega arith)
 record_at-some bounds place (octet ∷ octets) others some = refl
 
@@ -105,7 +105,7 @@ Stable-record_of (pos zero) = Stable-succeed (nexts.Done stops.Zero)
 Stable-record_of (pos (suc n)) = Stable-then (within (suc n) entry_at) _ (Stable-within (suc n) entry_at Stable-entry) (λ entry. Stable-succeed (nexts.Item (records.Entry entry)))
 Stable-record_of (negsuc n) = Stable-then (called fields.Hole (next_octets_at None (suc n))) _ (Stable-called fields.Hole (next_octets_at None (suc n)) (Stable-piece (suc n))) (λ octets. Stable-succeed (nexts.Item (records.Hole (record { size = suc n; clean = are_zero octets }))))
 
-Stable-some : Stable whole_record_at
+pub Stable-some : Stable whole_record_at
 Stable-some = Stable-one_part (called fields.Length (signed_at w32) >>= record_of) (Stable-then (called fields.Length (signed_at w32)) record_of (Stable-called fields.Length (signed_at w32) (Stable-signed w32)) Stable-record_of)
 
 -- records, and then one of which octets of the key differ
@@ -144,7 +144,7 @@ items-alike (r ∷ found) (suc bound) limit place body octets after other spelle
     ∙ ap (λ (x : Result (Next × Source) Fault). masked_items (items_from x others)) (sym (is other))
 
 -- ---- a file
-items-opened : (limit : Option ℕ) (octets : List ℕ) → items limit (5 ∷ 2 ∷ octets) ≡ items_within (length octets) limit (at 2 octets)
+pub items-opened : (limit : Option ℕ) (octets : List ℕ) → items limit (5 ∷ 2 ∷ octets) ≡ items_within (length octets) limit (at 2 octets)
 items-opened limit octets = ap (λ (r : Result (ℕ × Source) Fault). after_version r (items_after limit)) (version-again (2 ∷ []) (limited limit) octets 2 (omega arith) refl refl)
 
 pub keys-alone : (limit : Option ℕ) (before key other after : List ℕ) (size : ℕ) → IsUpToKey before size → length key ≤ size → length other ≡ length key → masked_items (items limit (before ++ (key ++ after))) ≡ masked_items (items limit (before ++ (other ++ after)))

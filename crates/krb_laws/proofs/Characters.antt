@@ -22,7 +22,7 @@ symbol value = slice_index (alphabet_symbols standard) value
 abbrev reads_back : ℕ → Bool
 reads_back value = is_number value (character_value (symbol value))
 
-some_number : (value : ℕ) (found : Option ℕ) → is_number value found ≡ true → found ≡ Some value
+pub some_number : (value : ℕ) (found : Option ℕ) → is_number value found ≡ true → found ≡ Some value
 some_number value None is = absurd (cc)
 some_number value (Some number) is = ap Some (eqb-true number value is)
 

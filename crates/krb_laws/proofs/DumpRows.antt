@@ -1,18 +1,18 @@
 -- A line of a dump is read as the octets that it is written of.
-use Rattle.std.proofs.Common.{ℕ, zero, suc, ◌*◌, ◌/◌, ◌%◌, ◌^◌, ◌==◌, ◌≡◌, ◌<◌, ◌≤◌, ◌&&◌, ◌||◌, not, if◌then◌else◌, Bool, true, false, List, [], ◌∷◌, ◌++◌, length, take, drop, Some, None, Ok, Err, refl, sym, ap, ◌∙◌, arith}
-use Rattle.std.proofs.lemmas.Bool.{and_right, eq-eqb, not_from_true}
+use Rattle.std.proofs.Common.{ℕ, zero, suc, replicate, append-nil, ◌*◌, ◌/◌, ◌%◌, ◌^◌, ◌==◌, ◌≡◌, ◌<◌, ◌≤◌, ◌&&◌, ◌||◌, not, Bool, true, false, List, [], ◌∷◌, ◌++◌, length, take, drop, Some, None, Ok, Err, refl, sym, ap, ◌∙◌, arith}
+use Rattle.std.proofs.lemmas.Bool.{and_right, not_from_true}
 use Rattle.std.proofs.lemmas.Bool.Decides.{nat_tests}
-use Rattle.std.specs.Int.{w32, to_be_bytes}
-use Rattle.hex.specs.Hex.{encode_lower, encode_with, is_hex_digit, lower_digits}
+use Rattle.hex.specs.Hex.{encode_lower, encode_with, lower_digits}
 use Rattle.hex.proofs.HexLemmas.{length-encode_with}
-use Rattle.krb_der.specs.Octets.{AreOctets, number, when}
+use Rattle.krb_der.specs.Octets.{AreOctets, begins_with, when}
 use Rattle.krb_input.specs.Characters.{count_digits, is_blank, skip_blanks}
 use Rattle.krb_input.specs.Readings.{prepend, then_octet}
-use Rattle.krb_input.specs.Dumps.{after_digits, after_offset_read, begins_wrong, blanks_or_groups, ends_groups, first_group, groups, is_bar, is_group, is_number, is_offset, line, line_begun, line_of, most_blanks, offset_read, pairs}
+use Rattle.krb_input.specs.Dumps.{after_offset_read, begins_wrong, blanks_or_groups, ends_groups, first_group, groups, is_bar, is_group, line, line_of, most_blanks, pairs}
 use Rattle.krb_input.proofs.Prepends.{prepend_none, prepend_twice}
-use Rattle.krb_laws.specs.Written.{IsBeside, IsGroup, IsLayout, Layout, after_blanks, begins_column, colon_if, dump_line, rows_of, spaced}
-use Rattle.krb_laws.proofs.Hexadecimal.{no_prefix, not_skipped}
-use Rattle.krb_laws.proofs.Pairs.{IsPair, count_encoded, digit_no_bar, digit_no_blank, digit_no_x, digit_of, digits_pair, number_encoded}
+use Rattle.krb_laws.specs.Written.{IsBeside, IsGroup, IsLayout, Layout, after_blanks, base_for, begins_column, colon_if, dump_line, grouped, offset_text, rows_of, spaced}
+use Rattle.krb_laws.proofs.Hexadecimal.{not_skipped}
+use Rattle.krb_laws.proofs.Offsets.{offset_line}
+use Rattle.krb_laws.proofs.Pairs.{IsPair, count_encoded, digit_no_bar, digit_no_blank, digit_of, digits_pair}
 use Rattle.krb_laws.proofs.Rows.{AreGroups, all_of, all_of_rows, group_some, groups_are}
 
 -- ---- what stands beside octets
@@ -126,106 +126,84 @@ groups_spaced has_colon is_wide number (octets ∷ others) after narrow are is =
 some_counted : (count size : ℕ) → count ≡ 2 * suc size → (count == 0) ≡ false
 some_counted count size is = grind (arith, nat_tests)
 
-first_blanks : (has_colon are_two : Bool) (text : List ℕ) → first_group has_colon (after_blanks are_two text) ≡ when (true && not (count_digits (skip_blanks text) == 0)) (λ _. groups has_colon 1 (skip_blanks text)) (λ _. Err (length (skip_blanks text)))
-first_blanks has_colon true text = refl
-first_blanks has_colon false text = refl
+-- blanks of a gap are skipped
+pub gap_skipped : (gap : ℕ) (text : List ℕ) → skip_blanks (replicate gap 0x20 ++ text) ≡ skip_blanks text
+gap_skipped zero text = refl
+gap_skipped (suc gap) text = gap_skipped gap text
 
-offset_blanks : (left : ℕ) (are_two : Bool) (text : List ℕ) → after_offset_read left (after_blanks are_two text) ≡ blanks_or_groups (skip_blanks text) (after_blanks are_two text)
-offset_blanks left true text = refl
-offset_blanks left false text = refl
+-- groups after a gap, of which the first has an octet
+module _ (has_colon : Bool) (gap : ℕ) (is_wide : ℕ → Bool) (octet : ℕ) (octets : List ℕ) (others : List (List ℕ)) (after : List ℕ) where
+  abbrev group_text : List ℕ
+  group_text = encode_lower (octet ∷ octets) ++ spaced is_wide 1 others after
 
-any_groups : (are_two : Bool) (first : ℕ) (others text : List ℕ) → blanks_or_groups (first ∷ others) (after_blanks are_two text) ≡ line_of (first_group false (after_blanks are_two text))
-any_groups true first others text = refl
-any_groups false first others text = refl
-
--- groups, of which the first has an octet
-module _ (has_colon : Bool) (is_wide : ℕ → Bool) (octet : ℕ) (octets : List ℕ) (others : List (List ℕ)) (after : List ℕ) where
-  first_spaced : IsNarrow has_colon is_wide → AreGroups has_colon ((octet ∷ octets) ∷ others) → IsBeside has_colon after →
-      first_group has_colon (spaced is_wide 0 ((octet ∷ octets) ∷ others) after) ≡ Ok (all_of ((octet ∷ octets) ∷ others))
+  at_group : AreOctets (octet ∷ octets) → skip_blanks (replicate gap 0x20 ++ group_text) ≡ group_text
   unfolding encode_with
+  at_group are =
+      let pair = digits_pair octet are.0 in
+      gap_skipped gap group_text
+      ∙ not_skipped (digit_of (octet / 16)) (digit_of (octet % 16) ∷ (encode_lower octets ++ spaced is_wide 1 others after)) (digit_no_blank (digit_of (octet / 16)) pair.high_digit)
+
+  first_spaced : IsNarrow has_colon is_wide → AreGroups has_colon ((octet ∷ octets) ∷ others) → IsBeside has_colon after →
+      first_group has_colon (grouped (suc gap) is_wide ((octet ∷ octets) ∷ others) after) ≡ Ok (all_of ((octet ∷ octets) ∷ others))
   first_spaced narrow are is =
-      let pair = digits_pair octet are.0.0 in
-      let rest : List ℕ = spaced is_wide 1 others after in
       let none = none_counted has_colon is_wide 1 others after is in
-      let text : List ℕ = encode_lower (octet ∷ octets) ++ rest in
-      first_blanks has_colon (is_wide 0) text
-      ∙ ap (λ t. when (true && not (count_digits t == 0)) (λ _. groups has_colon 1 t) (λ _. Err (length t))) (not_skipped (digit_of (octet / 16)) (digit_of (octet % 16) ∷ (encode_lower octets ++ rest)) (digit_no_blank (digit_of (octet / 16)) pair.high_digit))
-      ∙ ap (λ b. when (true && not b) (λ _. groups has_colon 1 text) (λ _. Err (length text))) (some_counted (count_digits text) (length octets) (group_counted (octet ∷ octets) rest are.0 none))
-      ∙ group_read has_colon 1 (octet ∷ octets) rest are.0 are.1 none
+      ap (λ t. when (true && not (count_digits t == 0)) (λ _. groups has_colon 1 t) (λ _. Err (length t))) (at_group are.0)
+      ∙ ap (λ b. when (true && not b) (λ _. groups has_colon 1 group_text) (λ _. Err (length group_text))) (some_counted (count_digits group_text) (length octets) (group_counted (octet ∷ octets) (spaced is_wide 1 others after) are.0 none))
+      ∙ group_read has_colon 1 (octet ∷ octets) (spaced is_wide 1 others after) are.0 are.1 none
       ∙ ap (prepend (octet ∷ octets)) (groups_spaced has_colon is_wide 1 others after narrow are.2 is)
 
-tail_read : (has_colon : Bool) (is_wide : ℕ → Bool) (left octet : ℕ) (octets : List ℕ) (others : List (List ℕ)) (after : List ℕ) → IsNarrow has_colon is_wide → AreGroups has_colon ((octet ∷ octets) ∷ others) → IsBeside has_colon after →
-    after_offset_read left (colon_if has_colon ++ spaced is_wide 0 ((octet ∷ octets) ∷ others) after) ≡ Ok (Some (all_of ((octet ∷ octets) ∷ others)))
+tail_read : (has_colon : Bool) (gap : ℕ) (is_wide : ℕ → Bool) (left octet : ℕ) (octets : List ℕ) (others : List (List ℕ)) (after : List ℕ) → IsNarrow has_colon is_wide → AreGroups has_colon ((octet ∷ octets) ∷ others) → IsBeside has_colon after →
+    after_offset_read left (colon_if has_colon ++ grouped (suc gap) is_wide ((octet ∷ octets) ∷ others) after) ≡ Ok (Some (all_of ((octet ∷ octets) ∷ others)))
 unfolding encode_with
-tail_read true is_wide left octet octets others after narrow are is = ap line_of (first_spaced true is_wide octet octets others after narrow are is)
-tail_read false is_wide left octet octets others after narrow are is =
-    let pair = digits_pair octet are.0.0 in
-    let more : List ℕ = digit_of (octet % 16) ∷ (encode_lower octets ++ spaced is_wide 1 others after) in
-    offset_blanks left (is_wide 0) (digit_of (octet / 16) ∷ more)
-    ∙ ap (λ t. blanks_or_groups t (spaced is_wide 0 ((octet ∷ octets) ∷ others) after)) (not_skipped (digit_of (octet / 16)) more (digit_no_blank (digit_of (octet / 16)) pair.high_digit))
-    ∙ any_groups (is_wide 0) (digit_of (octet / 16)) more (digit_of (octet / 16) ∷ more)
-    ∙ ap line_of (first_spaced false is_wide octet octets others after narrow are is)
+tail_read true gap is_wide left octet octets others after narrow are is = ap line_of (first_spaced true gap is_wide octet octets others after narrow are is)
+tail_read false gap is_wide left octet octets others after narrow are is =
+    ap (λ t. blanks_or_groups t (grouped (suc gap) is_wide ((octet ∷ octets) ∷ others) after)) (at_group false gap is_wide octet octets others after are.0)
+    ∙ ap line_of (first_spaced false gap is_wide octet octets others after narrow are is)
 
-tail_counted : (has_colon : Bool) (is_wide : ℕ → Bool) (rows : List (List ℕ)) (after : List ℕ) → IsBeside has_colon after → count_digits (colon_if has_colon ++ spaced is_wide 0 rows after) ≡ 0
-tail_counted true is_wide rows after is = refl
-tail_counted false is_wide rows after is = none_counted false is_wide 0 rows after is
+tail_counted : (has_colon : Bool) (gap : ℕ) (is_wide : ℕ → Bool) (rows : List (List ℕ)) (after : List ℕ) → IsBeside has_colon after → count_digits (colon_if has_colon ++ grouped (suc gap) is_wide rows after) ≡ 0
+tail_counted true gap is_wide rows after is = refl
+tail_counted false gap is_wide [] after is = beside_counted false after is
+tail_counted false gap is_wide (octets ∷ others) after is = refl
 
 -- octets in groups
-grouped_read : (has_colon : Bool) (is_wide : ℕ → Bool) (group left octet : ℕ) (octets after : List ℕ) → IsNarrow has_colon is_wide → IsGroup has_colon group → AreOctets (octet ∷ octets) → IsBeside has_colon after →
-    after_offset_read left (colon_if has_colon ++ spaced is_wide 0 (rows_of (length (octet ∷ octets)) group (octet ∷ octets)) after) ≡ Ok (Some (octet ∷ octets))
-grouped_read has_colon is_wide zero left octet octets after narrow group are is = let some = group_some has_colon 0 group in absurd (omega arith)
-grouped_read has_colon is_wide (suc more) left octet octets after narrow group are is =
-    tail_read has_colon is_wide left octet (take more octets) (rows_of (length octets) (suc more) (drop more octets)) after narrow (groups_are has_colon (length (octet ∷ octets)) (suc more) (octet ∷ octets) group are) is
+grouped_read : (has_colon : Bool) (gap : ℕ) (is_wide : ℕ → Bool) (group left octet : ℕ) (octets after : List ℕ) → IsNarrow has_colon is_wide → IsGroup has_colon group → AreOctets (octet ∷ octets) → IsBeside has_colon after →
+    after_offset_read left (colon_if has_colon ++ grouped (suc gap) is_wide (rows_of (length (octet ∷ octets)) group (octet ∷ octets)) after) ≡ Ok (Some (octet ∷ octets))
+grouped_read has_colon gap is_wide zero left octet octets after narrow group are is = let some = group_some has_colon 0 group in absurd (omega arith)
+grouped_read has_colon gap is_wide (suc more) left octet octets after narrow group are is =
+    tail_read has_colon gap is_wide left octet (take more octets) (rows_of (length octets) (suc more) (drop more octets)) after narrow (groups_are has_colon (length (octet ∷ octets)) (suc more) (octet ∷ octets) group are) is
     ∙ ap (λ all. Ok (Some all)) (all_of_rows (length (octet ∷ octets)) (suc more) (octet ∷ octets) (omega arith) (omega arith))
 
--- ---- offsets
-pub four_octets : (count : ℕ) → AreOctets (to_be_bytes w32 count)
-four_octets count = (omega arith, (omega arith, (omega arith, (omega arith, tt))))
+-- ---- lines
+-- whether `:` follows an offset
+begins_colon : (has_colon : Bool) (gap : ℕ) (is_wide : ℕ → Bool) (octets : List ℕ) (others : List (List ℕ)) (after : List ℕ) → begins_with 0x3A (colon_if has_colon ++ grouped (suc gap) is_wide (octets ∷ others) after) ≡ has_colon
+begins_colon true gap is_wide octets others after = refl
+begins_colon false gap is_wide octets others after = refl
 
-four_number : (count : ℕ) → count < 2 ^ 32 → number (to_be_bytes w32 count) ≡ count
-four_number count small = omega arith
-
-same_number : (count found : ℕ) → found ≡ count → is_number count (Some found) ≡ true
-same_number count found is = eq-eqb found count is
-
-offset_is : (count : ℕ) (text : List ℕ) → count < 2 ^ 32 → is_offset count false 8 (encode_lower (to_be_bytes w32 count) ++ text) ≡ true
-unfolding encode_with
-offset_is count text small =
-    ap (is_number count) (number_encoded 0 (to_be_bytes w32 count) (four_octets count)) ∙ same_number count (number (to_be_bytes w32 count)) (four_number count small)
-
-offset_read_of : (count : ℕ) (text : List ℕ) → count < 2 ^ 32 → count_digits text ≡ 0 → after_digits count false (encode_lower (to_be_bytes w32 count) ++ text) ≡ Some text
-unfolding encode_with
-offset_read_of count text small none =
-    let whole : List ℕ = encode_lower (to_be_bytes w32 count) ++ text in
-    ap (λ n. if is_offset count false n whole then Some (drop n whole) else None) (count_encoded (to_be_bytes w32 count) text (four_octets count) none)
-    ∙ ap (λ b. if b then Some text else None) (offset_is count text small)
-
--- a line that begins with the digits of an octet, and with that of another
-begun : (count octet : ℕ) (low : ℕ) (text : List ℕ) → is_hex_digit (digit_of octet) ≡ true → is_hex_digit low ≡ true →
-    line count (digit_of octet ∷ low ∷ text) ≡ offset_read (length (digit_of octet ∷ low ∷ text)) (after_digits count false (digit_of octet ∷ low ∷ text))
-begun count octet low text first second =
-    ap (line_begun count) (not_skipped (digit_of octet) (low ∷ text) (digit_no_blank (digit_of octet) first))
-    ∙ ap (λ p. offset_read (length (digit_of octet ∷ low ∷ text)) (after_digits count p (if p then text else digit_of octet ∷ low ∷ text))) (no_prefix (digit_of octet) low text (digit_no_x low second))
-
-pub line_read : (layout : Layout) (count octet : ℕ) (octets : List ℕ) → IsLayout layout → AreOctets (octet ∷ octets) → count < 2 ^ 32 → line count (dump_line layout count (octet ∷ octets)) ≡ Ok (Some (octet ∷ octets))
-unfolding encode_with
-line_read layout count octet octets is are small =
+line_by : (layout : Layout) (gap group count octet : ℕ) (octets : List ℕ) → IsLayout layout → layout.gap ≡ suc gap → layout.group ≡ suc group → AreOctets (octet ∷ octets) → count < layout.base ^ layout.digits → line count (dump_line layout count (octet ∷ octets)) ≡ Ok (Some (octet ∷ octets))
+line_by layout gap group count octet octets is has_gap has_group are small =
     let after : List ℕ = layout.beside (octet ∷ octets) in
     let rows : List (List ℕ) = rows_of (length (octet ∷ octets)) layout.group (octet ∷ octets) in
-    let tail : List ℕ = colon_if layout.has_colon ++ spaced layout.is_wide 0 rows after in
-    let high : ℕ = count / 256 ^ 3 % 256 in
-    let pair = digits_pair high (four_octets count).0 in
-    let whole : List ℕ = dump_line layout count (octet ∷ octets) in
-    begun count (high / 16) (digit_of (high % 16)) (drop 2 whole) pair.high_digit pair.low_digit
-    ∙ ap (offset_read (length whole)) (offset_read_of count tail small (tail_counted layout.has_colon layout.is_wide rows after (is.beside (octet ∷ octets))))
-    ∙ grouped_read layout.has_colon layout.is_wide layout.group (length whole) octet octets after is.narrow is.group are (is.beside (octet ∷ octets))
+    let tail : List ℕ = colon_if layout.has_colon ++ grouped (suc gap) layout.is_wide rows after in
+    let whole : line count (dump_line layout count (octet ∷ octets)) ≡ line count (offset_text layout count ++ tail) = ap (λ g. line count (offset_text layout count ++ (colon_if layout.has_colon ++ grouped g layout.is_wide rows after))) has_gap in
+    let colon : begins_with 0x3A tail ≡ layout.has_colon =
+    ap (λ g. begins_with 0x3A (colon_if layout.has_colon ++ grouped (suc gap) layout.is_wide (rows_of (length (octet ∷ octets)) g (octet ∷ octets)) after)) has_group
+    ∙ begins_colon layout.has_colon gap layout.is_wide (octet ∷ take group octets) (rows_of (length octets) (suc group) (drop group octets)) after in
+    let read = offset_line layout is count tail (tail_counted layout.has_colon gap layout.is_wide rows after (is.beside (octet ∷ octets))) small (is.base ∙ ap (base_for layout.digits layout.has_prefix) (sym colon)) in
+    whole ∙ read.1 ∙ grouped_read layout.has_colon gap layout.is_wide layout.group read.0 octet octets after is.narrow is.group are (is.beside (octet ∷ octets))
+
+-- a number that is not 0
+pub one_less : (number : ℕ) → 0 < number → (less : ℕ) × (number ≡ suc less)
+one_less zero some = absurd (omega arith)
+one_less (suc less) some = (less, refl)
+
+pub line_read : (layout : Layout) (count octet : ℕ) (octets : List ℕ) → IsLayout layout → AreOctets (octet ∷ octets) → count < layout.base ^ layout.digits → line count (dump_line layout count (octet ∷ octets)) ≡ Ok (Some (octet ∷ octets))
+line_read layout count octet octets is are small =
+    let gap = one_less layout.gap is.gap in
+    let group = one_less layout.group (group_some layout.has_colon layout.group is.group) in
+    line_by layout gap.0 group.0 count octet octets is gap.1 group.1 are small
 
 -- an offset alone
-pub end_read : (count : ℕ) → count < 2 ^ 32 → line count (encode_lower (to_be_bytes w32 count)) ≡ Ok None
-unfolding encode_with
-end_read count small =
-    let high : ℕ = count / 256 ^ 3 % 256 in
-    let pair = digits_pair high (four_octets count).0 in
-    let whole : List ℕ = encode_lower (to_be_bytes w32 count) in
-    begun count (high / 16) (digit_of (high % 16)) (drop 2 whole) pair.high_digit pair.low_digit
-    ∙ ap (offset_read (length whole)) (offset_read_of count [] small refl)
+pub end_read : (layout : Layout) (count : ℕ) → IsLayout layout → layout.has_end ≡ true → count < layout.base ^ layout.digits → line count (offset_text layout count) ≡ Ok None
+end_read layout count is ends small =
+    let read = offset_line layout is count [] refl small (is.last ends) in
+    ap (line count) (sym (append-nil (offset_text layout count))) ∙ read.1

@@ -1,5 +1,5 @@
 -- Octets that are spelled in each form, by their first octet, one that is no text, and a character of their base64.
-use Rattle.std.proofs.Common.{ℕ, ◌<◌, ◌^◌, ◌==◌, ◌≡◌, true, false, List, ◌∷◌, length, arith}
+use Rattle.std.proofs.Common.{ℕ, ◌==◌, ◌≡◌, true, false, List, ◌∷◌, arith}
 use Rattle.std.specs.List.{list_any}
 use Rattle.std.specs.Option.{is_some}
 use Rattle.krb_der.specs.Octets.{AreOctets}
@@ -23,11 +23,11 @@ pub record AreApart (first : ℕ) (others : List ℕ) : Type 0 where
   pub no_text : is_some (first_no_text (first ∷ others)) ≡ true
   pub unfit : list_any is_unfit (base64_text (first ∷ others)) ≡ true
 
-pub in_each_form : (first : ℕ) (others : List ℕ) → AreOctets (first ∷ others) → length (first ∷ others) < 2 ^ 32 → AreApart first others → AreSpelledInEachForm (first ∷ others)
-in_each_form first others are few apart = record {
+pub in_each_form : (first : ℕ) (others : List ℕ) → AreOctets (first ∷ others) → AreApart first others → AreSpelledInEachForm (first ∷ others)
+in_each_form first others are apart = record {
   by_themselves = octets_are_spelled (first ∷ others) (no_mark (first ∷ others) apart.no_mark) apart.begins apart.no_text;
   by_digits = digits_are_spelled (first ∷ others) are;
   by_hexadecimal = λ text given. hexadecimal_is_spelled text (first ∷ others) given (hexadecimal_is_no_dump text (first ∷ others) given apart.no_zero);
   by_base64 = λ text given. base64_is_spelled text first others are apart.is_first given (unfit_text text (first ∷ others) given apart.unfit);
-  by_dump = λ layout is. dumps_are_spelled layout (first ∷ others) is are (omega arith) few;
+  by_dump = λ layout is few. dumps_are_spelled layout (first ∷ others) is are (omega arith) few;
 }

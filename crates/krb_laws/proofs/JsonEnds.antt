@@ -12,7 +12,7 @@ use Rattle.krb_source.specs.declared.spelling.Spelling.{Spelling}
 use Rattle.krb_source.specs.declared.spelling.Spelling.TheVariants as spellings
 use Rattle.krb_msg.specs.Stream.{End, Boundary, Within, Refused}
 use Rattle.krb_source.specs.declared.timestamp.Timestamp.{Timestamp}
-use Rattle.krb_record.specs.Captures.{capture_refused_record, count_fields, lost_record, origin_fields, password_record}
+use Rattle.krb_record.specs.Captures.{capture_refused_record, captured, count_fields, lost_record, origin_fields, password_record, time_fields}
 use Rattle.krb_record.specs.Files.{file_record}
 use Rattle.krb_record.specs.Inputs.{input_refused_record, input_word}
 use Rattle.krb_record.specs.Origins.{message_origin}
@@ -20,7 +20,7 @@ use Rattle.krb_record.specs.Refusals.{extent_in, file_refused_record, message_re
 use Rattle.krb_text.specs.StreamEnds.{end_record}
 use Rattle.krb_record.specs.Streams.{counted_end_record, refused_frame, refused_record}
 use Rattle.krb_record.specs.Text.{IsPrintable}
-use Rattle.krb_record.specs.Time.{timestamp_text}
+use Rattle.krb_record.specs.Time.{microseconds, timestamp_text}
 use Rattle.krb_record.specs.Values.{Field, Number, String, Word, if_there, printed, with_origin}
 use Rattle.krb_record.specs.declared.extent.Extent.{Extent}
 use Rattle.krb_record.specs.declared.form.Form.TheVariants as forms
@@ -32,16 +32,16 @@ use Rattle.krb_record.proofs.Reasons as reasons
 use Rattle.krb_record.proofs.Times.{timestamp}
 use Rattle.krb_text_laws.proofs.Tuples.{◌&◌}
 use Rattle.krb_laws.specs.JsonLaws.{CapturesAreJson, EndsAreJson, IsEnd, IsExtent, IsFlowOrigin, PrintsJson, ValueFits, are_different, is_plain}
-use Rattle.krb_laws.proofs.JsonMessages.{its_origin, message_from}
+use Rattle.krb_laws.proofs.JsonMessages.{its_origin, message_with}
 use Rattle.krb_laws.proofs.JsonRecords.{ValuesFit, names_are_plain, record_is_json}
-use Rattle.krb_laws.proofs.JsonShown.{IsOrigin, from_origin, names_of, no_origin, origin_names}
+use Rattle.krb_laws.proofs.JsonShown.{IsLast, IsOrigin, from_origin, last_names, names_of, no_last, no_origin, origin_names}
 use Rattle.krb_laws.proofs.JsonValues.{small_reason}
 
 -- a record without parts: the names of its members are plain and differ, from each origin too
-from : (origin : List Field) (kind : List ℕ) (fields : List Field) → IsOrigin origin → is_plain kind ≡ true → names_are_plain fields ≡ true → are_different (codes "kind" ∷ (origin_names ++ (names_of fields ++ []))) ≡ true → ValuesFit fields → PrintsJson (with_origin origin (printed kind fields))
-from origin kind fields o k n a v = record_is_json _ (from_origin origin kind fields None o (record { kind_plain = k; plain = n; apart = a; values = v; parts = tt }))
+from : (origin : List Field) (kind : List ℕ) (fields : List Field) → IsOrigin origin → is_plain kind ≡ true → names_are_plain fields ≡ true → are_different ((codes "kind" ∷ (origin_names ++ (names_of fields ++ []))) ++ last_names) ≡ true → ValuesFit fields → PrintsJson (with_origin origin (printed kind fields))
+from origin kind fields o k n a v = record_is_json _ (from_origin origin kind fields None [] o no_last (record { kind_plain = k; plain = n; apart = a; values = v; parts = tt }))
 
-pub alone : (kind : List ℕ) (fields : List Field) → is_plain kind ≡ true → names_are_plain fields ≡ true → are_different (codes "kind" ∷ (origin_names ++ (names_of fields ++ []))) ≡ true → ValuesFit fields → PrintsJson (printed kind fields)
+pub alone : (kind : List ℕ) (fields : List Field) → is_plain kind ≡ true → names_are_plain fields ≡ true → are_different ((codes "kind" ∷ (origin_names ++ (names_of fields ++ []))) ++ last_names) ≡ true → ValuesFit fields → PrintsJson (printed kind fields)
 alone kind fields k n a v = from [] kind fields no_origin k n a v
 
 -- ---- what is told of a refusal
@@ -49,7 +49,7 @@ its_path : (path : Option (List ℕ)) → ValueFits (if_there String path)
 its_path None = tt
 its_path (Some path) = tt
 
-optional_number : (n : Option ℕ) → IfSome n (λ n. n < 2 ^ 63) → ValueFits (if_there (λ n. Number (pos n)) n)
+optional_number : (n : Option ℕ) → IfSome n (λ n. n < 10 ^ 64) → ValueFits (if_there (λ n. Number (pos n)) n)
 optional_number None h = tt
 optional_number (Some n) h = h
 
@@ -65,14 +65,14 @@ optional_spelling None = tt
 optional_spelling (Some s) = (spelled s).all
 
 -- ---- reasons
-its_reason : (why : Why) → (reason_number why < 2 ^ 64) × IsPrintable (reason_name why)
+its_reason : (why : Why) → (reason_number why < 10 ^ 64) × IsPrintable (reason_name why)
 its_reason why = (omega (arith, small_reason why), (reasons.name why).all)
 
 small_file_reason : (why : FileWhy) → nat_le (file_reason_number why) 255 ≡ true
 small_file_reason files.Magic = refl
 small_file_reason other = refl
 
-its_file_reason : (why : FileWhy) → (file_reason_number why < 2 ^ 64) × IsPrintable (file_reason_name why)
+its_file_reason : (why : FileWhy) → (file_reason_number why < 10 ^ 64) × IsPrintable (file_reason_name why)
 its_file_reason why = (omega (arith, leb-true (file_reason_number why) 255 (small_file_reason why)), (reasons.file_name why).all)
 
 worded : (fault : InputFault) → Prints (input_word fault)
@@ -80,11 +80,11 @@ worded (faults.Misspelled s) = spelled s
 worded other = word _ refl
 
 -- ---- refusals and ends
-frame_refused : (messages place : ℕ) (reason : Why) (path : Option (List ℕ)) (extent : Extent) → messages < 2 ^ 63 → place < 2 ^ 63 → IsExtent extent → PrintsJson (refused_record forms.Json messages place reason path extent)
+frame_refused : (messages place : ℕ) (reason : Why) (path : Option (List ℕ)) (extent : Extent) → messages < 10 ^ 64 → place < 10 ^ 64 → IsExtent extent → PrintsJson (refused_record forms.Json messages place reason path extent)
 frame_refused messages place reason path extent m h e =
     alone (codes "refused") (refused_record forms.Json messages place reason path extent).fields refl refl refl (m & h & its_reason reason & its_extent path extent e)
 
-end_of_stream : (messages : ℕ) (end : End) (path : Option (List ℕ)) (extent : Extent) → messages < 2 ^ 63 → IsEnd end → IsExtent extent → PrintsJson (end_record forms.Json messages end path extent)
+end_of_stream : (messages : ℕ) (end : End) (path : Option (List ℕ)) (extent : Extent) → messages < 10 ^ 64 → IsEnd end → IsExtent extent → PrintsJson (end_record forms.Json messages end path extent)
 end_of_stream messages Boundary path extent m h e = alone (codes "end") (end_record forms.Json messages Boundary path extent).fields refl refl refl (m & tt)
 end_of_stream messages (Within present) path extent m h e = frame_refused messages present whys.Truncated path extent m h e
 end_of_stream messages (Refused place reason) path extent m h e = frame_refused messages place reason path extent m h e
@@ -118,17 +118,25 @@ flow_origin origin h = record {
   values = h.packet & its_time origin.time h.in_range.time & ((h.in_range.source, omega (arith, h.source)), (h.in_range.target, omega (arith, h.target))) & tt;
 }
 
-captured : (origin : CaptureOrigin) (kind : List ℕ) (fields : List Field) → IsFlowOrigin origin → is_plain kind ≡ true → names_are_plain fields ≡ true → are_different (codes "kind" ∷ (origin_names ++ (names_of fields ++ []))) ≡ true → ValuesFit fields → PrintsJson (with_origin (origin_fields origin) (printed kind fields))
-captured origin kind fields o k n a v = from (origin_fields origin) kind fields (flow_origin origin o) k n a v
+its_microseconds : (time : Option Timestamp) → IfSome time (λ time. time.seconds < 2 ^ 32) → ValueFits (if_there (λ time. Number (pos (microseconds time.seconds time.nanoseconds))) time)
+its_microseconds None h = tt
+its_microseconds (Some time) h = omega (arith, h)
+
+flow_last : (origin : CaptureOrigin) → IsFlowOrigin origin → IsLast (time_fields origin)
+flow_last origin h = record { plain = refl; fewer = λ names e. e; values = (its_microseconds origin.time h.in_range.time, tt) }
+
+of_capture : (origin : CaptureOrigin) (kind : List ℕ) (fields : List Field) → IsFlowOrigin origin → is_plain kind ≡ true → names_are_plain fields ≡ true → are_different ((codes "kind" ∷ (origin_names ++ (names_of fields ++ []))) ++ last_names) ≡ true → ValuesFit fields → PrintsJson (captured origin (printed kind fields))
+of_capture origin kind fields o k n a v =
+    record_is_json _ (from_origin (origin_fields origin) kind fields None (time_fields origin) (flow_origin origin o) (flow_last origin o) (record { kind_plain = k; plain = n; apart = a; values = v; parts = tt }))
 
 pub captures_are_json : CapturesAreJson
 captures_are_json = record {
-  message = λ origin m o good. message_from (origin_fields origin) m (flow_origin origin o) good;
+  message = λ origin m o good. message_with (origin_fields origin) (time_fields origin) m (flow_origin origin o) (flow_last origin o) good;
   refusal = λ origin refusal path extent o h e.
-      captured origin (codes "refused") (refusal_record refusal (path_in forms.Json path ++ extent_in forms.Json extent)).fields o refl refl refl (h & its_reason refusal.why & its_extent path extent e);
-  joined = λ origin o. captured origin (codes "joined") [] o refl refl refl tt;
-  lost = λ origin place octets path o h k. captured origin (codes "lost") (lost_record forms.Json place octets path).fields o refl refl refl (h & k & its_path path & tt);
-  password = λ origin version ap rest o v a r. captured origin (codes "KPASSWD") (password_record version ap rest).fields o refl refl refl (omega (arith, v) & omega (arith, a) & r & tt);
+      of_capture origin (codes "refused") (refusal_record refusal (path_in forms.Json path ++ extent_in forms.Json extent)).fields o refl refl refl (h & its_reason refusal.why & its_extent path extent e);
+  joined = λ origin o. of_capture origin (codes "joined") [] o refl refl refl tt;
+  lost = λ origin place octets path o h k. of_capture origin (codes "lost") (lost_record forms.Json place octets path).fields o refl refl refl (h & k & its_path path & tt);
+  password = λ origin version ap rest o v a r. of_capture origin (codes "KPASSWD") (password_record version ap rest).fields o refl refl refl (omega (arith, v) & omega (arith, a) & r & tt);
   end = λ counts h. alone (codes "end") (count_fields counts) refl refl refl (h.packets & h.messages & h.refused & h.lost & h.unread & tt);
   file = λ counts place reason path extent h p e.
       alone (codes "refused") (capture_refused_record forms.Json counts place reason path extent).fields refl refl refl

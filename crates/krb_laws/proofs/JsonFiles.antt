@@ -64,15 +64,15 @@ its_time seconds h = by (seconds == 0)
     by false = (moment seconds h).all
 
 -- ---- keytabs
-its_kvno : (e : Entry) → EntryFits e → kvno e < 2 ^ 63
+its_kvno : (e : Entry) → EntryFits e → kvno e < 10 ^ 64
 its_kvno e h = by (nat_le 4 (length e.rest) && nat_lt 0 (from_be_bytes w32 (take 4 e.rest)))
   where
-    by : (wide : Bool) → when wide (λ _. from_be_bytes w32 (take 4 e.rest)) (λ _. e.vno8) < 2 ^ 63
+    by : (wide : Bool) → when wide (λ _. from_be_bytes w32 (take 4 e.rest)) (λ _. e.vno8) < 10 ^ 64
     by true = omega (arith, wide32.below (take 4 e.rest) (AreOctets-take 4 e.rest h.rest))
     by false = omega (arith, h.vno8)
 
 -- what follows the key is no longer than the entry
-its_rest : (e : Entry) → EntryFits e → length e.rest < 2 ^ 63
+its_rest : (e : Entry) → EntryFits e → length e.rest < 10 ^ 64
 its_rest e h =
     let before : List ℕ = names w16 (names_of e) ++ signed w32 e.name_type ++ to_be_bytes w32 e.time ++ to_be_bytes w8 e.vno8 ++ to_be_bytes w16 e.enctype ++ counted w16 e.key in
     omega (arith, length-append before e.rest, h.short)
@@ -84,7 +84,7 @@ of_record (records.Entry e) h =
     (small e.name_type h.name_type & small e.name_type h.name_type & its_time e.time h.time & its_kvno e h & omega (arith, h.enctype) & omega (arith, h.key.short) & its_rest e h & tt)
 of_record (records.Hole hole) h = alone (codes "hole") (printed_record (records.Hole hole)).fields refl refl refl (omega (arith, h.1) & tt & tt)
 
-end_of_keytab : (count : ℕ) (stop : Stop) → count < 2 ^ 63 → PrintsJson (keytab_end count stop)
+end_of_keytab : (count : ℕ) (stop : Stop) → count < 10 ^ 64 → PrintsJson (keytab_end count stop)
 unfolding keytab_end
 end_of_keytab count stops.File h = alone (codes "end") (keytab_end count stops.File).fields refl refl refl (h & tt & tt)
 end_of_keytab count stops.Zero h = alone (codes "end") (keytab_end count stops.Zero).fields refl refl refl (h & tt & tt)
@@ -108,7 +108,7 @@ cache header principal h p =
     alone (codes "cache") (cache_record header principal).fields refl refl refl
     (small principal.name_type p.name_type & small principal.name_type p.name_type & its_offset header.fields h.each & omega (arith, few_fields header.fields, h.short) & tt)
 
-end_of_cache : (count : ℕ) → count < 2 ^ 63 → PrintsJson (cache_end count)
+end_of_cache : (count : ℕ) → count < 10 ^ 64 → PrintsJson (cache_end count)
 unfolding cache_end
 end_of_cache count h = alone (codes "end") (cache_end count).fields refl refl refl (h & tt)
 

@@ -13,7 +13,7 @@ use Rattle.krb_msg.specs.declared.ticket.Ticket.{Ticket}
 use Rattle.krb_text.specs.Inside.{inside_of}
 use Rattle.krb_record.specs.Origins.{message_origin}
 use Rattle.krb_text.specs.Messages.{fields_of, message_record, notes, ticket_record}
-use Rattle.krb_record.specs.Values.{Field, the, with_origin}
+use Rattle.krb_record.specs.Values.{Field, the, with_last, with_origin}
 use Rattle.krb_text.specs.declared.clear_type.Carrier.TheVariants as carriers
 use Rattle.krb_text_laws.proofs.MessageOneLine.{record_is_plain}
 use Rattle.krb_source.specs.declared.layer.Layer.{Layer}
@@ -21,7 +21,7 @@ use Rattle.krb_laws.specs.JsonLaws.{IsLine, MessagesAreJson, PartFits, PrintsJso
 use Rattle.krb_laws.proofs.JsonInside.{error_inside, kdc_req_inside, padata_inside, tickets_inside}
 use Rattle.krb_laws.proofs.JsonNumbers.{cred, error, its_notes, its_encrypted, kdc_rep, kdc_req, of_ap_req, safe}
 use Rattle.krb_laws.proofs.JsonRecords.{ValuesFit, record_is_json}
-use Rattle.krb_laws.proofs.JsonShown.{AreCounted, FitsFrom, IsOrigin, fields_fit, from_origin, no_origin}
+use Rattle.krb_laws.proofs.JsonShown.{AreCounted, FitsFrom, IsLast, IsOrigin, fields_fit, from_origin, no_last, no_origin}
 use Rattle.krb_laws.proofs.JsonSizes.{IsBrief, brief, is_narrow}
 
 -- ---- where messages come from
@@ -72,10 +72,14 @@ fits : (m : Message) → IsInProfile profiles.Lenient m → FitsFrom (kind_name 
 fits (message.AsReq m) good = record { kind_plain = refl; plain = refl; apart = refl; values = values (message.AsReq m) good; parts = its_parts (message.AsReq m) good }
 fits other good = record { kind_plain = refl; plain = refl; apart = refl; values = values other good; parts = its_parts other good }
 
--- a message from an origin
-pub message_from : (origin : List Field) (m : Message) → IsOrigin origin → IsInProfile profiles.Lenient m → PrintsJson (with_origin origin (message_record m))
+-- a message from an origin, and with what is last
+pub message_with : (origin last : List Field) (m : Message) → IsOrigin origin → IsLast last → IsInProfile profiles.Lenient m → PrintsJson (with_last last (with_origin origin (message_record m)))
 unfolding message_record
-message_from origin m o good = record_is_json _ (from_origin origin (kind_name (kind_of m)) (its_fields m) (inside_of m) o (fits m good))
+message_with origin last m o l good = record_is_json _ (from_origin origin (kind_name (kind_of m)) (its_fields m) (inside_of m) last o l (fits m good))
+
+message_from : (origin : List Field) (m : Message) → IsOrigin origin → IsInProfile profiles.Lenient m → PrintsJson (with_origin origin (message_record m))
+unfolding message_record
+message_from origin m o good = message_with origin [] m o no_last good
 
 message_alone : (m : Message) → IsInProfile profiles.Lenient m → PrintsJson (message_record m)
 unfolding message_record
@@ -90,7 +94,7 @@ ticket_fits t fit short =
 
 ticket_from : (origin : List Field) (t : Ticket) → IsOrigin origin → Fits ticket (ticket_value t) → length (der ticket (ticket_value t)) < 2 ^ 31 → PrintsJson (with_origin origin (ticket_record t))
 unfolding ticket_record
-ticket_from origin t o fit short = record_is_json _ (from_origin origin (codes "Ticket") (ticket_record t).fields None o (ticket_fits t fit short))
+ticket_from origin t o fit short = record_is_json _ (from_origin origin (codes "Ticket") (ticket_record t).fields None [] o no_last (ticket_fits t fit short))
 
 pub messages_are_json : MessagesAreJson
 messages_are_json = record {

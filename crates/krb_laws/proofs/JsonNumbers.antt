@@ -90,11 +90,11 @@ pub its_checksum : (c : Checksum) → IsBrief checksum_term (checksum_value c) �
 its_checksum c h = (h.0, omega (arith, h.1.0))
 
 -- ---- notes
-kept : (keeps : Bool) (n : ℕ) (others : List ℕ) → n < 2 ^ 63 → AllByRecursion IsSmall (map pos others) → AllByRecursion IsSmall (map pos (cond keeps (n ∷ others) others))
+kept : (keeps : Bool) (n : ℕ) (others : List ℕ) → n < 10 ^ 64 → AllByRecursion IsSmall (map pos others) → AllByRecursion IsSmall (map pos (cond keeps (n ∷ others) others))
 kept true n others h k = (h, k)
 kept false n others h k = k
 
-filtered : (test : ℕ → Bool) (numbers : List ℕ) → AllByRecursion (λ n. n < 2 ^ 63) numbers → AllByRecursion IsSmall (map pos (filter test numbers))
+filtered : (test : ℕ → Bool) (numbers : List ℕ) → AllByRecursion (λ n. n < 10 ^ 64) numbers → AllByRecursion IsSmall (map pos (filter test numbers))
 filtered test [] h = tt
 filtered test (n ∷ numbers) h = kept (test n) n (filter test numbers) h.0 (filtered test numbers h.1)
 

@@ -1,5 +1,5 @@
 -- Texts that are values of JSON, put together of their parts.
-use Rattle.std.proofs.Common.{◌≡◌, ℕ, ℤ, pos, negsuc, unsigned_abs, ◌+◌, ◌^◌, ◌<◌, ◌≤◌, Bool, true, false, cond, List, [], ◌∷◌, ◌++◌, map, codes, decimal, refl, sym, ◌∙◌, ap, ap₂, subst, append_assoc, append-nil, arith, Some}
+use Rattle.std.proofs.Common.{◌≡◌, ℕ, ℤ, unsigned_abs, ◌+◌, ◌^◌, ◌<◌, ◌≤◌, Bool, true, false, cond, List, [], ◌∷◌, ◌++◌, map, codes, decimal, refl, sym, ◌∙◌, ap, ap₂, subst, append_assoc, append-nil, arith, Some}
 use Rattle.std.specs.Fmt.{signed_decimal}
 use Rattle.std.specs.List.{AllByRecursion, flat_map}
 use Rattle.json.specs.Json.{Json, null, boolean, number, string, array, object, Items, no_items, item, Members, no_members, member, document, max_depth}
@@ -9,10 +9,10 @@ use Rattle.json.specs.Token.{Token}
 use Rattle.json.specs.Token as token
 use Rattle.json.specs.Tree.{json_tokens, items_tokens, members_tokens, depth, items_depth, members_depth, HasNumbers, ItemsHaveNumbers, MembersHaveNumbers}
 use Rattle.json.specs.Value.{items_of}
-use Rattle.json.proofs.Printed.Decimals.{IsNumber-decimal, IsNumber-signed_decimal}
 use Rattle.json.proofs.Printed.Strings.{escape_byte_plain}
 use Rattle.json.proofs.Printed.Trees.{document-print}
 use Rattle.krb_record.specs.Text.{list_text}
+use Rattle.krb_laws.proofs.JsonDecimals.{decimal_is_number, signed_is_number}
 
 -- ---- what is to be shown of a text, of the text of items up to the bracket, and of that of members up to the brace
 abbrev pub comma : Bool → List ℕ
@@ -79,12 +79,11 @@ a_numeral text h = record { prints = shown; numbers = h; shallow = omega arith; 
     shown true rest = refl
     shown false rest = refl
 
-pub a_number : {levels : ℕ} (n : ℕ) → n < 2 ^ 64 → IsText (decimal n) (number (decimal n)) levels
-a_number n h = a_numeral (decimal n) (IsNumber-decimal n h)
+pub a_number : {levels : ℕ} (n : ℕ) → n < 10 ^ 64 → IsText (decimal n) (number (decimal n)) levels
+a_number n h = a_numeral (decimal n) (decimal_is_number n h)
 
-pub a_signed : {levels : ℕ} (z : ℤ) → unsigned_abs z < 2 ^ 63 → IsText (signed_decimal z) (number (signed_decimal z)) levels
-a_signed (pos n) h = a_numeral (signed_decimal (pos n)) (IsNumber-signed_decimal (pos n) (omega (arith, h)))
-a_signed (negsuc n) h = a_numeral (signed_decimal (negsuc n)) (IsNumber-signed_decimal (negsuc n) (omega (arith, h)))
+pub a_signed : {levels : ℕ} (z : ℤ) → unsigned_abs z < 10 ^ 64 → IsText (signed_decimal z) (number (signed_decimal z)) levels
+a_signed z h = a_numeral (signed_decimal z) (signed_is_number z h)
 
 -- ---- strings
 pub a_quoted : {levels : ℕ} (s : List ℕ) → IsText (quoted s) (string s) levels

@@ -6,13 +6,13 @@ use Rattle.std.specs.List.{AllByRecursion, flat_map, list_all}
 use Rattle.json.specs.Json.{Json, Members, member, no_members, null, string}
 use Rattle.json.specs.Strict.{keys, AreDistinct}
 use Rattle.krb_registry.specs.declared.registry.Registry.TheVariants as registries
-use Rattle.krb_record.specs.Forms.{closing, ending, fields_text, heading, inside_text, json_value, labelled, members, name_string, names_member, opening, opening_from, part_text, record_text}
+use Rattle.krb_record.specs.Forms.{closing, end_text, ending, fields_text, heading, inside_text, json_value, labelled, members, name_string, names_member, opening, opening_from, part_text, record_text}
 use Rattle.krb_record.specs.Text.{list_text}
 use Rattle.krb_record.specs.Values.{Value, Named, Numbers, ErrorCode, Status, Reason, NoReason, Field, Part, Printed}
 use Rattle.krb_record.specs.declared.form.Form.TheVariants as form
 use Rattle.krb_laws.specs.Json.{field_members, inside_members, json_of, json_of_value, list_of, members_of, name_json, names_of_value, object_of, part_json}
 use Rattle.krb_laws.specs.JsonLaws.{FitsJson, IsJson, PartFits, ValueFits, are_different, inside_name, is_plain, member_names}
-use Rattle.krb_laws.proofs.JsonNames.{AllOthers, distinct, distinct_cons, others}
+use Rattle.krb_laws.proofs.JsonNames.{AllOthers, distinct, distinct_cons, others as all_others}
 use Rattle.krb_laws.proofs.JsonPieces.{AreMembers, IsPlain, IsText, a_list, a_null, a_plain, an_object, as_text, deeper, document_is, no_more_members, one_more_member, printed_is}
 use Rattle.krb_laws.proofs.JsonStrings.{IsPlainOne, all-append, is_plain-plain}
 use Rattle.krb_laws.proofs.JsonValues.{a_name, every, printable, value_text}
@@ -74,15 +74,6 @@ after_names P name rest h k all NoReason = (h, all)
 after_names P name rest h k all (Numbers registry ns) = (k, all)
 after_names P name rest h k all value = all
 
--- what holds of each name that members may have, and of those after them, holds of each that they have
-of_names : (P : List ℕ → Type 0) (more : List (List ℕ × Json)) (fields : List Field) → AllByRecursion P (flat_map (λ f. member_names f.name) fields ++ keys (members_of more)) → AllByRecursion P (keys (members_of (flat_map field_members fields ++ more)))
-of_names P more [] h = h
-of_names P more (first ∷ rest) h = (
-  h.0,
-  subst (λ ms. AllByRecursion P (keys (members_of ms))) (sym (append_assoc (names_of_value first.name first.value) (flat_map field_members rest) more))
-      (after_names P first.name (flat_map field_members rest ++ more) h.1.0 h.1.1.0 (of_names P more rest h.1.1.1) first.value),
-)
-
 distinct_names : (name : List ℕ) (rest : List (List ℕ × Json)) → AllOthers (name ++ codes "_name") (keys (members_of rest)) → AllOthers (name ++ codes "_names") (keys (members_of rest)) → AreDistinct (keys (members_of rest)) → (value : Value) → AreDistinct (keys (members_of (names_of_value name value ++ rest)))
 unfolding names_of_value
 distinct_names name rest h k apart (Named registry n) = distinct_cons (name ++ codes "_name") (keys (members_of rest)) h apart
@@ -100,21 +91,56 @@ record Apart (name : List ℕ) (names : List (List ℕ)) : Type 0 where
 apart : (name : List ℕ) (names : List (List ℕ)) → are_different (name ∷ names) ≡ true → Apart name names
 apart name names e =
     let parts = and_parts (list_all _ names) (are_different names) e in
-    record { first = others name names parts.0; rest = parts.1 }
+    record { first = all_others name names parts.0; rest = parts.1 }
 
-distinct_fields : (more : List (List ℕ × Json)) (fields : List Field) → are_different (flat_map (λ f. member_names f.name) fields ++ keys (members_of more)) ≡ true → AreDistinct (keys (members_of (flat_map field_members fields ++ more)))
-distinct_fields more [] e = distinct (keys (members_of more)) e
-distinct_fields more (first ∷ rest) e =
-    let name : List ℕ = first.name in
-    let names : List (List ℕ) = flat_map (λ (f : Field). member_names f.name) rest ++ keys (members_of more) in
-    let a : Apart name ((name ++ codes "_name") ∷ (name ++ codes "_names") ∷ names) = apart name ((name ++ codes "_name") ∷ (name ++ codes "_names") ∷ names) e in
-    let b : Apart (name ++ codes "_name") ((name ++ codes "_names") ∷ names) = apart (name ++ codes "_name") ((name ++ codes "_names") ∷ names) a.rest in
-    let c : Apart (name ++ codes "_names") names = apart (name ++ codes "_names") names b.rest in
-    let members : List (List ℕ × Json) = flat_map field_members rest ++ more in
-    subst (λ ms. AreDistinct (name ∷ keys (members_of ms))) (sym (append_assoc (names_of_value name first.value) (flat_map field_members rest) more))
-    (distinct_cons name (keys (members_of (names_of_value name first.value ++ members)))
-    (after_names (λ other. name ≢ other) name members a.first.0 a.first.1.0 (of_names (λ other. name ≢ other) more rest a.first.1.1) first.value)
-    (distinct_names name members (of_names (λ other. (name ++ codes "_name") ≢ other) more rest b.first.1) (of_names (λ other. (name ++ codes "_names") ≢ other) more rest c.first) (distinct_fields more rest c.rest) first.value))
+-- names that members may have, and of which they have some
+record Cover (names : List (List ℕ)) (ms : List (List ℕ × Json)) : Type 0 where
+  others : (name : List ℕ) → AllOthers name names → AllOthers name (keys (members_of ms))
+  apart : are_different names ≡ true → AreDistinct (keys (members_of ms))
+
+no_names : Cover [] []
+no_names = record { others = λ name h. h; apart = distinct [] }
+
+-- those of a field, and of fields, before others
+and_field : (names : List (List ℕ)) (more : List (List ℕ × Json)) (first : Field) (rest : List Field) → Cover (flat_map (λ f. member_names f.name) rest ++ names) (flat_map field_members rest ++ more) → Cover (flat_map (λ f. member_names f.name) (first ∷ rest) ++ names) (flat_map field_members (first ∷ rest) ++ more)
+and_field names more first rest after = record {
+  others = λ other h. (
+    h.0,
+    subst (λ ms. AllOthers other (keys (members_of ms))) (sym (append_assoc (names_of_value name first.value) (flat_map field_members rest) more))
+        (after_names (λ next. other ≢ next) name members h.1.0 h.1.1.0 (after.others other h.1.1.1) first.value),
+  );
+  apart = λ e.
+      let a : Apart name ((name ++ codes "_name") ∷ (name ++ codes "_names") ∷ later) = apart name ((name ++ codes "_name") ∷ (name ++ codes "_names") ∷ later) e in
+      let b : Apart (name ++ codes "_name") ((name ++ codes "_names") ∷ later) = apart (name ++ codes "_name") ((name ++ codes "_names") ∷ later) a.rest in
+      let c : Apart (name ++ codes "_names") later = apart (name ++ codes "_names") later b.rest in
+      subst (λ ms. AreDistinct (name ∷ keys (members_of ms))) (sym (append_assoc (names_of_value name first.value) (flat_map field_members rest) more))
+      (distinct_cons name (keys (members_of (names_of_value name first.value ++ members)))
+      (after_names (λ other. name ≢ other) name members a.first.0 a.first.1.0 (after.others name a.first.1.1) first.value)
+      (distinct_names name members (after.others (name ++ codes "_name") b.first.1) (after.others (name ++ codes "_names") c.first) (after.apart c.rest) first.value));
+}
+  where
+    name : List ℕ
+    name = first.name
+
+    later : List (List ℕ)
+    later = flat_map (λ (f : Field). member_names f.name) rest ++ names
+
+    members : List (List ℕ × Json)
+    members = flat_map field_members rest ++ more
+
+and_fields : (names : List (List ℕ)) (more : List (List ℕ × Json)) (fields : List Field) → Cover names more → Cover (flat_map (λ f. member_names f.name) fields ++ names) (flat_map field_members fields ++ more)
+and_fields names more [] c = c
+and_fields names more (first ∷ rest) c = and_field names more first rest (and_fields names more rest c)
+
+-- that of what is inside, before others
+and_inside : (names : List (List ℕ)) (more : List (List ℕ × Json)) (inside : Option (List Part)) → Cover names more → Cover (inside_name inside ++ names) (inside_members inside ++ more)
+and_inside names more None c = c
+and_inside names more (Some parts) c = record {
+  others = λ name h. (h.0, c.others name h.1);
+  apart = λ e.
+      let a : Apart (codes "inside") names = apart (codes "inside") names e in
+      distinct_cons (codes "inside") (keys (members_of more)) (c.others (codes "inside") a.first) (c.apart a.rest);
+}
 
 -- ---- objects
 around : (kind origin fields end : List ℕ) → 123 ∷ 34 ∷ (codes "kind" ++ 34 ∷ 58 ∷ ((34 ∷ (kind ++ 34 ∷ [])) ++ (origin ++ fields ++ end))) ≡ codes "{\"kind\":\"" ++ kind ++ codes "\"" ++ origin ++ fields ++ end
@@ -124,12 +150,13 @@ around kind origin fields end = go (34 ∷ [])
     go quote = simp append_assoc refl
 
 -- an object of a kind, of fields, and of other members
-module _ (levels : ℕ) (enough : 2 ≤ levels) {text : List ℕ} (more : List (List ℕ × Json)) (last : AreMembers text (members_of more) levels) (kind : List ℕ) (fields : List Field) where
-  its_object : is_plain kind ≡ true → names_are_plain fields ≡ true → are_different (codes "kind" ∷ (flat_map (λ (f : Field). member_names f.name) fields ++ keys (members_of more))) ≡ true → ValuesFit fields → IsText (123 ∷ 34 ∷ (codes "kind" ++ 34 ∷ 58 ∷ ((34 ∷ (kind ++ 34 ∷ [])) ++ (fields_text form.Json fields ++ text)))) (object_of ((codes "kind", string kind) ∷ (flat_map field_members fields ++ more))) (1 + levels)
+module _ (levels : ℕ) (enough : 2 ≤ levels) {text : List ℕ} (others : List (List ℕ)) (more : List (List ℕ × Json)) (cover : Cover others more) (last : AreMembers text (members_of more) levels) (kind : List ℕ) (fields : List Field) where
+  its_object : is_plain kind ≡ true → names_are_plain fields ≡ true → are_different (codes "kind" ∷ (flat_map (λ (f : Field). member_names f.name) fields ++ others)) ≡ true → ValuesFit fields → IsText (123 ∷ 34 ∷ (codes "kind" ++ 34 ∷ 58 ∷ ((34 ∷ (kind ++ 34 ∷ [])) ++ (fields_text form.Json fields ++ text)))) (object_of ((codes "kind", string kind) ∷ (flat_map field_members fields ++ more))) (1 + levels)
   its_object plain names different values =
-      let e = apart (codes "kind") (flat_map (λ (f : Field). member_names f.name) fields ++ keys (members_of more)) different in
+      let e = apart (codes "kind") (flat_map (λ (f : Field). member_names f.name) fields ++ others) different in
+      let all = and_fields others more fields cover in
       an_object (codes "kind") levels (is_plain-plain (codes "kind") refl) (a_plain kind (is_plain-plain kind plain)) (all_fields levels enough more fields names values last)
-      (distinct_cons (codes "kind") (keys (members_of (flat_map field_members fields ++ more))) (of_names (λ other. codes "kind" ≢ other) more fields e.first) (distinct_fields more fields e.rest))
+      (distinct_cons (codes "kind") (keys (members_of (flat_map field_members fields ++ more))) (all.others (codes "kind") e.first) (all.apart e.rest))
 
 -- ---- records inside of another
 nothing_more : (fields : List Field) → flat_map (λ (f : Field). member_names f.name) fields ++ [] ≡ flat_map (λ (f : Field). member_names f.name) fields
@@ -140,20 +167,27 @@ unfolding part_text opening closing
 a_part p h =
     as_text
     (subst (λ ms. IsText (123 ∷ 34 ∷ (codes "kind" ++ 34 ∷ 58 ∷ ((34 ∷ (p.kind ++ 34 ∷ [])) ++ (fields_text form.Json p.fields ++ codes "}")))) (object_of ((codes "kind", string p.kind) ∷ ms)) 3) (append-nil (flat_map field_members p.fields))
-    (its_object 2 (omega arith) [] no_more_members p.kind p.fields h.kind h.names (ap (λ names. are_different (codes "kind" ∷ names)) (nothing_more p.fields) ∙ h.apart) h.values))
+    (its_object 2 (omega arith) [] [] no_names no_more_members p.kind p.fields h.kind h.names (ap (λ names. are_different (codes "kind" ∷ names)) (nothing_more p.fields) ∙ h.apart) h.values))
     (around p.kind [] (fields_text form.Json p.fields) (codes "}") ∙ ap (λ t. t ++ fields_text form.Json p.fields ++ codes "}") (append-nil (codes "{\"kind\":\"" ++ p.kind ++ codes "\"")))
 
--- what ends a record
-its_end : (inside : Option (List Part)) → IfSome inside (AllByRecursion PartFits) → AreMembers (ending form.Json inside) (members_of (inside_members inside)) 4
-unfolding inside_text closing
-its_end None h = no_more_members
-its_end (Some parts) h =
-    subst (λ t. AreMembers t (member (codes "inside") (list_of part_json parts) no_members) 4) (sym (append_assoc (codes ",\"inside\":") (list_text (part_text form.Json) parts) (codes "}")))
-    (one_more_member (codes "inside") 4 (is_plain-plain (codes "inside") refl) (a_list 3 (part_text form.Json) part_json PartFits a_part parts h) no_more_members)
+-- what is last, and what ends a record
+its_last : (last : List Field) → names_are_plain last ≡ true → ValuesFit last → AreMembers (end_text form.Json last) (members_of (flat_map field_members last)) 4
+unfolding closing
+its_last [] e h = no_more_members
+its_last (first ∷ rest) e h =
+    subst (λ ms. AreMembers (end_text form.Json (first ∷ rest)) (members_of ms) 4) (append-nil (flat_map field_members (first ∷ rest))) (all_fields 4 (omega arith) [] (first ∷ rest) e h no_more_members)
 
-its_name : (inside : Option (List Part)) → keys (members_of (inside_members inside)) ≡ inside_name inside
-its_name None = refl
-its_name (Some parts) = refl
+its_end : (inside : Option (List Part)) (last : List Field) → IfSome inside (AllByRecursion PartFits) → AreMembers (end_text form.Json last) (members_of (flat_map field_members last)) 4 → AreMembers (ending form.Json inside last) (members_of (inside_members inside ++ flat_map field_members last)) 4
+unfolding inside_text
+its_end None last h k = k
+its_end (Some parts) last h k =
+    subst (λ t. AreMembers t (member (codes "inside") (list_of part_json parts) (members_of (flat_map field_members last))) 4) (sym (append_assoc (codes ",\"inside\":") (list_text (part_text form.Json) parts) (end_text form.Json last)))
+    (one_more_member (codes "inside") 4 (is_plain-plain (codes "inside") refl) (a_list 3 (part_text form.Json) part_json PartFits a_part parts h) k)
+
+last_cover : (last : List Field) → Cover (flat_map (λ (f : Field). member_names f.name) last) (flat_map field_members last)
+last_cover last =
+    subst (λ names. Cover names (flat_map field_members last)) (nothing_more last)
+    (subst (λ ms. Cover (flat_map (λ (f : Field). member_names f.name) last ++ []) ms) (append-nil (flat_map field_members last)) (and_fields [] [] last no_names))
 
 -- ---- records
 both_fields : (a b : List Field) → fields_text form.Json (a ++ b) ≡ fields_text form.Json a ++ fields_text form.Json b
@@ -167,19 +201,22 @@ unfolding opening opening_from labelled
 headed [] kind = sym (append-nil (codes "{\"kind\":\"" ++ kind ++ codes "\""))
 headed (first ∷ rest) kind = refl
 
-whole : (r : Printed) → 123 ∷ 34 ∷ (codes "kind" ++ 34 ∷ 58 ∷ ((34 ∷ (r.kind ++ 34 ∷ [])) ++ (fields_text form.Json (r.origin ++ r.fields) ++ ending form.Json r.inside))) ≡ record_text form.Json r
+whole : (r : Printed) → 123 ∷ 34 ∷ (codes "kind" ++ 34 ∷ 58 ∷ ((34 ∷ (r.kind ++ 34 ∷ [])) ++ (fields_text form.Json (r.origin ++ r.fields) ++ ending form.Json r.inside r.last))) ≡ record_text form.Json r
 unfolding record_text
 whole r =
-    ap (λ t. 123 ∷ 34 ∷ (codes "kind" ++ 34 ∷ 58 ∷ ((34 ∷ (r.kind ++ 34 ∷ [])) ++ (t ++ ending form.Json r.inside)))) (both_fields r.origin r.fields)
-    ∙ around r.kind (fields_text form.Json r.origin) (fields_text form.Json r.fields) (ending form.Json r.inside)
-    ∙ ap (λ t. t ++ fields_text form.Json r.fields ++ ending form.Json r.inside) (sym (headed r.origin r.kind))
+    ap (λ t. 123 ∷ 34 ∷ (codes "kind" ++ 34 ∷ 58 ∷ ((34 ∷ (r.kind ++ 34 ∷ [])) ++ (t ++ ending form.Json r.inside r.last)))) (both_fields r.origin r.fields)
+    ∙ around r.kind (fields_text form.Json r.origin) (fields_text form.Json r.fields) (ending form.Json r.inside r.last)
+    ∙ ap (λ t. t ++ fields_text form.Json r.fields ++ ending form.Json r.inside r.last) (sym (headed r.origin r.kind))
 
 record_text_is : (r : Printed) → FitsJson r → IsText (record_text form.Json r) (json_of r) 5
 unfolding json_of
 record_text_is r h =
     as_text
-    (its_object 4 (omega arith) (inside_members r.inside) (its_end r.inside h.inside) r.kind (r.origin ++ r.fields) h.kind h.names
-    (ap (λ names. are_different (codes "kind" ∷ (flat_map (λ (f : Field). member_names f.name) (r.origin ++ r.fields) ++ names))) (its_name r.inside) ∙ h.apart) h.values)
+    (its_object 4 (omega arith)
+    (inside_name r.inside ++ flat_map (λ (f : Field). member_names f.name) r.last)
+    (inside_members r.inside ++ flat_map field_members r.last)
+    (and_inside (flat_map (λ (f : Field). member_names f.name) r.last) (flat_map field_members r.last) r.inside (last_cover r.last))
+    (its_end r.inside r.last h.inside (its_last r.last h.last_names h.last_values)) r.kind (r.origin ++ r.fields) h.kind h.names h.apart h.values)
     (whole r)
 
 pub record_is_json : (r : Printed) → FitsJson r → IsJson (record_text form.Json r) (json_of r)

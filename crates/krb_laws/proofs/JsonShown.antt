@@ -4,7 +4,7 @@ use Rattle.std.proofs.lemmas.Bool.{and_parts, and_from}
 use Rattle.std.proofs.lemmas.Grind.{flat_map-append}
 use Rattle.std.specs.List.{AllByRecursion, flat_map, list_all}
 use Rattle.std.specs.Str.{bytes_eq}
-use Rattle.krb_record.specs.Values.{Value, Absent, NoTicket, Number, Named, Numbers, ErrorCode, Status, Reason, NoReason, String, Quoted, FileName, Word, Hex, Flags, TicketFlags, Encrypted, Principal, Address, Digest, YesNo, Offset, RefusedTicket, Flow, Layers, Field, Part, printed, with_inside, with_origin}
+use Rattle.krb_record.specs.Values.{Value, Absent, NoTicket, Number, Named, Numbers, ErrorCode, Status, Reason, NoReason, String, Quoted, FileName, Word, Hex, Flags, TicketFlags, Encrypted, Principal, Address, Digest, YesNo, Offset, RefusedTicket, Flow, Layers, Field, Part, printed, with_inside, with_last, with_origin}
 use Rattle.krb_text_laws.proofs.EachForm.{AreShown, IsShown}
 use Rattle.krb_laws.specs.JsonLaws.{FitsJson, IsSmall, PartFits, ValueFits, are_different, inside_name, is_plain, member_names}
 use Rattle.krb_laws.proofs.JsonRecords.{ValuesFit, names_are_plain}
@@ -16,15 +16,15 @@ IsCounted (Number n) = IsSmall n
 IsCounted (Named registry n) = IsSmall n
 IsCounted (Numbers registry ns) = AllByRecursion IsSmall ns
 IsCounted (ErrorCode code) = IsSmall code
-IsCounted (Reason n name) = n < 2 ^ 64
-IsCounted (Flags registry bits) = 8 * length bits.1 < 2 ^ 64
-IsCounted (Encrypted etype kvno size) = IsSmall etype × IfSome kvno IsSmall × (size < 2 ^ 64)
+IsCounted (Reason n name) = n < 10 ^ 64
+IsCounted (Flags registry bits) = 8 * length bits.1 < 10 ^ 64
+IsCounted (Encrypted etype kvno size) = IsSmall etype × IfSome kvno IsSmall × (size < 10 ^ 64)
 IsCounted (Principal name_type components realm) = IsSmall name_type
 IsCounted (Address addr_type octets) = IsSmall addr_type
-IsCounted (Digest cksumtype size) = IsSmall cksumtype × (size < 2 ^ 64)
+IsCounted (Digest cksumtype size) = IsSmall cksumtype × (size < 10 ^ 64)
 IsCounted (Offset seconds microseconds) = IsSmall seconds × IsSmall microseconds
-IsCounted (RefusedTicket refusal) = refusal.place < 2 ^ 64
-IsCounted (Flow transport source target) = (source.port < 2 ^ 64) × (target.port < 2 ^ 64)
+IsCounted (RefusedTicket refusal) = refusal.place < 10 ^ 64
+IsCounted (Flow transport source target) = (source.port < 10 ^ 64) × (target.port < 10 ^ 64)
 IsCounted value = Unit {0}
 
 fits : (value : Value) → IsShown value → IsCounted value → ValueFits value
@@ -91,11 +91,35 @@ pub record IsOrigin (origin : List Field) : Type 0 where
   pub among : (rest : List (List ℕ)) → names_of origin ++ rest ≡ picked (thrice keeps) (origin_names ++ rest)
   pub values : ValuesFit origin
 
--- a record that fits from each origin
+-- the names that what is last may have
+abbrev pub last_names : List (List ℕ)
+last_names = member_names (codes "t_us")
+
+pub record IsLast (last : List Field) : Type 0 where
+  pub plain : names_are_plain last ≡ true
+  pub fewer : (names : List (List ℕ)) → are_different (names ++ last_names) ≡ true → are_different (names ++ names_of last) ≡ true
+  pub values : ValuesFit last
+
+all-front : {A : Type 0} (test : A → Bool) (xs ys : List A) → list_all test (xs ++ ys) ≡ true → list_all test (xs ++ []) ≡ true
+all-front test [] ys e = refl
+all-front test (x ∷ xs) ys e =
+    let parts = and_parts (test x) (list_all test (xs ++ ys)) e in
+    and_from (test x) (list_all test (xs ++ [])) parts.0 (all-front test xs ys parts.1)
+
+different-front : (xs ys : List (List ℕ)) → are_different (xs ++ ys) ≡ true → are_different (xs ++ []) ≡ true
+different-front [] ys e = refl
+different-front (x ∷ xs) ys e =
+    let parts = and_parts (list_all (λ other. not (bytes_eq x other)) (xs ++ ys)) (are_different (xs ++ ys)) e in
+    and_from (list_all (λ other. not (bytes_eq x other)) (xs ++ [])) (are_different (xs ++ [])) (all-front (λ other. not (bytes_eq x other)) xs ys parts.0) (different-front xs ys parts.1)
+
+pub no_last : IsLast []
+no_last = record { plain = refl; fewer = λ names e. different-front names last_names e; values = tt }
+
+-- a record that fits from each origin, and with what may be last
 pub record FitsFrom (kind : List ℕ) (fields : List Field) (inside : Option (List Part)) : Type 0 where
   pub kind_plain : is_plain kind ≡ true
   pub plain : names_are_plain fields ≡ true
-  pub apart : are_different (codes "kind" ∷ (origin_names ++ (names_of fields ++ inside_name inside))) ≡ true
+  pub apart : are_different ((codes "kind" ∷ (origin_names ++ (names_of fields ++ inside_name inside))) ++ last_names) ≡ true
   pub values : ValuesFit fields
   pub parts : IfSome inside (AllByRecursion PartFits)
 
@@ -106,19 +130,27 @@ all-both test (x ∷ xs) ys e f =
     and_from (test x) (list_all test (xs ++ ys)) parts.0 (all-both test xs ys parts.1 f)
 
 -- the names of an origin and of fields are some of all names
-both_names : (origin fields : List Field) (inside : Option (List Part)) (o : IsOrigin origin) → names_of (origin ++ fields) ++ inside_name inside ≡ picked (thrice o.keeps) (origin_names ++ (names_of fields ++ inside_name inside))
-both_names origin fields inside o =
-    ap (λ names. names ++ inside_name inside) (flat_map-append (λ (f : Field). member_names f.name) origin fields)
-    ∙ append_assoc (names_of origin) (names_of fields) (inside_name inside)
-    ∙ o.among (names_of fields ++ inside_name inside)
+both_names : (origin fields : List Field) (others : List (List ℕ)) (o : IsOrigin origin) → names_of (origin ++ fields) ++ others ≡ picked (thrice o.keeps) (origin_names ++ (names_of fields ++ others))
+both_names origin fields others o =
+    ap (λ names. names ++ others) (flat_map-append (λ (f : Field). member_names f.name) origin fields)
+    ∙ append_assoc (names_of origin) (names_of fields) others
+    ∙ o.among (names_of fields ++ others)
 
-pub from_origin : (origin : List Field) (kind : List ℕ) (fields : List Field) (inside : Option (List Part)) → IsOrigin origin → FitsFrom kind fields inside → FitsJson (with_origin origin (with_inside inside (printed kind fields)))
-from_origin origin kind fields inside o r = record {
+the_four : (a b c d : List (List ℕ)) → a ++ (b ++ (c ++ d)) ≡ a ++ (b ++ c) ++ d
+the_four a b c d = simp append_assoc refl
+
+pub from_origin : (origin : List Field) (kind : List ℕ) (fields : List Field) (inside : Option (List Part)) (last : List Field) → IsOrigin origin → IsLast last → FitsFrom kind fields inside → FitsJson (with_last last (with_origin origin (with_inside inside (printed kind fields))))
+from_origin origin kind fields inside last o l r = record {
   kind = r.kind_plain;
   names = all-both (λ (f : Field). is_plain f.name) origin fields o.plain r.plain;
-  apart = ap (λ names. are_different (codes "kind" ∷ names)) (both_names origin fields inside o) ∙ different-picked (true ∷ thrice o.keeps) (codes "kind" ∷ (origin_names ++ (names_of fields ++ inside_name inside))) r.apart;
+  apart =
+      ap (λ names. are_different (codes "kind" ∷ names)) (both_names origin fields (inside_name inside ++ names_of last) o)
+      ∙ different-picked (true ∷ thrice o.keeps) (codes "kind" ∷ (origin_names ++ (names_of fields ++ (inside_name inside ++ names_of last))))
+      (ap (λ names. are_different (codes "kind" ∷ names)) (the_four origin_names (names_of fields) (inside_name inside) (names_of last)) ∙ l.fewer (codes "kind" ∷ (origin_names ++ (names_of fields ++ inside_name inside))) r.apart);
   values = all-append (λ (f : Field). ValueFits f.value) origin fields o.values r.values;
   inside = r.parts;
+  last_names = l.plain;
+  last_values = l.values;
 }
 
 pub no_origin : IsOrigin []

@@ -72,7 +72,7 @@ pub printable : {levels : ℕ} (text : List ℕ) → IsPrintable text → IsText
 printable text h = a_string text (all-so (λ c. (32 ≤ c) × (c ≤ 126)) (λ c. 32 ≤ c) (λ c h. h.0) text h)
 
 -- ---- objects
-some_flags : (registry : Registry) (bits : ℕ × List ℕ) → 8 * length bits.1 < 2 ^ 64 → IsText (flags_object registry bits) (flags_json registry bits) 2
+some_flags : (registry : Registry) (bits : ℕ × List ℕ) → 8 * length bits.1 < 10 ^ 64 → IsText (flags_object registry bits) (flags_json registry bits) 2
 some_flags registry bits h =
     as_text
     (first {levels = 1} (codes "bits") refl (a_number (8 * length bits.1 - bits.0) (omega (arith, h)))
@@ -80,7 +80,7 @@ some_flags registry bits h =
     (next (codes "names") refl (a_list 0 json_string string IsAbove (λ name h. a_string name h) (set_names registry bits.1) (above_set_names registry bits.1)) no_more_members)) refl)
     (seven (codes "{\"bits\":") (decimal (8 * length bits.1 - bits.0)) (codes ",\"hex\":\"") (hex bits.1) (codes "\",\"names\":") (list_text json_string (set_names registry bits.1)) (codes "}"))
 
-some_encrypted : (etype : ℤ) (kvno : Option ℤ) (size : ℕ) → IsSmall etype → IfSome kvno IsSmall → size < 2 ^ 64 → IsText (encrypted_object etype kvno size) (encrypted_json etype kvno size) 1
+some_encrypted : (etype : ℤ) (kvno : Option ℤ) (size : ℕ) → IsSmall etype → IfSome kvno IsSmall → size < 10 ^ 64 → IsText (encrypted_object etype kvno size) (encrypted_json etype kvno size) 1
 some_encrypted etype kvno size e k s =
     as_text
     (first {levels = 0} (codes "etype") refl (a_signed etype e)
@@ -107,7 +107,7 @@ some_address addr_type octets h =
     (next_plain (codes "hex") (hex octets) refl (plain_hex octets) no_more_members)) refl)
     (seven (codes "{\"type\":") (signed_decimal addr_type) (codes ",\"type_name\":") (name_string registries.AddressTypes addr_type) (codes ",\"hex\":\"") (hex octets) (codes "\"}"))
 
-some_digest : (cksumtype : ℤ) (size : ℕ) → IsSmall cksumtype → size < 2 ^ 64 → IsText (digest_object cksumtype size) (digest_json cksumtype size) 1
+some_digest : (cksumtype : ℤ) (size : ℕ) → IsSmall cksumtype → size < 10 ^ 64 → IsText (digest_object cksumtype size) (digest_json cksumtype size) 1
 some_digest cksumtype size h s =
     as_text
     (first {levels = 0} (codes "type") refl (a_signed cksumtype h)
@@ -132,13 +132,13 @@ reason whys.HighBit = record { number = refl; name = refl }
 reason other = record { number = refl; name = refl }
 
 -- the number of a reason is small, and its name is plain
-pub small_reason : (why : Why) → reason_number why < 2 ^ 63
+pub small_reason : (why : Why) → reason_number why < 10 ^ 64
 small_reason why = omega (arith, leb-true (reason_number why) 255 (reason why).number)
 
 pub plain_reason : (why : Why) → IsPlain (reason_name why)
 plain_reason why = is_plain-plain (reason_name why) (reason why).name
 
-some_refused : (r : Refusal) → r.place < 2 ^ 64 → IsText (refused_object r) (refused_json r) 2
+some_refused : (r : Refusal) → r.place < 10 ^ 64 → IsText (refused_object r) (refused_json r) 2
 some_refused r h =
     as_text
     (first {levels = 1} (codes "refused") refl

@@ -3,11 +3,12 @@ pub mod Pairs
 pub mod Printed
 pub mod Hexadecimal
 pub mod Rows
+pub mod Characters
+pub mod Offsets
 pub mod DumpRows
 pub mod Dumps
 pub mod Layouts
 pub mod Octets
-pub mod Characters
 pub mod Blanks
 pub mod Base64
 pub mod Base64Alone
@@ -23,6 +24,7 @@ pub mod TokenFields
 pub mod TokenGss
 pub mod TokenOpened
 pub mod TokenTickets
+pub mod JsonDecimals
 pub mod JsonPieces
 pub mod JsonStrings
 pub mod JsonNames

@@ -1,5 +1,5 @@
 -- Each message and each Ticket is spelled in each form.
-use Rattle.std.proofs.Common.{ℕ, ◌==◌, ◌≡◌, ◌||◌, not, true, false, List, ◌∷◌, length, sym, subst, ap, arith}
+use Rattle.std.proofs.Common.{ℕ, ◌==◌, ◌≡◌, ◌||◌, not, true, false, List, ◌∷◌, sym, subst, ap, arith}
 use Rattle.std.proofs.lemmas.Bool.{or_left, or_right}
 use Rattle.std.proofs.lemmas.Bool.Decides.{nat_tests}
 use Rattle.std.specs.Option.{is_some}
@@ -43,4 +43,4 @@ messages_are_spelled profile octets are short is =
     let all = subst AreOctets head.form are in
     let no_text = subst (λ o. is_some (first_no_text o) ≡ true) head.form (nested_no_text octets nested) in
     let apart = headed_apart head.first head.second head.third head.others all head.is_tag head.is_head no_text in
-    subst AreSpelledInEachForm (sym head.form) (in_each_form head.first (head.second ∷ head.third ∷ head.others) all (omega (arith, ap length head.form)) apart)
+    subst AreSpelledInEachForm (sym head.form) (in_each_form head.first (head.second ∷ head.third ∷ head.others) all apart)

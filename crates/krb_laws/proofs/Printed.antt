@@ -1,7 +1,7 @@
--- Printed characters, and lines of these.
-use Rattle.std.proofs.Common.{ℕ, suc, ◌/◌, ◌%◌, ◌==◌, ◌≡◌, Bool, true, false, List, [], ◌∷◌, ◌++◌, length, Some, None, refl, ap, ◌∙◌, arith}
+-- Printed characters, and lines of these and of tabs.
+use Rattle.std.proofs.Common.{ℕ, suc, replicate, ◌||◌, ◌/◌, ◌%◌, ◌==◌, ◌≡◌, Bool, true, false, List, [], ◌∷◌, ◌++◌, length, Some, None, refl, ap, ◌∙◌, arith}
 use Rattle.std.proofs.lemmas.Bool.Decides.{nat_tests}
-use Rattle.std.proofs.lemmas.List.Elements.{All-append, All-cons, All-head, All-nil, All-tail}
+use Rattle.std.proofs.lemmas.List.Elements.{All-append, All-cons, All-head, All-nil, All-replicate, All-tail}
 use Rattle.std.specs.List.{AllPass}
 use Rattle.base64.specs.Tables.{is_printable}
 use Rattle.hex.specs.Hex.{encode_lower, encode_with}
@@ -9,7 +9,7 @@ use Rattle.krb_der.specs.Octets.{AreOctets, when}
 use Rattle.krb_input.specs.Characters.{is_text}
 use Rattle.krb_input.specs.Octets.{first_no_text}
 use Rattle.krb_input.specs.Dumps.{lines, with_first}
-use Rattle.krb_laws.specs.Written.{IsBeside, after_blanks, spaced}
+use Rattle.krb_laws.specs.Written.{IsBeside, after_blanks, grouped, spaced}
 use Rattle.krb_laws.proofs.Rows.{AreGroups}
 use Rattle.krb_laws.proofs.Pairs.{digits_pair, digit_of, digit_printable}
 
@@ -19,8 +19,19 @@ IsPrintable octet = is_printable octet ≡ true
 abbrev pub ArePrintable : List ℕ → Type 0
 ArePrintable text = AllPass is_printable text
 
+-- what a line has: printed characters and tabs
+abbrev pub IsInLine : ℕ → Type 0
+IsInLine octet = (is_printable octet || octet == 0x09) ≡ true
+
+abbrev pub AreInLine : List ℕ → Type 0
+AreInLine text = AllPass (λ octet. is_printable octet || octet == 0x09) text
+
+pub in_line : (text : List ℕ) → ArePrintable text → AreInLine text
+in_line [] are = All-nil IsInLine
+in_line (octet ∷ text) are = All-cons IsInLine octet text (ap (λ b. b || octet == 0x09) (All-head IsPrintable octet text are)) (in_line text (All-tail IsPrintable octet text are))
+
 -- ---- texts
-printable_is_text : (octet : ℕ) → is_printable octet ≡ true → is_text octet ≡ true
+printable_is_text : (octet : ℕ) → (is_printable octet || octet == 0x09) ≡ true → is_text octet ≡ true
 printable_is_text octet is = grind (arith, nat_tests)
 
 text_before : (octet : ℕ) (text : List ℕ) → is_text octet ≡ true → first_no_text text ≡ None → first_no_text (octet ∷ text) ≡ None
@@ -34,20 +45,20 @@ all_text [] are = refl
 all_text (octet ∷ text) are = text_before octet text (All-head IsText octet text are) (all_text text (All-tail IsText octet text are))
 
 -- a line, and a text after it
-pub line_before : (line text : List ℕ) → ArePrintable line → first_no_text text ≡ None → first_no_text (line ++ (0x0A ∷ text)) ≡ None
+pub line_before : (line text : List ℕ) → AreInLine line → first_no_text text ≡ None → first_no_text (line ++ (0x0A ∷ text)) ≡ None
 line_before [] text are others = others
 line_before (octet ∷ line) text are others =
-    text_before octet (line ++ (0x0A ∷ text)) (printable_is_text octet (All-head IsPrintable octet line are)) (line_before line text (All-tail IsPrintable octet line are) others)
+    text_before octet (line ++ (0x0A ∷ text)) (printable_is_text octet (All-head IsInLine octet line are)) (line_before line text (All-tail IsInLine octet line are) others)
 
 -- ---- lines
-printable_no_feed : (octet : ℕ) → is_printable octet ≡ true → (octet == 0x0A) ≡ false
+printable_no_feed : (octet : ℕ) → (is_printable octet || octet == 0x09) ≡ true → (octet == 0x0A) ≡ false
 printable_no_feed octet is = grind (arith, nat_tests)
 
-pub first_line : (line text : List ℕ) → ArePrintable line → lines (line ++ (0x0A ∷ text)) ≡ (line, 0x0A ∷ text) ∷ lines text
+pub first_line : (line text : List ℕ) → AreInLine line → lines (line ++ (0x0A ∷ text)) ≡ (line, 0x0A ∷ text) ∷ lines text
 first_line [] text are = refl
 first_line (octet ∷ line) text are =
-    ap (λ b. when b (λ _. ([], octet ∷ (line ++ (0x0A ∷ text))) ∷ lines (line ++ (0x0A ∷ text))) (λ _. with_first octet (lines (line ++ (0x0A ∷ text))))) (printable_no_feed octet (All-head IsPrintable octet line are))
-    ∙ ap (with_first octet) (first_line line text (All-tail IsPrintable octet line are))
+    ap (λ b. when b (λ _. ([], octet ∷ (line ++ (0x0A ∷ text))) ∷ lines (line ++ (0x0A ∷ text))) (λ _. with_first octet (lines (line ++ (0x0A ∷ text))))) (printable_no_feed octet (All-head IsInLine octet line are))
+    ∙ ap (with_first octet) (first_line line text (All-tail IsInLine octet line are))
 
 -- ---- digits
 pub encoded_printable : (octets : List ℕ) → AreOctets octets → ArePrintable (encode_lower octets)
@@ -72,3 +83,9 @@ spaced_printable has_colon is_wide number [] after are printable = printable
 spaced_printable has_colon is_wide number (octets ∷ others) after are printable =
     blanks_printable (is_wide number) (encode_lower octets ++ spaced is_wide (suc number) others after)
     (All-append IsPrintable (encode_lower octets) (spaced is_wide (suc number) others after) (encoded_printable octets are.0) (spaced_printable has_colon is_wide (suc number) others after are.2 printable))
+
+pub grouped_printable : (has_colon : Bool) (gap : ℕ) (is_wide : ℕ → Bool) (rows : List (List ℕ)) (after : List ℕ) → AreGroups has_colon rows → ArePrintable after → ArePrintable (grouped gap is_wide rows after)
+grouped_printable has_colon gap is_wide [] after are printable = printable
+grouped_printable has_colon gap is_wide (octets ∷ others) after are printable =
+    All-append IsPrintable (replicate gap 0x20) (encode_lower octets ++ spaced is_wide 1 others after) (All-replicate IsPrintable gap 0x20 refl)
+    (All-append IsPrintable (encode_lower octets) (spaced is_wide 1 others after) (encoded_printable octets are.0) (spaced_printable has_colon is_wide 1 others after are.2 printable))

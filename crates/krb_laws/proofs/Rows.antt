@@ -1,5 +1,5 @@
 -- Octets in rows of so many.
-use Rattle.std.proofs.Common.{ℕ, zero, suc, ◌+◌, ◌^◌, ◌≡◌, ◌<◌, ◌≤◌, Bool, true, false, List, [], ◌∷◌, ◌++◌, length, take, drop, refl, ap, ◌∙◌, arith, length-take, length-drop, take-append-drop}
+use Rattle.std.proofs.Common.{ℕ, zero, suc, ◌+◌, ◌≡◌, ◌<◌, ◌≤◌, Bool, true, false, List, [], ◌∷◌, ◌++◌, length, take, drop, refl, ap, ◌∙◌, arith, length-take, length-drop, take-append-drop}
 use Rattle.std.specs.List.{flat_map}
 use Rattle.krb_der.specs.Octets.{AreOctets}
 use Rattle.krb_der.specs.inner.Numbers.{AreOctets-drop, AreOctets-take}
@@ -17,21 +17,21 @@ all_of_rows (suc fuel) size (octet ∷ octets) some enough =
     ∙ take-append-drop size (octet ∷ octets)
 
 -- ---- lines
--- rows of octets, none of which is empty, and of which each begins where an offset says
-abbrev pub AreRows : ℕ → List (List ℕ) → Type 0
-AreRows count [] = count < 2 ^ 32
-AreRows count (octets ∷ others) = AreOctets octets × (0 < length octets) × (count < 2 ^ 32) × AreRows (count + length octets) others
+-- rows of octets, none of which is empty, and of which each begins below a limit
+abbrev pub AreRows : (limit count : ℕ) → List (List ℕ) → Type 0
+AreRows limit count [] = count < limit
+AreRows limit count (octets ∷ others) = AreOctets octets × (0 < length octets) × (count < limit) × AreRows limit (count + length octets) others
 
-pub rows_are : (fuel size count : ℕ) (octets : List ℕ) → 0 < size → AreOctets octets → count + length octets < 2 ^ 32 → AreRows count (rows_of fuel size octets)
-rows_are fuel size count [] some are few = omega arith
-rows_are zero size count (octet ∷ octets) some are few = omega arith
-rows_are (suc fuel) size count (octet ∷ octets) some are few =
+pub rows_are : (limit fuel size count : ℕ) (octets : List ℕ) → 0 < size → AreOctets octets → count + length octets < limit → AreRows limit count (rows_of fuel size octets)
+rows_are limit fuel size count [] some are few = omega arith
+rows_are limit zero size count (octet ∷ octets) some are few = omega arith
+rows_are limit (suc fuel) size count (octet ∷ octets) some are few =
     let first = length-take size (octet ∷ octets) in
     let rest = length-drop size (octet ∷ octets) in (
       AreOctets-take size (octet ∷ octets) are,
       omega (arith, first),
       omega arith,
-      rows_are fuel size (count + length (take size (octet ∷ octets))) (drop size (octet ∷ octets)) some (AreOctets-drop size (octet ∷ octets) are) (omega (arith, first, rest)),
+      rows_are limit fuel size (count + length (take size (octet ∷ octets))) (drop size (octet ∷ octets)) some (AreOctets-drop size (octet ∷ octets) are) (omega (arith, first, rest)),
     )
 
 -- ---- groups

@@ -120,8 +120,8 @@ token_apart first octets found (inr (inl is)) = subst (λ f. AreApart f octets) 
 token_apart first octets found (inr (inr is)) = subst (λ f. AreApart f octets) (sym is) (response_apart octets)
 
 pub tokens_are_spelled : TokensAreSpelled
-tokens_are_spelled [] are few token = let same : [] ≡ token.layer ∷ token.layers = token.opens in absurd (cc)
-tokens_are_spelled (first ∷ octets) are few token = in_each_form first octets are few (token_apart first octets token.found (token_tag first octets token))
+tokens_are_spelled [] are token = let same : [] ≡ token.layer ∷ token.layers = token.opens in absurd (cc)
+tokens_are_spelled (first ∷ octets) are token = in_each_form first octets are (token_apart first octets token.found (token_tag first octets token))
 
 -- ---- frames
 pub frames_are_spelled : FramesAreSpelled

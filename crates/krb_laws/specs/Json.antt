@@ -155,6 +155,6 @@ abbrev pub inside_members : Option (List Part) → List (List ℕ × Json)
 inside_members None = []
 inside_members (Some parts) = (codes "inside", list_of part_json parts) ∷ []
 
--- its kind, where it comes from, its fields, and what is inside
+-- its kind, where it comes from, its fields, what is inside, and what is last
 unfoldable pub json_of : Printed → Json
-json_of r = object_of ((codes "kind", string r.kind) ∷ (flat_map field_members (r.origin ++ r.fields) ++ inside_members r.inside))
+json_of r = object_of ((codes "kind", string r.kind) ∷ (flat_map field_members (r.origin ++ r.fields) ++ (inside_members r.inside ++ flat_map field_members r.last)))

@@ -22,7 +22,7 @@ IsRecord (records.Hole hole) = IsHoleSize hole.size
 -- of a record of a keytab and of its end, of a cache, of a credential, whatever its ticket field has, and of a cache's end
 pub record FilesAreJson : Type 0 where
   pub of_record : (r : Record) → IsRecord r → PrintsJson (printed_record r)
-  pub end_of_keytab : (count : ℕ) (stop : Stop) → count < 2 ^ 63 → PrintsJson (keytab_end count stop)
+  pub end_of_keytab : (count : ℕ) (stop : Stop) → count < 10 ^ 64 → PrintsJson (keytab_end count stop)
   pub cache : (header : Header) (principal : FilePrincipal) → HeaderFits header → PrincipalFits principal → PrintsJson (cache_record header principal)
   pub credential : (now : Option ℕ) (c : Credential) → CredentialFits c → PrintsJson (credential_record forms.Json now c)
-  pub end_of_cache : (count : ℕ) → count < 2 ^ 63 → PrintsJson (cache_end count)
+  pub end_of_cache : (count : ℕ) → count < 10 ^ 64 → PrintsJson (cache_end count)

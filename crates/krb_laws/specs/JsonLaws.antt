@@ -20,7 +20,7 @@ use Rattle.krb_msg.specs.Types.{ticket_value}
 use Rattle.krb_msg.specs.Views.{IsInProfile}
 use Rattle.krb_msg.specs.declared.message.Message.{Message}
 use Rattle.krb_msg.specs.declared.ticket.Ticket.{Ticket}
-use Rattle.krb_record.specs.Captures.{capture_refused_record, count_fields, lost_record, origin_fields, password_record}
+use Rattle.krb_record.specs.Captures.{capture_refused_record, captured, count_fields, lost_record, password_record}
 use Rattle.krb_record.specs.Files.{file_record}
 use Rattle.krb_record.specs.Forms.{record_text}
 use Rattle.krb_record.specs.Inputs.{input_refused_record}
@@ -59,28 +59,28 @@ abbrev pub are_different : List (List ℕ) → Bool
 are_different [] = true
 are_different (first ∷ others) = list_all (λ other. not (bytes_eq first other)) others && are_different others
 
--- a number of 64 bits
+-- a number of at most 64 digits
 abbrev pub IsSmall : ℤ → Type 0
-IsSmall n = unsigned_abs n < 2 ^ 63
+IsSmall n = unsigned_abs n < 10 ^ 64
 
 abbrev pub IsEndpoint : Endpoint → Type 0
-IsEndpoint e = MatchIp e.address IsIpv4Addr IsIpv6Addr × (e.port < 2 ^ 64)
+IsEndpoint e = MatchIp e.address IsIpv4Addr IsIpv6Addr × (e.port < 10 ^ 64)
 
--- numbers and sizes are of 64 bits, words are printable, and addresses are as their types have them; octets may be any
+-- numbers and sizes have at most 64 digits, words are printable, and addresses are as their types have them; octets may be any
 abbrev pub ValueFits : Value → Type 0
 ValueFits (Number n) = IsSmall n
 ValueFits (Named registry n) = IsSmall n
 ValueFits (Numbers registry ns) = AllByRecursion IsSmall ns
 ValueFits (ErrorCode code) = IsSmall code
-ValueFits (Reason n name) = (n < 2 ^ 64) × IsPrintable name
+ValueFits (Reason n name) = (n < 10 ^ 64) × IsPrintable name
 ValueFits (Word text) = IsPrintable text
-ValueFits (Flags registry bits) = 8 * length bits.1 < 2 ^ 64
-ValueFits (Encrypted etype kvno size) = IsSmall etype × IfSome kvno IsSmall × (size < 2 ^ 64)
+ValueFits (Flags registry bits) = 8 * length bits.1 < 10 ^ 64
+ValueFits (Encrypted etype kvno size) = IsSmall etype × IfSome kvno IsSmall × (size < 10 ^ 64)
 ValueFits (Principal name_type components realm) = IsSmall name_type
 ValueFits (Address addr_type octets) = IsSmall addr_type
-ValueFits (Digest cksumtype size) = IsSmall cksumtype × (size < 2 ^ 64)
+ValueFits (Digest cksumtype size) = IsSmall cksumtype × (size < 10 ^ 64)
 ValueFits (Offset seconds microseconds) = IsSmall seconds × IsSmall microseconds
-ValueFits (RefusedTicket refusal) = refusal.place < 2 ^ 64
+ValueFits (RefusedTicket refusal) = refusal.place < 10 ^ 64
 ValueFits (Flow transport source target) = IsEndpoint source × IsEndpoint target
 ValueFits value = Unit {0}
 
@@ -96,13 +96,15 @@ abbrev pub inside_name : Option (List Part) → List (List ℕ)
 inside_name None = []
 inside_name (Some parts) = codes "inside" ∷ []
 
--- So it is of a record, and what is inside fits.
+-- So it is of a record, and what is inside and what is last fit.
 pub record FitsJson (r : Printed) : Type 0 where
   pub kind : is_plain r.kind ≡ true
   pub names : list_all (λ (f : Field). is_plain f.name) (r.origin ++ r.fields) ≡ true
-  pub apart : are_different (codes "kind" ∷ (flat_map (λ f. member_names f.name) (r.origin ++ r.fields) ++ inside_name r.inside)) ≡ true
+  pub apart : are_different (codes "kind" ∷ (flat_map (λ f. member_names f.name) (r.origin ++ r.fields) ++ (inside_name r.inside ++ flat_map (λ f. member_names f.name) r.last))) ≡ true
   pub values : AllByRecursion (λ (f : Field). ValueFits f.value) (r.origin ++ r.fields)
   pub inside : IfSome r.inside (AllByRecursion PartFits)
+  pub last_names : list_all (λ (f : Field). is_plain f.name) r.last ≡ true
+  pub last_values : AllByRecursion (λ (f : Field). ValueFits f.value) r.last
 
 -- the text of a record is its object
 abbrev pub PrintsJson : Printed → Type 0
@@ -115,7 +117,7 @@ RecordsAreJson = (r : Printed) → FitsJson r → PrintsJson r
 -- ---- the records that are printed
 -- the number of a line
 abbrev pub IsLine : Option ℕ → Type 0
-IsLine line = IfSome line (λ n. n < 2 ^ 63)
+IsLine line = IfSome line (λ n. n < 10 ^ 64)
 
 -- of a message, with an origin too, and of a Ticket
 pub record MessagesAreJson : Type 0 where
@@ -125,45 +127,45 @@ pub record MessagesAreJson : Type 0 where
 
 -- the place of octets and their number
 pub record IsExtent (extent : Extent) : Type 0 where
-  pub at : extent.at < 2 ^ 63
-  pub length : IfSome extent.length (λ n. n < 2 ^ 63)
+  pub at : extent.at < 10 ^ 64
+  pub length : IfSome extent.length (λ n. n < 10 ^ 64)
 
 abbrev pub IsEnd : End → Type 0
 IsEnd Boundary = Unit {0}
-IsEnd (Within present) = present < 2 ^ 63
-IsEnd (Refused place reason) = place < 2 ^ 63
+IsEnd (Within present) = present < 10 ^ 64
+IsEnd (Refused place reason) = place < 10 ^ 64
 
 -- of a refused file, message or input, of the end of a stream, and of the name of a file
 pub record EndsAreJson : Type 0 where
-  pub file : (place : ℕ) (reason : FileWhy) (path : Option (List ℕ)) (extent : Extent) → place < 2 ^ 63 → IsExtent extent → PrintsJson (file_refused_record forms.Json place reason path extent)
-  pub message : (line : Option ℕ) (layers : List Layer) (refusal : Refusal) (path : Option (List ℕ)) (extent : Extent) (spelling : Spelling) → IsLine line → refusal.place < 2 ^ 63 → IsExtent extent → PrintsJson (with_origin (message_origin line layers) (message_refused_record forms.Json refusal path extent spelling))
-  pub untold_message : (refusal : Refusal) (path : Option (List ℕ)) → refusal.place < 2 ^ 63 → PrintsJson (refusal_record refusal (path_in forms.Json path))
-  pub input : (line : Option ℕ) (layers : List Layer) (fault : InputFault) (place : Option ℕ) (extent : Extent) (spelling : Option Spelling) → IsLine line → IfSome place (λ n. n < 2 ^ 63) → IsExtent extent → PrintsJson (with_origin (message_origin line layers) (input_refused_record forms.Json fault place extent spelling))
-  pub stream : (messages : ℕ) (end : End) (path : Option (List ℕ)) (extent : Extent) → messages < 2 ^ 63 → IsEnd end → IsExtent extent → PrintsJson (end_record forms.Json messages end path extent)
-  pub untold_stream : (messages place : ℕ) (reason : Why) (path : Option (List ℕ)) → messages < 2 ^ 63 → place < 2 ^ 63 → PrintsJson (refused_frame messages place reason (path_in forms.Json path))
-  pub counted_stream : (messages refused : ℕ) → messages < 2 ^ 63 → refused < 2 ^ 63 → PrintsJson (counted_end_record messages refused)
+  pub file : (place : ℕ) (reason : FileWhy) (path : Option (List ℕ)) (extent : Extent) → place < 10 ^ 64 → IsExtent extent → PrintsJson (file_refused_record forms.Json place reason path extent)
+  pub message : (line : Option ℕ) (layers : List Layer) (refusal : Refusal) (path : Option (List ℕ)) (extent : Extent) (spelling : Spelling) → IsLine line → refusal.place < 10 ^ 64 → IsExtent extent → PrintsJson (with_origin (message_origin line layers) (message_refused_record forms.Json refusal path extent spelling))
+  pub untold_message : (refusal : Refusal) (path : Option (List ℕ)) → refusal.place < 10 ^ 64 → PrintsJson (refusal_record refusal (path_in forms.Json path))
+  pub input : (line : Option ℕ) (layers : List Layer) (fault : InputFault) (place : Option ℕ) (extent : Extent) (spelling : Option Spelling) → IsLine line → IfSome place (λ n. n < 10 ^ 64) → IsExtent extent → PrintsJson (with_origin (message_origin line layers) (input_refused_record forms.Json fault place extent spelling))
+  pub stream : (messages : ℕ) (end : End) (path : Option (List ℕ)) (extent : Extent) → messages < 10 ^ 64 → IsEnd end → IsExtent extent → PrintsJson (end_record forms.Json messages end path extent)
+  pub untold_stream : (messages place : ℕ) (reason : Why) (path : Option (List ℕ)) → messages < 10 ^ 64 → place < 10 ^ 64 → PrintsJson (refused_frame messages place reason (path_in forms.Json path))
+  pub counted_stream : (messages refused : ℕ) → messages < 10 ^ 64 → refused < 10 ^ 64 → PrintsJson (counted_end_record messages refused)
   pub name : (name : List ℕ) → PrintsJson (file_record name)
 
 -- the origin of a record of a capture: its numbers and addresses are as their types have them
 pub record IsFlowOrigin (origin : CaptureOrigin) : Type 0 where
   pub in_range : OriginIsInRange origin
-  pub packet : origin.packet < 2 ^ 63
+  pub packet : origin.packet < 10 ^ 64
   pub source : origin.flow.source.port < 2 ^ 16
   pub target : origin.flow.target.port < 2 ^ 16
 
 pub record AreCounts (counts : CaptureCounts) : Type 0 where
-  pub packets : counts.packets < 2 ^ 63
-  pub messages : counts.messages < 2 ^ 63
-  pub refused : counts.refused < 2 ^ 63
-  pub lost : counts.lost < 2 ^ 63
-  pub unread : counts.unread < 2 ^ 63
+  pub packets : counts.packets < 10 ^ 64
+  pub messages : counts.messages < 10 ^ 64
+  pub refused : counts.refused < 10 ^ 64
+  pub lost : counts.lost < 10 ^ 64
+  pub unread : counts.unread < 10 ^ 64
 
 -- of what is found in a capture, and of its end or its refusal
 pub record CapturesAreJson : Type 0 where
-  pub message : (origin : CaptureOrigin) (m : Message) → IsFlowOrigin origin → IsInProfile profiles.Lenient m → PrintsJson (with_origin (origin_fields origin) (message_record m))
-  pub refusal : (origin : CaptureOrigin) (refusal : Refusal) (path : Option (List ℕ)) (extent : Extent) → IsFlowOrigin origin → refusal.place < 2 ^ 63 → IsExtent extent → PrintsJson (with_origin (origin_fields origin) (refusal_record refusal (path_in forms.Json path ++ extent_in forms.Json extent)))
-  pub joined : (origin : CaptureOrigin) → IsFlowOrigin origin → PrintsJson (with_origin (origin_fields origin) (printed (codes "joined") []))
-  pub lost : (origin : CaptureOrigin) (place octets : ℕ) (path : Option (List ℕ)) → IsFlowOrigin origin → place < 2 ^ 63 → octets < 2 ^ 63 → PrintsJson (with_origin (origin_fields origin) (lost_record forms.Json place octets path))
-  pub password : (origin : CaptureOrigin) (version ap rest : ℕ) → IsFlowOrigin origin → version < 2 ^ 16 → ap < 2 ^ 16 → rest < 2 ^ 63 → PrintsJson (with_origin (origin_fields origin) (password_record version ap rest))
+  pub message : (origin : CaptureOrigin) (m : Message) → IsFlowOrigin origin → IsInProfile profiles.Lenient m → PrintsJson (captured origin (message_record m))
+  pub refusal : (origin : CaptureOrigin) (refusal : Refusal) (path : Option (List ℕ)) (extent : Extent) → IsFlowOrigin origin → refusal.place < 10 ^ 64 → IsExtent extent → PrintsJson (captured origin (refusal_record refusal (path_in forms.Json path ++ extent_in forms.Json extent)))
+  pub joined : (origin : CaptureOrigin) → IsFlowOrigin origin → PrintsJson (captured origin (printed (codes "joined") []))
+  pub lost : (origin : CaptureOrigin) (place octets : ℕ) (path : Option (List ℕ)) → IsFlowOrigin origin → place < 10 ^ 64 → octets < 10 ^ 64 → PrintsJson (captured origin (lost_record forms.Json place octets path))
+  pub password : (origin : CaptureOrigin) (version ap rest : ℕ) → IsFlowOrigin origin → version < 2 ^ 16 → ap < 2 ^ 16 → rest < 10 ^ 64 → PrintsJson (captured origin (password_record version ap rest))
   pub end : (counts : CaptureCounts) → AreCounts counts → PrintsJson (printed (codes "end") (count_fields counts))
-  pub file : (counts : CaptureCounts) (place : ℕ) (reason : FileWhy) (path : Option (List ℕ)) (extent : Extent) → AreCounts counts → place < 2 ^ 63 → IsExtent extent → PrintsJson (capture_refused_record forms.Json counts place reason path extent)
+  pub file : (counts : CaptureCounts) (place : ℕ) (reason : FileWhy) (path : Option (List ℕ)) (extent : Extent) → AreCounts counts → place < 10 ^ 64 → IsExtent extent → PrintsJson (capture_refused_record forms.Json counts place reason path extent)

@@ -17,7 +17,7 @@ use Rattle.krb_token.specs.Opened.{Found, Refused, Ticket, message_under, under}
 use Rattle.krb_token.specs.Tokens.{opened}
 use Rattle.krb_source.specs.declared.layer.Layer.{Layer}
 use Rattle.krb_source.specs.declared.layer.Layer.TheVariants.{Frame}
-use Rattle.krb_laws.specs.Written.{IsLayout, Layout, base64_text, dump_text, hexdump, xxd}
+use Rattle.krb_laws.specs.Written.{HasOffsets, IsLayout, Layout, base64_text, dump_text, hexdump, od, od_hexadecimal, tcpdump, tshark, wireshark, xxd}
 use Rattle.krb_source.specs.declared.spelling.Spelling.TheVariants as form
 
 -- ---- hexadecimal
@@ -47,16 +47,19 @@ abbrev pub Base64IsSpelled : Type 0
 Base64IsSpelled = (text : List ℕ) (first : ℕ) (octets : List ℕ) → AreOctets (first ∷ octets) → is_first first ≡ true → without_blanks text ≡ base64_text (first ∷ octets) → is_some (first_unfit false text) ≡ true → spelled text ≡ Ok (form.Base64, first ∷ octets)
 
 -- ---- dumps
--- A dump of octets spells the octets, whatever stands beside them. Its offsets have eight digits.
+-- A dump of octets spells the octets, whatever stands beside them.
 abbrev pub DumpsAreSpelled : Type 0
-DumpsAreSpelled = (layout : Layout) (octets : List ℕ) → IsLayout layout → AreOctets octets → 0 < length octets → length octets < 2 ^ 32 → spelled (dump_text layout octets) ≡ Ok (form.Dump, octets)
+DumpsAreSpelled = (layout : Layout) (octets : List ℕ) → IsLayout layout → AreOctets octets → 0 < length octets → HasOffsets layout octets → spelled (dump_text layout octets) ≡ Ok (form.Dump, octets)
 
--- What xxd writes by itself is such a dump, and so is what hexdump -C writes, where it leaves out no lines (-v).
-abbrev pub XxdIsLayout : Type 0
-XxdIsLayout = IsLayout xxd
-
-abbrev pub HexdumpIsLayout : Type 0
-HexdumpIsLayout = IsLayout hexdump
+-- What these tools write is such a dump.
+pub record ToolsAreLayouts : Type 0 where
+  pub of_xxd : IsLayout xxd
+  pub of_hexdump : IsLayout hexdump
+  pub of_od : IsLayout od
+  pub of_od_hexadecimal : IsLayout od_hexadecimal
+  pub of_tcpdump : IsLayout tcpdump
+  pub of_tshark : IsLayout tshark
+  pub of_wireshark : IsLayout wireshark
 
 -- ---- messages and Tickets
 -- octets that are judged whole, as a message of a profile or as a Ticket of it
@@ -69,7 +72,7 @@ pub record AreSpelledInEachForm (octets : List ℕ) : Type 0 where
   pub by_digits : AreSpelledInDigits octets
   pub by_hexadecimal : (text : List ℕ) → decode_of (without_blanks text) ≡ Ok octets → spelled text ≡ Ok (form.Hex, octets)
   pub by_base64 : (text : List ℕ) → without_blanks text ≡ base64_text octets → spelled text ≡ Ok (form.Base64, octets)
-  pub by_dump : (layout : Layout) → IsLayout layout → spelled (dump_text layout octets) ≡ Ok (form.Dump, octets)
+  pub by_dump : (layout : Layout) → IsLayout layout → HasOffsets layout octets → spelled (dump_text layout octets) ≡ Ok (form.Dump, octets)
 
 -- Each message and each Ticket is spelled in each form.
 abbrev pub MessagesAreSpelled : Type 0
@@ -98,7 +101,7 @@ pub record AreToken (octets : List ℕ) : Type 0 where
 
 -- Each token is spelled in each form.
 abbrev pub TokensAreSpelled : Type 0
-TokensAreSpelled = (octets : List ℕ) → AreOctets octets → length octets < 2 ^ 32 → AreToken octets → AreSpelledInEachForm octets
+TokensAreSpelled = (octets : List ℕ) → AreOctets octets → AreToken octets → AreSpelledInEachForm octets
 
 -- A frame spells itself.
 abbrev pub FramesAreSpelled : Type 0

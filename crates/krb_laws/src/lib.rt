@@ -1,6 +1,5 @@
 //! Laws over several libraries: what inputs spell, what tokens are opened to, and that what is
-//! printed in the form Json is JSON. Each is the contract of a function that does nothing. No crate
-//! stands on this one.
+//! printed in the form Json is JSON. Each is the contract of a function that does nothing.
 #![tactic(auto)]
 
 pub mod objects;

@@ -7,7 +7,7 @@ use krb_judge::law::refusals_are_inside;
 
 /// The text of a record is the JSON text (RFC 8259) of one value, which is its object, and no object
 /// in that has a name twice: for each record whose kind and names are plain, no two members of
-/// which may have one name, and whose numbers are of 64 bits.
+/// which may have one name, and whose numbers have at most 64 digits.
 pub fn records_are_json()
     ensures { RecordsAreJson }
 {}

@@ -1,6 +1,6 @@
 //! Laws of what inputs spell, each the contract of a function that does nothing.
 
-ghost use Rattle.krb_laws.specs.Spelled.{OctetsAreSpelled, Base64IsSpelled, HexadecimalIsSpelled, HexadecimalIsNoDump, DigitsAreSpelled, DumpsAreSpelled, XxdIsLayout, HexdumpIsLayout, MessagesAreSpelled, MessagesAreOpened, TicketsAreOpened, TokensAreSpelled, FramesAreSpelled};
+ghost use Rattle.krb_laws.specs.Spelled.{OctetsAreSpelled, Base64IsSpelled, HexadecimalIsSpelled, HexadecimalIsNoDump, DigitsAreSpelled, DumpsAreSpelled, ToolsAreLayouts, MessagesAreSpelled, MessagesAreOpened, TicketsAreOpened, TokensAreSpelled, FramesAreSpelled};
 
 /// Hexadecimal in any case, with blanks anywhere, that does not begin as a dump spells its octets.
 pub fn hexadecimal_is_spelled()
@@ -33,14 +33,10 @@ pub fn dumps_are_spelled()
     ensures { DumpsAreSpelled }
 {}
 
-/// What `xxd` writes by itself is such a dump.
-pub fn xxd_is_layout()
-    ensures { XxdIsLayout }
-{}
-
-/// What `hexdump -vC` writes is such a dump.
-pub fn hexdump_is_layout()
-    ensures { HexdumpIsLayout }
+/// What `xxd`, `hexdump -vC`, `od -v -tx1`, also with `-A x`, `tcpdump -x`, `tshark -x` and Wireshark
+/// write is such a dump.
+pub fn tools_are_layouts()
+    ensures { ToolsAreLayouts }
 {}
 
 /// Each message and each Ticket, in at most 2^31 - 1 octets, is spelled by its octets, by their
@@ -59,8 +55,7 @@ pub fn tickets_are_opened()
     ensures { TicketsAreOpened }
 {}
 
-/// Each token of GSS-API or of SPNEGO that is opened up to what is in it, in at most 2^32 - 1
-/// octets, is spelled as a message is.
+/// Each token of GSS-API or of SPNEGO that is opened up to what is in it is spelled as a message is.
 pub fn tokens_are_spelled()
     ensures { TokensAreSpelled }
 {}

@@ -7,7 +7,7 @@ use Rattle.krb_der.specs.Octets.{when, begins_with}
 use Rattle.krb_der.specs.declared.why.Why.{Why}
 use Rattle.krb_der.specs.declared.why.Why.TheVariants as why
 use Rattle.krb_msg.specs.Judgement.{Outcome, Open, Bad, Done, after, then_after, Head, Got, head, has_size, items_contents, only_contents, of_head, item_with, contents_outcome, fields_outcome, item_outcome}
-use Rattle.krb_msg.specs.Term.{Term, Fields, Octets, Sequence, SequenceOf, Tagged, Application, End, Required, Optional, tag_of}
+use Rattle.krb_msg.specs.Term.{Term, Fields, Sequence, SequenceOf, Tagged, Application, End, Required, Optional, tag_of}
 use Rattle.krb_msg.proofs.Heads.{head-positive}
 use Rattle.krb_msg.proofs.Items.{item_done}
 use Rattle.krb_msg.proofs.Laws.{done_within}

@@ -6,3 +6,5 @@ pub mod ValueMarks
 pub mod Masks
 pub mod OtherCases
 pub mod Reorders
+pub mod Spellings
+pub mod Lengths

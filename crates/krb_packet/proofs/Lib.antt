@@ -15,3 +15,4 @@ pub mod Stepwise
 pub mod Streams
 pub mod BodyContents
 pub mod Nesting
+pub mod Silent

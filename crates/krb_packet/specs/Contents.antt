@@ -97,16 +97,21 @@ authentication addresses packet = do
 abbrev pub is_followed : ℕ → Bool
 is_followed protocol = protocol == 17 || (protocol == 6 || (protocol == 51 || (protocol == 4 || (protocol == 41 || protocol == 47))))
 
-unfoldable pub of_protocol : Addresses → ℕ → Captured → Option Step
-of_protocol addresses protocol packet =
-    when (protocol == 17) (λ _. udp addresses packet) (λ _.
-    when (protocol == 6) (λ _. tcp addresses packet) (λ _.
+unfoldable pub of_other_protocol : Addresses → ℕ → Captured → Option Step
+of_other_protocol addresses protocol packet =
     when (protocol == 51) (λ _. authentication addresses packet) (λ _.
     when (protocol == 4) (λ _. next (headers.Type 0x0800) packet) (λ _.
     when (protocol == 41) (λ _. next (headers.Type 0x86DD) packet) (λ _.
     when (protocol == 47) (λ _. gre packet) (λ _.
     when (is_passed_protocol protocol) (λ _. passed) (λ _.
-    None)))))))
+    None)))))
+
+-- UDP and TCP; all else is left to another step
+unfoldable pub of_protocol : Addresses → ℕ → Captured → Option Step
+of_protocol addresses protocol packet =
+    when (protocol == 17) (λ _. udp addresses packet) (λ _.
+    when (protocol == 6) (λ _. tcp addresses packet) (λ _.
+    next (headers.Other addresses protocol) packet))
 
 -- ---- IP. Octets after the length in the header are padding; a length of 0, as segmentation offload leaves it, means all octets.
 
@@ -273,11 +278,12 @@ of_type_or_length kind packet = when (nat_le kind 0x05DC) (λ _. logical_link pa
 
 -- ---- Links
 
+-- IP; all else is left to another step
 unfoldable pub ethernet : Captured → Option Step
 ethernet packet = do
   kind ← number16 12 packet
   rest ← after 14 packet
-  of_type_or_length kind rest
+  when (kind == 0x0800) (λ _. ipv4 rest) (λ _. when (kind == 0x86DD) (λ _. ipv6 rest) (λ _. next (headers.TypeOrLength kind) rest))
 
 -- Linux cooked: a header of n octets, with the type of hardware and an EtherType after so many others. With hardware 824, netlink, no packet follows; with 770 and 803 another header does, which is not read. 4 stands for 802.2.
 unfoldable pub cooked_type : ℕ → ℕ → Captured → Option Step
@@ -333,6 +339,7 @@ step port (headers.TypeOrLength kind) packet = of_type_or_length kind packet
 step port (headers.Type kind) packet = of_type kind packet
 step port headers.Internet packet = raw_ip packet
 step port (headers.Protocol addresses kind) packet = payload_of addresses kind packet
+step port (headers.Other addresses kind) packet = of_other_protocol addresses kind packet
 step port (headers.Tunnel addresses) packet = datagram_or_tunnel port addresses packet
 
 -- what is found, or what the rest of a walk finds
@@ -345,7 +352,7 @@ abbrev pub walk : ℕ → ℕ → Header → Captured → Option Contents
 walk port zero header packet = None
 walk port (suc bound) header packet = step port header packet >>= onwards (walk port bound)
 
--- ---- a packet. Of two steps one takes four octets or more, so there are no more of them than octets.
+-- ---- a packet. Of three steps one takes four octets or more, so there are no more of them than octets.
 
 abbrev pub or_unread : Option Contents → Contents
 or_unread None = contents.Unread

@@ -18,7 +18,7 @@ use Rattle.krb_packet.specs.declared.contents.Contents.TheVariants as contents
 use Rattle.krb_packet.specs.declared.contents.Original.{Original}
 use Rattle.krb_packet.specs.declared.contents.Fragment.{Fragment}
 use Rattle.krb_packet.specs.Payloads.{Captured, field, number8, number16, number32, after, beyond, past, within}
-use Rattle.krb_packet.specs.Contents.{after_headers, announced, authentication, contents_of, datagram, ends, ethernet, extension, frame, ipv4, ipv6, logical_link, of_fragment, of_protocol, of_type, of_type_or_length, options, payload_of, raw_ip, segment, snap, snap_type, step as header_step, tag, tcp, udp}
+use Rattle.krb_packet.specs.Contents.{after_headers, announced, authentication, contents_of, datagram, ends, ethernet, extension, frame, ipv4, ipv6, logical_link, of_fragment, of_other_protocol, of_protocol, of_type, of_type_or_length, options, payload_of, raw_ip, segment, snap, snap_type, step as header_step, tag, tcp, udp}
 use Rattle.krb_packet.specs.Contents.{datagram_or_tunnel}
 use Rattle.krb_packet.specs.Envelopes.{after_labels, gre, label, long_ppp, of_gre, of_ppp, pseudowire, session}
 use Rattle.krb_packet.specs.Passed.{is_passed_protocol, is_passed_type}
@@ -151,7 +151,7 @@ abbrev carried_between : IpAddr → Contents
 carried_between address = contents.Datagram (record { source = record { address = address; port = 88 }; target = record { address = address; port = 49152 }; payload = whole (hex (codes "6B6573")); surplus = whole [] })
 
 snap_is_carried : contents_of 88 links.Ethernet (whole (hex (codes "000000000000 000000000000 9300 0005 0027 AAAA03 0000F8 0800 45000037 00000000 40330000 7F000001 7F000001 1104 0000 00000000 00000000 000000000000000000000000") ++ udp_octets)) ≡ carried_between local
-unfolding frame ethernet of_type_or_length of_type header_step tag logical_link snap snap_type number16 number8 field after past within ipv4 announced of_protocol authentication payload_of udp is_tunnel ends datagram
+unfolding frame ethernet of_type_or_length of_type header_step tag logical_link snap snap_type number16 number8 field after past within ipv4 announced of_protocol of_other_protocol authentication payload_of udp is_tunnel ends datagram
 snap_is_carried = refl
 
 -- a neighbour is asked for its address, and a packet is encrypted
@@ -160,7 +160,7 @@ unfolding frame ethernet of_type_or_length of_type header_step tag number16 numb
 neighbours_are_passed = refl
 
 encrypted_is_unread : contents_of 88 links.Ethernet (whole (hex (codes "000000000000 000000000000 88E5"))) ≡ contents.Unread
-unfolding frame ethernet of_type_or_length of_type number16 field after is_passed_type
+unfolding frame ethernet of_type_or_length of_type header_step number16 field after is_passed_type
 encrypted_is_unread = refl
 
 -- the same datagram as a frame of Ethernet, and that in envelopes: in ERSPAN of type I; in VXLAN, whose labels are those of a network of 80; in Geneve, of which an option has four octets; and in a pseudowire of MPLS within a PPPoE session
@@ -168,7 +168,7 @@ abbrev framed : List ℕ
 framed = hex (codes "020000000001 020000000002 0800 4500001F 00000000 40110000 7F000001 7F000001") ++ udp_octets
 
 erspan_is_carried : contents_of 88 links.RawIp (whole (hex (codes "45000045 00000000 402F0000 C0000201 C0000202 0000 88BE") ++ framed)) ≡ carried_between local
-unfolding frame raw_ip ethernet of_type_or_length of_type header_step number16 number8 field after past within ipv4 announced of_protocol gre of_gre udp is_tunnel ends datagram
+unfolding frame raw_ip ethernet of_type_or_length of_type header_step number16 number8 field after past within ipv4 announced of_protocol of_other_protocol gre of_gre udp is_tunnel ends datagram
 erspan_is_carried = refl
 
 vxlan_is_carried : contents_of 88 links.RawIp (whole (hex (codes "45000051 00000000 40110000 C0000201 C0000202 C000 12B5 003D 0000 08000000 00005000") ++ framed)) ≡ carried_between local

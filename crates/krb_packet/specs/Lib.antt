@@ -4,6 +4,7 @@ pub mod Steps
 pub mod Envelopes
 pub mod Tunnels
 pub mod Contents
+pub mod Silence
 pub mod Parts
 pub mod Table
 pub mod Fragments

@@ -24,6 +24,9 @@ pub enum Header {
     Internet,
     /// What the number of a protocol says in a packet of IP or, in IPv6, that of a header.
     Protocol(Addresses, u8),
+    /// The same in a packet of IP of any version, of a protocol that is neither UDP nor TCP and no
+    /// extension header.
+    Other(Addresses, u8),
     /// UDP, to the port of a tunnel.
     Tunnel(Addresses),
 }

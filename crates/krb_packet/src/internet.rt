@@ -2,7 +2,7 @@
 
 ghost use Rattle.std.specs.Prelude.{◌≡◌};
 ghost use Rattle.krb_packet.specs.declared.contents.Contents.TheVariants as kinds;
-ghost use Rattle.krb_packet.specs.Contents.{after_headers, announced, authentication, extension, extensions, fragment, fragment_header, ipv4, ipv6, is_followed, is_skipped, is_whole, may_lead_on, of_fragment, of_protocol, options, payload_of};
+ghost use Rattle.krb_packet.specs.Contents.{after_headers, announced, authentication, extension, extensions, fragment, fragment_header, ipv4, ipv6, is_followed, is_skipped, is_whole, may_lead_on, of_fragment, of_other_protocol, of_protocol, options, payload_of};
 
 use crate::contents::{Contents, Fragment, Original};
 use crate::envelope::gre;
@@ -75,15 +75,16 @@ fn authentication<'a>(addresses: Addresses, packet: Payload<'a>) -> Option<Step<
     Some(Step::Next(Header::Protocol(addresses, protocol), rest))
 }
 
-/// Returns what follows the header of IP, by its protocol.
-#[tactic(auto, unfolding(crate::specs::Contents::of_protocol))]
-#[inline(always)]
-fn of_protocol<'a>(addresses: Addresses, protocol: u8, packet: Payload<'a>) -> Option<Step<'a>>
-    ensures { result ≡ of_protocol addresses protocol packet.entry }
+/// Returns what a protocol begins that is neither UDP nor TCP.
+#[tactic(auto, unfolding(crate::specs::Contents::of_other_protocol))]
+pub(crate) fn of_other_protocol<'a>(
+    addresses: Addresses,
+    protocol: u8,
+    packet: Payload<'a>,
+) -> Option<Step<'a>>
+    ensures { result ≡ of_other_protocol addresses protocol packet.entry }
 {
     match protocol {
-        UDP => udp(addresses, packet),
-        TCP => tcp(addresses, packet),
         AUTHENTICATION => authentication(addresses, packet),
         IPV4 => Some(Step::Next(Header::Type(IPV4_TYPE), packet)),
         IPV6 => Some(Step::Next(Header::Type(IPV6_TYPE), packet)),
@@ -97,8 +98,23 @@ fn of_protocol<'a>(addresses: Addresses, protocol: u8, packet: Payload<'a>) -> O
     }
 }
 
+/// Returns what follows the header of IP, by its protocol. What is neither UDP nor TCP is left to
+/// another step, so that a call takes nothing of the time of these.
+#[tactic(auto, unfolding(crate::specs::Contents::of_protocol))]
+#[inline(always)]
+fn of_protocol<'a>(addresses: Addresses, protocol: u8, packet: Payload<'a>) -> Option<Step<'a>>
+    ensures { result ≡ of_protocol addresses protocol packet.entry }
+{
+    match protocol {
+        UDP => udp(addresses, packet),
+        TCP => tcp(addresses, packet),
+        _ => Some(Step::Next(Header::Other(addresses, protocol), packet)),
+    }
+}
+
 /// Returns a fragment of a protocol, if it is kept.
 #[tactic(auto, unfolding(crate::specs::Contents::of_fragment))]
+#[inline(always)]
 fn of_fragment<'a>(is_kept: bool, protocol: u8, fragment: Fragment<'a>) -> Option<Step<'a>>
     ensures { result ≡ of_fragment is_kept protocol (kinds.Fragment fragment.entry) }
 {

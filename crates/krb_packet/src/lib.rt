@@ -24,6 +24,7 @@ mod fragments;
 mod header;
 mod interface;
 mod internet;
+pub mod law;
 mod link;
 mod order;
 mod packet;

@@ -140,14 +140,19 @@ pub(crate) fn of_type_or_length<'a>(kind: u16, packet: Payload<'a>) -> Option<St
     }
 }
 
-/// Returns what follows a header of Ethernet.
+/// Returns what follows a header of Ethernet. What is not IP is left to another step.
 #[tactic(auto, unfolding(crate::specs::Contents::ethernet))]
+#[inline(always)]
 pub(crate) fn ethernet<'a>(packet: Payload<'a>) -> Option<Step<'a>>
     ensures { result ≡ ethernet packet.entry }
 {
     let kind = packet.number16(12)?;
     let rest = packet.after(14)?;
-    of_type_or_length(kind, rest)
+    match kind {
+        IPV4 => ipv4(rest),
+        IPV6 => ipv6(rest),
+        _ => Some(Step::Next(Header::TypeOrLength(kind), rest)),
+    }
 }
 
 /// Returns what follows the EtherType `at` octets after the beginning of a header of `size` octets of

@@ -5,7 +5,7 @@ ghost use Rattle.krb_packet.specs.Contents.{or_unread, step, walk};
 
 use crate::contents::Contents;
 use crate::header::{Header, Step};
-use crate::internet::payload_of;
+use crate::internet::{of_other_protocol, payload_of};
 use crate::link::{ethernet, of_type, of_type_or_length, raw_ip};
 use crate::payload::Payload;
 use crate::transport::datagram_or_tunnel;
@@ -21,6 +21,7 @@ fn step<'a>(port: u16, header: Header, packet: Payload<'a>) -> Option<Step<'a>>
         Header::Type(kind) => of_type(kind, packet),
         Header::Internet => raw_ip(packet),
         Header::Protocol(addresses, kind) => payload_of(addresses, kind, packet),
+        Header::Other(addresses, kind) => of_other_protocol(addresses, kind, packet),
         Header::Tunnel(addresses) => datagram_or_tunnel(port, addresses, &packet),
     }
 }

@@ -24,7 +24,7 @@ password : password_line Lines answer 1 140 90 ≡ codes "packet=10 t=2026-11-25
 unfolding digits civil_date date_from date_in_year two_digits date_text clock_text timestamp_text record_text opening_from opening closing labelled value_text
 password = refl
 
-password_object : password_line Json answer 1 140 90 ≡ codes "{\"kind\":\"KPASSWD\",\"packet\":10,\"t\":\"2026-11-25T10:56:10.071545000Z\",\"flow\":{\"over\":\"tcp\",\"source\":{\"address\":\"127.0.0.1\",\"port\":464},\"target\":{\"address\":\"127.0.0.1\",\"port\":60806}},\"version\":1,\"ap\":140,\"rest\":90}\n"
+password_object : password_line Json answer 1 140 90 ≡ codes "{\"kind\":\"KPASSWD\",\"packet\":10,\"t\":\"2026-11-25T10:56:10.071545000Z\",\"flow\":{\"over\":\"tcp\",\"source\":{\"address\":\"127.0.0.1\",\"port\":464},\"target\":{\"address\":\"127.0.0.1\",\"port\":60806}},\"version\":1,\"ap\":140,\"rest\":90,\"t_us\":1795604170071545}\n"
 unfolding digits civil_date date_from date_in_year two_digits date_text clock_text timestamp_text record_text opening_from opening closing labelled members json_value names_member
 password_object = refl
 
@@ -36,7 +36,7 @@ lost : lost_line NamedLines request 78 203 (Some (codes "AS-REQ.padata[1].padata
 unfolding digits civil_date date_from date_in_year two_digits date_text clock_text timestamp_text record_text opening_from opening closing labelled value_text
 lost = refl
 
-lost_object : lost_line Json request 78 203 (Some (codes "AS-REQ.padata[1].padata-value")) ≡ codes "{\"kind\":\"lost\",\"packet\":7,\"t\":\"2026-11-25T10:56:18.390184000Z\",\"flow\":{\"over\":\"udp\",\"source\":{\"address\":\"127.0.0.1\",\"port\":59720},\"target\":{\"address\":\"127.0.0.1\",\"port\":88}},\"place\":78,\"octets\":203,\"in\":\"AS-REQ.padata[1].padata-value\"}\n"
+lost_object : lost_line Json request 78 203 (Some (codes "AS-REQ.padata[1].padata-value")) ≡ codes "{\"kind\":\"lost\",\"packet\":7,\"t\":\"2026-11-25T10:56:18.390184000Z\",\"flow\":{\"over\":\"udp\",\"source\":{\"address\":\"127.0.0.1\",\"port\":59720},\"target\":{\"address\":\"127.0.0.1\",\"port\":88}},\"place\":78,\"octets\":203,\"in\":\"AS-REQ.padata[1].padata-value\",\"t_us\":1795604178390184}\n"
 unfolding digits civil_date date_from date_in_year two_digits date_text clock_text timestamp_text record_text opening_from opening closing labelled members json_value names_member
 lost_object = refl
 
@@ -53,7 +53,7 @@ joined : joined_line Lines (record cut { time = None }) ≡ codes "packet=46 t=-
 unfolding digits record_text opening_from opening closing labelled value_text
 joined = refl
 
-joined_object : joined_line Json (record cut { time = None }) ≡ codes "{\"kind\":\"joined\",\"packet\":46,\"t\":null,\"flow\":{\"over\":\"tcp\",\"source\":{\"address\":\"127.0.0.1\",\"port\":88},\"target\":{\"address\":\"127.0.0.1\",\"port\":54120}}}\n"
+joined_object : joined_line Json (record cut { time = None }) ≡ codes "{\"kind\":\"joined\",\"packet\":46,\"t\":null,\"flow\":{\"over\":\"tcp\",\"source\":{\"address\":\"127.0.0.1\",\"port\":88},\"target\":{\"address\":\"127.0.0.1\",\"port\":54120}},\"t_us\":null}\n"
 unfolding digits record_text opening_from opening closing labelled members json_value names_member
 joined_object = refl
 

@@ -10,8 +10,8 @@ use Rattle.krb_record.specs.declared.form.Form.{Form}
 use Rattle.krb_record.specs.declared.capture_origin.CaptureOrigin.{CaptureOrigin}
 use Rattle.krb_record.specs.Forms.{record_line}
 use Rattle.krb_record.specs.Refusals.{extent_in, file_refused_record, path_in, refusal_record}
-use Rattle.krb_record.specs.Time.{timestamp_text}
-use Rattle.krb_record.specs.Values.{Flow, Number, Reason, Word, Field, Printed, the, printed, with_origin, if_there}
+use Rattle.krb_record.specs.Time.{microseconds, timestamp_text}
+use Rattle.krb_record.specs.Values.{Flow, Number, Reason, Word, Field, Printed, the, printed, with_last, with_origin, if_there}
 
 -- the packet, its time and the flow
 abbrev pub origin_fields : CaptureOrigin → List Field
@@ -21,8 +21,16 @@ origin_fields origin =
     ∷ the (codes "flow") (Flow origin.flow.transport origin.flow.source origin.flow.target)
     ∷ []
 
+-- the time as a number, which objects alone have, after all else
+abbrev pub time_fields : CaptureOrigin → List Field
+time_fields origin = the (codes "t_us") (if_there (λ time. Number (pos (microseconds time.seconds time.nanoseconds))) origin.time) ∷ []
+
+-- a record of a capture
+abbrev pub captured : CaptureOrigin → Printed → Printed
+captured origin r = with_last (time_fields origin) (with_origin (origin_fields origin) r)
+
 abbrev pub captured_line : Form → CaptureOrigin → Printed → List ℕ
-captured_line form origin r = record_line form (with_origin (origin_fields origin) r)
+captured_line form origin r = record_line form (captured origin r)
 
 abbrev pub captured_refused_line : Form → CaptureOrigin → Refusal → Option (List ℕ) → Extent → List ℕ
 captured_refused_line form origin refusal path extent = captured_line form origin (refusal_record refusal (path_in form path ++ extent_in form extent))

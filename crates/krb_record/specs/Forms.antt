@@ -268,14 +268,32 @@ inside_text form.Lines parts = []
 inside_text form.NamedLines parts = codes " inside=" ++ decimal (length parts) ++ flat_map (λ p. codes " " ++ part_text form.NamedLines p) parts
 inside_text form.Json parts = codes ",\"inside\":" ++ list_text (part_text form.Json) parts
 
+-- of what has no parts, nothing
+abbrev pub parts_text : Form → Option (List Part) → List ℕ
+parts_text f None = []
+parts_text f (Some parts) = inside_text f parts
+
+-- what an object alone has
+abbrev pub in_object : Form → List ℕ → List ℕ
+in_object form.Lines text = []
+in_object form.NamedLines text = []
+in_object form.Json text = text
+
+-- the last fields of a record, and what follows them
+abbrev pub last_text : Form → List Field → List ℕ
+last_text f [] = []
+last_text f (first ∷ others) = in_object f (fields_text form.Json (first ∷ others))
+
+abbrev pub end_text : Form → List Field → List ℕ
+end_text f last = last_text f last ++ closing f
+
 -- what follows the fields of a record
-abbrev pub ending : Form → Option (List Part) → List ℕ
-ending f None = closing f
-ending f (Some parts) = inside_text f parts ++ closing f
+abbrev pub ending : Form → Option (List Part) → List Field → List ℕ
+ending f inside last = parts_text f inside ++ end_text f last
 
 -- a record without its line feed
 unfoldable pub record_text : Form → Printed → List ℕ
-record_text f r = heading f r.origin r.kind ++ fields_text f r.fields ++ ending f r.inside
+record_text f r = heading f r.origin r.kind ++ fields_text f r.fields ++ ending f r.inside r.last
 
 abbrev pub record_line : Form → Printed → List ℕ
 record_line f r = record_text f r ++ line_feed

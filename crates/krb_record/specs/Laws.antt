@@ -1,5 +1,5 @@
 -- Laws of records.
-use Rattle.std.specs.Prelude.{ℕ, pos, ◌≡◌, ◌<◌, ◌≤◌, ◌^◌, unsigned_abs, Option, None, IfSome, List, ◌++◌}
+use Rattle.std.specs.Prelude.{ℕ, pos, ◌≡◌, ◌<◌, ◌≤◌, ◌^◌, unsigned_abs, Option, None, IfSome, List, [], ◌++◌}
 use Rattle.std.specs.List.{AllByRecursion}
 use Rattle.std.specs.Net.Addr.{IsIpv4Addr, IsIpv6Addr, MatchIp}
 use Rattle.jiff_core.specs.Date.{epoch_day}
@@ -12,7 +12,7 @@ use Rattle.krb_source.specs.declared.spelling.Spelling.{Spelling}
 use Rattle.krb_record.specs.declared.capture.CaptureCounts.{CaptureCounts}
 use Rattle.krb_record.specs.declared.capture_origin.CaptureOrigin.{CaptureOrigin}
 use Rattle.krb_record.specs.declared.form.Form.{Form}
-use Rattle.krb_record.specs.declared.form.Form.TheVariants.{Lines}
+use Rattle.krb_record.specs.declared.form.Form.TheVariants.{Lines, NamedLines}
 use Rattle.krb_record.specs.Forms.{record_line}
 use Rattle.krb_record.specs.Text.{AllAreOctets, IsPrintable, escape, line_feed, principal_text}
 use Rattle.krb_record.specs.declared.extent.Extent.{Extent}
@@ -103,6 +103,12 @@ CaptureEndIsOneLine = (form : Form) (counts : CaptureCounts) → IsOneLine (capt
 abbrev pub CaptureRefusalIsOneLine : Type 0
 CaptureRefusalIsOneLine = (form : Form) (counts : CaptureCounts) (place : ℕ) (reason : FileWhy) (path : Option (List ℕ)) (extent : Extent) → IfSome path AreOctets → IsOneLine (capture_refused_line form counts place reason path extent)
 
--- ---- a line without names has nothing of what is inside
+-- ---- what lines leave out
+-- one without names has nothing of what is inside
 abbrev pub PlainLinesHaveNothingInside : Type 0
 PlainLinesHaveNothingInside = (r : Printed) → record_line Lines r ≡ record_line Lines (record r { inside = None })
+
+-- and none has what is last
+pub record LinesHaveNothingLast : Type 0 where
+  pub plain : (r : Printed) → record_line Lines r ≡ record_line Lines (record r { last = [] })
+  pub named : (r : Printed) → record_line NamedLines r ≡ record_line NamedLines (record r { last = [] })

@@ -1,5 +1,5 @@
 -- Times of files and of packets: seconds since 1970-01-01, and nanoseconds.
-use Rattle.std.specs.Prelude.{ℕ, zero, suc, pos, ◌+◌, ◌-◌, ◌/◌, ◌%◌, ◌^◌, ◌==◌, nat_lt, List, [], ◌∷◌, ◌++◌, codes, if◌then◌else◌}
+use Rattle.std.specs.Prelude.{ℕ, zero, suc, pos, ◌+◌, ◌-◌, ◌*◌, ◌/◌, ◌%◌, ◌^◌, ◌==◌, nat_lt, List, [], ◌∷◌, ◌++◌, codes, if◌then◌else◌}
 use Rattle.jiff_core.specs.Calendar.{days_in_year, days_in_month}
 use Rattle.krb_der.specs.Octets.{when}
 use Rattle.krb_record.specs.Values.{Value, Absent, Word}
@@ -66,3 +66,7 @@ last_digits (suc k) n = (48 + n / 10 ^ k % 10) ∷ last_digits k n
 -- the moment of a packet, with nine digits of nanoseconds
 unfoldable pub timestamp_text : ℕ → ℕ → List ℕ
 timestamp_text seconds nanoseconds = second_text seconds ++ codes "." ++ last_digits 9 nanoseconds ++ codes "Z"
+
+-- the microseconds from the beginning of 1970 to the same moment, rounded down
+abbrev pub microseconds : ℕ → ℕ → ℕ
+microseconds seconds nanoseconds = (seconds * 1000000000 + nanoseconds % 1000000000) / 1000

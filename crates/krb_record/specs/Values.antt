@@ -43,18 +43,19 @@ pub record Part : Type 0 where
   pub kind : List ℕ
   pub fields : List Field
 
--- `inside` is told, so lines without names have nothing of it; it is None of what has no parts, of which no form has anything
+-- `inside` is told, so lines without names have nothing of it; it is None of what has no parts, of which no form has anything. `last` is what an object has after all else, and no line has any of it.
 pub record Printed : Type 0 where
   pub origin : List Field
   pub kind : List ℕ
   pub fields : List Field
   pub inside : Option (List Part)
+  pub last : List Field
 
 abbrev pub the : List ℕ → Value → Field
 the name value = record { name = name; value = value }
 
 abbrev pub printed : List ℕ → List Field → Printed
-printed kind fields = record { origin = []; kind = kind; fields = fields; inside = None }
+printed kind fields = record { origin = []; kind = kind; fields = fields; inside = None; last = [] }
 
 abbrev pub part : List ℕ → List Field → Part
 part kind fields = record { kind = kind; fields = fields }
@@ -66,6 +67,10 @@ with_inside inside r = record r { inside = inside }
 -- the same with an origin
 abbrev pub with_origin : List Field → Printed → Printed
 with_origin origin r = record r { origin = origin }
+
+-- the same with what is last
+abbrev pub with_last : List Field → Printed → Printed
+with_last fields r = record r { last = fields }
 
 -- that of what is optional
 abbrev pub if_there : {A : Type 0} → (A → Value) → Option A → Value

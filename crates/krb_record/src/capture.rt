@@ -5,7 +5,7 @@ ghost use Rattle.std.specs.Option.{option_copied};
 ghost use Rattle.krb_record.specs.Captures.{capture_end_line, capture_refused_line, captured_refused_line, count_fields, joined_line, lost_line, password_line, unread_line};
 ghost use Rattle.krb_record.specs.Forms.{fields_text};
 
-use crate::capture_origin::{CaptureOrigin, put_captured_opening};
+use crate::capture_origin::{CaptureOrigin, put_captured_end, put_captured_opening};
 use crate::extent::Extent;
 use crate::field::{put_end, put_opening};
 use crate::form::Form;
@@ -34,7 +34,7 @@ pub fn put_captured_refusal(
     let reason = Reason::of(refusal.why);
     put_captured_opening(text, form, origin, "refused")?;
     put_fault_fields(text, form, place, &reason, path, extent)?;
-    put_end(text, form)
+    put_captured_end(text, form, origin)
 }
 
 /// Appends the line of a direction whose first octets come without a SYN: what follows may begin
@@ -48,7 +48,7 @@ pub fn put_joined(
     ensures { OnOk result (text.new ≡ text.old ++ joined_line form origin.now) }
 {
     put_captured_opening(text, form, origin, "joined")?;
-    put_end(text, form)
+    put_captured_end(text, form, origin)
 }
 
 /// Appends the line of octets that are not in the capture: their place in the direction or in the
@@ -69,7 +69,7 @@ pub fn put_lost(
     put_field!(text, form, "place": &place)?;
     put_field!(text, form, "octets": &octets)?;
     put_path(text, form, path)?;
-    put_end(text, form)
+    put_captured_end(text, form, origin)
 }
 
 /// Appends the line of octets between ports of Kerberos that no message has: the place of the first
@@ -89,7 +89,7 @@ pub fn put_unread(
     put_field!(text, form, "place": &place)?;
     put_field!(text, form, "octets": &count)?;
     put_field!(text, form, "why": &Reason::of_unread(why))?;
-    put_end(text, form)
+    put_captured_end(text, form, origin)
 }
 
 /// Appends the line of a message that changes a password (RFC 3244, section 2): its version, how
@@ -109,7 +109,7 @@ pub fn put_password(
     put_field!(text, form, "version": &u64::from(version))?;
     put_field!(text, form, "ap": &u64::from(ap))?;
     put_field!(text, form, "rest": &rest)?;
-    put_end(text, form)
+    put_captured_end(text, form, origin)
 }
 
 /// What was counted in a capture.

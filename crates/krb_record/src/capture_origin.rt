@@ -1,14 +1,20 @@
 //! Where records of captures come from.
 
 ghost use Rattle.std.specs.Prelude.{◌≡◌, ◌++◌, OnOk};
-ghost use Rattle.krb_record.specs.Captures.{origin_fields};
-ghost use Rattle.krb_record.specs.Forms.{heading};
+ghost use Rattle.std.specs.Option.{option_map};
+ghost use Rattle.krb_record.specs.Captures.{origin_fields, time_fields};
+ghost use Rattle.krb_record.specs.Forms.{end_text, heading};
+ghost use Rattle.krb_record.specs.declared.form.Form.TheVariants as forms;
+ghost use Rattle.krb_record.specs.Text.{line_feed};
+ghost use Rattle.krb_record.specs.Time.{microseconds as microseconds_of};
 
+use crate::field::put_closing;
 use crate::flow::Flow;
 use crate::form::Form;
 use crate::origin::{Origin, put_opening_from};
 use crate::put_field;
 use crate::text_buffer::TextBuffer;
+use crate::time::microseconds;
 use krb_source::Timestamp;
 use std::alloc::AllocError;
 
@@ -45,4 +51,54 @@ pub fn put_captured_opening(
     ensures { OnOk result (text.new ≡ text.old ++ heading form (origin_fields origin.now) kind.now) }
 {
     put_opening_from(text, form, origin, kind)
+}
+
+/// Returns the microseconds from the beginning of 1970 to a time, if that is known.
+fn optional_microseconds(time: Option<Timestamp>) -> Option<u64>
+    ensures { result ≡ option_map (λ time. microseconds_of time.seconds time.nanoseconds) time }
+{
+    match time {
+        None => None,
+        Some(time) => Some(microseconds(time)),
+    }
+}
+
+/// Appends what follows the members of an object of a capture: its time as a number, and its end.
+fn put_captured_object_end(
+    object: &mut TextBuffer,
+    origin: &CaptureOrigin,
+) -> Result<(), AllocError>
+    ensures { OnOk result (object.new ≡ object.old ++ end_text forms.Json (time_fields origin.now)) }
+{
+    put_field!(object, Form::Json, "t_us": &optional_microseconds(origin.time))?;
+    put_closing(object, Form::Json)
+}
+
+/// Appends what ends a record of a capture, after its fields and what is inside of it: an object has
+/// the microseconds of its time there.
+#[inline(always)]
+#[tactic(auto, unfolding(crate::specs::Forms::closing))]
+pub fn put_captured_closing(
+    text: &mut TextBuffer,
+    form: Form,
+    origin: &CaptureOrigin,
+) -> Result<(), AllocError>
+    ensures { OnOk result (text.new ≡ text.old ++ end_text form (time_fields origin.now)) }
+{
+    match form {
+        Form::Lines | Form::NamedLines => Ok(()),
+        Form::Json => put_captured_object_end(text, origin),
+    }
+}
+
+/// Appends what ends a record of a capture, and a line feed.
+pub(crate) fn put_captured_end(
+    text: &mut TextBuffer,
+    form: Form,
+    origin: &CaptureOrigin,
+) -> Result<(), AllocError>
+    ensures { OnOk result (text.new ≡ text.old ++ end_text form (time_fields origin.now) ++ line_feed) }
+{
+    put_captured_closing(text, form, origin)?;
+    text.push_str("\n")
 }

@@ -44,7 +44,7 @@ pub use capture::{
     CaptureCounts, put_capture_end, put_capture_refusal, put_captured_refusal, put_joined,
     put_lost, put_password, put_unread,
 };
-pub use capture_origin::{CaptureOrigin, put_captured_opening};
+pub use capture_origin::{CaptureOrigin, put_captured_closing, put_captured_opening};
 pub use error_code::ErrorCode;
 pub use escape::put_escaped;
 pub use extent::Extent;
@@ -70,4 +70,4 @@ pub use stream::{
 };
 pub use text_buffer::TextBuffer;
 pub use ticket_flags::TicketFlags;
-pub use time::{FileTime, put_time, time_text};
+pub use time::{FileTime, microseconds, put_time, time_text};

@@ -1,8 +1,8 @@
 //! Times: seconds since the beginning of 1970, with nanoseconds or without.
 
-ghost use Rattle.std.specs.Prelude.{◌≡◌, ◌++◌, ◌<◌, IfOk, OnOk, pos, string_bytes};
+ghost use Rattle.std.specs.Prelude.{◌≡◌, ◌++◌, ◌<◌, ◌^◌, IfOk, OnOk, pos, string_bytes};
 ghost use Rattle.std.specs.Str.{IsAscii};
-ghost use Rattle.krb_record.specs.Time.{civil_date, clock_text, date_text, file_time, timestamp_text, last_digits, moment_text, time_text, two_digits};
+ghost use Rattle.krb_record.specs.Time.{civil_date, clock_text, date_text, file_time, timestamp_text, last_digits, microseconds, moment_text, time_text, two_digits};
 ghost use Rattle.krb_record.specs.Values.{Word};
 ghost use Rattle.jiff_core.specs.Date.{epoch_day};
 
@@ -102,6 +102,16 @@ fn to_the_nanosecond(time: Timestamp) -> [u8; 30]
         a, b, c, d, e, f, g, h, i, j, b'T', k, l, m, n, o, p, q, r, b'.', s, t, u, v, w, x, y, z,
         end, b'Z',
     ]
+}
+
+/// Returns the microseconds from the beginning of 1970 to a time, rounded down. Of the nanoseconds
+/// the last nine digits count. Readers of JSON take a number below 2^53 as it is (RFC 8259, section
+/// 6).
+pub fn microseconds(time: Timestamp) -> u64
+    ensures number { result ≡ microseconds time.seconds time.nanoseconds }
+    ensures exact { result < 2 ^ 53 }
+{
+    u64::from(time.seconds) * 1_000_000 + u64::from(time.nanoseconds % 1_000_000_000 / 1000)
 }
 
 /// Appends the moment n seconds after the beginning of 1970, or `-` at 0.

@@ -147,7 +147,9 @@ fn fragments_in_fragments_are_put_together(rt: HostRuntime) {
     let last = packet(&rt, rt.alloc(), &HEADERS4[1], &SEGMENT[FIRST..]);
     assert!(rt; taken_nested(&rt, &mut fragments, &fragment(&rt, &last)).is_none());
     let inner = packet(&rt, rt.alloc(), &HEADERS4[0], &SEGMENT[..FIRST]);
-    let (front, back) = inner.octets.as_slice().split_at(FIRST);
+    let Some((front, back)) = inner.octets.as_slice().split_at_checked(FIRST) else {
+        panic!(rt; "a packet of fewer octets");
+    };
     let front = packet(&rt, rt.alloc(), &HEADERS_AROUND[0], front);
     let back = packet(&rt, rt.alloc(), &HEADERS_AROUND[1], back);
     assert!(rt; taken_nested(&rt, &mut fragments, &fragment(&rt, &front)).is_none());

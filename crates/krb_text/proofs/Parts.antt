@@ -103,7 +103,7 @@ few_parts told [] = omega arith
 few_parts told (p ∷ parts) = omega (arith, few_parts true parts, length-append (part_text form.NamedLines p) (parts_after form.NamedLines true parts))
 
 -- their number is inserted before them
-pub named_inside : (old : List ℕ) {l₁ l₂ l₃ : List ℕ} {place count : ℕ} (parts : List Part) → l₁ ≡ old ++ codes " inside=" → place ≡ length l₁ → Tells form.NamedLines parts 0 l₁ count l₂ → (l₃ ≡ (take place l₂ ++ decimal count) ++ drop place l₂) × (length l₃ < 2 ^ 64) → l₃ ≡ old ++ (inside_text form.NamedLines parts ++ [])
+pub named_inside : (old : List ℕ) {l₁ l₂ l₃ : List ℕ} {place count : ℕ} (parts : List Part) → l₁ ≡ old ++ codes " inside=" → place ≡ length l₁ → Tells form.NamedLines parts 0 l₁ count l₂ → (l₃ ≡ (take place l₂ ++ decimal count) ++ drop place l₂) × (length l₃ < 2 ^ 64) → l₃ ≡ old ++ inside_text form.NamedLines parts
 unfolding inside_text
 named_inside old {l₁} {l₂} {l₃} {place} {count} parts h₁ at tells h₃ =
     let rest = parts_after form.NamedLines false parts in
@@ -112,7 +112,7 @@ named_inside old {l₁} {l₂} {l₃} {place} {count} parts h₁ at tells h₃ =
     let all : l₃ ≡ l₁ ++ (decimal count ++ rest) = h₃.0 ∙ append_assoc (take place l₂) (decimal count) (drop place l₂) ∙ ap₂ (λ (front back : List ℕ). front ++ (decimal count ++ back)) front back in
     let size : length l₃ ≡ length l₁ + (length (decimal count) + length rest) = ap length all ∙ length-append l₁ (decimal count ++ rest) ∙ ap (λ n. length l₁ + n) (length-append (decimal count) rest) in
     let many : count ≡ length parts = tells.by_now ∙ counted_all 0 parts (omega (arith, few_parts false parts, h₃.1, size)) ∙ omega arith in
-    all ∙ rw (h₁, many, named_parts false parts) (simp (append_assoc, append-nil))
+    all ∙ rw (h₁, many, named_parts false parts) (simp append_assoc)
 
 -- the place of the number has text before it
 pub before_parts : {parts : List Part} {place count : ℕ} (l₁ l₂ : List ℕ) → place ≡ length l₁ → IsUtf8 l₁ → Tells form.NamedLines parts 0 l₁ count l₂ → (place ≤ length l₂) × IsUtf8 (take place l₂)
@@ -120,6 +120,6 @@ before_parts {parts} l₁ l₂ at utf8 tells =
     let rest = parts_after form.NamedLines false parts in
     (omega (arith, at, ap length tells.text, length-append l₁ rest), subst IsUtf8 (sym (rw (at, tells.text) (take-append_seam l₁ rest))) utf8)
 
-pub object_inside : (old : List ℕ) {l₁ l₂ l₃ : List ℕ} {count : ℕ} (parts : List Part) → l₁ ≡ old ++ codes ",\"inside\":[" → Tells form.Json parts 0 l₁ count l₂ → l₃ ≡ l₂ ++ codes "]}" → l₃ ≡ old ++ (inside_text form.Json parts ++ codes "}")
+pub object_inside : (old : List ℕ) {l₁ l₂ l₃ : List ℕ} {count : ℕ} (parts : List Part) → l₁ ≡ old ++ codes ",\"inside\":[" → Tells form.Json parts 0 l₁ count l₂ → l₃ ≡ l₂ ++ codes "]" → l₃ ≡ old ++ inside_text form.Json parts
 unfolding inside_text
 object_inside old parts h₁ tells h₃ = rw (h₃, tells.text, h₁, objects parts) (simp append_assoc)

@@ -207,6 +207,6 @@ captured_message : captured_message_line NamedLines answer answered ≡ codes "p
 unfolding digits civil_date date_from date_in_year two_digits date_text clock_text timestamp_text record_text opening_from opening closing labelled value_text message_record rows name_in name_of
 captured_message = refl
 
-captured_message_object : captured_message_line Json answer answered ≡ codes "{\"kind\":\"AP-REP\",\"packet\":10,\"t\":\"2026-11-25T10:56:10.071545000Z\",\"flow\":{\"over\":\"tcp\",\"source\":{\"address\":\"127.0.0.1\",\"port\":464},\"target\":{\"address\":\"127.0.0.1\",\"port\":60806}},\"enc\":{\"etype\":18,\"etype_name\":\"aes256-cts-hmac-sha1-96\",\"kvno\":null,\"size\":111},\"notes\":[],\"notes_names\":[]}\n"
+captured_message_object : captured_message_line Json answer answered ≡ codes "{\"kind\":\"AP-REP\",\"packet\":10,\"t\":\"2026-11-25T10:56:10.071545000Z\",\"flow\":{\"over\":\"tcp\",\"source\":{\"address\":\"127.0.0.1\",\"port\":464},\"target\":{\"address\":\"127.0.0.1\",\"port\":60806}},\"enc\":{\"etype\":18,\"etype_name\":\"aes256-cts-hmac-sha1-96\",\"kvno\":null,\"size\":111},\"notes\":[],\"notes_names\":[],\"t_us\":1795604170071545}\n"
 unfolding digits civil_date date_from date_in_year two_digits date_text clock_text timestamp_text record_text opening_from opening closing labelled members json_value names_member message_record rows name_in name_of
 captured_message_object = refl

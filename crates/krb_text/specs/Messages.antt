@@ -9,7 +9,7 @@ use Rattle.krb_msg.specs.declared.ticket.Ticket.{Ticket}
 use Rattle.krb_msg.specs.Views.{kind_name, kind_of, message_of_der}
 use Rattle.krb_record.specs.declared.capture_origin.CaptureOrigin.{CaptureOrigin}
 use Rattle.krb_record.specs.declared.form.Form.{Form}
-use Rattle.krb_record.specs.Captures.{origin_fields}
+use Rattle.krb_record.specs.Captures.{captured_line}
 use Rattle.krb_record.specs.Forms.{record_text, record_line}
 use Rattle.krb_text.specs.Inside.{inside_of}
 use Rattle.krb_text.specs.MessageValues.{encrypted, principal}
@@ -39,7 +39,7 @@ abbrev pub message_line_from : Form → List Field → Message → List ℕ
 message_line_from form origin m = record_line form (with_origin origin (message_record m))
 
 abbrev pub captured_message_line : Form → CaptureOrigin → Message → List ℕ
-captured_message_line form origin m = message_line_from form (origin_fields origin) m
+captured_message_line form origin m = captured_line form origin (message_record m)
 
 abbrev pub ticket_line : Form → List Field → Ticket → List ℕ
 ticket_line form origin t = record_line form (with_origin origin (ticket_record t))

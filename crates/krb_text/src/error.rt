@@ -113,7 +113,7 @@ impl<'a> HasRecord for KrbErrorView<'a> {
     }
 
     #[inline(always)]
-    fn put_ending(&self, text: &mut TextBuffer, form: Form) -> Result<(), AllocError> {
+    fn put_inside(&self, text: &mut TextBuffer, form: Form) -> Result<(), AllocError> {
         put_list(text, form, self)
     }
 }

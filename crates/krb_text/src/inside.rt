@@ -6,7 +6,7 @@ ghost use Rattle.krb_msg.specs.Grammar.{pa_data, ticket};
 ghost use Rattle.krb_msg.specs.Types.{IsValidKdcRep, IsValidKdcReq, IsValidKrbCred, IsValidKrbError, kdc_rep_of_view, kdc_req_of_view, krb_cred_of_view, krb_error_of_view, pa_data_of, ticket_of};
 ghost use Rattle.krb_msg.specs.Term.{IfPresent};
 ghost use Rattle.krb_msg.specs.Viewed.{AreViewed, items_of};
-ghost use Rattle.krb_record.specs.Forms.{ending};
+ghost use Rattle.krb_record.specs.Forms.{parts_text};
 ghost use Rattle.krb_text.specs.Inside.{each_if, kdc_req_parts, krb_error_parts, padata_parts, ticket_part};
 ghost use Rattle.krb_record.specs.Values.{Part};
 ghost use Rattle.krb_text.specs.declared.clear_type.Carrier.TheVariants as carriers;
@@ -123,17 +123,16 @@ impl<'a> HasParts for KrbErrorView<'a> {
     }
 }
 
-/// Appends what follows the fields of a message that may have parts. A line without names has
-/// nothing there.
+/// Appends the parts of a message that may have some. A line without names has none.
 #[inline(always)]
-#[tactic(auto, unfolding(krb_record::specs::Forms::closing, krb_record::specs::Forms::inside_text))]
+#[tactic(auto, unfolding(krb_record::specs::Forms::inside_text))]
 pub(crate) fn put_list<M: HasParts>(
     text: &mut TextBuffer,
     form: Form,
     message: &M,
 ) -> Result<(), AllocError>
     requires { M.IsValid message.now }
-    ensures { OnOk result (text.new ≡ text.old ++ ending form (Some (M.parts message.now))) }
+    ensures { OnOk result (text.new ≡ text.old ++ parts_text form (Some (M.parts message.now))) }
 {
     match form {
         Form::Lines => Ok(()),
@@ -146,7 +145,7 @@ pub(crate) fn put_list<M: HasParts>(
         Form::Json => {
             text.push_str(",\"inside\":[")?;
             message.put_parts(text, form)?;
-            text.push_str("]}")
+            text.push_str("]")
         }
     }
 }

@@ -22,7 +22,7 @@ use krb_msg::{
     ApRepView, ApReqView, KdcRepView, KdcReqBodyView, KdcReqView, KrbCredView, KrbPrivView,
     KrbSafeView,
 };
-use krb_record::{Form, Text, TextBuffer, put_closing, put_field};
+use krb_record::{Form, Text, TextBuffer, put_field};
 use krb_registry::Registry;
 use std::alloc::AllocError;
 
@@ -88,7 +88,7 @@ impl<'a> HasRecord for KdcReqView<'a> {
     }
 
     #[inline(always)]
-    fn put_ending(&self, text: &mut TextBuffer, form: Form) -> Result<(), AllocError> {
+    fn put_inside(&self, text: &mut TextBuffer, form: Form) -> Result<(), AllocError> {
         put_list(text, form, self)
     }
 }
@@ -110,7 +110,7 @@ impl<'a> HasRecord for KdcRepView<'a> {
     }
 
     #[inline(always)]
-    fn put_ending(&self, text: &mut TextBuffer, form: Form) -> Result<(), AllocError> {
+    fn put_inside(&self, text: &mut TextBuffer, form: Form) -> Result<(), AllocError> {
         put_list(text, form, self)
     }
 }
@@ -131,8 +131,8 @@ impl<'a> HasRecord for ApReqView<'a> {
     }
 
     #[inline(always)]
-    fn put_ending(&self, text: &mut TextBuffer, form: Form) -> Result<(), AllocError> {
-        put_closing(text, form)
+    fn put_inside(&self, _text: &mut TextBuffer, _form: Form) -> Result<(), AllocError> {
+        Ok(())
     }
 }
 
@@ -148,8 +148,8 @@ impl<'a> HasRecord for ApRepView<'a> {
     }
 
     #[inline(always)]
-    fn put_ending(&self, text: &mut TextBuffer, form: Form) -> Result<(), AllocError> {
-        put_closing(text, form)
+    fn put_inside(&self, _text: &mut TextBuffer, _form: Form) -> Result<(), AllocError> {
+        Ok(())
     }
 }
 
@@ -172,8 +172,8 @@ impl<'a> HasRecord for KrbSafeView<'a> {
     }
 
     #[inline(always)]
-    fn put_ending(&self, text: &mut TextBuffer, form: Form) -> Result<(), AllocError> {
-        put_closing(text, form)
+    fn put_inside(&self, _text: &mut TextBuffer, _form: Form) -> Result<(), AllocError> {
+        Ok(())
     }
 }
 
@@ -189,8 +189,8 @@ impl<'a> HasRecord for KrbPrivView<'a> {
     }
 
     #[inline(always)]
-    fn put_ending(&self, text: &mut TextBuffer, form: Form) -> Result<(), AllocError> {
-        put_closing(text, form)
+    fn put_inside(&self, _text: &mut TextBuffer, _form: Form) -> Result<(), AllocError> {
+        Ok(())
     }
 }
 
@@ -207,7 +207,7 @@ impl<'a> HasRecord for KrbCredView<'a> {
     }
 
     #[inline(always)]
-    fn put_ending(&self, text: &mut TextBuffer, form: Form) -> Result<(), AllocError> {
+    fn put_inside(&self, text: &mut TextBuffer, form: Form) -> Result<(), AllocError> {
         put_list(text, form, self)
     }
 }

@@ -3,11 +3,11 @@
 
 ghost use Rattle.std.specs.Prelude.{◌≡◌, ◌++◌, IfOk, List, MatchOption, OnOk, Option};
 ghost use Rattle.krb_msg.specs.ViewValues.{BeginAs, IsNoMessage};
-ghost use Rattle.krb_record.specs.Forms.{ending, fields_text, heading};
+ghost use Rattle.krb_record.specs.Forms.{end_text, fields_text, heading, parts_text};
 ghost use Rattle.krb_record.specs.Origins.{message_origin};
 ghost use Rattle.krb_text.specs.Messages.{PutsMessage, captured_message_line, message_line, message_line_from, message_text};
 ghost use Rattle.krb_record.specs.Values.{Field, Part};
-ghost use Rattle.krb_text.specs.inner.Records.{IsRecordedAs, heading_origin, is_kept, text_after};
+ghost use Rattle.krb_text.specs.inner.Records.{IsRecordedAs, heading_last, heading_origin, is_kept, line_after, text_after};
 
 use crate::notes::{ShownNotes, has_any};
 use krb_der::{Memory, Profile};
@@ -17,8 +17,8 @@ use krb_msg::message_kinds::{
 };
 use krb_msg::{Kind, MessageKind, Notes};
 use krb_record::{
-    CaptureOrigin, Form, MessageOrigin, TextBuffer, put_captured_opening, put_field,
-    put_message_opening, put_opening,
+    CaptureOrigin, Form, MessageOrigin, TextBuffer, put_captured_closing, put_captured_opening,
+    put_closing, put_field, put_message_opening, put_opening,
 };
 use std::alloc::AllocError;
 
@@ -41,10 +41,10 @@ pub(crate) trait HasRecord {
         requires { IsValid self.now }
         ensures { OnOk result (text.new ≡ text.old ++ fields_text form (fields self.now)) };
 
-    /// Appends what follows the fields.
-    fn put_ending(&self, text: &mut TextBuffer, form: Form) -> Result<(), AllocError>
+    /// Appends the parts, if it may have some.
+    fn put_inside(&self, text: &mut TextBuffer, form: Form) -> Result<(), AllocError>
         requires { IsValid self.now }
-        ensures { OnOk result (text.new ≡ text.old ++ ending form (inside self.now)) };
+        ensures { OnOk result (text.new ≡ text.old ++ parts_text form (inside self.now)) };
 }
 
 /// What the record of a message has besides the message: its origin.
@@ -72,6 +72,17 @@ fn put_heading(
         Heading::Alone => put_opening(text, form, kind),
         Heading::Captured(origin) => put_captured_opening(text, form, origin, kind),
         Heading::From(origin) => put_message_opening(text, form, origin, kind),
+    }
+}
+
+/// Appends what ends the record of a message.
+#[inline(always)]
+fn put_last(text: &mut TextBuffer, form: Form, from: Heading<'_>) -> Result<(), AllocError>
+    ensures { OnOk result (text.new ≡ text.old ++ end_text form (heading_last from.entry)) }
+{
+    match from {
+        Heading::Alone | Heading::From(_) => put_closing(text, form),
+        Heading::Captured(origin) => put_captured_closing(text, form, origin),
     }
 }
 
@@ -114,7 +125,8 @@ where
     put_heading(text, form, from, kind.name())?;
     view.put_fields(text, form)?;
     put_field!(text, form, "notes": &ShownNotes(&notes))?;
-    view.put_ending(text, form)?;
+    view.put_inside(text, form)?;
+    put_last(text, form, from)?;
     Ok(true)
 }
 
@@ -171,7 +183,7 @@ pub(crate) fn put_record_of(
     profile: Profile,
     octets: &[u8],
 ) -> Result<bool, Memory>
-    ensures { IfOk result (PutsMessage profile octets.now (message_line_from form (heading_origin from.entry)) text.old text.new) }
+    ensures { IfOk result (PutsMessage profile octets.now (line_after form from.entry) text.old text.new) }
 {
     if !put_text(text, form, from, profile, octets)? {
         return Ok(false);

@@ -18,7 +18,7 @@ use Rattle.krb_record.specs.declared.form.Form.{Form}
 use Rattle.krb_record.specs.declared.form.Form.TheVariants as form
 use Rattle.krb_record.specs.Errors.{code_name, code_suffix, code_text}
 use Rattle.krb_record.specs.FileNames.{is_plain_in_name, name_octet, name_text}
-use Rattle.krb_record.specs.Forms.{four_octets, plus_text, unnamed, unnamed_from, named_in, is_set, set_names, named_flags_text, number_text, status_text, flags_text, refused_ticket_text, value_text, json_character, json_string, shown_octet, octets_string, or_null, name_string, flags_object, encrypted_object, principal_object, address_object, digest_object, offset_object, refused_object, true_or_false, json_value, names_member, members, labelled, field, opening, closing, fields_text, origin_text, opening_from, heading, part_text, inside_text, ending, record_text}
+use Rattle.krb_record.specs.Forms.{four_octets, plus_text, unnamed, unnamed_from, named_in, is_set, set_names, named_flags_text, number_text, status_text, flags_text, refused_ticket_text, value_text, json_character, json_string, shown_octet, octets_string, or_null, name_string, flags_object, encrypted_object, principal_object, address_object, digest_object, offset_object, refused_object, true_or_false, json_value, names_member, members, labelled, field, opening, closing, fields_text, origin_text, opening_from, heading, part_text, inside_text, parts_text, in_object as in_object_alone, last_text, ending, record_text}
 use Rattle.krb_record.specs.Text.{AllAreOctets, IsPrintable, principal_text, two_hex, yes_or_no}
 use Rattle.krb_record.specs.TicketFlags.{flag_name, set_flags, names_text, other_flags, eight_hex, others_text, ticket_flags_text}
 use Rattle.krb_record.specs.Values.{Value, Absent, NoTicket, Number, Named, Numbers, ErrorCode, Status, Reason, NoReason, String, Quoted, FileName, Word, Hex, Flags, TicketFlags, Encrypted, Principal, Address, Digest, YesNo, Offset, RefusedTicket, Flow, Layers, Field, Part, Printed}
@@ -404,10 +404,26 @@ parts_print form.NamedLines parts h =
     join (join (word (codes " inside=") refl) (number (length parts))) (flat (λ p. codes " " ++ part_text form.NamedLines p) IsPlainPart (λ p plain. join (word (codes " ") refl) (a_part form.NamedLines p plain)) parts h)
 parts_print form.Json parts h = join (word (codes ",\"inside\":") refl) (listed (part_text form.Json) IsPlainPart (a_part form.Json) parts h)
 
-ends_with : (f : Form) (inside : Option (List Part)) → IfPresent ArePlainParts inside → Prints (ending f inside)
-ends_with f None h = ends f
-ends_with f (Some parts) h = join (parts_print f parts h) (ends f)
+parts_if : (f : Form) (inside : Option (List Part)) → IfPresent ArePlainParts inside → Prints (parts_text f inside)
+parts_if f None h = word [] refl
+parts_if f (Some parts) h = parts_print f parts h
 
-pub record_prints : (f : Form) (r : Printed) → names_are_plain r.origin ≡ true → AreShown r.origin → list_all is_printable r.kind ≡ true → names_are_plain r.fields ≡ true → AreShown r.fields → IfPresent ArePlainParts r.inside → Prints (record_text f r)
+-- ---- what is last
+abbrev pub ArePlain : List Field → Type 0
+ArePlain fields = (names_are_plain fields ≡ true) × AreShown fields
+
+object_alone : (f : Form) {text : List ℕ} → Prints text → Prints (in_object_alone f text)
+object_alone form.Lines h = word [] refl
+object_alone form.NamedLines h = word [] refl
+object_alone form.Json h = h
+
+lasts : (f : Form) (last : List Field) → ArePlain last → Prints (last_text f last)
+lasts f [] h = word [] refl
+lasts f (first ∷ others) h = object_alone f (all_fields form.Json (first ∷ others) h.0 h.1)
+
+ends_with : (f : Form) (inside : Option (List Part)) (last : List Field) → IfPresent ArePlainParts inside → ArePlain last → Prints (ending f inside last)
+ends_with f inside last h k = join (parts_if f inside h) (join (lasts f last k) (ends f))
+
+pub record_prints : (f : Form) (r : Printed) → ArePlain r.origin → list_all is_printable r.kind ≡ true → ArePlain r.fields → IfPresent ArePlainParts r.inside → ArePlain r.last → Prints (record_text f r)
 unfolding record_text
-record_prints f r plain shown kind names h inside = join (join (heads f r.origin r.kind plain shown kind) (all_fields f r.fields names h)) (ends_with f r.inside inside)
+record_prints f r origin kind fields inside last = join (join (heads f r.origin r.kind origin.0 origin.1 kind) (all_fields f r.fields fields.0 fields.1)) (ends_with f r.inside r.last inside last)

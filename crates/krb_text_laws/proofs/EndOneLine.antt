@@ -17,20 +17,20 @@ use Rattle.krb_record.specs.Origins.{message_origin}
 use Rattle.krb_record.specs.Refusals.{path_in, extent_in, spelling_in}
 use Rattle.krb_record.specs.Text.{line_feed}
 use Rattle.krb_msg.specs.Term.{IfPresent}
-use Rattle.krb_record.specs.Values.{Field, Number, String, Word, Printed, if_there, with_inside, with_origin}
+use Rattle.krb_record.specs.Values.{Field, Number, String, Word, Printed, if_there, with_inside, with_last, with_origin}
 use Rattle.krb_source.specs.declared.layer.Layer.{Layer}
 use Rattle.krb_record.proofs.Printable.{Prints, is_printable, word}
 use Rattle.krb_text_laws.proofs.EachForm.{ArePlainParts, IsShown, AreShown, names_are_plain, record_prints}
 
-ended : {text : List ℕ} → Prints text → IsOneLine (text ++ line_feed)
+pub ended : {text : List ℕ} → Prints text → IsOneLine (text ++ line_feed)
 ended {text} h = (text, h.all, refl)
 
 -- a record of plain names whose values are shown, and whose parts are so, from an origin
-pub line_from : (form : Form) (origin : List Field) (r : Printed) → names_are_plain origin ≡ true → AreShown origin → list_all is_printable r.kind ≡ true → names_are_plain r.fields ≡ true → AreShown r.fields → IfPresent ArePlainParts r.inside → IsOneLine (record_line form (with_origin origin r))
-line_from form origin r plain shown kind names h inside = ended (record_prints form (with_origin origin r) plain shown kind names h inside)
+pub line_from : (form : Form) (origin : List Field) (r : Printed) → names_are_plain origin ≡ true → AreShown origin → list_all is_printable r.kind ≡ true → names_are_plain r.fields ≡ true → AreShown r.fields → IfPresent ArePlainParts r.inside → IsOneLine (record_line form (with_last [] (with_origin origin r)))
+line_from form origin r plain shown kind names h inside = ended (record_prints form (with_last [] (with_origin origin r)) (plain, shown) kind (names, h) inside (refl, tt))
 
 -- and without parts, from none
-pub one_line : (form : Form) (r : Printed) → list_all is_printable r.kind ≡ true → names_are_plain r.fields ≡ true → AreShown r.fields → IsOneLine (record_line form (with_inside None (with_origin [] r)))
+pub one_line : (form : Form) (r : Printed) → list_all is_printable r.kind ≡ true → names_are_plain r.fields ≡ true → AreShown r.fields → IsOneLine (record_line form (with_last [] (with_inside None (with_origin [] r))))
 one_line form r kind names h = line_from form [] (with_inside None r) refl tt kind names h tt
 
 -- the path of the field at fault
@@ -92,7 +92,7 @@ origin_shown (Some line) (first ∷ others) = (tt, (tt, tt))
 origin_shown other another = (tt, tt)
 
 -- a record that comes from a message
-pub message_line_from : (form : Form) (line : Option ℕ) (layers : List Layer) (r : Printed) → list_all is_printable r.kind ≡ true → names_are_plain r.fields ≡ true → AreShown r.fields → IfPresent ArePlainParts r.inside → IsOneLine (record_line form (with_origin (message_origin line layers) r))
+pub message_line_from : (form : Form) (line : Option ℕ) (layers : List Layer) (r : Printed) → list_all is_printable r.kind ≡ true → names_are_plain r.fields ≡ true → AreShown r.fields → IfPresent ArePlainParts r.inside → IsOneLine (record_line form (with_last [] (with_origin (message_origin line layers) r)))
 message_line_from form line layers r kind names h inside = line_from form (message_origin line layers) r (origin_is_plain line layers) (origin_shown line layers) kind names h inside
 
 -- ---- refused input

@@ -1,5 +1,5 @@
 //! Laws of what is printed. Each is the contract of a function that does nothing.
-ghost use Rattle.krb_record.specs.Laws.{CaptureEndIsOneLine, CaptureRefusalIsOneLine, CapturedRefusalIsOneLine, CountedStreamEndIsOneLine, DatesAreTheCalendars, EscapeIsGraphic, FileNameIsOneLine, FileRefusalIsOneLine, InputRefusalIsOneLine, JoinedIsOneLine, LostIsOneLine, MessageRefusalIsOneLine, PasswordIsOneLine, PlainLinesHaveNothingInside, PrincipalTextIsInjective, UntoldMessageRefusalIsOneLine, UntoldStreamRefusalIsOneLine};
+ghost use Rattle.krb_record.specs.Laws.{CaptureEndIsOneLine, CaptureRefusalIsOneLine, CapturedRefusalIsOneLine, CountedStreamEndIsOneLine, DatesAreTheCalendars, EscapeIsGraphic, FileNameIsOneLine, FileRefusalIsOneLine, InputRefusalIsOneLine, JoinedIsOneLine, LinesHaveNothingLast, LostIsOneLine, MessageRefusalIsOneLine, PasswordIsOneLine, PlainLinesHaveNothingInside, PrincipalTextIsInjective, UntoldMessageRefusalIsOneLine, UntoldStreamRefusalIsOneLine};
 ghost use Rattle.krb_text.specs.Laws.{CapturedMessageIsOneLine, CiphersAreNotInCaptures, CiphersAreNotInLines, CiphersAreNotInLinesFrom, CiphersAreNotInRecords, CiphersAreNotInTickets, MessageFromIsOneLine, MessageIsOneLine, MethodsAreNotInRecords, StreamEndIsOneLine, TicketIsOneLine};
 
 /// Different components or realms have different texts.
@@ -53,6 +53,11 @@ pub fn dates_are_the_calendars()
 /// A line without the names of numbers is that of the record without what is inside of it.
 pub fn plain_lines_have_nothing_inside()
     ensures { PlainLinesHaveNothingInside }
+{}
+
+/// A line is that of the record without what objects have last.
+pub fn lines_have_nothing_last()
+    ensures { LinesHaveNothingLast }
 {}
 
 /// What is printed of a message or a Ticket, in each form, with an origin and of a capture too, is as

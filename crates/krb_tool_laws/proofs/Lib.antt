@@ -2,6 +2,11 @@ pub mod AlikeStreams
 pub mod CaptureListings
 pub mod DecodedTexts
 pub mod EncodedMessages
+pub mod HoleOctets
 pub mod KeyOctets
+pub mod Lines
+pub mod ListedFiles
+pub mod ListedStreams
+pub mod PathOctets
 pub mod RoundTrips
 pub mod Upgrades

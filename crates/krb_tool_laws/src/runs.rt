@@ -3,13 +3,14 @@ ghost use Rattle.krb_capture_run.specs.Laws.{CapturesAreListed};
 ghost use Rattle.krb_file_run.specs.Laws.{KeysAreNotListed, SessionKeysAreNotListed, UpgradeIsListedAlike};
 ghost use Rattle.krb_convert.specs.Laws.{DecodedComesBack, DecodedIsLines, EncodedIsMessages, UnencryptedIsNotDecoded};
 ghost use Rattle.krb_tool.specs.Laws.{RefusalsAreAtOffsets};
+ghost use Rattle.krb_tool_laws.specs.Holes.{HolesAreNotListed};
 
 use krb_file_laws::ccache::{session_keys_change_nothing_else, upgrade_holds_the_same};
 use krb_file_laws::keytab::keys_change_nothing_else;
 use krb_frame::law::refusals_are_at_offsets as refused_at_offsets;
 use krb_json::law::lines_spell_messages;
 use krb_message_laws::message_json::{
-    texts_are_json, texts_come_back, unencrypted_changes_nothing,
+    texts_are_json, texts_are_short, texts_come_back, unencrypted_changes_nothing,
 };
 use krb_text_laws::list::{keys_are_not_shown, session_keys_are_not_shown};
 
@@ -29,13 +30,17 @@ pub fn decoded_comes_back()
     ensures { DecodedComesBack }
 {
     texts_are_json();
+    texts_are_short();
     texts_come_back();
 }
 
 /// Two files that differ in octets of one key alone have one listing in each form, up to the same
-/// end or the same refusal with the same path: keytabs, and caches of version 4 or 3.
+/// end or the same refusal with the same path: keytabs, and caches of version 4 or 3. Keytabs that
+/// differ in octets of one hole, which may be those of an old key, have one listing but for the
+/// hole's line: that tells how many octets there are, and whether all of them are 00.
 pub fn keys_are_not_listed()
     ensures keytab { KeysAreNotListed }
+    ensures hole { HolesAreNotListed }
     ensures ccache { SessionKeysAreNotListed }
 {
     keys_change_nothing_else();

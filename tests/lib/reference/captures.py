@@ -14,7 +14,7 @@ from .judging import Ended, Refused
 from .kpasswd import change_password
 from .messages import record_or_refusal
 from .records import Record, refused
-from .values import flow, instant, number
+from .values import flow, instant, microseconds, number
 
 PORT = 88
 CHANGE_PASSWORD_PORT = 464
@@ -93,7 +93,7 @@ class Capture:
                 "t": instant(self.packet.time),
                 "flow": flow(of_flow),
             }
-            yield record._replace(before=before)
+            yield record._replace(before=before, fields={**record.fields, "t_us": microseconds(self.packet.time)})
 
     def end(self):
         """The records of the end of the file, or of its fault."""

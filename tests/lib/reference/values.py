@@ -24,6 +24,7 @@ OLDER_TICKET_FLAGS = {bit: name for bit, name in TICKET_FLAGS.items() if bit <= 
 class Value(NamedTuple):
     # None if only a line with names and an object have the value.
     text: str
+    # None if only an object has it.
     text_with_names: str
     member: object
     # What the name of a second member has at its end, and that member: the names of numbers.
@@ -113,6 +114,12 @@ def instant(nanoseconds):
     if not 0 < seconds < 2**32:
         return ABSENT
     return word(f"{time.strftime('%Y-%m-%dT%H:%M:%S', time.gmtime(seconds))}.{fraction:09}Z")
+
+
+def microseconds(nanoseconds):
+    """The same instant as a whole number of microseconds, which objects alone have."""
+    is_known = instant(nanoseconds) != ABSENT
+    return Value(None, None, nanoseconds // 1000 if is_known else None)
 
 
 def ip_address(octets):

@@ -1,6 +1,6 @@
 """The types of records: each object of `krbls --json`, as docs/LISTING.md of krbls says.
 
-`packet`, `t` and `flow` are in the records of a capture, `line` and `via` in those of `message`, `file` in those of
+`packet`, `t`, `flow` and `t_us` are in the records of a capture, `line` and `via` in those of `message`, `file` in those of
 several files. tools/make_records.py makes this of krbls.schema.json; not to be edited."""
 
 from typing import List, Literal, Optional, TypedDict, Union
@@ -35,6 +35,7 @@ class _Where(TypedDict, total=False):
     line: int
     via: List[str]
     file: str
+    t_us: Optional[int]
 
 
 class Principal(TypedDict):

@@ -272,7 +272,7 @@ pub(super) const CALLS: [(&str, Call); 63] = [
         Call::Capture(
             Form::Json,
             FRAGMENTS,
-            "{\"kind\":\"AP-REP\",\"packet\":4,\"t\":\"2000-01-01T00:00:04.000005000Z\",\"flow\":{\"over\":\"udp\",\"source\":{\"address\":\"127.0.0.1\",\"port\":40000},\"target\":{\"address\":\"127.0.0.1\",\"port\":88}},\"enc\":{\"etype\":18,\"etype_name\":\"aes256-cts-hmac-sha1-96\",\"kvno\":null,\"size\":4},\"notes\":[],\"notes_names\":[]}\n{\"kind\":\"end\",\"packets\":8,\"messages\":1,\"refused\":0,\"lost\":0,\"unread\":4}\n",
+            "{\"kind\":\"AP-REP\",\"packet\":4,\"t\":\"2000-01-01T00:00:04.000005000Z\",\"flow\":{\"over\":\"udp\",\"source\":{\"address\":\"127.0.0.1\",\"port\":40000},\"target\":{\"address\":\"127.0.0.1\",\"port\":88}},\"enc\":{\"etype\":18,\"etype_name\":\"aes256-cts-hmac-sha1-96\",\"kvno\":null,\"size\":4},\"notes\":[],\"notes_names\":[],\"t_us\":946684804000005}\n{\"kind\":\"end\",\"packets\":8,\"messages\":1,\"refused\":0,\"lost\":0,\"unread\":4}\n",
         ),
     ),
     (

@@ -1,5 +1,5 @@
 -- Records of messages by the views of their kinds.
-use Rattle.std.specs.Prelude.{◌≡◌, Bool, true, List, [], ℕ, Option}
+use Rattle.std.specs.Prelude.{◌≡◌, Bool, true, List, [], ◌++◌, ℕ, Option}
 use Rattle.krb_der.specs.declared.profile.Profile.{Profile}
 use Rattle.krb_der.specs.declared.profile.Profile.TheVariants as profiles
 use Rattle.krb_msg.specs.Notes.{are_none}
@@ -12,12 +12,13 @@ use Rattle.krb_msg.specs.declared.notes.Notes.{Notes}
 use Rattle.krb_record.specs.declared.form.Form.{Form}
 use Rattle.krb_text.specs.declared.record.Heading.{Heading}
 use Rattle.krb_text.specs.declared.record.Heading.TheVariants as headings
-use Rattle.krb_record.specs.Captures.{origin_fields}
+use Rattle.krb_record.specs.Captures.{origin_fields, time_fields}
 use Rattle.krb_record.specs.Forms.{record_text}
+use Rattle.krb_record.specs.Text.{line_feed}
 use Rattle.krb_text.specs.Inside.{inside_of}
 use Rattle.krb_record.specs.Origins.{message_origin}
 use Rattle.krb_text.specs.Messages.{fields_of, message_record}
-use Rattle.krb_record.specs.Values.{Field, Part, with_origin}
+use Rattle.krb_record.specs.Values.{Field, Part, with_last, with_origin}
 
 -- what is recorded of a view of a kind is what is recorded of its message
 pub record IsRecordedAs (kind : Kind) (IsValid : Type 0) (fields : List Field) (inside : Option (List Part)) (view : MessageView) : Type 0 where
@@ -31,9 +32,17 @@ heading_origin headings.Alone = []
 heading_origin (headings.Captured origin) = origin_fields origin.now
 heading_origin (headings.From origin) = message_origin origin.now.line origin.now.layers.now
 
--- the record of a message after its origin, without its line feed
+abbrev pub heading_last : Heading → List Field
+heading_last headings.Alone = []
+heading_last (headings.Captured origin) = time_fields origin.now
+heading_last (headings.From origin) = []
+
+-- the record of a message from its origin, without its line feed, and with it
 abbrev pub text_after : Form → Heading → Message → List ℕ
-text_after form from m = record_text form (with_origin (heading_origin from) (message_record m))
+text_after form from m = record_text form (with_last (heading_last from) (with_origin (heading_origin from) (message_record m)))
+
+abbrev pub line_after : Form → Heading → Message → List ℕ
+line_after form from m = text_after form from m ++ line_feed
 
 -- whether a message in which these notes hold is one of a profile
 abbrev pub is_kept : Profile → Notes → Bool

@@ -1,17 +1,17 @@
-use Rattle.std.proofs.Common.{◌≡◌, ◌<◌, ◌^◌, true, ◌++◌, [], Option, Some, None, IfSome, refl, codes}
+use Rattle.std.proofs.Common.{◌≡◌, pos, ◌<◌, ◌^◌, true, ◌++◌, [], Option, Some, None, IfSome, refl, codes}
 use Rattle.std.specs.List.{list_all}
 use Rattle.krb_msg.specs.Term.{IfPresent}
 use Rattle.krb_source.specs.declared.timestamp.Timestamp.{Timestamp}
-use Rattle.krb_record.specs.Captures.{origin_fields, captured_line, lost_record, password_record, count_fields, capture_refused_record}
+use Rattle.krb_record.specs.Captures.{captured as captured_record, origin_fields, captured_line, lost_record, password_record, count_fields, capture_refused_record}
 use Rattle.krb_record.specs.Laws.{IsOneLine, OriginIsInRange}
 use Rattle.krb_text.specs.Messages.{message_record}
 use Rattle.krb_record.specs.Refusals.{extent_in, path_in, refusal_record}
-use Rattle.krb_record.specs.Time.{timestamp_text}
-use Rattle.krb_record.specs.Values.{Word, Printed, printed, if_there}
+use Rattle.krb_record.specs.Time.{microseconds, timestamp_text}
+use Rattle.krb_record.specs.Values.{Number, Word, Printed, printed, if_there}
 use Rattle.krb_record.specs.declared.form.Form.{Form}
 use Rattle.krb_record.specs.declared.capture_origin.CaptureOrigin.{CaptureOrigin}
-use Rattle.krb_text_laws.proofs.EachForm.{ArePlainParts, IsShown, AreShown, names_are_plain}
-use Rattle.krb_text_laws.proofs.EndOneLine.{line_from, one_line, path_is_plain, path_shown, located_is_plain, located_shown}
+use Rattle.krb_text_laws.proofs.EachForm.{ArePlainParts, IsShown, AreShown, names_are_plain, record_prints}
+use Rattle.krb_text_laws.proofs.EndOneLine.{ended, one_line, path_is_plain, path_shown, located_is_plain, located_shown}
 use Rattle.krb_text_laws.proofs.MessageOneLine.{record_is_plain}
 use Rattle.krb_record.proofs.Printable.{is_printable}
 use Rattle.krb_record.proofs.Reasons as reasons
@@ -27,9 +27,13 @@ time_shown (Some time) h = (timestamp time.seconds time.nanoseconds h).all
 shown : (origin : CaptureOrigin) → OriginIsInRange origin → AreShown (origin_fields origin)
 shown origin h = tt & time_shown origin.time h.time & (h.source, h.target) & tt
 
+last_shown : (time : Option Timestamp) → IsShown (if_there (λ time. Number (pos (microseconds time.seconds time.nanoseconds))) time)
+last_shown None = tt
+last_shown (Some time) = tt
+
 -- ---- records
 captured : (form : Form) (origin : CaptureOrigin) (r : Printed) → OriginIsInRange origin → list_all is_printable r.kind ≡ true → names_are_plain r.fields ≡ true → AreShown r.fields → IfPresent ArePlainParts r.inside → IsOneLine (captured_line form origin r)
-captured form origin r h kind names fields inside = line_from form (origin_fields origin) r refl (shown origin h) kind names fields inside
+captured form origin r h kind names fields inside = ended (record_prints form (captured_record origin r) (refl, shown origin h) kind (names, fields) inside (refl, (last_shown origin.time, tt)))
 
 pub returns-clause-message : goal.returns-clause-message
 returns-clause-message c = λ form origin m h good.

@@ -13,6 +13,7 @@ returns-clause-message c = λ form m good.
     line_from form [] (message_record m) refl tt h.kind h.names h.fields h.inside
 
 pub returns-clause-from : goal.returns-clause-from
+unfolding message_record
 returns-clause-from c = λ form line layers m good.
     let h = record_is_plain m good in
     message_line_from form line layers (message_record m) h.kind h.names h.fields h.inside
