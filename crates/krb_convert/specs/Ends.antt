@@ -30,5 +30,6 @@ decode_end_line chosen (decoded.Unencrypted message path) = message_number chose
 abbrev pub encode_end_line : EncodeEnd → List ℕ
 encode_end_line encoded.Clean = []
 encode_end_line (encoded.Fault number fault) = numbered (codes "line") number ++ read_fault_text fault ++ codes "\n"
+encode_end_line (encoded.LongLine number most) = numbered (codes "line") number ++ codes "longer than " ++ decimal most ++ codes " octets\n"
 encode_end_line (encoded.SecondMessage number) = numbered (codes "line") number ++ codes "a second message\n"
 encode_end_line encoded.NoMessage = codes "no message\n"

@@ -23,6 +23,14 @@ pub enum EncodeEnd {
         /// What is wrong with it: never [`LineFault::Memory`].
         fault: LineFault,
     },
+    /// A line is too long. The messages before it are written, and no octet is looked at after the
+    /// one that shows it.
+    LongLine {
+        /// The number of the line.
+        line: u64,
+        /// The greatest number of octets that one may have.
+        most: u64,
+    },
     /// A line follows one message where no second one is allowed. The first one is written.
     SecondMessage {
         /// The number of the line.
@@ -35,11 +43,12 @@ pub enum EncodeEnd {
 /// Encodes the messages that lines of JSON spell, each as a frame (RFC 4120, 7.2.2). A line is what
 /// comes before a line feed, and the rest if it is not empty; a line of spaces, tabs and CR alone is
 /// passed over. The first line that spells no message of the profile of at most `limit` octets ends
-/// the run, and nothing after it is looked at. The reader is asked at most 2^40 times, for 64 KiB
+/// the run, and nothing after it is looked at. So does a line, even of blanks, that has more octets
+/// than 8 times `limit` and 65536, as soon as these came. The reader is asked at most 2^40 times, for 64 KiB
 /// each, and the frames of the lines that end in what came are written before it is asked again. It
 /// is not asked again after an error, its end or a fault. If a read fails or memory runs out, the
-/// frames of the lines before that are written, all or the first of them. A line may have any
-/// length; memory is allocated for it, its JSON and its message.
+/// frames of the lines before that are written, all or the first of them. Memory is allocated for a
+/// line, its JSON and its message.
 pub fn run_encode<R: Read, W: Write>(
     alloc: Global,
     profile: Profile,

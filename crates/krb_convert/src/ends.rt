@@ -57,6 +57,9 @@ pub fn put_encode_end(line: &mut TextBuffer, end: &EncodeEnd) -> Result<(), Allo
             line: number,
             fault,
         } => write!(line, "line {number}: {fault}\n"),
+        EncodeEnd::LongLine { line: number, most } => {
+            write!(line, "line {number}: longer than {most} octets\n")
+        }
         EncodeEnd::SecondMessage { line: number } => {
             write!(line, "line {number}: a second message\n")
         }

@@ -1,7 +1,7 @@
 //! Lines of JSON as messages.
 
-ghost use Rattle.std.specs.Prelude.{◌≡◌, ◌+◌, ◌++◌, ◌<◌, ◌^◌, ◌&&◌, not, false, [], length, IfErr, IfOk, OnOk, None};
-ghost use Rattle.krb_convert.specs.Encoding.{written_as, ending_of};
+ghost use Rattle.std.specs.Prelude.{◌≡◌, ◌+◌, ◌++◌, ◌<◌, ◌≤◌, ◌^◌, ◌&&◌, not, false, [], length, IfErr, IfOk, OnOk, None};
+ghost use Rattle.krb_convert.specs.Encoding.{most_of_line, written_as, ending_of};
 ghost use Rattle.krb_run.specs.TextLines.{is_blank_line};
 ghost use Rattle.krb_run.specs.declared.run.RunFault.TheVariants as fault;
 ghost use Rattle.krb_convert.specs.inner.EncodedLines.{IsFound, TakesLine, json_reading, rest_of};
@@ -13,7 +13,9 @@ use krb_der::Profile;
 use krb_frame::Limit;
 use krb_json::law::lines_spell_messages;
 use krb_json::{LineFault, Scratch, read_line};
-use krb_run::{ListStream, ReadLines, RunFault, end_lines, feed_lines, is_blank_line};
+use krb_run::{
+    ListStream, PIECE_OCTETS, ReadLines, RunFault, end_lines, feed_lines, is_blank_line,
+};
 use std::alloc::{AllocError, Global};
 
 /// What an encoding is asked for: the profile of the messages, the greatest length of one, and
@@ -23,6 +25,15 @@ pub(crate) struct EncodeRequest {
     pub profile: Profile,
     pub limit: Limit,
     pub is_framed: bool,
+}
+
+impl EncodeRequest {
+    /// Returns the greatest number of octets of a line.
+    fn most_of_line(&self) -> u64
+        ensures { result ≡ most_of_line self.now.limit }
+    {
+        8 * u64::from(self.limit.get()) + PIECE_OCTETS as u64
+    }
 }
 
 /// A reader of lines, up to their end or the first fault: what allocates for it, what it is asked
@@ -46,6 +57,7 @@ impl JsonReader {
     /// come, or keeps its fault. Returns whether the line is not at fault.
     fn take_line(&mut self) -> Result<bool, RunFault>
         requires open { self.old.fault ≡ None }
+        requires short { length self.old.line.items ≤ most_of_line self.old.request.limit }
         requires few { self.old.lines + 1 < 2 ^ 64 }
         ensures taken { IfOk result (TakesLine self.old self.new) }
         ensures fault { IfErr result (λ e. e ≡ fault.Memory) }
@@ -72,6 +84,7 @@ impl JsonReader {
     /// fault.
     fn add_message(&mut self) -> Result<bool, RunFault>
         requires open { self.old.fault ≡ None }
+        requires short { length self.old.line.items ≤ most_of_line self.old.request.limit }
         requires some { is_blank_line self.old.line.items ≡ false }
         requires next { (not self.old.request.is_framed && self.old.came) ≡ false }
         requires few { self.old.lines + 1 < 2 ^ 64 }
@@ -140,8 +153,15 @@ fn put_message(text: &mut Vec<u8>, is_framed: bool, octets: &[u8]) -> Result<(),
 impl ReadLines for JsonReader {
     ghost kind = { json_reading };
 
-    fn add(&mut self, octets: &[u8]) -> Result<(), RunFault> {
-        Ok(self.line.extend_from_slice(octets)?)
+    fn add(&mut self, octets: &[u8]) -> Result<bool, RunFault> {
+        self.line.extend_from_slice(octets)?;
+        let most = self.request.most_of_line();
+        if self.line.len() as u64 <= most {
+            return Ok(true);
+        }
+        let line = self.lines + 1;
+        self.fault = Some(EncodeEnd::LongLine { line, most });
+        Ok(false)
     }
 
     fn end_line(&mut self) -> Result<bool, RunFault> {

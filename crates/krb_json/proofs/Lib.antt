@@ -3,7 +3,7 @@ mod Leaves
 pub mod Back
 pub mod Fit
 pub mod KindTexts
-mod Printable
+pub mod Printable
 mod Texts
 pub mod Messages
 mod FirstOctets

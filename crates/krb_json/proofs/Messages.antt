@@ -70,11 +70,11 @@ mutual
       (members-narrowed fields names (index + 1) values.1)
 
 -- the JSON of a message is that of its value in any profile
-json-in : (profile : Profile) (m : Message) → json (kind_term_in profile (kind_of m)) (names_of_kind (kind_of m)) (message_value_in profile m) ≡ json (kind_term (kind_of m)) (names_of_kind (kind_of m)) (message_value m)
+pub json-in : (profile : Profile) (m : Message) → json (kind_term_in profile (kind_of m)) (names_of_kind (kind_of m)) (message_value_in profile m) ≡ json (kind_term (kind_of m)) (names_of_kind (kind_of m)) (message_value m)
 json-in profiles.Lenient m = refl
 json-in profiles.Strict m = json-narrowed false (kind_term (kind_of m)) (names_of_kind (kind_of m)) (message_value m)
 
-short-in : (profile : Profile) (m : Message) → IsInProfile profile m → length (der (kind_term_in profile (kind_of m)) (message_value_in profile m)) < 2 ^ 31
+pub short-in : (profile : Profile) (m : Message) → IsInProfile profile m → length (der (kind_term_in profile (kind_of m)) (message_value_in profile m)) < 2 ^ 31
 short-in profile m i = omega (arith, ap length (message_der_in profile m), i.short)
 
 -- ---- texts

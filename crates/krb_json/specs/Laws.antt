@@ -1,5 +1,5 @@
 -- The laws of the JSON of messages. Each is the contract of a function of the module `law`.
-use Rattle.std.specs.Prelude.{ℕ, ◌+◌, ◌<◌, ◌≤◌, ◌≡◌, ◌^◌, ◌&&◌, not, pos, negsuc, nat_lt, nat_le, int_le, Bool, true, List, take, length, Some, None, Ok}
+use Rattle.std.specs.Prelude.{ℕ, ◌+◌, ◌*◌, ◌<◌, ◌≤◌, ◌≡◌, ◌^◌, ◌&&◌, not, pos, negsuc, nat_lt, nat_le, int_le, Bool, true, List, take, length, Some, None, Ok}
 use Rattle.std.specs.List.{list_all, AllByRecursion}
 use Rattle.std.specs.Str.{bytes_eq}
 use Rattle.json.specs.Json.{Json, document}
@@ -64,6 +64,10 @@ pub record IsText (m : Message) : Type 0 where
 
 abbrev pub TextsAreJson : Type 0
 TextsAreJson = (profile : Profile) (m : Message) → IsInProfile profile m → IsText m
+
+-- The text of a message has at most 8 times as many octets as the message, and 64 KiB.
+abbrev pub TextsAreShort : Type 0
+TextsAreShort = (profile : Profile) (m : Message) → IsInProfile profile m → length (message_text m) ≤ 8 * length (message_der m) + 65536
 
 -- A message of no more octets than a limit is spelled by its text.
 abbrev pub TextsComeBack : Type 0

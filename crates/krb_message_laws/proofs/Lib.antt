@@ -7,3 +7,4 @@ pub mod Masks
 pub mod OtherCases
 pub mod Reorders
 pub mod Spellings
+pub mod Lengths

@@ -1,7 +1,7 @@
 //! The laws of the JSON of messages, each the contract of a function that does nothing.
 
 ghost use Rattle.krb_message_laws.specs.Spellings.{BlanksAndEscapesChangeNothing};
-ghost use Rattle.krb_json.specs.Laws.{MessagesAreNamed, SpelledFits, SpellingChangesNothing, TextsAreJson, TextsComeBack, TextsDiffer, UnencryptedChangesNothing, ValuesComeBack};
+ghost use Rattle.krb_json.specs.Laws.{MessagesAreNamed, SpelledFits, SpellingChangesNothing, TextsAreJson, TextsAreShort, TextsComeBack, TextsDiffer, UnencryptedChangesNothing, ValuesComeBack};
 
 /// Each field of each message has a name of its own.
 pub fn messages_are_named()
@@ -21,6 +21,11 @@ pub fn spelled_fits()
 /// The text of a message is its JSON, of printable ASCII alone, and no object has a name twice.
 pub fn texts_are_json()
     ensures { TextsAreJson }
+{}
+
+/// The text of a message has at most 8 times as many octets as the message, and 65536.
+pub fn texts_are_short()
+    ensures { TextsAreShort }
 {}
 
 /// Each message is spelled by its text.

@@ -1,5 +1,5 @@
 -- The lines of a text that comes in pieces.
-use Rattle.std.proofs.Common.{◌≡◌, ℕ, ◌+◌, ◌<◌, ◌≤◌, Bool, true, false, cond, List, [], ◌∷◌, ◌++◌, length, get_or, take, Some, None, refl, sym, ◌∙◌, ap, subst, arith, append_assoc, append-nil, add-one, length-take}
+use Rattle.std.proofs.Common.{◌≡◌, ℕ, ◌+◌, ◌<◌, ◌≤◌, inr, Bool, true, false, cond, List, [], ◌∷◌, ◌++◌, length, get_or, take, Some, None, refl, sym, ◌∙◌, ap, subst, arith, append_assoc, append-nil, add-one, length-take}
 use Rattle.std.specs.Prelude.{◌==◌}
 use Rattle.std.specs.List.{All, onto_first}
 use Rattle.std.proofs.Math.Seq.{take-suc}
@@ -7,7 +7,9 @@ use Rattle.std.proofs.lemmas.Bool.Decides.{nat_tests}
 use Rattle.std.proofs.lemmas.List.{get_or-take, get_or_default}
 use Rattle.std.proofs.lemmas.List.Splits.{slice_split_none, slice_split_at}
 use Rattle.memchr.specs.Find.{Nowhere, Passes, IsFirstByte, is_byte}
-use Rattle.krb_run.specs.TextLines.{parts, without_empty_last, lines_of, ended_of}
+use Rattle.krb_run.specs.ConversionRules.{IsBeginning}
+use Rattle.krb_run.specs.LineReaders.{MayFollow}
+use Rattle.krb_run.specs.TextLines.{parts, without_empty_last, lines_of, ended_of, last_of}
 
 -- ---- the parts of two texts
 -- the last part, which goes on with the first of others
@@ -90,6 +92,31 @@ keeps_last (octet ∷ last) some = refl
 pub lines-last : (ended : List (List ℕ)) (last : List ℕ) → (last ≡ [] → ⊥) → without_empty_last (ended ++ last ∷ []) ≡ ended ++ last ∷ []
 lines-last ended last some = lines-from ended last [] ∙ ap (λ l. ended ++ l) (keeps_last last some)
 
+pub last_of-from : (ended : List (List ℕ)) (first : List ℕ) (others : List (List ℕ)) → last_of (ended ++ first ∷ others) ≡ last_of (first ∷ others)
+last_of-from [] first others = refl
+last_of-from (line ∷ []) first others = refl
+last_of-from (line ∷ next ∷ ended) first others = last_of-from (next ∷ ended) first others
+
+-- ---- lines that follow octets of one
+-- the first begins with them
+abbrev pub Begin : List ℕ → List (List ℕ) → Type 0
+Begin last [] = last ≡ []
+Begin last (line ∷ lines) = IsBeginning last line
+
+pub nothing_before : (first rest : List ℕ) → [] ≡ first ++ rest → first ≡ []
+nothing_before [] rest e = refl
+nothing_before (octet ∷ first) rest e = absurd cc
+
+begin_all : (last next : List ℕ) (others : List (List ℕ)) → IsBeginning last next → Begin last (without_empty_last (next ∷ others))
+begin_all last [] [] b = nothing_before last b.rest b.parts
+begin_all last [] (first ∷ others) b = b
+begin_all last (octet ∷ next) [] b = b
+begin_all last (octet ∷ next) (first ∷ others) b = b
+
+follow_ended : (IsShort : List ℕ → Type 0) (last next : List ℕ) (others : List (List ℕ)) → IsBeginning last next → IsShort (last_of (next ∷ others)) → MayFollow IsShort last (ended_of (next ∷ others))
+follow_ended IsShort last next [] b short = inr (b.rest, subst IsShort b.parts short)
+follow_ended IsShort last next (first ∷ others) b short = b
+
 -- ---- a text whose lines have ended, but for the last
 module _ (text : List ℕ) (ended : List (List ℕ)) (last : List ℕ) (all : parts text ≡ ended ++ last ∷ []) where
   parts_more : (more : List ℕ) → parts (text ++ more) ≡ ended ++ onto_last last (parts more)
@@ -100,16 +127,22 @@ module _ (text : List ℕ) (ended : List (List ℕ)) (last : List ℕ) (all : pa
     next : List ℕ
     others : List (List ℕ)
     is : parts (text ++ more) ≡ ended ++ next ∷ others
+    begins : IsBeginning last next
 
   has_more : (more : List ℕ) → HasMore more
   unfolding onto_last
-  has_more more = let p = some_part more in record { next = last ++ p.first; others = p.others; is = parts_more more ∙ ap (λ found. ended ++ onto_last last found) p.is }
+  has_more more = let p = some_part more in record { next = last ++ p.first; others = p.others; is = parts_more more ∙ ap (λ found. ended ++ onto_last last found) p.is; begins = record { rest = p.first; parts = refl } }
 
-  pub lines-more : (more : List ℕ) → (others : List (List ℕ)) × (lines_of (text ++ more) ≡ ended ++ others)
-  lines-more more = let m = has_more more in (without_empty_last (m.next ∷ m.others), ap without_empty_last m.is ∙ lines-from ended m.next m.others)
+  pub lines-more : (more : List ℕ) → (others : List (List ℕ)) × (lines_of (text ++ more) ≡ ended ++ others) × Begin last others
+  lines-more more = let m = has_more more in (without_empty_last (m.next ∷ m.others), ap without_empty_last m.is ∙ lines-from ended m.next m.others, begin_all last m.next m.others m.begins)
 
-  pub ended_of-more : (more : List ℕ) → (others : List (List ℕ)) × (ended_of (parts (text ++ more)) ≡ ended ++ others)
-  ended_of-more more = let m = has_more more in (ended_of (m.next ∷ m.others), ap ended_of m.is ∙ ended_of-from ended m.next m.others)
+  pub ended_of-more : (more : List ℕ) → (others : List (List ℕ)) × (ended_of (parts (text ++ more)) ≡ ended ++ others) × ((IsShort : List ℕ → Type 0) → IsShort (last_of (parts (text ++ more))) → MayFollow IsShort last others)
+  ended_of-more more =
+      let m = has_more more in (
+        ended_of (m.next ∷ m.others),
+        ap ended_of m.is ∙ ended_of-from ended m.next m.others,
+        λ IsShort short. follow_ended IsShort last m.next m.others m.begins (subst IsShort (ap last_of m.is ∙ last_of-from ended m.next m.others) short),
+      )
 
   -- more octets of the line came
   pub parts_grow : (more : List ℕ) → parts more ≡ more ∷ [] → parts (text ++ more) ≡ ended ++ (last ++ more) ∷ []

@@ -1,9 +1,9 @@
 -- What a reader of lines does with a text, whatever becomes of them.
-use Rattle.std.specs.Prelude.{ℕ, ◌≡◌, ◌+◌, ◌≤◌, Bool, true, false, List, [], ◌∷◌, ◌++◌, length, Option}
+use Rattle.std.specs.Prelude.{ℕ, ◌≡◌, ◌+◌, ◌≤◌, ◌⊎◌, Bool, true, false, List, [], ◌∷◌, ◌++◌, length, Option}
 use Rattle.krb_run.specs.Conversions.{Converted, after_text}
-use Rattle.krb_run.specs.TextLines.{parts, ended_of, lines_of}
+use Rattle.krb_run.specs.TextLines.{parts, ended_of, last_of, lines_of}
 use Rattle.krb_run.specs.Runs.{StopsInPiece}
-use Rattle.krb_run.specs.ConversionRules.{conversion_rules}
+use Rattle.krb_run.specs.ConversionRules.{IsBeginning, conversion_rules}
 use Rattle.krb_run.specs.Pieces.{IsLastOf, Kind}
 use Rattle.krb_run.specs.Streams.{Rules, Taken}
 
@@ -26,25 +26,41 @@ pub record LineKind (L : Type 0) : Type 1 where
   pub Holds : L → List ℕ → Type 0
   -- a line may end
   pub IsOpen : L → Type 0
+  -- a line of these octets is not too long to be read
+  pub IsShort : Request → List ℕ → Type 0
 
--- octets of the line came
-pub record Adds {L : Type 0} (kind : LineKind L) (old : L) (octets : List ℕ) (new : L) : Type 0 where
-  pub request : kind.request new ≡ kind.request old
-  pub text : kind.text new ≡ kind.text old
-  pub rest : (lines : List (List ℕ)) → kind.rest new lines ≡ kind.rest old lines
-  pub holds : (line : List ℕ) → kind.Holds old line → kind.Holds new (line ++ octets)
-  pub is_open : kind.IsOpen old → kind.IsOpen new
-  pub few : kind.count new ≤ kind.count old + length octets
-
--- others may follow
+-- others may follow, and octets of the line that has not ended
 abbrev pub GoesOn : {L : Type 0} → LineKind L → L → Type 0
-GoesOn kind reader = kind.IsOpen reader × kind.IsNoFault (kind.rest reader []).end
+GoesOn kind reader = kind.IsOpen reader × kind.IsNoFault (kind.rest reader []).end × ((line : List ℕ) → kind.Holds reader line → kind.IsShort (kind.request reader) line)
 
 -- no line more is read, after one that is at fault
 pub record IsStopped {L : Type 0} (kind : LineKind L) (reader : L) : Type 0 where
   pub end : kind.Ending
   pub rest : (lines : List (List ℕ)) → kind.rest reader lines ≡ record { text = []; end = end }
   pub fault : kind.IsNoFault end → ⊥
+
+-- the line is not too long yet
+pub record Grows {L : Type 0} (kind : LineKind L) (old new : L) : Type 0 where
+  pub rest : (lines : List (List ℕ)) → kind.rest new lines ≡ kind.rest old lines
+  pub goes_on : GoesOn kind old → GoesOn kind new
+
+-- The line is too long, however it goes on, and that is its fault.
+pub record Outgrows {L : Type 0} (kind : LineKind L) (old : L) (octets : List ℕ) (new : L) : Type 0 where
+  pub stopped : IsStopped kind new
+  pub long : (line more : List ℕ) → kind.Holds old line → kind.IsShort (kind.request old) ((line ++ octets) ++ more) → ⊥
+  pub rest : (line more : List ℕ) (lines : List (List ℕ)) → kind.Holds old line → kind.rest old (((line ++ octets) ++ more) ∷ lines) ≡ record { text = []; end = stopped.end }
+
+abbrev pub GrowsBy : {L : Type 0} → LineKind L → L → List ℕ → L → Bool → Type 0
+GrowsBy kind old octets new true = Grows kind old new
+GrowsBy kind old octets new false = Outgrows kind old octets new
+
+-- octets of the line came
+pub record Adds {L : Type 0} (kind : LineKind L) (old : L) (octets : List ℕ) (new : L) (goes_on : Bool) : Type 0 where
+  pub request : kind.request new ≡ kind.request old
+  pub text : kind.text new ≡ kind.text old
+  pub holds : (line : List ℕ) → kind.Holds old line → kind.Holds new (line ++ octets)
+  pub few : kind.count new ≤ kind.count old + length octets
+  pub grows : GrowsBy kind old octets new goes_on
 
 abbrev pub Follows : {L : Type 0} → LineKind L → L → Bool → Type 0
 Follows kind reader true = GoesOn kind reader
@@ -66,19 +82,24 @@ HasLine kind reader true = (kind.Holds reader [] → ⊥) × (IsStopped kind rea
 HasLine kind reader false = kind.IsOpen reader → (line : List ℕ) → kind.Holds reader line → line ≡ []
 
 -- ---- a text
+-- Lines may follow octets of one that has not ended: this is the first of them, or, if there is none, it is not too long with some more.
+abbrev pub MayFollow : (IsShort : List ℕ → Type 0) → (last : List ℕ) → List (List ℕ) → Type 0
+MayFollow IsShort last [] = (last ≡ []) ⊎ ((more : List ℕ) × IsShort (last ++ more))
+MayFollow IsShort last (line ∷ lines) = IsBeginning last line
+
 -- Lines of a text have ended, and the others are still to come after the octets of the one that has not. What became of those that ended is in what was written and then in the text.
 pub record HasRead {L : Type 0} (kind : LineKind L) (reader : L) (stream written : List ℕ) : Type 0 where
   pub ended : List (List ℕ)
   pub last : List ℕ
   pub all : parts stream ≡ ended ++ last ∷ []
   pub holds : kind.Holds reader last
-  pub goes_on : (lines : List (List ℕ)) → kind.all (kind.request reader) (ended ++ lines) ≡ after_text (written ++ kind.text reader) (kind.rest reader lines)
+  pub goes_on : (lines : List (List ℕ)) → MayFollow (kind.IsShort (kind.request reader)) last lines → kind.all (kind.request reader) (ended ++ lines) ≡ after_text (written ++ kind.text reader) (kind.rest reader lines)
 
--- a text whose lines that end are not at fault
+-- a text whose lines that end are not at fault, and whose last one is not too long
 abbrev pub IsRight : {L : Type 0} → (kind : LineKind L) → kind.Request → List ℕ → Type 0
-IsRight kind request text = kind.IsNoFault (kind.all request (ended_of (parts text))).end
+IsRight kind request text = kind.IsNoFault (kind.all request (ended_of (parts text))).end × kind.IsShort request (last_of (parts text))
 
--- A line that ended in the last piece is at fault. What is after it was not read.
+-- A line that ended in the last piece is at fault, or one that became too long in it. What is after that was not read.
 pub record IsStoppedAfter {L : Type 0} (kind : LineKind L) (reader : L) (taken : Taken) : Type 0 where
   pub stream : List ℕ
   pub others : List ℕ

@@ -21,6 +21,12 @@ ended_of [] = []
 ended_of (last ∷ []) = []
 ended_of (line ∷ next ∷ lines) = line ∷ ended_of (next ∷ lines)
 
+-- what is after the last line feed
+abbrev pub last_of : List (List ℕ) → List ℕ
+last_of [] = []
+last_of (last ∷ []) = last
+last_of (line ∷ next ∷ lines) = last_of (next ∷ lines)
+
 -- a space, a tab and CR
 abbrev pub is_blank : ℕ → Bool
 is_blank octet = octet == 32 || octet == 9 || octet == 13

@@ -16,10 +16,12 @@ pub trait ReadLines {
     /// What contracts see of it.
     ghost kind: { LineKind Self };
 
-    /// Adds octets to the line that has not ended.
-    fn add(&mut self, octets: &[u8]) -> Result<(), RunFault>
+    /// Adds octets to the line that has not ended, and returns whether it may go on: not if it is too
+    /// long.
+    fn add(&mut self, octets: &[u8]) -> Result<bool, RunFault>
+        requires open { kind.IsOpen self.old }
         requires few { kind.count self.old + length octets.now < 2 ^ 64 }
-        ensures added { OnOk result (Adds kind self.old octets.now self.new) }
+        ensures added { IfOk result (Adds kind self.old octets.now self.new) }
         ensures fault { IfErr result (λ e. e ≡ RunFault.Memory) };
 
     /// Ends the line, and returns whether others may follow.
@@ -35,8 +37,8 @@ pub trait ReadLines {
 }
 
 /// Takes the next piece of a text, at most 65536 octets, whose lines end at line feeds, and returns
-/// whether others may follow. After a line that lets none follow no octet more is looked at. The one
-/// error is running out of memory.
+/// whether others may follow. After a line that lets none follow, and in one that is too long, no
+/// octet more is looked at. The one error is running out of memory.
 pub fn feed_lines<L: ReadLines>(lines: &mut L, piece: &[u8]) -> Result<bool, RunFault>
     requires waits { AcceptsPiece (listing_of (reader_kind L.kind) lines.old) }
     requires short { length piece.now ≤ 65536 }
@@ -45,14 +47,15 @@ pub fn feed_lines<L: ReadLines>(lines: &mut L, piece: &[u8]) -> Result<bool, Run
 {
     let mut rest = piece;
     'lines: while let Some(end) = line_length(rest) {
-        lines.add(&rest[..end])?;
+        if !lines.add(&rest[..end])? {
+            return Ok(false);
+        }
         rest = &rest[end + 1..];
         if !lines.end_line()? {
             return Ok(false);
         }
     }
-    lines.add(rest)?;
-    Ok(true)
+    lines.add(rest)
 }
 
 /// Ends the last line of a text, unless it is empty. The one error is running out of memory.

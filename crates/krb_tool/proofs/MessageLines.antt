@@ -3,10 +3,12 @@ use Rattle.std.proofs.Common.{◌≡◌, ℕ, ◌+◌, ◌-◌, ◌≤◌, Bool,
 use Rattle.std.specs.Prelude.{nat_lt, not, ◌&&◌, ◌==◌}
 use Rattle.std.proofs.lemmas.Bool.Decides.{nat_tests}
 use Rattle.krb_der.specs.Octets.{when}
-use Rattle.krb_run.specs.Conversions.{Converted, after_text}
+use Rattle.krb_der.specs.declared.profile.Profile.{Profile}
+use Rattle.krb_record.specs.declared.form.Form.{Form}
+use Rattle.krb_run.specs.Conversions.{Converted, Converts, after_text}
 use Rattle.krb_run.specs.TextLines.{is_blank_line}
 use Rattle.krb_run.specs.Files.{FileListing}
-use Rattle.krb_tool.specs.MessageLines.{is_passed, next_line, with_line, with_record}
+use Rattle.krb_tool.specs.MessageLines.{ListsLines, is_passed, lines_listed, next_line, with_line, with_record}
 use Rattle.krb_tool.specs.Messages.{Puts, input_limit, input_listing}
 use Rattle.krb_tool.specs.declared.lines_run.LineLister.{LineLister}
 use Rattle.krb_tool.specs.declared.lines_run.LinesRequest.{LinesRequest}
@@ -141,15 +143,14 @@ ends-put old between new c p text request line size seen =
           ∙ ap (λ s. after_text p.added (records_from old.request s more)) (ap (with_line between.seen) (sym held.size ∙ sym p.size) ∙ sym seen)
           ∙ ap (λ q. after_text p.added (records_from q new.seen more)) (sym (request ∙ p.request));
       few = omega (arith, octets, size);
-      follows = (record { lines = omega (arith, lines, octets, c.lines); records = omega (arith, lines, few, c.records) }, tt);
+      follows = (record { lines = omega (arith, lines, octets, c.lines); records = omega (arith, lines, few, c.records) }, tt, λ line held. tt);
     }
 
 -- ---- octets of a line came
-pub adds-octets : (old new : LineLister) (octets : List ℕ) (count : ℕ) → new.line.items ≡ old.line.items ++ take count octets → count ≡ min (length octets) (kept_octets - length old.line.items) → new.size ≡ old.size + length octets → new.request ≡ old.request → new.seen ≡ old.seen → new.text ≡ old.text → Adds message_lines old octets new
+pub adds-octets : (old new : LineLister) (octets : List ℕ) (count : ℕ) → new.line.items ≡ old.line.items ++ take count octets → count ≡ min (length octets) (kept_octets - length old.line.items) → new.size ≡ old.size + length octets → new.request ≡ old.request → new.seen ≡ old.seen → new.text ≡ old.text → Adds message_lines old octets new true
 adds-octets old new octets count line is size request seen text = record {
   request = request;
   text = text;
-  rest = λ lines. λ i. records_from (request i) (seen i) lines;
   holds = λ last held. record {
     kept =
         line
@@ -158,11 +159,18 @@ adds-octets old new octets count line is size request seen text = record {
         ∙ first-both kept_octets last octets;
     size = size ∙ ap (λ n. n + length octets) held.size ∙ sym (length-append last octets);
   };
-  is_open = λ c. record {
-    lines = subst (λ s. s.lines ≤ s.octets) (sym seen) c.lines;
-    records = subst (λ s. s.messages + s.refused ≤ s.lines) (sym seen) c.records;
-  };
   few = omega (arith, size, ap (λ s. s.octets) seen);
+  grows = record {
+    rest = λ lines. λ i. records_from (request i) (seen i) lines;
+    goes_on = λ g. (
+      record {
+        lines = subst (λ s. s.lines ≤ s.octets) (sym seen) g.0.lines;
+        records = subst (λ s. s.messages + s.refused ≤ s.lines) (sym seen) g.0.records;
+      },
+      tt,
+      λ last held. tt,
+    );
+  };
 }
 
 -- ---- the last line
@@ -188,3 +196,18 @@ has-line lister empty is = by empty (sym is)
     by : (empty : Bool) → (length lister.line.items == 0) ≡ empty → HasLine message_lines lister (not empty)
     by true e = λ c line held. nothing_kept line (sym held.kept ∙ is_nothing lister.line.items e)
     by false e = (λ held. is_something lister.line.items e held.kept, never_stopped lister)
+
+-- ---- a run
+-- no line ends it, and none is too long
+abbrev pub NoneEnds : List ℕ → Type 0
+NoneEnds text = Unit {0} × Unit {0}
+
+pub lists-lines : (form : Form) (profile : Profile) (had left written_before written_after : Option (List ℕ)) (ended : RunEnd) → Converts (lines_listed form profile) NoneEnds had left written_before written_after ended → ListsLines form profile had left written_before written_after ended
+lists-lines form profile had left written_before written_after ended c = record {
+  read = c.read;
+  taken = c.taken;
+  added = c.added;
+  ended_so = c.ended_so;
+  all_read = λ right. c.all_read (tt, tt);
+  stops = record { prefix = c.stops.prefix; piece = c.stops.piece; parts = c.stops.parts; goes_on = tt; short = c.stops.short };
+}

@@ -82,12 +82,12 @@ impl LineLister {
 impl ReadLines for LineLister {
     ghost kind = { message_lines };
 
-    fn add(&mut self, octets: &[u8]) -> Result<(), RunFault> {
+    fn add(&mut self, octets: &[u8]) -> Result<bool, RunFault> {
         let room = (MOST_INPUT + 1).saturating_sub(self.line.len());
         let kept = octets.len().min(room);
         self.line.extend_from_slice(&octets[..kept])?;
         self.size += octets.len() as u64;
-        Ok(())
+        Ok(true)
     }
 
     fn end_line(&mut self) -> Result<bool, RunFault> {

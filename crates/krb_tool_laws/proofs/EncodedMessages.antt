@@ -1,5 +1,6 @@
 -- What is encoded is messages of the profile.
 use Rattle.std.proofs.Common.{◌≡◌, ℕ, ◌+◌, ◌^◌, ◌<◌, ◌⊎◌, inl, inr, Bool, true, false, List, [], ◌∷◌, ◌++◌, length, map, None, Result, Ok, Err, refl, ◌∙◌, ap, subst, arith, append-nil}
+use Rattle.std.specs.Prelude.{nat_lt}
 use Rattle.std.specs.List.{AllByRecursion, flat_map}
 use Rattle.krb_der.specs.Octets.{AreOctets, when}
 use Rattle.krb_der.specs.declared.profile.Profile.{Profile}
@@ -23,7 +24,7 @@ use Rattle.krb_run.specs.Conversions.{Converted}
 use Rattle.krb_convert.specs.Decoding as decoding
 use Rattle.krb_convert.specs.Decoding.{AllAreEncrypted, decoded, ending_at}
 use Rattle.krb_run.specs.TextLines.{lines_of}
-use Rattle.krb_convert.specs.Encoding.{Ending, All, SecondMessage, message_and, encoded_lines, encoded}
+use Rattle.krb_convert.specs.Encoding.{Ending, All, LongLine, SecondMessage, most_of_line, message_and, encoded_lines, encoded}
 use Rattle.krb_run.specs.TextLines.{is_blank_line}
 use Rattle.krb_convert.specs.Laws.{AreFrames, EncodedIsMessages, IsOneMessage}
 use Rattle.krb_tool.specs.Paths.{found_path}
@@ -75,6 +76,9 @@ decoded_of profile limit octets ms found each encrypted =
 abbrev second : ℕ → Converted Ending
 second number = record { text = []; end = SecondMessage number }
 
+abbrev too_long : (limit number : ℕ) → Converted Ending
+too_long limit number = record { text = []; end = LongLine number (most_of_line limit) }
+
 -- the messages of which octets are the frames
 record Messages (profile : Profile) (limit : ℕ) (octets : List ℕ) : Type 0 where
   those : List Message
@@ -99,14 +103,15 @@ module _ (spell : LinesSpellMessages) (profile : Profile) (limit : ℕ) (small :
   }
   message_first number line (Err fault) others is rest = none
 
-  line_first : (number : ℕ) (line : List ℕ) (blank : Bool) (after others : Converted Ending) → Messages profile limit after.text → Messages profile limit others.text → Messages profile limit (when blank (λ _. after) (λ _. message_and true number (line_spells profile limit line) others)).text
-  line_first number line true after others a o = a
-  line_first number line false after others a o = message_first number line (line_spells profile limit line) others refl o
+  line_first : (number : ℕ) (line : List ℕ) (long blank : Bool) (after others : Converted Ending) → Messages profile limit after.text → Messages profile limit others.text → Messages profile limit (when long (λ _. too_long limit number) (λ _. when blank (λ _. after) (λ _. message_and true number (line_spells profile limit line) others))).text
+  line_first number line true blank after others a o = none
+  line_first number line false true after others a o = a
+  line_first number line false false after others a o = message_first number line (line_spells profile limit line) others refl o
 
   all_lines_first : (number : ℕ) (came : Bool) (lines : List (List ℕ)) → Messages profile limit (encoded_lines true profile limit number came lines).text
   all_lines_first number came [] = none
   all_lines_first number came (line ∷ lines) =
-      line_first number line (is_blank_line line) (encoded_lines true profile limit (number + 1) came lines) (encoded_lines true profile limit (number + 1) true lines) (all_lines_first (number + 1) came lines) (all_lines_first (number + 1) true lines)
+      line_first number line (nat_lt (most_of_line limit) (length line)) (is_blank_line line) (encoded_lines true profile limit (number + 1) came lines) (encoded_lines true profile limit (number + 1) true lines) (all_lines_first (number + 1) came lines) (all_lines_first (number + 1) true lines)
 
   pub stream_encoded : (text : List ℕ) → AreFrames profile limit (encoded true profile limit text).text
   unfolding encoded
@@ -116,27 +121,29 @@ module _ (spell : LinesSpellMessages) (profile : Profile) (limit : ℕ) (small :
   abbrev IsAlone : Converted Ending → Type 0
   IsAlone converted = ((converted.text ≡ []) × (converted.end ≡ All → ⊥)) ⊎ IsOneMessage profile limit converted.text
 
-  blank_or_second : (blank : Bool) (number : ℕ) (after : Converted Ending) → after.text ≡ [] → (when blank (λ _. after) (λ _. second number)).text ≡ []
-  blank_or_second true number after empty = empty
-  blank_or_second false number after empty = refl
+  blank_or_second : (long blank : Bool) (number : ℕ) (after : Converted Ending) → after.text ≡ [] → (when long (λ _. too_long limit number) (λ _. when blank (λ _. after) (λ _. second number))).text ≡ []
+  blank_or_second true blank number after empty = refl
+  blank_or_second false true number after empty = empty
+  blank_or_second false false number after empty = refl
 
   nothing_after : (number : ℕ) (lines : List (List ℕ)) → (encoded_lines false profile limit number true lines).text ≡ []
   nothing_after number [] = refl
-  nothing_after number (line ∷ lines) = blank_or_second (is_blank_line line) number (encoded_lines false profile limit (number + 1) true lines) (nothing_after (number + 1) lines)
+  nothing_after number (line ∷ lines) = blank_or_second (nat_lt (most_of_line limit) (length line)) (is_blank_line line) number (encoded_lines false profile limit (number + 1) true lines) (nothing_after (number + 1) lines)
 
   message_alone : (number : ℕ) (line : List ℕ) (spells : Result Message LineFault) (others : Converted Ending) → line_spells profile limit line ≡ spells → others.text ≡ [] → IsAlone (message_and false number spells others)
   message_alone number line (Ok m) others is rest =
       inr (record { message = m; spelled = spell profile limit line m small is; form = ap (λ text. message_der m ++ text) rest ∙ append-nil (message_der m) })
   message_alone number line (Err fault) others is rest = inl (refl, λ e. cc)
 
-  line_alone : (number : ℕ) (line : List ℕ) (blank : Bool) (after others : Converted Ending) → IsAlone after → others.text ≡ [] → IsAlone (when blank (λ _. after) (λ _. message_and false number (line_spells profile limit line) others))
-  line_alone number line true after others a rest = a
-  line_alone number line false after others a rest = message_alone number line (line_spells profile limit line) others refl rest
+  line_alone : (number : ℕ) (line : List ℕ) (long blank : Bool) (after others : Converted Ending) → IsAlone after → others.text ≡ [] → IsAlone (when long (λ _. too_long limit number) (λ _. when blank (λ _. after) (λ _. message_and false number (line_spells profile limit line) others)))
+  line_alone number line true blank after others a rest = inl (refl, λ e. cc)
+  line_alone number line false true after others a rest = a
+  line_alone number line false false after others a rest = message_alone number line (line_spells profile limit line) others refl rest
 
   lines_alone : (number : ℕ) (lines : List (List ℕ)) → IsAlone (encoded_lines false profile limit number false lines)
   lines_alone number [] = inl (refl, λ e. cc)
   lines_alone number (line ∷ lines) =
-      line_alone number line (is_blank_line line) (encoded_lines false profile limit (number + 1) false lines) (encoded_lines false profile limit (number + 1) true lines) (lines_alone (number + 1) lines) (nothing_after (number + 1) lines)
+      line_alone number line (nat_lt (most_of_line limit) (length line)) (is_blank_line line) (encoded_lines false profile limit (number + 1) false lines) (encoded_lines false profile limit (number + 1) true lines) (lines_alone (number + 1) lines) (nothing_after (number + 1) lines)
 
   alone : (text : List ℕ) → IsAlone (encoded false profile limit text)
   unfolding encoded

@@ -10,7 +10,7 @@ use krb_file_laws::keytab::keys_change_nothing_else;
 use krb_frame::law::refusals_are_at_offsets as refused_at_offsets;
 use krb_json::law::lines_spell_messages;
 use krb_message_laws::message_json::{
-    texts_are_json, texts_come_back, unencrypted_changes_nothing,
+    texts_are_json, texts_are_short, texts_come_back, unencrypted_changes_nothing,
 };
 use krb_text_laws::list::{keys_are_not_shown, session_keys_are_not_shown};
 
@@ -30,6 +30,7 @@ pub fn decoded_comes_back()
     ensures { DecodedComesBack }
 {
     texts_are_json();
+    texts_are_short();
     texts_come_back();
 }
 

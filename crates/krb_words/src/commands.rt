@@ -87,7 +87,7 @@ fn flag<'a>(alloc: Global, name: &'a str, help: &'a str) -> Arg<'a>
         .help(help)
 }
 
-/// Returns the option `--strict`.
+/// Returns the option `--strict` of a command that lists messages with their notes.
 fn strict_flag<'a>(alloc: Global) -> Arg<'a>
     ensures rule { rule_of result ≡ strict_flag }
     ensures local { result.global ≡ false }
@@ -96,6 +96,18 @@ fn strict_flag<'a>(alloc: Global) -> Arg<'a>
         alloc,
         "strict",
         "Refuses messages that have a note (krbls help stream)",
+    )
+}
+
+/// Returns the option `--strict` of a command that turns messages into another form, without notes.
+fn strict_form_flag<'a>(alloc: Global) -> Arg<'a>
+    ensures rule { rule_of result ≡ strict_flag }
+    ensures local { result.global ≡ false }
+{
+    flag(
+        alloc,
+        "strict",
+        "Refuses messages that `krbls stream` lists with a note",
     )
 }
 
@@ -239,8 +251,10 @@ pub(crate) enum Parameter {
     Port,
     /// `--keep-going`.
     KeepGoing,
-    /// `--strict`.
+    /// `--strict`, of messages that are listed.
     Strict,
+    /// `--strict`, of messages that are turned into another form.
+    StrictForm,
     /// `--lines`.
     Lines,
     /// `--unframed`.
@@ -269,6 +283,7 @@ impl Parameter {
             Parameter::Port => port_option(alloc),
             Parameter::KeepGoing => keep_going_flag(alloc),
             Parameter::Strict => strict_flag(alloc),
+            Parameter::StrictForm => strict_form_flag(alloc),
             Parameter::Lines => lines_flag(alloc),
             Parameter::Unframed => unframed_flag(alloc),
             Parameter::Names => names_flag(alloc),
@@ -286,7 +301,7 @@ impl Parameter {
             Parameter::Limit => name == "--limit",
             Parameter::Port => name == "--port",
             Parameter::KeepGoing => name == "--keep-going",
-            Parameter::Strict => name == "--strict",
+            Parameter::Strict | Parameter::StrictForm => name == "--strict",
             Parameter::Lines => name == "--lines",
             Parameter::Unframed => name == "--unframed",
             Parameter::Names => name == "--names",
@@ -389,7 +404,7 @@ static PARTS: [Part; 8] = [
         help: &DECODE_HELP,
         parameters: &[
             Parameter::Limit,
-            Parameter::Strict,
+            Parameter::StrictForm,
             Parameter::Unframed,
             Parameter::File,
             Parameter::FileNames,
@@ -400,7 +415,7 @@ static PARTS: [Part; 8] = [
         help: &ENCODE_HELP,
         parameters: &[
             Parameter::Limit,
-            Parameter::Strict,
+            Parameter::StrictForm,
             Parameter::Unframed,
             Parameter::File,
             Parameter::FileNames,

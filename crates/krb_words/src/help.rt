@@ -165,7 +165,8 @@ hexadecimal. `krbls encode` makes the same frames of the lines again.
 A refusal ends a file: the standard error says at which octet of the frame it
 is, why and in which field. So does anything that is not encrypted (encryption
 type 0): it could be a key. What is encrypted is printed; treat it as a secret,
-since weak passwords can be guessed from it.
+since weak passwords can be guessed from it. With --strict a message that has a
+note is refused, too: `krbls help stream` says which have one.
 
 Example:
   krbls decode kdc.stream > kdc.jsonl",
@@ -179,7 +180,9 @@ Reads a JSON object in each line, as `krbls decode` writes them, and writes the
 frame of each message. Lines of blanks are passed over.
 
 A line that is at fault ends a file: the standard error has its number, the path
-of a field and what is wrong with that.
+of a field and what is wrong with that. So does a line that has more octets than
+8 times the limit and 65536. With --strict so does a line of a message that has
+a note: `krbls help stream` says which have one.
 
 Example:
   krbls encode kdc.jsonl > kdc.stream",

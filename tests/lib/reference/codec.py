@@ -65,6 +65,11 @@ def lines_in(text):
     return [*lines, rest] if rest else lines
 
 
+def most_of_line(limit):
+    """The greatest number of octets of a line."""
+    return 8 * limit + 65536
+
+
 def message_of_line(line, limit, messages):
     """The octets of the message that a line spells."""
     try:
@@ -81,6 +86,8 @@ def frames_of(text, limit, messages, unframed):
     """The frames of the messages that the lines of a source spell, up to what ends it."""
     is_first = True
     for number, line in enumerate(lines_in(text), 1):
+        if len(line) > most_of_line(limit):
+            raise Ends(f"line {number}: longer than {most_of_line(limit)} octets")
         if not line.strip(BLANKS):
             continue
         if unframed and not is_first:

@@ -1,11 +1,11 @@
 -- What a reader of lines does with a stream.
-use Rattle.std.specs.Prelude.{ℕ, ◌≡◌, ◌+◌, IsSome, Bool, true, false, List, [], ◌∷◌, ◌++◌, Option, Some, None}
+use Rattle.std.specs.Prelude.{ℕ, ◌≡◌, ◌+◌, ◌≤◌, length, IsSome, Bool, true, false, List, [], ◌∷◌, ◌++◌, Option, Some, None}
 use Rattle.std.specs.Option.{option_map}
 use Rattle.krb_json.specs.Lines.{line_spells}
 use Rattle.krb_json.specs.Reading.{line_fault_of}
 use Rattle.krb_json.specs.declared.line_fault.LineFault.{LineFault}
 use Rattle.krb_run.specs.Conversions.{Converted, after_text}
-use Rattle.krb_convert.specs.Encoding.{Ending, ending_of, message_and, encoded_lines, IsNoFault}
+use Rattle.krb_convert.specs.Encoding.{Ending, ending_of, message_and, most_of_line, encoded_lines, IsNoFault}
 use Rattle.krb_convert.specs.declared.encode_run.EncodeEnd.{EncodeEnd}
 use Rattle.krb_convert.specs.declared.json_reader.EncodeRequest.{EncodeRequest}
 use Rattle.krb_convert.specs.declared.json_reader.JsonReader.{JsonReader}
@@ -59,5 +59,6 @@ json_reading = record {
   text = λ reader. reader.text.items;
   count = λ reader. reader.lines;
   Holds = λ reader line. reader.line.items ≡ line;
-  IsOpen = λ reader. reader.fault ≡ None;
+  IsOpen = λ reader. (reader.fault ≡ None) × (length reader.line.items ≤ most_of_line reader.request.limit);
+  IsShort = λ request line. length line ≤ most_of_line request.limit;
 }

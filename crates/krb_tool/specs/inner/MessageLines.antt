@@ -37,7 +37,7 @@ pub record Keeps (lister : LineLister) (line : List ℕ) : Type 0 where
   pub kept : lister.line.items ≡ take kept_octets line
   pub size : lister.size ≡ length line
 
--- no line ends a run
+-- no line ends a run, however long it is
 abbrev pub message_lines : LineKind LineLister
 message_lines = record {
   Request = LinesRequest;
@@ -52,4 +52,5 @@ message_lines = record {
   count = λ lister. lister.seen.octets + lister.size;
   Holds = Keeps;
   IsOpen = IsCounted;
+  IsShort = λ request line. Unit {0};
 }

@@ -12,6 +12,7 @@ rule_for parameter.Limit = limit_option
 rule_for parameter.Port = port_option
 rule_for parameter.KeepGoing = keep_going_flag
 rule_for parameter.Strict = strict_flag
+rule_for parameter.StrictForm = strict_flag
 rule_for parameter.Lines = lines_flag
 rule_for parameter.Unframed = unframed_flag
 rule_for parameter.Names = names_flag

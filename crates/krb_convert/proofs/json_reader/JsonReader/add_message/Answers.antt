@@ -22,7 +22,7 @@ returns-in_ok-put_message-in-Ok-clause-taken c =
     (c.in_ok-put_message-in-Ok.ensures ∙ ap (λ o. old.text.items ++ written_as old.request.is_framed o) c.as_slice-in-Ok.ensures.value)
     refl refl
     (λ more.
-    read-step old.request number old.came old.line.items more c.requires.some c.requires.next
+    read-step old.request number old.came old.line.items more c.requires.short c.requires.some c.requires.next
     ∙ message-step old.request.is_framed number (line_spells old.request.profile old.request.limit old.line.items) c.in-Ok.octets.items _ a)
 
 pub returns-in_ok-fault-in-Err-clause-taken : goal.returns-in_ok-fault-in-Err-clause-taken
@@ -34,6 +34,6 @@ returns-in_ok-fault-in-Err-clause-taken c =
     let fault = subst (λ spells. IsFaultOf spells c.in-Err.fault) (sym same) c.in-Err.ensures.fault in
     takes-fault old _ _ refl (λ x. x) refl refl refl
     (λ more.
-    read-step old.request number old.came old.line.items more c.requires.some c.requires.next
+    read-step old.request number old.came old.line.items more c.requires.short c.requires.some c.requires.next
     ∙ fault-step old.request.is_framed number (line_spells old.request.profile old.request.limit old.line.items) (line_fault_of c.in-Err.fault) _ found.some fault
     ∙ ap (λ f. faulty number (line_fault_of f)) (sym found.same))
