@@ -8,11 +8,14 @@ use Rattle.krb_source.specs.FileReasons.{file_reason_number, file_reason_name}
 use Rattle.krb_source.specs.declared.file_why.FileWhy.{FileWhy}
 use Rattle.krb_source.specs.declared.file_why.FileWhy.TheVariants as files
 use Rattle.krb_source.specs.Spellings.{spelling_name}
+use Rattle.krb_source.specs.UnreadReasons.{unread_reason_number, unread_reason_name}
 use Rattle.krb_source.specs.declared.spelling.Spelling.{Spelling}
 use Rattle.krb_source.specs.declared.spelling.Spelling.TheVariants as spellings
+use Rattle.krb_source.specs.declared.unread_why.UnreadWhy.{UnreadWhy}
+use Rattle.krb_source.specs.declared.unread_why.UnreadWhy.TheVariants as unread
 use Rattle.krb_msg.specs.Stream.{End, Boundary, Within, Refused}
 use Rattle.krb_source.specs.declared.timestamp.Timestamp.{Timestamp}
-use Rattle.krb_record.specs.Captures.{capture_refused_record, captured, count_fields, lost_record, origin_fields, password_record, time_fields}
+use Rattle.krb_record.specs.Captures.{capture_refused_record, captured, count_fields, lost_record, origin_fields, password_record, time_fields, unread_record}
 use Rattle.krb_record.specs.Files.{file_record}
 use Rattle.krb_record.specs.Inputs.{input_refused_record, input_word}
 use Rattle.krb_record.specs.Origins.{message_origin}
@@ -75,6 +78,13 @@ small_file_reason other = refl
 its_file_reason : (why : FileWhy) → (file_reason_number why < 10 ^ 64) × IsPrintable (file_reason_name why)
 its_file_reason why = (omega (arith, leb-true (file_reason_number why) 255 (small_file_reason why)), (reasons.file_name why).all)
 
+small_unread_reason : (why : UnreadWhy) → nat_le (unread_reason_number why) 255 ≡ true
+small_unread_reason unread.Surplus = refl
+small_unread_reason other = refl
+
+its_unread_reason : (why : UnreadWhy) → (unread_reason_number why < 10 ^ 64) × IsPrintable (unread_reason_name why)
+its_unread_reason why = (omega (arith, leb-true (unread_reason_number why) 255 (small_unread_reason why)), (reasons.unread_name why).all)
+
 worded : (fault : InputFault) → Prints (input_word fault)
 worded (faults.Misspelled s) = spelled s
 worded other = word _ refl
@@ -136,6 +146,7 @@ captures_are_json = record {
       of_capture origin (codes "refused") (refusal_record refusal (path_in forms.Json path ++ extent_in forms.Json extent)).fields o refl refl refl (h & its_reason refusal.why & its_extent path extent e);
   joined = λ origin o. of_capture origin (codes "joined") [] o refl refl refl tt;
   lost = λ origin place octets path o h k. of_capture origin (codes "lost") (lost_record forms.Json place octets path).fields o refl refl refl (h & k & its_path path & tt);
+  unread = λ origin place octets reason o h k. of_capture origin (codes "unread") (unread_record place octets reason).fields o refl refl refl (optional_number place h & k & its_unread_reason reason & tt);
   password = λ origin version ap rest o v a r. of_capture origin (codes "KPASSWD") (password_record version ap rest).fields o refl refl refl (omega (arith, v) & omega (arith, a) & r & tt);
   end = λ counts h. alone (codes "end") (count_fields counts) refl refl refl (h.packets & h.messages & h.refused & h.lost & h.unread & tt);
   file = λ counts place reason path extent h p e.

@@ -13,6 +13,7 @@ use Rattle.krb_der.specs.declared.verdict.Refusal.{Refusal}
 use Rattle.krb_der.specs.declared.why.Why.{Why}
 use Rattle.krb_source.specs.declared.file_why.FileWhy.{FileWhy}
 use Rattle.krb_source.specs.declared.spelling.Spelling.{Spelling}
+use Rattle.krb_source.specs.declared.unread_why.UnreadWhy.{UnreadWhy}
 use Rattle.krb_msg.specs.Grammar.{ticket}
 use Rattle.krb_msg.specs.Stream.{End, Boundary, Within, Refused}
 use Rattle.krb_msg.specs.Term.{Fits, der}
@@ -20,7 +21,7 @@ use Rattle.krb_msg.specs.Types.{ticket_value}
 use Rattle.krb_msg.specs.Views.{IsInProfile}
 use Rattle.krb_msg.specs.declared.message.Message.{Message}
 use Rattle.krb_msg.specs.declared.ticket.Ticket.{Ticket}
-use Rattle.krb_record.specs.Captures.{capture_refused_record, captured, count_fields, lost_record, password_record}
+use Rattle.krb_record.specs.Captures.{capture_refused_record, captured, count_fields, lost_record, password_record, unread_record}
 use Rattle.krb_record.specs.Files.{file_record}
 use Rattle.krb_record.specs.Forms.{record_text}
 use Rattle.krb_record.specs.Inputs.{input_refused_record}
@@ -166,6 +167,7 @@ pub record CapturesAreJson : Type 0 where
   pub refusal : (origin : CaptureOrigin) (refusal : Refusal) (path : Option (List ℕ)) (extent : Extent) → IsFlowOrigin origin → refusal.place < 10 ^ 64 → IsExtent extent → PrintsJson (captured origin (refusal_record refusal (path_in forms.Json path ++ extent_in forms.Json extent)))
   pub joined : (origin : CaptureOrigin) → IsFlowOrigin origin → PrintsJson (captured origin (printed (codes "joined") []))
   pub lost : (origin : CaptureOrigin) (place octets : ℕ) (path : Option (List ℕ)) → IsFlowOrigin origin → place < 10 ^ 64 → octets < 10 ^ 64 → PrintsJson (captured origin (lost_record forms.Json place octets path))
+  pub unread : (origin : CaptureOrigin) (place : Option ℕ) (octets : ℕ) (reason : UnreadWhy) → IsFlowOrigin origin → IfSome place (λ n. n < 10 ^ 64) → octets < 10 ^ 64 → PrintsJson (captured origin (unread_record place octets reason))
   pub password : (origin : CaptureOrigin) (version ap rest : ℕ) → IsFlowOrigin origin → version < 2 ^ 16 → ap < 2 ^ 16 → rest < 10 ^ 64 → PrintsJson (captured origin (password_record version ap rest))
   pub end : (counts : CaptureCounts) → AreCounts counts → PrintsJson (printed (codes "end") (count_fields counts))
   pub file : (counts : CaptureCounts) (place : ℕ) (reason : FileWhy) (path : Option (List ℕ)) (extent : Extent) → AreCounts counts → place < 10 ^ 64 → IsExtent extent → PrintsJson (capture_refused_record forms.Json counts place reason path extent)

@@ -48,7 +48,7 @@ path_shown forms.Lines path h = tt
 path_shown other path h = (octets_shown path h, tt)
 
 -- the path, and where the octets lie
-number_shown : (n : Option ℕ) → IsShown (if_there (λ n. Number (pos n)) n)
+pub number_shown : (n : Option ℕ) → IsShown (if_there (λ n. Number (pos n)) n)
 number_shown None = tt
 number_shown (Some n) = tt
 

@@ -1,5 +1,10 @@
 //! Laws of what is printed. Each is the contract of a function that does nothing.
-ghost use Rattle.krb_record.specs.Laws.{CaptureEndIsOneLine, CaptureRefusalIsOneLine, CapturedRefusalIsOneLine, CountedStreamEndIsOneLine, DatesAreTheCalendars, EscapeIsGraphic, FileNameIsOneLine, FileRefusalIsOneLine, InputRefusalIsOneLine, JoinedIsOneLine, LinesHaveNothingLast, LostIsOneLine, MessageRefusalIsOneLine, PasswordIsOneLine, PlainLinesHaveNothingInside, PrincipalTextIsInjective, UntoldMessageRefusalIsOneLine, UntoldStreamRefusalIsOneLine};
+ghost use Rattle.std.specs.Prelude.{ℕ, Option};
+ghost use Rattle.krb_source.specs.declared.unread_why.UnreadWhy.{UnreadWhy};
+ghost use Rattle.krb_record.specs.Captures.{unread_line};
+ghost use Rattle.krb_record.specs.declared.capture_origin.CaptureOrigin.{CaptureOrigin};
+ghost use Rattle.krb_record.specs.declared.form.Form.{Form};
+ghost use Rattle.krb_record.specs.Laws.{CaptureEndIsOneLine, CaptureRefusalIsOneLine, CapturedRefusalIsOneLine, CountedStreamEndIsOneLine, DatesAreTheCalendars, EscapeIsGraphic, FileNameIsOneLine, FileRefusalIsOneLine, InputRefusalIsOneLine, IsOneLine, JoinedIsOneLine, LinesHaveNothingLast, LostIsOneLine, MessageRefusalIsOneLine, OriginIsInRange, PasswordIsOneLine, PlainLinesHaveNothingInside, PrincipalTextIsInjective, UntoldMessageRefusalIsOneLine, UntoldStreamRefusalIsOneLine};
 ghost use Rattle.krb_text.specs.Laws.{CapturedMessageIsOneLine, CiphersAreNotInCaptures, CiphersAreNotInLines, CiphersAreNotInLinesFrom, CiphersAreNotInRecords, CiphersAreNotInTickets, MessageFromIsOneLine, MessageIsOneLine, MethodsAreNotInRecords, StreamEndIsOneLine, TicketIsOneLine};
 
 /// Different components or realms have different texts.
@@ -40,6 +45,7 @@ pub fn capture_is_one_line_each()
     ensures refusal { CapturedRefusalIsOneLine }
     ensures joined { JoinedIsOneLine }
     ensures lost { LostIsOneLine }
+    ensures unread { (form : Form) (origin : CaptureOrigin) (place : Option ℕ) (octets : ℕ) (reason : UnreadWhy) → OriginIsInRange origin → IsOneLine (unread_line form origin place octets reason) }
     ensures password { PasswordIsOneLine }
     ensures end { CaptureEndIsOneLine }
     ensures file { CaptureRefusalIsOneLine }

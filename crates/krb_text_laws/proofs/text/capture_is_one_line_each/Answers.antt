@@ -2,7 +2,7 @@ use Rattle.std.proofs.Common.{◌≡◌, pos, ◌<◌, ◌^◌, true, ◌++◌, 
 use Rattle.std.specs.List.{list_all}
 use Rattle.krb_msg.specs.Term.{IfPresent}
 use Rattle.krb_source.specs.declared.timestamp.Timestamp.{Timestamp}
-use Rattle.krb_record.specs.Captures.{captured as captured_record, origin_fields, captured_line, lost_record, password_record, count_fields, capture_refused_record}
+use Rattle.krb_record.specs.Captures.{captured as captured_record, origin_fields, captured_line, lost_record, password_record, count_fields, capture_refused_record, unread_record}
 use Rattle.krb_record.specs.Laws.{IsOneLine, OriginIsInRange}
 use Rattle.krb_text.specs.Messages.{message_record}
 use Rattle.krb_record.specs.Refusals.{extent_in, path_in, refusal_record}
@@ -11,7 +11,7 @@ use Rattle.krb_record.specs.Values.{Number, Word, Printed, printed, if_there}
 use Rattle.krb_record.specs.declared.form.Form.{Form}
 use Rattle.krb_record.specs.declared.capture_origin.CaptureOrigin.{CaptureOrigin}
 use Rattle.krb_text_laws.proofs.EachForm.{ArePlainParts, IsShown, AreShown, names_are_plain, record_prints}
-use Rattle.krb_text_laws.proofs.EndOneLine.{ended, one_line, path_is_plain, path_shown, located_is_plain, located_shown}
+use Rattle.krb_text_laws.proofs.EndOneLine.{ended, one_line, number_shown, path_is_plain, path_shown, located_is_plain, located_shown}
 use Rattle.krb_text_laws.proofs.MessageOneLine.{record_is_plain}
 use Rattle.krb_record.proofs.Printable.{is_printable}
 use Rattle.krb_record.proofs.Reasons as reasons
@@ -49,6 +49,9 @@ returns-clause-joined c = λ form origin h. captured form origin (printed (codes
 
 pub returns-clause-lost : goal.returns-clause-lost
 returns-clause-lost c = λ form origin place octets path h k. captured form origin (lost_record form place octets path) h refl (path_is_plain form path) (tt & tt & path_shown form path k) tt
+
+pub returns-clause-unread : goal.returns-clause-unread
+returns-clause-unread c = λ form origin place octets reason h. captured form origin (unread_record place octets reason) h refl refl (number_shown place & tt & (reasons.unread_name reason).all & tt) tt
 
 pub returns-clause-password : goal.returns-clause-password
 returns-clause-password c = λ form origin version ap rest h. captured form origin (password_record version ap rest) h refl refl (tt & tt & tt & tt) tt
