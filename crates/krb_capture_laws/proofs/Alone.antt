@@ -175,7 +175,7 @@ KeptAt streams None (Some gone) own = (own.state ≡ states.Ended gone.had) × (
 KeptAt streams None None own = ⊥
 
 kept_longer : (ended : Option Had) (stream : List ℕ) (streams : List (List ℕ)) (active : Option Sent) (gone : Option Gone) (own : Sent) → KeptAt streams active gone own → KeptAt (streams_with ended stream streams) active gone own
-kept_longer ended stream streams (Some sent) gone own k = k
+kept_longer ended stream streams (Some sent) _ own k = k
 kept_longer ended stream streams None (Some gone) own k = (k.0, stays_with ended stream streams gone.nth own.stream k.1)
 kept_longer ended stream streams None None own k = k
 

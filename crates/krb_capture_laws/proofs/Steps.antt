@@ -7,7 +7,7 @@ use Rattle.krb_packet.specs.declared.contents.Segment.{Segment}
 use Rattle.krb_flow.specs.Directions.{Begun, Outcome, end_of, ended as ended_after, first_number, goes_on, had_of, is_first, joined, may_join, step}
 use Rattle.krb_flow.specs.Progress.{begun}
 use Rattle.krb_flow.specs.Unread.{if_any, nothing as no_octets, of_reset, untaken_at, untaken_of}
-use Rattle.krb_flow.specs.Window.{recent, stream_at, stream_with}
+use Rattle.krb_flow.specs.Window.{recent, stream_at}
 use Rattle.krb_flow.specs.declared.unread.Untaken.{Untaken}
 use Rattle.krb_source.specs.declared.unread_why.UnreadWhy.TheVariants as why
 use Rattle.krb_flow.specs.declared.direction.Beginning.{Beginning}
