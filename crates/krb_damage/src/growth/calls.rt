@@ -264,7 +264,7 @@ pub(super) const CALLS: [(&str, Call); 63] = [
         Call::Capture(
             Form::Lines,
             OUT_OF_ORDER,
-            "packet=4 t=2000-01-01T00:00:04.000005000Z flow=tcp/127.0.0.1:40000>127.0.0.1:88 AP-REP enc=18:-:4 notes=[]\nend packets=7 messages=1 refused=0 lost=0 unread=0\n",
+            "packet=3 t=2000-01-01T00:00:03.000005000Z flow=tcp/127.0.0.1:40000>127.0.0.1:88 unread place=20 octets=15 why=6 Differs\npacket=4 t=2000-01-01T00:00:04.000005000Z flow=tcp/127.0.0.1:40000>127.0.0.1:88 AP-REP enc=18:-:4 notes=[]\npacket=6 t=2000-01-01T00:00:06.000005000Z flow=tcp/127.0.0.1:40000>127.0.0.1:88 unread place=34 octets=1 why=6 Differs\nend packets=7 messages=1 refused=0 lost=0 unread=2\n",
         ),
     ),
     (
