@@ -41,7 +41,7 @@ pub struct Taken<'a> {
     pub before: Option<End>,
     /// How the direction began, if it did.
     pub begins: Option<Beginning>,
-    /// Those of the segment's octets that are not delivered, and are no copies.
+    /// Those of the segment's octets that are not delivered, but for copies of the same octets.
     pub untaken: Untaken,
     /// Those of the segment's octets that are taken at once.
     pub octets: &'a [u8],

@@ -5,7 +5,7 @@
 //!
 //! - [`Direction::take`] returns the outcome of a segment ([`Taken`]): how the direction begins or
 //!   ends, the octets that are next in it, whether they were captured in order or not, and those
-//!   that are not delivered, nor copies ([`Untaken`]).
+//!   that are not delivered, but for copies of the same octets ([`Untaken`]).
 //! - [`Direction::end`] ends a direction, and returns what is known of its octets then.
 //!
 //! Octets that come before their turn wait, in runs of octets that follow each other, at most 1 MiB
