@@ -30,6 +30,8 @@ pub enum RunEnd {
     Clean,
     /// Something was refused, and a line says what.
     Refused,
+    /// The same, and that line is the first: it may be that the file is one of another kind.
+    RefusedAtOnce,
 }
 
 /// Why a run could not go on.
@@ -53,7 +55,7 @@ pub fn status(outcome: &Result<RunEnd, RunFault>) -> u8
 {
     match outcome {
         Ok(RunEnd::Clean) => 0,
-        Ok(RunEnd::Refused) => 1,
+        Ok(RunEnd::Refused | RunEnd::RefusedAtOnce) => 1,
         Err(_) => 3,
     }
 }
