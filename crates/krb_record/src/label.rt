@@ -51,17 +51,18 @@ fn label_text(alloc: Global, form: Form, file: &[u8]) -> Result<TextBuffer, Allo
     Ok(text)
 }
 
+/// The number of octets that end an object: `}` and a line feed.
+const CLOSING_OCTETS: usize = 2;
+
 /// Inserts members at the end of the object that ends a text, with its line feed.
 #[inline(never)]
 fn insert_members(text: &mut TextBuffer, members: &str) -> Result<(), AllocError>
     ensures { OnOk result (AddsMembers members.now text.old text.new) }
 {
+    let size = text.size();
     match text.octets().strip_suffix(b"}\n") {
         None => Ok(()),
-        Some(object) => {
-            let place = object.len();
-            text.insert(place, members)
-        }
+        Some(_) => text.insert(size - CLOSING_OCTETS, members),
     }
 }
 
@@ -95,9 +96,12 @@ impl<'a> Label<'a> {
     pub fn begin(&self, text: &mut TextBuffer) -> Result<(), AllocError>
         ensures { OnOk result (text.new ≡ text.old ++ begin_text self.now) }
     {
-        match (&self.named, self.form) {
-            (Some(named), Form::Lines | Form::NamedLines) => text.push_str(named.text.as_str()),
-            _ => Ok(()),
+        match &self.named {
+            None => Ok(()),
+            Some(named) => match self.form {
+                Form::Lines | Form::NamedLines => text.push_str(named.text.as_str()),
+                Form::Json => Ok(()),
+            },
         }
     }
 
@@ -107,9 +111,13 @@ impl<'a> Label<'a> {
     pub fn end(&self, text: &mut TextBuffer) -> Result<(), AllocError>
         ensures { OnOk result (EndsRecord self.now text.old text.new) }
     {
-        match (&self.named, self.form) {
-            (Some(named), Form::Json) => insert_members(text, named.text.as_str()),
-            _ => Ok(()),
+        match &self.named {
+            None => Ok(()),
+            Some(named) => match self.form {
+                Form::Lines => Ok(()),
+                Form::NamedLines => Ok(()),
+                Form::Json => insert_members(text, named.text.as_str()),
+            },
         }
     }
 }

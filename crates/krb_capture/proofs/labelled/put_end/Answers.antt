@@ -1,0 +1,7 @@
+use Rattle.std.proofs.Common.{◌++◌, [], ap, codes, ◌∙◌}
+use Rattle.std.proofs.lemmas.Result.{on_ok_weaker}
+use Rattle.krb_record.specs.Captures.{capture_end_record}
+use Rattle.krb_capture.proofs.labelled.put_end.Goals as goal
+
+pub returns : goal.returns
+returns c = on_ok_weaker c.end.result (λ ended. ended c.args.text.now (capture_end_record c.args.counts.now) ((rw c.form.ensures at c.in_ok-put_capture_end.ensures) ∙ ap (λ t. t ++ _) c.in_ok-begin.ensures)) c.end.ensures
