@@ -1,5 +1,5 @@
 -- Records with their labels.
-use Rattle.std.proofs.Common.{◌≡◌, ℕ, Bool, true, false, List, [], ◌∷◌, ◌++◌, Option, Some, None, refl, sym, ◌∙◌, ap, append_assoc, append-nil, codes}
+use Rattle.std.proofs.Common.{◌≡◌, ℕ, Bool, true, false, List, [], ◌∷◌, ◌++◌, Some, None, refl, sym, ◌∙◌, ap, append_assoc, append-nil, codes}
 use Rattle.std.proofs.Common.{◌-◌, length, take, drop, subst, arith, ap₂, length-take, take-append-drop}
 use Rattle.std.proofs.lemmas.Str.{IsCharBoundary-at_seam, IsUtf8-from_ascii, IsUtf8-take}
 use Rattle.std.proofs.lemmas.Str.Ascii.{IsAscii-cons, IsAscii-nil}
@@ -10,9 +10,9 @@ use Rattle.std.specs.Str.{IsCharBoundary, IsUtf8}
 use Rattle.krb_record.specs.declared.form.Form.{Form}
 use Rattle.krb_record.specs.declared.form.Form.TheVariants as forms
 use Rattle.krb_record.specs.Forms.{closing, field, fields_text, heading, labelled, last_text, opening, opening_from, parts_text, ending, record_line, record_text, value_text}
-use Rattle.krb_record.specs.Labels.{AddsMembers, EndsRecord, Label, begin_text, file_field, label_text, with_file}
+use Rattle.krb_record.specs.Labels.{AddsMembers, EndsRecord, Label, begin_text, file_field, label_text, line_of, with_file}
 use Rattle.krb_record.specs.Text.{line_feed}
-use Rattle.krb_record.specs.Values.{FileName, Field, Printed, Value}
+use Rattle.krb_record.specs.Values.{FileName, Field, Printed}
 
 -- ---- lines
 -- the name of a file and a blank precede what begins a line
@@ -104,6 +104,10 @@ ends-object name members old new is adds before r e =
     ∙ ap (λ l. l ++ codes "}\n") (append_assoc before object (label_text forms.Json name))
     ∙ append_assoc before (object ++ label_text forms.Json name) (codes "}\n")
     ∙ ap (λ l. before ++ l) (sym (labelled-object name r))
+
+-- what a line has before its record was appended, then a record, and then its end
+pub ends-after : (label : Label) (old begun put new : List ℕ) (r : Printed) → EndsRecord label put new → begun ≡ old ++ begin_text label → put ≡ begun ++ record_line label.form r → new ≡ old ++ line_of label r
+ends-after label old begun put new r ends b p = ends old r (p ∙ ap (λ l. l ++ record_line label.form r) b)
 
 -- ---- where an object ends
 both_true : (a b : Bool) → (a && b) ≡ true → (a ≡ true) × (b ≡ true)

@@ -73,10 +73,19 @@ begins-with read given others none = subst (λ n. BeginsWith (take 16 read) (pre
 pub enough-ended : (then : Then) (least size : ℕ) → then ≡ End → IsEnough then least size
 enough-ended then least size is = subst (λ t. IsEnough t least size) (sym is) tt
 
-pub enough-failed : (then : Then) (least size : ℕ) → (then ≡ Others → ⊥) → IsEnough then least size
-enough-failed Others least size never = absurd (never refl)
-enough-failed End least size never = tt
-enough-failed (Fault error) least size never = tt
+-- a read failed
+abbrev pub IsFailed : Then → Type 0
+IsFailed Others = ⊥
+IsFailed End = ⊥
+IsFailed (Fault error) = Unit {0}
+
+pub enough-failed : (then : Then) (least size : ℕ) → IsFailed then → IsEnough then least size
+enough-failed Others least size failed = absurd failed
+enough-failed End least size failed = tt
+enough-failed (Fault error) least size failed = tt
+
+pub whole-failed : {A : Type 0} (then : Then) → IsFailed then → then ≡ End → A
+whole-failed then failed end = absurd (subst IsFailed end failed)
 
 pub enough-read : (then : Then) (least : ℕ) (octets : List ℕ) → then ≡ Others → min least 16 ≤ length octets → IsEnough then least (length (take 16 octets))
 enough-read then least octets is many =

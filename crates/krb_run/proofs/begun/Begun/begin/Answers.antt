@@ -2,7 +2,7 @@ use Rattle.std.proofs.Common.{◌∙◌, ◌≡◌, ℕ, List, ◌++◌, length,
 use Rattle.std.specs.Io.KnownBytes.{Consumes, Keeps, prepend_known}
 use Rattle.std.proofs.KnownBytes.{Consumes-kept, Consumes-nil, Consumes-trans}
 use Rattle.krb_run.specs.Begun.{others_of}
-use Rattle.krb_run.proofs.BegunReaders.{begins-with, ended, enough-ended, enough-failed, enough-read, keeps-all, keeps-others, not-ended, whole-read}
+use Rattle.krb_run.proofs.BegunReaders.{IsFailed, begins-with, ended, enough-ended, enough-failed, enough-read, keeps-all, keeps-others, not-ended, whole-failed, whole-read}
 use Rattle.krb_run.proofs.StreamRuns.{written-slice}
 use Rattle.krb_run.proofs.begun.Begun.begin.Goals as goal
 
@@ -72,10 +72,10 @@ returns-in-Ok-eq0-clause-whole g c = λ end.
     (omega (arith, c.reads-test.true, c.min-least.ensures, c.len.ensures, ap (λ v. length v.items) c.begun_reader.ensures.octets)) end
 
 pub returns-in-Err-clause-enough : goal.returns-in-Err-clause-enough
-returns-in-Err-clause-enough g c = enough-failed _ _ _ (λ e. let both = sym c.begun_reader-in-Err.ensures.then ∙ e in cc)
+returns-in-Err-clause-enough g c = enough-failed _ _ _ (subst IsFailed (sym c.begun_reader-in-Err.ensures.then) tt)
 
 pub returns-in-Err-clause-whole : goal.returns-in-Err-clause-whole
-returns-in-Err-clause-whole g c = not-ended _ (λ e. let both = sym c.begun_reader-in-Err.ensures.then ∙ e in cc)
+returns-in-Err-clause-whole g c = whole-failed _ (subst IsFailed (sym c.begun_reader-in-Err.ensures.then) tt)
 
 pub returns-clause-enough : goal.returns-clause-enough
 returns-clause-enough g c =
