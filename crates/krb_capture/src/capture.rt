@@ -52,7 +52,7 @@ impl<'a> Capture<'a> {
     /// are refused, messages are judged by `profile`, and `port` is the one of KDCs.
     pub fn new(
         alloc: Global,
-        label: &'a Label<'a>,
+        label: &'a Label,
         profile: Profile,
         limit: Limit,
         port: u16,

@@ -18,7 +18,7 @@ use std::alloc::AllocError;
 /// Appends the record of a message, if octets are one of a profile, and returns whether they are.
 pub(crate) fn put_message(
     text: &mut TextBuffer,
-    label: &Label<'_>,
+    label: &Label,
     origin: &CaptureOrigin,
     profile: Profile,
     octets: &[u8],
@@ -39,7 +39,7 @@ pub(crate) fn put_message(
 /// datagram is and its length.
 pub(crate) fn put_refusal(
     text: &mut TextBuffer,
-    label: &Label<'_>,
+    label: &Label,
     origin: &CaptureOrigin,
     refusal: Refusal,
     path: Option<&str>,
@@ -55,7 +55,7 @@ pub(crate) fn put_refusal(
 /// Appends the record of a direction that began without its SYN.
 pub(crate) fn put_joined(
     text: &mut TextBuffer,
-    label: &Label<'_>,
+    label: &Label,
     origin: &CaptureOrigin,
 ) -> Result<(), AllocError>
     ensures { OnOk result (text.new ≡ text.old ++ found_line label.now origin.now Joined) }
@@ -68,7 +68,7 @@ pub(crate) fn put_joined(
 /// Appends the record of octets that are missing, with the path of the field that has the first.
 pub(crate) fn put_lost(
     text: &mut TextBuffer,
-    label: &Label<'_>,
+    label: &Label,
     origin: &CaptureOrigin,
     lost: Lost,
     path: Option<&str>,
@@ -83,7 +83,7 @@ pub(crate) fn put_lost(
 /// Appends the record of octets that no message has.
 pub(crate) fn put_unread(
     text: &mut TextBuffer,
-    label: &Label<'_>,
+    label: &Label,
     origin: &CaptureOrigin,
     unread: Unread,
 ) -> Result<(), AllocError>
@@ -98,7 +98,7 @@ pub(crate) fn put_unread(
 /// Appends the record of a message that changes a password.
 pub(crate) fn put_password(
     text: &mut TextBuffer,
-    label: &Label<'_>,
+    label: &Label,
     origin: &CaptureOrigin,
     version: u16,
     ap: u16,
@@ -114,7 +114,7 @@ pub(crate) fn put_password(
 /// Appends the last record of a capture.
 pub(crate) fn put_end(
     text: &mut TextBuffer,
-    label: &Label<'_>,
+    label: &Label,
     counts: &CaptureCounts,
 ) -> Result<(), AllocError>
     ensures { OnOk result (text.new ≡ text.old ++ line_of label.now (capture_end_record counts.now)) }
@@ -127,7 +127,7 @@ pub(crate) fn put_end(
 /// Appends the last record of a capture whose file is at fault.
 pub(crate) fn put_file_refusal(
     text: &mut TextBuffer,
-    label: &Label<'_>,
+    label: &Label,
     counts: &CaptureCounts,
     place: u64,
     why: FileWhy,

@@ -20,7 +20,7 @@ const FULL_OCTETS: usize = 1 << 16;
 #[derive(Clone, Copy)]
 pub(crate) struct Tally<'a> {
     pub(crate) alloc: Global,
-    pub(crate) label: &'a Label<'a>,
+    pub(crate) label: &'a Label,
     pub(crate) counts: CaptureCounts,
 }
 

@@ -17,7 +17,7 @@ use std::alloc::AllocError;
 #[inline(always)]
 pub(crate) fn put_message(
     text: &mut TextBuffer,
-    label: &Label<'_>,
+    label: &Label,
     profile: Profile,
     octets: &[u8],
 ) -> Result<bool, Memory>
@@ -36,7 +36,7 @@ pub(crate) fn put_message(
 /// Appends the record of a frame that is refused after so many messages.
 pub(crate) fn put_refusal(
     text: &mut TextBuffer,
-    label: &Label<'_>,
+    label: &Label,
     messages: u64,
     refusal: Refusal,
     path: Option<&str>,
@@ -52,7 +52,7 @@ pub(crate) fn put_refusal(
 /// Appends the record of the end of a stream after so many messages.
 pub(crate) fn put_end(
     text: &mut TextBuffer,
-    label: &Label<'_>,
+    label: &Label,
     messages: u64,
 ) -> Result<(), AllocError>
     ensures { OnOk result (text.new ≡ text.old ++ line_of label.now (stream_end_record messages)) }
@@ -65,7 +65,7 @@ pub(crate) fn put_end(
 /// Appends the record of the end after so many messages and refusals.
 pub(crate) fn put_counted_end(
     text: &mut TextBuffer,
-    label: &Label<'_>,
+    label: &Label,
     messages: u64,
     refused: u64,
 ) -> Result<(), AllocError>

@@ -34,7 +34,7 @@ pub(crate) struct Seen {
 /// What a listing of lines is asked for: the label of the records, and the profile of the messages.
 #[derive(Clone, Copy, Drop)]
 pub(crate) struct LinesRequest<'a> {
-    label: &'a Label<'a>,
+    label: &'a Label,
     profile: Profile,
 }
 
@@ -177,7 +177,7 @@ impl<'a> ListStream for LineLister<'a> {
 /// or the first of them, and no last one. Memory is allocated for the greatest line alone.
 pub fn run_lines_in<R: Read, W: Write>(
     alloc: Global,
-    label: &Label<'_>,
+    label: &Label,
     profile: Profile,
     reader: &mut R,
     writer: &mut W,

@@ -23,7 +23,7 @@ const LENGTH_OCTETS: u64 = 4;
 /// length of a frame, and whether it goes on after refusals.
 #[derive(Drop)]
 pub(crate) struct Request<'a> {
-    pub label: &'a Label<'a>,
+    pub label: &'a Label,
     pub profile: Profile,
     pub limit: Limit,
     pub keep_going: bool,
