@@ -3,7 +3,7 @@
 ghost use Rattle.std.specs.Prelude.{◌≡◌, ◌<◌, ◌≤◌, length, IfOk, Some};
 ghost use Rattle.std.specs.Io.KnownBytes.{Keeps};
 
-use crate::run::PIECE_OCTETS;
+use crate::run::piece_buffer;
 use std::alloc::{AllocError, Global};
 use std::io;
 use std::io::{Error, Read};
@@ -63,7 +63,7 @@ impl<R: Read + Drop> Begun<R> {
     {
         let least = least.min(FIRST_OCTETS);
         let mut reader = reader;
-        let mut piece = vec![in alloc; 0u8; PIECE_OCTETS]?;
+        let mut piece = piece_buffer(alloc)?;
         let mut octets = Vec::new(alloc);
         'reads: while octets.len() < least {
             match reader.read(piece.as_mut_slice()) {

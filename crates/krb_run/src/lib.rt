@@ -40,7 +40,7 @@ pub use naming::Naming;
 pub use record_lines::{
     RecordLines, Watch, Watched, in_pieces, list_records, list_refusal, put_fault,
 };
-pub use run::{PIECE_OCTETS, RunEnd, RunFault, status};
+pub use run::{PIECE_OCTETS, RunEnd, RunFault, piece_buffer, status};
 pub use sources::{ListSource, run_sources, run_sources_unnamed};
 pub use stream_run::{ListStream, list_all};
 pub use transfer::{CountedReader, ReaderState, write_all};
