@@ -14,3 +14,8 @@ pub mod Ending
 pub mod WholeCaptures
 pub mod Datagrams
 pub mod Numbered
+pub mod Held
+pub mod Untold
+pub mod Showing
+pub mod Clear
+pub mod Clean

@@ -2,6 +2,7 @@
 
 ghost use Rattle.krb_capture.specs.Laws.{RecordsAreOfTheStream};
 ghost use Rattle.krb_capture.specs.WholeCaptures.{CapturesListStreams, DatagramsAreApart, DirectionsAreApart, PacketsAreNumbered};
+ghost use Rattle.krb_capture_laws.specs.Hidden.{CleanHidesNothing, DirectionHidesNothing};
 
 /// Whatever way a stream is cut into segments, in whatever order and how often these are captured,
 /// the records of the direction are those of the stream, without their packets and times. Its SYN
@@ -34,4 +35,20 @@ pub fn datagrams_are_apart()
 /// Each packet of a file, a pcap or a pcapng, has a greater number than those before it.
 pub fn packets_are_numbered()
     ensures { PacketsAreNumbered }
+{}
+
+/// If no record of a direction says that octets are refused, lost or in no message, each octet that
+/// was captured of its segments is at its place in a stream that the direction took, or is one of a
+/// keep-alive; and each of these streams is messages that are listed, from its first octet to its
+/// last. The segments may be any, with fewer than 2^61 octets.
+pub fn direction_hides_nothing()
+    ensures { DirectionHidesNothing }
+{}
+
+/// If nothing of a capture is refused, lost or unread, this holds from each end to each other one
+/// between ports of Kerberos; and each datagram between these is a message that is listed, or a
+/// change of a password whose parts are. The segments between ports of Kerberos are of at most
+/// 65536 flows, and have fewer than 2^61 octets.
+pub fn clean_hides_nothing()
+    ensures { CleanHidesNothing }
 {}
