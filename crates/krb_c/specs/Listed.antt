@@ -2,6 +2,7 @@
 use Rattle.std.specs.Prelude.{ℕ, ◌≡◌, Bool, List, [], Option, Some}
 use Rattle.krb_der.specs.declared.profile.Profile.{Profile}
 use Rattle.krb_der.specs.declared.profile.Profile.TheVariants.{Lenient}
+use Rattle.krb_record.specs.Labels.{no_label}
 use Rattle.krb_record.specs.declared.form.Form.{Form}
 use Rattle.krb_capture_run.specs.Captures.{capture_listing}
 use Rattle.krb_run.specs.Records.{RecordListing, text_of}
@@ -20,7 +21,7 @@ IsMessageListing form profile octets = IsOf (octets_listing form profile octets)
 
 -- The listing of a stream. The run over it had all the octets, and wrote the text after nothing; those after a refusal that ends it may be left.
 abbrev pub IsStreamListing : (goes_on : Bool) → Form → Profile → (limit : ℕ) → List ℕ → List ℕ → RunEnd → Type 0
-IsStreamListing goes_on form profile limit octets text end = (left : List ℕ) × ListsStream goes_on form profile limit (Some octets) (Some left) (Some []) (Some text) end
+IsStreamListing goes_on form profile limit octets text end = (left : List ℕ) × ListsStream goes_on (no_label form) profile limit (Some octets) (Some left) (Some []) (Some text) end
 
 -- a listing of records, and how it ends
 abbrev pub IsRecords : RecordListing → List ℕ → RunEnd → Type 0
@@ -28,10 +29,10 @@ IsRecords listing text end = (text ≡ text_of listing) × (end ≡ listing.end)
 
 -- the listings of a keytab, of a cache and of a capture
 abbrev pub IsKeytabListing : Form → List ℕ → List ℕ → RunEnd → Type 0
-IsKeytabListing form octets = IsRecords (keytab_listing form octets)
+IsKeytabListing form octets = IsRecords (keytab_listing (no_label form) octets)
 
 abbrev pub IsCcacheListing : Form → Option ℕ → List ℕ → List ℕ → RunEnd → Type 0
-IsCcacheListing form now octets = IsRecords (ccache_listing form now octets)
+IsCcacheListing form now octets = IsRecords (ccache_listing (no_label form) now octets)
 
 abbrev pub IsCaptureListing : Form → (limit port : ℕ) → List ℕ → List ℕ → RunEnd → Type 0
-IsCaptureListing form limit port octets = IsRecords (capture_listing (record { form = form; profile = Lenient; limit = limit; port = port }) octets)
+IsCaptureListing form limit port octets = IsRecords (capture_listing (record { label = no_label form; profile = Lenient; limit = limit; port = port }) octets)

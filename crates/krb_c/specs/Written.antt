@@ -18,6 +18,7 @@ pub record WroteNothing (before after : List ℕ) (size_before size_after answer
 abbrev pub answer_of : RunEnd → ℕ
 answer_of run.Clean = 0
 answer_of run.Refused = 1
+answer_of run.RefusedAtOnce = 1
 
 -- a listing was made, and copied
 pub record Wrote (Makes : List ℕ → RunEnd → Type 0) (before after : List ℕ) (size_after answer : ℕ) : Type 0 where

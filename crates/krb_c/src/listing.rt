@@ -9,6 +9,7 @@ use crate::numbers::{form_of, goes_on, limit_of, now_of, port_of, profile_of};
 use crate::writing::{Listing, answer};
 use krb_capture_run::run_capture;
 use krb_file_run::{run_ccache_in, run_keytab_in};
+use krb_record::Label;
 use krb_run::RunFault;
 use krb_tool::{Form, Limit, Profile, list_octets, run_stream_in};
 use std::alloc::Global;
@@ -41,7 +42,15 @@ fn stream_listing(
 {
     let mut reader = octets;
     let mut text = Vec::new(alloc);
-    let end = run_stream_in(alloc, form, profile, goes_on, &mut reader, &mut text, limit)?;
+    let end = run_stream_in(
+        alloc,
+        &Label::none(form),
+        profile,
+        goes_on,
+        &mut reader,
+        &mut text,
+        limit,
+    )?;
     Ok(Listing { text, end })
 }
 
@@ -51,7 +60,7 @@ fn keytab_listing(alloc: Global, form: Form, octets: &[u8]) -> Result<Listing, R
 {
     let mut reader = octets;
     let mut text = Vec::new(alloc);
-    let end = run_keytab_in(alloc, form, &mut reader, &mut text)?;
+    let end = run_keytab_in(alloc, &Label::none(form), &mut reader, &mut text)?;
     Ok(Listing { text, end })
 }
 
@@ -66,7 +75,7 @@ fn ccache_listing(
 {
     let mut reader = octets;
     let mut text = Vec::new(alloc);
-    let end = run_ccache_in(alloc, form, &mut reader, &mut text, now)?;
+    let end = run_ccache_in(alloc, &Label::none(form), &mut reader, &mut text, now)?;
     Ok(Listing { text, end })
 }
 
@@ -84,7 +93,7 @@ fn capture_listing(
     let mut text = Vec::new(alloc);
     let end = run_capture(
         alloc,
-        form,
+        &Label::none(form),
         Profile::Lenient,
         &mut reader,
         &mut text,

@@ -30,7 +30,7 @@ pub(crate) fn answer_of(end: RunEnd) -> u32
 {
     match end {
         RunEnd::Clean => 0,
-        RunEnd::Refused => 1,
+        RunEnd::Refused | RunEnd::RefusedAtOnce => 1,
     }
 }
 

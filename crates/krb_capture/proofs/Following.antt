@@ -8,7 +8,7 @@ use Rattle.krb_packet.specs.declared.contents.Datagram.{Datagram}
 use Rattle.krb_packet.specs.declared.contents.Fragment.{Fragment}
 use Rattle.krb_packet.specs.declared.contents.Segment.{Segment}
 use Rattle.krb_record.specs.declared.capture.CaptureCounts.{CaptureCounts}
-use Rattle.krb_record.specs.declared.form.Form.{Form}
+use Rattle.krb_record.specs.Labels.{Label}
 use Rattle.krb_record.specs.declared.capture_origin.CaptureOrigin.{CaptureOrigin}
 use Rattle.krb_record.specs.declared.flow.Transport.TheVariants as transports
 use Rattle.krb_capture.specs.Captures.{Finding, HasEnded, HasFollowed, Progress, Settings, Taken, all_counts, and_counted, contents_taken, nothing_in, whole_taken, counted_each, datagram_taken, end_taken, lines_of, over_tcp, over_udp, segment_taken, unread_taken, with_each}
@@ -20,15 +20,15 @@ use Rattle.krb_capture.specs.Rests.{Follows, HasFollowedBut, HoldsSome, Lists}
 use Rattle.krb_capture.specs.declared.capture.Capture.{Capture}
 use Rattle.krb_capture.specs.declared.directions.Rest.{Rest}
 use Rattle.krb_capture.specs.declared.flow.Service.{Service}
-use Rattle.krb_capture.proofs.Written.{counts-each, form-each, name-each, text-each, with_each-datagram}
+use Rattle.krb_capture.proofs.Written.{counts-each, label-each, name-each, text-each, with_each-datagram}
 
 -- ---- a call lends its text to a listing, with the tally of the capture
 abbrev pub lent : Capture → List ℕ → ℕ → Written
-lent capture text name = record { form = capture.listing.form; text = text; counts = capture.listing.counts; text_name = name }
+lent capture text name = record { label = capture.listing.label.now; text = text; counts = capture.listing.counts; text_name = name }
 
 -- what was written is the tally of a capture again, and the text of the caller
 pub record IsBack (capture : Capture) (written : Written) (text : List ℕ) : Type 0 where
-  pub form : capture.listing.form ≡ written.form
+  pub label : capture.listing.label.now ≡ written.label
   pub counts : capture.listing.counts ≡ written.counts
   pub is : text ≡ written.text
 
@@ -38,25 +38,25 @@ same-text found before after e = ap (λ w. w.text_name) e ∙ name-each found be
 
 -- findings are listed and counted
 pub record Steps (old new : Capture) (found : List Finding) (before after : List ℕ) : Type 0 where
-  pub form : new.listing.form ≡ old.listing.form
+  pub label : new.listing.label.now ≡ old.listing.label.now
   pub counts : new.listing.counts ≡ counted_each found old.listing.counts
-  pub text : after ≡ before ++ lines_of old.listing.form found
+  pub text : after ≡ before ++ lines_of old.listing.label.now found
 
 pub steps : (old new : Capture) (found : List Finding) (before after : List ℕ) (name : ℕ) (written : Written) → written ≡ with_each found (lent old before name) → IsBack new written after → Steps old new found before after
 steps old new found before after name written e b = record {
-  form = b.form ∙ ap (λ w. w.form) e ∙ form-each found (lent old before name);
+  label = b.label ∙ ap (λ w. w.label) e ∙ label-each found (lent old before name);
   counts = b.counts ∙ ap (λ w. w.counts) e ∙ counts-each found (lent old before name);
   text = b.is ∙ ap (λ w. w.text) e ∙ text-each found (lent old before name);
 }
 
 -- all of it was listed
-pub lists-whole : (new : Capture) (settings : Settings) (taken : Taken) (before after : List ℕ) → HasFollowed new settings taken.progress → after ≡ before ++ lines_of settings.form taken.found → Lists new settings taken None before after
+pub lists-whole : (new : Capture) (settings : Settings) (taken : Taken) (before after : List ℕ) → HasFollowed new settings taken.progress → after ≡ before ++ lines_of settings.label taken.found → Lists new settings taken None before after
 lists-whole new settings taken before after h e = record {
   listed = taken.found;
   left = [];
   parts = sym (append-nil taken.found);
   text = e;
-  followed = record { profile = h.profile; port = h.port; form = h.form; fragments = h.fragments; table = (h.table, refl); last = h.last; counts = h.counts };
+  followed = record { profile = h.profile; port = h.port; label = h.label; fragments = h.fragments; table = (h.table, refl); last = h.last; counts = h.counts };
   full = tt;
 }
 
@@ -65,7 +65,7 @@ counted-append [] ys counts = refl
 counted-append (x ∷ xs) ys counts = counted-append xs ys (counted x.1 counts)
 
 -- findings are listed, and others are left
-pub lists-found : (old new : Capture) (settings : Settings) (progress : Progress) (rest : Option (Box Rest Global)) (found : List Finding) (before after : List ℕ) (name : ℕ) (written : Written) → Follows new.directions settings.limit progress.table progress.last rest found (lent old before name) written → IsBack new written after → old.listing.form ≡ settings.form → counted_each found old.listing.counts ≡ progress.counts → new.profile ≡ settings.profile → new.port ≡ settings.port → new.fragments ≡ progress.fragments → new.last ≡ progress.last → Lists new settings (record { found = found; progress = progress }) rest before after
+pub lists-found : (old new : Capture) (settings : Settings) (progress : Progress) (rest : Option (Box Rest Global)) (found : List Finding) (before after : List ℕ) (name : ℕ) (written : Written) → Follows new.directions settings.limit progress.table progress.last rest found (lent old before name) written → IsBack new written after → old.listing.label.now ≡ settings.label → counted_each found old.listing.counts ≡ progress.counts → new.profile ≡ settings.profile → new.port ≡ settings.port → new.fragments ≡ progress.fragments → new.last ≡ progress.last → Lists new settings (record { found = found; progress = progress }) rest before after
 lists-found old new settings progress rest found before after name written f b o c q p g l =
     let s = steps old new f.listed before after name written f.written b in
     record {
@@ -77,7 +77,7 @@ lists-found old new settings progress rest found before after name written f b o
       followed = record {
         profile = q;
         port = p;
-        form = s.form ∙ o;
+        label = s.label ∙ o;
         fragments = g;
         table = subst (λ due. HoldsSome new.directions settings.limit progress.table due rest f.left) (sym l) f.holds;
         last = l;
@@ -102,7 +102,7 @@ datagram-lists old new settings progress service datagram origin before after na
       full = tt;
     } in
     subst (λ x. Lists new settings (and_counted (datagram_taken x datagram progress)) None before after) (sym (ap₂ (λ m n. service_of m n datagram.source datagram.target) (sym h.profile) (sym h.port) ∙ s))
-    (lists-found old new settings (record progress { counts = counted_each found progress.counts }) None found before after name written follows b h.form (ap (λ x. counted_each found x) h.counts) (q ∙ h.profile) (p ∙ h.port) (g ∙ h.fragments) (l ∙ h.last))
+    (lists-found old new settings (record progress { counts = counted_each found progress.counts }) None found before after name written follows b h.label (ap (λ x. counted_each found x) h.counts) (q ∙ h.profile) (p ∙ h.port) (g ∙ h.fragments) (l ∙ h.last))
 
 -- what is all there, or nothing that can be listed
 pub contents-whole : (settings : Settings) (contents : Contents) (progress : Progress) → ((fragment : Fragment) → contents ≡ kinds.Fragment fragment → ⊥) → contents_taken settings contents progress ≡ whole_taken settings contents progress
@@ -123,17 +123,17 @@ segment-lists old new settings progress service segment rest before after name w
     let found = over_tcp progress.last (followed settings.limit progress.last.packet service segment progress.table).found in
     let follows = subst (λ x. Follows new.directions settings.limit (followed settings.limit x.packet service segment progress.table).table x rest (over_tcp x (followed settings.limit x.packet service segment progress.table).found) (lent old before name) written) h.last f in
     subst (λ x. Lists new settings (and_counted (segment_taken settings.limit x segment progress)) rest before after) (sym (ap₂ (λ m n. service_of m n segment.source segment.target) (sym h.profile) (sym h.port) ∙ s))
-    (lists-found old new settings (record progress { table = (followed settings.limit progress.last.packet service segment progress.table).table; counts = counted_each found progress.counts }) rest found before after name written follows b h.form (ap (λ x. counted_each found x) h.counts) (q ∙ h.profile) (p ∙ h.port) (g ∙ h.fragments) (l ∙ h.last))
+    (lists-found old new settings (record progress { table = (followed settings.limit progress.last.packet service segment progress.table).table; counts = counted_each found progress.counts }) rest found before after name written follows b h.label (ap (λ x. counted_each found x) h.counts) (q ∙ h.profile) (p ∙ h.port) (g ∙ h.fragments) (l ∙ h.last))
 
 -- others of those that are left were listed
 pub lists-rest : (old new : Capture) (settings : Settings) (progress : Progress) (rest : Box Rest Global) (next : Option (Box Rest Global)) (left : List Finding) (before after : List ℕ) (name : ℕ) (written : Written) → HasFollowedBut old settings progress (Some rest) left → Follows new.directions settings.limit progress.table old.last next left (lent old before name) written → IsBack new written after → new.profile ≡ old.profile → new.port ≡ old.port → new.fragments ≡ old.fragments → new.last ≡ old.last → Lists new settings (record { found = left; progress = progress }) next before after
 lists-rest old new settings progress rest next left before after name written h f b q p g l =
-    lists-found old new settings progress next left before after name written (subst (λ x. Follows new.directions settings.limit progress.table x next left (lent old before name) written) h.last f) b h.form h.counts (q ∙ h.profile) (p ∙ h.port) (g ∙ h.fragments) (l ∙ h.last)
+    lists-found old new settings progress next left before after name written (subst (λ x. Follows new.directions settings.limit progress.table x next left (lent old before name) written) h.last f) b h.label h.counts (q ∙ h.profile) (p ∙ h.port) (g ∙ h.fragments) (l ∙ h.last)
 
 -- a header that is not read lists nothing
-pub unread-listed : (service : Option Service) (form : Form) (progress : Progress) (text : List ℕ) → text ≡ text ++ lines_of form (unread_taken service progress).found
-unread-listed None form progress text = sym (append-nil text)
-unread-listed (Some service) form progress text = sym (append-nil text)
+pub unread-listed : (service : Option Service) (label : Label) (progress : Progress) (text : List ℕ) → text ≡ text ++ lines_of label (unread_taken service progress).found
+unread-listed None label progress text = sym (append-nil text)
+unread-listed (Some service) label progress text = sym (append-nil text)
 
 -- ---- the end of the file
 pub directions-ended : (old new : Capture) (settings : Settings) (progress : Progress) (before after : List ℕ) (name : ℕ) (written : Written) → HasFollowed old settings progress → written ≡ with_each (over_tcp old.last (last_of settings.limit progress.table.active)) (lent old before name) → IsBack new written after → new.fragments ≡ old.fragments → HasEnded new settings (end_taken settings progress) before after
@@ -142,16 +142,16 @@ directions-ended old new settings progress before after name written h e b g =
     let found = over_tcp progress.last last in
     let s = steps old new found before after name written (e ∙ ap (λ x. with_each (over_tcp x last) (lent old before name)) h.last) b in
     record {
-      form = s.form ∙ h.form;
+      label = s.label ∙ h.label;
       counts = ap (λ x. totals (unread x) new.listing.counts) (g ∙ h.fragments) ∙ ap (λ x. totals (unread progress.fragments) x) (s.counts ∙ ap (λ x. counted_each found x) h.counts);
-      text = s.text ∙ ap (λ x. before ++ lines_of x found) h.form;
+      text = s.text ∙ ap (λ x. before ++ lines_of x found) h.label;
     }
 
--- the last record, by the form and the totals
-pub last-listed : (capture : Capture) (settings : Settings) (taken : Taken) (before between after : List ℕ) (shown : CaptureCounts) (line : Form → CaptureCounts → List ℕ) → HasEnded capture settings taken before between → shown ≡ totals (unread capture.fragments) capture.listing.counts → after ≡ between ++ line capture.listing.form shown → after ≡ before ++ (lines_of settings.form taken.found ++ line settings.form (all_counts taken.progress))
+-- the last record, by the label and the totals
+pub last-listed : (capture : Capture) (settings : Settings) (taken : Taken) (before between after : List ℕ) (shown : CaptureCounts) (line : Label → CaptureCounts → List ℕ) → HasEnded capture settings taken before between → shown ≡ totals (unread capture.fragments) capture.listing.counts → after ≡ between ++ line capture.listing.label.now shown → after ≡ before ++ (lines_of settings.label taken.found ++ line settings.label (all_counts taken.progress))
 last-listed capture settings taken before between after shown line h t e =
     e
-    ∙ ap (λ x. x ++ line capture.listing.form shown) h.text
-    ∙ ap (λ x. (before ++ lines_of settings.form taken.found) ++ line x shown) h.form
-    ∙ ap (λ x. (before ++ lines_of settings.form taken.found) ++ line settings.form x) (t ∙ h.counts)
-    ∙ append_assoc before (lines_of settings.form taken.found) (line settings.form (all_counts taken.progress))
+    ∙ ap (λ x. x ++ line capture.listing.label.now shown) h.text
+    ∙ ap (λ x. (before ++ lines_of settings.label taken.found) ++ line x shown) h.label
+    ∙ ap (λ x. (before ++ lines_of settings.label taken.found) ++ line settings.label x) (t ∙ h.counts)
+    ∙ append_assoc before (lines_of settings.label taken.found) (line settings.label (all_counts taken.progress))

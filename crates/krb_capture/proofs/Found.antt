@@ -9,7 +9,8 @@ use Rattle.krb_der.specs.declared.verdict.Refusal.{Refusal}
 use Rattle.krb_der.specs.declared.verdict.Verdict.{Verdict}
 use Rattle.krb_der.specs.declared.verdict.Verdict.TheVariants as verdict
 use Rattle.krb_der.specs.declared.why.Why.TheVariants as why
-use Rattle.krb_record.specs.Captures.{captured_line}
+use Rattle.krb_record.specs.Captures.{captured}
+use Rattle.krb_record.specs.Labels.{line_of}
 use Rattle.krb_record.specs.Refusals.{extent_in, path_in}
 use Rattle.krb_record.specs.Values.{Field, Number, Reason, printed, the}
 use Rattle.krb_record.specs.declared.extent.Extent.{Extent}
@@ -67,12 +68,12 @@ unfolding path_of
 no_path profile octets e = ap (λ l. if nat_lt most_octets (number (take 4 octets)) then None else message_path profile (number (take 4 octets)) l) e ∙ none_either (nat_lt most_octets (number (take 4 octets)))
 
 -- paths that a form shows as the same
-pub same_path : (origin : CaptureOrigin) (refusal : Refusal) (p q : Option (List ℕ)) (extent : Extent) (w : Written) → path_in w.form p ≡ path_in w.form q → with_found origin (Faulty refusal p extent) w ≡ with_found origin (Faulty refusal q extent) w
+pub same_path : (origin : CaptureOrigin) (refusal : Refusal) (p q : Option (List ℕ)) (extent : Extent) (w : Written) → path_in w.label.form p ≡ path_in w.label.form q → with_found origin (Faulty refusal p extent) w ≡ with_found origin (Faulty refusal q extent) w
 same_path origin refusal p q extent w e =
     ap
-    (λ (fields : List Field). record w { text = w.text ++ captured_line w.form origin (printed (codes "refused") (the (codes "place") (Number (pos refusal.place)) ∷ the (codes "why") (Reason (reason_number refusal.why) (reason_name refusal.why)) ∷ (fields ++ extent_in w.form extent))); counts = counted (Faulty refusal p extent) w.counts }) e
+    (λ (fields : List Field). record w { text = w.text ++ line_of w.label (captured origin (printed (codes "refused") (the (codes "place") (Number (pos refusal.place)) ∷ the (codes "why") (Reason (reason_number refusal.why) (reason_name refusal.why)) ∷ (fields ++ extent_in w.label.form extent)))); counts = counted (Faulty refusal p extent) w.counts }) e
 
-pub refused_listed : (profile : Profile) (origin : CaptureOrigin) (refusal : Refusal) (offset : ℕ) (octets : List ℕ) (form : Form) (shown path : Option (List ℕ)) (extent : Extent) (before after : Written) → form ≡ before.form → path_in form shown ≡ path_in form (frame_path profile octets) → path ≡ shown → extent ≡ extent_at offset octets → after ≡ with_found origin (Faulty refusal path extent) before → after ≡ with_found origin (entry_found profile offset (Fault refusal.place refusal.why octets)) before
+pub refused_listed : (profile : Profile) (origin : CaptureOrigin) (refusal : Refusal) (offset : ℕ) (octets : List ℕ) (form : Form) (shown path : Option (List ℕ)) (extent : Extent) (before after : Written) → form ≡ before.label.form → path_in form shown ≡ path_in form (frame_path profile octets) → path ≡ shown → extent ≡ extent_at offset octets → after ≡ with_found origin (Faulty refusal path extent) before → after ≡ with_found origin (entry_found profile offset (Fault refusal.place refusal.why octets)) before
 refused_listed profile origin refusal offset octets form shown path extent before after f e p x l =
     l
     ∙ ap₂ (λ q k. with_found origin (Faulty refusal q k) before) p x

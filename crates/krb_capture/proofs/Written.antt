@@ -28,13 +28,13 @@ over_tcp-append due [] ys = refl
 over_tcp-append due (x ∷ xs) ys = ap (λ l. (origin_of due transports.Tcp x.0.source x.0.target, x.1) ∷ l) (over_tcp-append due xs ys)
 
 -- its parts
-pub form-each : (xs : List Finding) (w : Written) → (with_each xs w).form ≡ w.form
-form-each [] w = refl
-form-each (x ∷ xs) w = form-each xs (with_found x.0 x.1 w)
+pub label-each : (xs : List Finding) (w : Written) → (with_each xs w).label ≡ w.label
+label-each [] w = refl
+label-each (x ∷ xs) w = label-each xs (with_found x.0 x.1 w)
 
-pub text-each : (xs : List Finding) (w : Written) → (with_each xs w).text ≡ w.text ++ lines_of w.form xs
+pub text-each : (xs : List Finding) (w : Written) → (with_each xs w).text ≡ w.text ++ lines_of w.label xs
 text-each [] w = sym (append-nil w.text)
-text-each (x ∷ xs) w = text-each xs (with_found x.0 x.1 w) ∙ append_assoc w.text (found_line w.form x.0 x.1) (lines_of w.form xs)
+text-each (x ∷ xs) w = text-each xs (with_found x.0 x.1 w) ∙ append_assoc w.text (found_line w.label x.0 x.1) (lines_of w.label xs)
 
 pub counts-each : (xs : List Finding) (w : Written) → (with_each xs w).counts ≡ counted_each xs w.counts
 counts-each [] w = refl

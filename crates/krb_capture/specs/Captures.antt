@@ -12,10 +12,10 @@ use Rattle.krb_packet.specs.Table.{Table as Fragments}
 use Rattle.krb_packet.specs.declared.contents.Segment.{Segment}
 use Rattle.krb_packet.specs.declared.packet.Packet.{Packet}
 use Rattle.krb_source.specs.declared.file_why.FileWhy.{FileWhy}
-use Rattle.krb_record.specs.Captures.{capture_end_line, capture_refused_line}
+use Rattle.krb_record.specs.Captures.{capture_end_record, capture_refused_record}
 use Rattle.krb_record.specs.declared.capture.CaptureCounts.{CaptureCounts}
 use Rattle.krb_record.specs.declared.extent.Extent.{Extent}
-use Rattle.krb_record.specs.declared.form.Form.{Form}
+use Rattle.krb_record.specs.Labels.{Label, line_of}
 use Rattle.krb_record.specs.declared.capture_origin.CaptureOrigin.{CaptureOrigin}
 use Rattle.krb_record.specs.declared.flow.Transport.TheVariants as transports
 use Rattle.krb_capture.specs.Datagrams.{all_found}
@@ -27,9 +27,9 @@ use Rattle.krb_capture.specs.declared.flow.Due.{Due}
 use Rattle.krb_capture.specs.declared.flow.Flow.{Flow}
 use Rattle.krb_capture.specs.declared.flow.Service.{Service}
 
--- how a capture is listed: the form, the profile by which messages are judged, the greatest length of a frame, and the port of KDCs
+-- how a capture is listed: the label of its records, the profile by which messages are judged, the greatest length of a frame, and the port of KDCs
 pub record Settings : Type 0 where
-  pub form : Form
+  pub label : Label
   pub profile : Profile
   pub limit : ℕ
   pub port : ℕ
@@ -51,9 +51,9 @@ at_first = record { fragments = no_fragments; table = no_directions; last = reco
 abbrev pub Finding : Type 0
 Finding = CaptureOrigin × Found
 
-abbrev pub lines_of : Form → List Finding → List ℕ
-lines_of form [] = []
-lines_of form (first ∷ others) = found_line form first.0 first.1 ++ lines_of form others
+abbrev pub lines_of : Label → List Finding → List ℕ
+lines_of label [] = []
+lines_of label (first ∷ others) = found_line label first.0 first.1 ++ lines_of label others
 
 abbrev pub counted_each : List Finding → CaptureCounts → CaptureCounts
 counted_each [] counts = counts
@@ -147,12 +147,16 @@ all_counts progress = totals (unread progress.fragments) progress.counts
 
 unfoldable pub end_text : Settings → Progress → List ℕ
 end_text settings progress =
-    let taken = end_taken settings progress in lines_of settings.form taken.found ++ capture_end_line settings.form (all_counts taken.progress)
+    let taken = end_taken settings progress in lines_of settings.label taken.found ++ line_of settings.label (capture_end_record (all_counts taken.progress))
 
 -- the same of a file that is itself at fault: the directions end, too
 unfoldable pub refusal_text : Settings → Progress → ℕ → FileWhy → Option (List ℕ) → Extent → List ℕ
 refusal_text settings progress place why path extent =
-    let taken = end_taken settings progress in lines_of settings.form taken.found ++ capture_refused_line settings.form (all_counts taken.progress) place why path extent
+    let taken = end_taken settings progress in lines_of settings.label taken.found ++ line_of settings.label (capture_refused_record settings.label.form (all_counts taken.progress) place why path extent)
+
+-- no packet came
+abbrev pub has_no_packet : CaptureCounts → Bool
+has_no_packet counts = counts.packets == 0
 
 abbrev pub is_clean : CaptureCounts → Bool
 is_clean counts = (counts.refused == 0 && counts.lost == 0) && counts.unread == 0
@@ -161,7 +165,7 @@ is_clean counts = (counts.refused == 0 && counts.lost == 0) && counts.unread == 
 pub record HasFollowed (capture : Capture) (settings : Settings) (progress : Progress) : Type 0 where
   pub port : capture.port ≡ settings.port
   pub profile : capture.profile ≡ settings.profile
-  pub form : capture.listing.form ≡ settings.form
+  pub label : capture.listing.label.now ≡ settings.label
   pub fragments : capture.fragments ≡ progress.fragments
   pub table : HoldsTable capture.directions settings.limit progress.table
   pub last : capture.last ≡ progress.last
@@ -169,6 +173,6 @@ pub record HasFollowed (capture : Capture) (settings : Settings) (progress : Pro
 
 -- The directions that were open have ended, which is listed and counted.
 pub record HasEnded (capture : Capture) (settings : Settings) (taken : Taken) (before after : List ℕ) : Type 0 where
-  pub form : capture.listing.form ≡ settings.form
+  pub label : capture.listing.label.now ≡ settings.label
   pub counts : totals (unread capture.fragments) capture.listing.counts ≡ all_counts taken.progress
-  pub text : after ≡ before ++ lines_of settings.form taken.found
+  pub text : after ≡ before ++ lines_of settings.label taken.found

@@ -1,10 +1,13 @@
 -- What is found in a flow, and what is written of it.
-use Rattle.std.specs.Prelude.{ℕ, ◌+◌, ◌-◌, ◌^◌, ◌≤◌, min, List, [], ◌∷◌, ◌++◌, length, Option, None, Some}
+use Rattle.std.specs.Prelude.{ℕ, ◌+◌, ◌-◌, ◌^◌, ◌≤◌, min, List, [], ◌∷◌, ◌++◌, length, Option, None, Some, codes}
 use Rattle.krb_der.specs.declared.verdict.Refusal.{Refusal}
 use Rattle.krb_source.specs.declared.unread_why.UnreadWhy.{UnreadWhy}
 use Rattle.krb_msg.specs.declared.message.Message.{Message}
-use Rattle.krb_record.specs.Captures.{captured_refused_line, joined_line, lost_line, password_line, unread_line}
-use Rattle.krb_text.specs.Messages.{captured_message_line}
+use Rattle.krb_record.specs.Captures.{captured, lost_record, password_record, unread_record}
+use Rattle.krb_record.specs.Labels.{Label, line_of}
+use Rattle.krb_record.specs.Refusals.{extent_in, path_in, refusal_record}
+use Rattle.krb_record.specs.Values.{Printed, printed}
+use Rattle.krb_text.specs.Messages.{message_record}
 use Rattle.krb_record.specs.declared.capture.CaptureCounts.{CaptureCounts}
 use Rattle.krb_record.specs.declared.extent.Extent.{Extent}
 use Rattle.krb_record.specs.declared.form.Form.{Form}
@@ -19,13 +22,16 @@ pub data Found : Type 0 where
   Password : (version : ℕ) → (ap : ℕ) → (rest : ℕ) → Found
   Unread : (place : Option ℕ) → (octets : ℕ) → (why : UnreadWhy) → Found
 
-abbrev pub found_line : Form → CaptureOrigin → Found → List ℕ
-found_line form origin (Whole message) = captured_message_line form origin message
-found_line form origin (Faulty refusal path extent) = captured_refused_line form origin refusal path extent
-found_line form origin Joined = joined_line form origin
-found_line form origin (Missing place octets path) = lost_line form origin place octets path
-found_line form origin (Password version ap rest) = password_line form origin version ap rest
-found_line form origin (Unread place octets why) = unread_line form origin place octets why
+abbrev pub found_record : Form → Found → Printed
+found_record form (Whole message) = message_record message
+found_record form (Faulty refusal path extent) = refusal_record refusal (path_in form path ++ extent_in form extent)
+found_record form Joined = printed (codes "joined") []
+found_record form (Missing place octets path) = lost_record form place octets path
+found_record form (Password version ap rest) = password_record version ap rest
+found_record form (Unread place octets why) = unread_record place octets why
+
+abbrev pub found_line : Label → CaptureOrigin → Found → List ℕ
+found_line label origin found = line_of label (captured origin (found_record label.form found))
 
 -- counts stop at the greatest number of 64 bits
 abbrev pub and_more : ℕ → ℕ → ℕ
@@ -39,9 +45,9 @@ counted (Missing place octets path) counts = record counts { lost = and_more cou
 counted (Password version ap rest) counts = counts
 counted (Unread place octets why) counts = record counts { unread = and_more counts.unread 1 }
 
--- what is written of a capture, in a form, and what was counted in it; and which text that is, by its name
+-- what is written of a capture, with a label, and what was counted in it; and which text that is, by its name
 pub record Written : Type 0 where
-  pub form : Form
+  pub label : Label
   pub text : List ℕ
   pub counts : CaptureCounts
   pub text_name : ℕ
@@ -56,7 +62,7 @@ IsFullIf None text = Unit {0}
 IsFullIf (Some left) text = IsFull text
 
 abbrev pub with_found : CaptureOrigin → Found → Written → Written
-with_found origin found written = record written { text = written.text ++ found_line written.form origin found; counts = counted found written.counts }
+with_found origin found written = record written { text = written.text ++ found_line written.label origin found; counts = counted found written.counts }
 
 abbrev pub with_all : CaptureOrigin → List Found → Written → Written
 with_all origin [] written = written

@@ -94,7 +94,7 @@ pub record Follows (directions : Directions) (limit : ℕ) (table : Table) (due 
 pub record HasFollowedBut (capture : Capture) (settings : Settings) (progress : Progress) (rest : Option (Box Rest Global)) (left : List Finding) : Type 0 where
   pub port : capture.port ≡ settings.port
   pub profile : capture.profile ≡ settings.profile
-  pub form : capture.listing.form ≡ settings.form
+  pub label : capture.listing.label.now ≡ settings.label
   pub fragments : capture.fragments ≡ progress.fragments
   pub table : HoldsSome capture.directions settings.limit progress.table capture.last rest left
   pub last : capture.last ≡ progress.last
@@ -105,6 +105,6 @@ pub record Lists (capture : Capture) (settings : Settings) (taken : Taken) (rest
   pub listed : List Finding
   pub left : List Finding
   pub parts : taken.found ≡ listed ++ left
-  pub text : after ≡ before ++ lines_of settings.form listed
+  pub text : after ≡ before ++ lines_of settings.label listed
   pub followed : HasFollowedBut capture settings taken.progress rest left
   pub full : IsFullIf rest after

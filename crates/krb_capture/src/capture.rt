@@ -3,7 +3,7 @@
 ghost use Rattle.std.specs.Prelude.{◌≡◌, ◌++◌, true, List, None, Some, IfOk, IsErr, OnErr, OnOk};
 ghost use Rattle.std.specs.Option.{option_copied};
 ghost use Rattle.krb_packet.specs.Fragments.{unread};
-ghost use Rattle.krb_capture.specs.Captures.{Finding, HasEnded, HasFollowed, Progress, Settings, all_counts, and_counted, at_first, contents_taken, datagram_taken, end_taken, end_text, fragment_taken, is_clean, packet_taken, refusal_text, segment_taken, unread_taken, whole_taken};
+ghost use Rattle.krb_capture.specs.Captures.{Finding, HasEnded, HasFollowed, Progress, Settings, all_counts, and_counted, at_first, contents_taken, datagram_taken, end_taken, end_text, fragment_taken, has_no_packet, is_clean, packet_taken, refusal_text, segment_taken, unread_taken, whole_taken};
 ghost use Rattle.krb_capture.specs.Flows.{service_of};
 ghost use Rattle.krb_capture.specs.Found.{totals};
 ghost use Rattle.krb_capture.specs.Rests.{HasFollowedBut, Lists};
@@ -17,7 +17,7 @@ use krb_file::FileWhy;
 use krb_frame::Limit;
 use krb_packet::{Contents, Datagram, Ends, Fragment, Fragments, Packet, Segment, contents_of};
 use krb_record::{
-    CaptureCounts, Extent, Form, TextBuffer, Transport, put_capture_end, put_capture_refusal,
+    CaptureCounts, Extent, Label, TextBuffer, Transport, put_capture_end, put_capture_refusal,
 };
 use std::alloc::Global;
 
@@ -26,7 +26,7 @@ use std::alloc::Global;
 /// came early. Once a call was out of memory, what was found is not known any more: each later call
 /// is out of memory, too, and changes nothing.
 #[derive(Drop)]
-pub struct Capture {
+pub struct Capture<'a> {
     /// By which messages are judged.
     profile: Profile,
     port: u16,
@@ -34,7 +34,7 @@ pub struct Capture {
     directions: Directions,
     /// How records are listed, and how many of each kind were. While a call lists, its `Listing` has
     /// that, with the text of the caller.
-    listing: Tally,
+    listing: Tally<'a>,
     /// The packet that came last.
     last: Due,
     /// A call was out of memory.
@@ -48,12 +48,17 @@ fn is_clean(totals: &CaptureCounts) -> bool
     totals.refused == 0 && totals.lost == 0 && totals.unread == 0
 }
 
-impl Capture {
-    /// Creates an empty capture. Its records are listed in a form, frames of more
-    /// than `limit` octets are refused, messages are judged by `profile`, and `port` is the one of
-    /// KDCs.
-    pub fn new(alloc: Global, form: Form, profile: Profile, limit: Limit, port: u16) -> Capture
-        ensures { let settings : Settings = record { form = form; profile = profile; limit = limit; port = port } in HasFollowed result settings at_first }
+impl<'a> Capture<'a> {
+    /// Creates an empty capture. Each of its records has a label, frames of more than `limit` octets
+    /// are refused, messages are judged by `profile`, and `port` is the one of KDCs.
+    pub fn new(
+        alloc: Global,
+        label: &'a Label<'a>,
+        profile: Profile,
+        limit: Limit,
+        port: u16,
+    ) -> Capture<'a>
+        ensures { let settings : Settings = record { label = label.now; profile = profile; limit = limit; port = port } in HasFollowed result settings at_first }
     {
         Capture {
             profile,
@@ -62,7 +67,7 @@ impl Capture {
             directions: Directions::new(alloc, limit),
             listing: Tally {
                 alloc,
-                form,
+                label,
                 counts: CaptureCounts {
                     packets: 0,
                     messages: 0,
@@ -119,7 +124,7 @@ impl Capture {
         let mut listing = Listing { tally, text };
         let gone = self.directions.go_on_with(rest, self.last, &mut listing);
         let (tally, _text) = listing.into_parts();
-        self.listing = tally;
+        self.listing.counts = tally.counts;
         self.has_failed = gone.is_err();
         gone
     }
@@ -223,7 +228,7 @@ impl Capture {
         let mut listing = Listing { tally, text };
         let listed = list_with_surplus(service, datagram, &origin, &mut listing);
         let (tally, _text) = listing.into_parts();
-        self.listing = tally;
+        self.listing.counts = tally.counts;
         listed
     }
 
@@ -249,8 +254,15 @@ impl Capture {
             .directions
             .take(segment, service, self.last, &mut listing);
         let (tally, _text) = listing.into_parts();
-        self.listing = tally;
+        self.listing.counts = tally.counts;
         left
+    }
+
+    /// Returns whether no packet came yet.
+    pub fn is_empty(&self) -> bool
+        ensures { result ≡ has_no_packet self.now.listing.counts }
+    {
+        self.listing.counts.packets == 0
     }
 
     /// Returns how many packets came, and how many records of each kind were listed.
@@ -285,7 +297,7 @@ impl Capture {
         let mut listing = Listing { tally, text };
         let ended = self.directions.finish(self.last, &mut listing);
         let (tally, _text) = listing.into_parts();
-        self.listing = tally;
+        self.listing.counts = tally.counts;
         ended
     }
 
@@ -296,7 +308,10 @@ impl Capture {
     {
         self.end_directions(text)?;
         let totals = self.totals();
-        put_capture_end(text, self.listing.form, &totals)?;
+        let label = self.listing.label;
+        label.begin(text)?;
+        put_capture_end(text, label.form(), &totals)?;
+        label.end(text)?;
         Ok(is_clean(&totals))
     }
 
@@ -337,7 +352,10 @@ impl Capture {
     {
         self.end_directions(text)?;
         let totals = self.totals();
-        put_capture_refusal(text, self.listing.form, &totals, place, why, path, extent)?;
+        let label = self.listing.label;
+        label.begin(text)?;
+        put_capture_refusal(text, label.form(), &totals, place, why, path, extent)?;
+        label.end(text)?;
         Ok(())
     }
 }

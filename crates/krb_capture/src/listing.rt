@@ -9,8 +9,8 @@ ghost use Rattle.krb_capture.specs.Listed.{IsListed};
 use krb_der::{Memory, Profile, Refusal};
 use krb_flow::{Lost, Unread};
 use krb_record::{
-    CaptureCounts, CaptureOrigin, Extent, Form, TextBuffer, put_captured_refusal, put_joined,
-    put_lost, put_password, put_unread,
+    CaptureCounts, CaptureOrigin, Extent, Form, Label, TextBuffer, put_captured_refusal,
+    put_joined, put_lost, put_password, put_unread,
 };
 use krb_text::put_captured_message;
 use std::alloc::Global;
@@ -19,18 +19,18 @@ use std::marker::Model;
 /// How many octets of text are written together: 64 KiB.
 const FULL_OCTETS: usize = 1 << 16;
 
-/// The form of the records of a capture, and how many of each kind there were in all.
+/// The label of the records of a capture, and how many of each kind there were in all.
 #[derive(Clone, Copy)]
-pub(crate) struct Tally {
+pub(crate) struct Tally<'a> {
     pub(crate) alloc: Global,
-    pub(crate) form: Form,
+    pub(crate) label: &'a Label<'a>,
     pub(crate) counts: CaptureCounts,
 }
 
 /// A text to which the records of a capture are appended, and their tally.
 #[derive(Drop)]
 pub(crate) struct Listing<'text> {
-    pub(crate) tally: Tally,
+    pub(crate) tally: Tally<'text>,
     pub(crate) text: &'text mut TextBuffer,
 }
 
@@ -39,7 +39,7 @@ impl<'text> Model for Listing<'text> {
 
     ghost Value = { Written };
 
-    ghost view = { λ listing. record { form = listing.tally.form; text = listing.text.now; counts = listing.tally.counts; text_name = listing.text.ghost_name } };
+    ghost view = { λ listing. record { label = listing.tally.label.now; text = listing.text.now; counts = listing.tally.counts; text_name = listing.text.ghost_name } };
 }
 
 /// Returns a count with more, or the greatest one that there is.
@@ -49,7 +49,7 @@ pub(crate) fn and_more(count: u64, more: u64) -> u64
     count.saturating_add(more)
 }
 
-impl Tally {
+impl Tally<'_> {
     /// Counts a packet.
     pub(crate) fn count_packet(&mut self)
         ensures { self.new ≡ record self.old { counts = record self.old.counts { packets = and_more self.old.counts.packets 1 } } }
@@ -76,8 +76,8 @@ impl Tally {
 
 impl<'text> Listing<'text> {
     /// Gives the tally and the text back.
-    pub(crate) fn into_parts(self) -> (Tally, &'text mut TextBuffer)
-        ensures form { result.0.form ≡ self.entry.form }
+    pub(crate) fn into_parts(self) -> (Tally<'text>, &'text mut TextBuffer)
+        ensures label { result.0.label.now ≡ self.entry.label }
         ensures counts { result.0.counts ≡ self.entry.counts }
         ensures text { result.1.now ≡ self.entry.text }
         ensures same_text { result.1.ghost_name ≡ self.entry.text_name }
@@ -92,9 +92,9 @@ impl<'text> Listing<'text> {
 
     /// Returns the form of the records.
     pub(crate) fn form(&self) -> Form
-        ensures { result ≡ self.now.form }
+        ensures { result ≡ self.now.label.form }
     {
-        self.tally.form
+        self.tally.label.form()
     }
 
     /// Returns whether the text is long enough to be written.
@@ -114,9 +114,14 @@ impl<'text> Listing<'text> {
         requires { length octets.now < 2 ^ 31 }
         ensures { IfOk result (IsListed profile octets.now origin.now self.old self.new) }
     {
-        if !put_captured_message(self.text, self.tally.form, origin, profile, octets)? {
+        let label = self.tally.label;
+        let begin = self.text.size();
+        label.begin(self.text)?;
+        if !put_captured_message(self.text, label.form(), origin, profile, octets)? {
+            self.text.truncate(begin);
             return Ok(false);
         }
+        label.end(self.text)?;
         self.tally.counts.messages = and_more(self.tally.counts.messages, 1);
         Ok(true)
     }
@@ -132,7 +137,10 @@ impl<'text> Listing<'text> {
     ) -> Result<(), Memory>
         ensures { OnOk result (self.new ≡ with_found origin.now (Faulty refusal (option_copied path.entry) extent) self.old) }
     {
-        put_captured_refusal(self.text, self.tally.form, origin, refusal, path, extent)?;
+        let label = self.tally.label;
+        label.begin(self.text)?;
+        put_captured_refusal(self.text, label.form(), origin, refusal, path, extent)?;
+        label.end(self.text)?;
         self.tally.counts.refused = and_more(self.tally.counts.refused, 1);
         Ok(())
     }
@@ -141,7 +149,10 @@ impl<'text> Listing<'text> {
     pub(crate) fn put_joined(&mut self, origin: &CaptureOrigin) -> Result<(), Memory>
         ensures { OnOk result (self.new ≡ with_found origin.now Joined self.old) }
     {
-        put_joined(self.text, self.tally.form, origin)?;
+        let label = self.tally.label;
+        label.begin(self.text)?;
+        put_joined(self.text, label.form(), origin)?;
+        label.end(self.text)?;
         Ok(())
     }
 
@@ -154,14 +165,17 @@ impl<'text> Listing<'text> {
     ) -> Result<(), Memory>
         ensures { OnOk result (self.new ≡ with_found origin.now (Missing lost.place lost.octets (option_copied path.entry)) self.old) }
     {
+        let label = self.tally.label;
+        label.begin(self.text)?;
         put_lost(
             self.text,
-            self.tally.form,
+            label.form(),
             origin,
             lost.place,
             lost.octets,
             path,
         )?;
+        label.end(self.text)?;
         self.tally.counts.lost = and_more(self.tally.counts.lost, 1);
         Ok(())
     }
@@ -175,7 +189,10 @@ impl<'text> Listing<'text> {
         ensures { OnOk result (self.new ≡ with_found origin.now (found.Unread unread.place unread.octets unread.why) self.old) }
     {
         let Unread { place, octets, why } = unread;
-        put_unread(self.text, self.tally.form, origin, place, octets, why)?;
+        let label = self.tally.label;
+        label.begin(self.text)?;
+        put_unread(self.text, label.form(), origin, place, octets, why)?;
+        label.end(self.text)?;
         self.tally.counts.unread = and_more(self.tally.counts.unread, 1);
         Ok(())
     }
@@ -191,7 +208,10 @@ impl<'text> Listing<'text> {
     ) -> Result<(), Memory>
         ensures { OnOk result (self.new ≡ with_found origin.now (Password version ap rest) self.old) }
     {
-        put_password(self.text, self.tally.form, origin, version, ap, rest)?;
+        let label = self.tally.label;
+        label.begin(self.text)?;
+        put_password(self.text, label.form(), origin, version, ap, rest)?;
+        label.end(self.text)?;
         Ok(())
     }
 }

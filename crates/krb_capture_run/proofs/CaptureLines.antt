@@ -7,7 +7,7 @@ use Rattle.krb_file.specs.declared.fault.FileFault.TheVariants as faults
 use Rattle.krb_packet.specs.Captures.{packets}
 use Rattle.krb_packet.specs.Streaming.{ReturnsNext, PacketsModel, Reads}
 use Rattle.krb_packet.specs.declared.packet.Packet.{Packet}
-use Rattle.krb_record.specs.declared.form.Form.{Form}
+use Rattle.krb_record.specs.Labels.{Label}
 use Rattle.krb_capture.specs.Captures.{Finding, HasFollowed, Progress, Settings, at_first, counted_each, lines_of, packet_taken}
 use Rattle.krb_capture.specs.Found.{found_line}
 use Rattle.krb_capture.specs.Rests.{HasFollowedBut, Lists}
@@ -39,25 +39,25 @@ ended_so IsLeft before after (Some x) end left last e a l n f =
     let x' : x ≡ end = cc in
     (a ∙ ap (λ y. before ++ y.last) (sym l), ap (λ y. y.lines) l ∙ n, x' ∙ sym f ∙ ap (λ y. y.end) (sym l))
 
-lines-append : (form : Form) (xs ys : List Finding) → lines_of form (xs ++ ys) ≡ lines_of form xs ++ lines_of form ys
-lines-append form [] ys = refl
-lines-append form (x ∷ xs) ys = ap (λ l. found_line form x.0 x.1 ++ l) (lines-append form xs ys) ∙ sym (append_assoc (found_line form x.0 x.1) (lines_of form xs) (lines_of form ys))
+lines-append : (label : Label) (xs ys : List Finding) → lines_of label (xs ++ ys) ≡ lines_of label xs ++ lines_of label ys
+lines-append label [] ys = refl
+lines-append label (x ∷ xs) ys = ap (λ l. found_line label x.0 x.1 ++ l) (lines-append label xs ys) ∙ sym (append_assoc (found_line label x.0 x.1) (lines_of label xs) (lines_of label ys))
 
 -- some lines, and others after them
-after_both : (form : Form) (found listed others : List Finding) (left : RecordListing) → found ≡ listed ++ others → after_line (lines_of form found) left ≡ after_line (lines_of form listed) (after_line (lines_of form others) left)
-after_both form found listed others left e =
-    ap (λ l. after_line l left) (ap (lines_of form) e ∙ lines-append form listed others)
-    ∙ ap (λ l. record left { lines = l }) (append_assoc (lines_of form listed) (lines_of form others) left.lines)
+after_both : (label : Label) (found listed others : List Finding) (left : RecordListing) → found ≡ listed ++ others → after_line (lines_of label found) left ≡ after_line (lines_of label listed) (after_line (lines_of label others) left)
+after_both label found listed others left e =
+    ap (λ l. after_line l left) (ap (lines_of label) e ∙ lines-append label listed others)
+    ∙ ap (λ l. record left { lines = l }) (append_assoc (lines_of label listed) (lines_of label others) left.lines)
 
 -- what is left of the last packet
-pub rest_added : (form : Form) (model : PacketsModel) (was now : Capture) (rest : Box Rest Global) (next : Option (Box Rest Global)) (left : RecordListing) (before after : List ℕ) → IsCaptureLeft model was (Some rest) form left → ((settings : Settings) (progress : Progress) (found : List Finding) → HasFollowedBut was settings progress (Some rest) found → Lists now settings (record { found = found; progress = progress }) next before after) → AddsLine (IsCaptureLeft model now next form) left before after (Ok None)
-rest_added form model was now rest next left before after is_left goes_on =
+pub rest_added : (label : Label) (model : PacketsModel) (was now : Capture) (rest : Box Rest Global) (next : Option (Box Rest Global)) (left : RecordListing) (before after : List ℕ) → IsCaptureLeft model was (Some rest) label left → ((settings : Settings) (progress : Progress) (found : List Finding) → HasFollowedBut was settings progress (Some rest) found → Lists now settings (record { found = found; progress = progress }) next before after) → AddsLine (IsCaptureLeft model now next label) left before after (Ok None)
+rest_added label model was now rest next left before after is_left goes_on =
     let lists = goes_on is_left.settings is_left.progress is_left.found is_left.followed in
     let others = listing_from is_left.settings (drop is_left.count (packets is_left.file).items) (packets is_left.file).end is_left.progress in (
-      lines_of is_left.settings.form lists.listed,
-      after_line (lines_of is_left.settings.form lists.left) others,
+      lines_of is_left.settings.label lists.listed,
+      after_line (lines_of is_left.settings.label lists.left) others,
       lists.text,
-      is_left.is ∙ after_both is_left.settings.form is_left.found lists.listed lists.left others lists.parts,
+      is_left.is ∙ after_both is_left.settings.label is_left.found lists.listed lists.left others lists.parts,
       record {
         file = is_left.file;
         count = is_left.count;
@@ -66,25 +66,25 @@ rest_added form model was now rest next left before after is_left goes_on =
         found = lists.left;
         reads = is_left.reads;
         followed = lists.followed;
-        form_is = is_left.form_is;
+        label_is = is_left.label_is;
         is = refl;
       },
     )
 
 -- nothing is left of the last packet
-record AreFollowed (model : PacketsModel) (capture : Capture) (form : Form) (left : RecordListing) : Type 0 where
+record AreFollowed (model : PacketsModel) (capture : Capture) (label : Label) (left : RecordListing) : Type 0 where
   file : List ℕ
   count : ℕ
   settings : Settings
   progress : Progress
   reads : Reads model file count
   followed : HasFollowed capture settings progress
-  form_is : form ≡ settings.form
+  label_is : label ≡ settings.label
   is : left ≡ listing_from settings (drop count (packets file).items) (packets file).end progress
 
-are_followed : (model : PacketsModel) (capture : Capture) (rest : Option (Box Rest Global)) (form : Form) (left : RecordListing) → rest ≡ None → IsCaptureLeft model capture rest form left → AreFollowed model capture form left
-are_followed model capture (Some rest) form left e l = absurd cc
-are_followed model capture None form left e l = record {
+are_followed : (model : PacketsModel) (capture : Capture) (rest : Option (Box Rest Global)) (label : Label) (left : RecordListing) → rest ≡ None → IsCaptureLeft model capture rest label left → AreFollowed model capture label left
+are_followed model capture (Some rest) label left e l = absurd cc
+are_followed model capture None label left e l = record {
   file = l.file;
   count = l.count;
   settings = l.settings;
@@ -93,19 +93,19 @@ are_followed model capture None form left e l = record {
   followed = record {
     profile = l.followed.profile;
     port = l.followed.port;
-    form = l.followed.form;
+    label = l.followed.label;
     fragments = l.followed.fragments;
     table = l.followed.table.0;
     last = l.followed.last;
     counts = sym (ap (λ found. counted_each found capture.listing.counts) l.followed.table.1) ∙ l.followed.counts;
   };
-  form_is = l.form_is;
-  is = l.is ∙ ap (λ found. after_line (lines_of l.settings.form found) (listing_from l.settings (drop l.count (packets l.file).items) (packets l.file).end l.progress)) l.followed.table.1;
+  label_is = l.label_is;
+  is = l.is ∙ ap (λ found. after_line (lines_of l.settings.label found) (listing_from l.settings (drop l.count (packets l.file).items) (packets l.file).end l.progress)) l.followed.table.1;
 }
 
-module _ (form : Form) (old new : PacketsModel) (was now : Capture) (rest : Option (Box Rest Global)) (none : rest ≡ None) (left : RecordListing) (before after : List ℕ) (given_left : IsCaptureLeft old was rest form left) where
-  is_left : AreFollowed old was form left
-  is_left = are_followed old was rest form left none given_left
+module _ (label : Label) (old new : PacketsModel) (was now : Capture) (rest : Option (Box Rest Global)) (none : rest ≡ None) (left : RecordListing) (before after : List ℕ) (given_left : IsCaptureLeft old was rest label left) where
+  is_left : AreFollowed old was label left
+  is_left = are_followed old was rest label left none given_left
 
   abbrev found : List Packet
   found = (packets is_left.file).items
@@ -113,7 +113,7 @@ module _ (form : Form) (old new : PacketsModel) (was now : Capture) (rest : Opti
   abbrev refusal : Option Fault
   refusal = (packets is_left.file).end
 
-  pub packet_added : (packet : Packet) (next : Option (Box Rest Global)) → Promises old (Ok (Some packet)) new → ((settings : Settings) (progress : Progress) → HasFollowed was settings progress → Lists now settings (packet_taken settings packet progress) next before after) → AddsLine (IsCaptureLeft new now next form) left before after (Ok None)
+  pub packet_added : (packet : Packet) (next : Option (Box Rest Global)) → Promises old (Ok (Some packet)) new → ((settings : Settings) (progress : Progress) → HasFollowed was settings progress → Lists now settings (packet_taken settings packet progress) next before after) → AddsLine (IsCaptureLeft new now next label) left before after (Ok None)
   packet_added packet next promises lists =
       let count = is_left.count in
       let given = promises is_left.file count is_left.reads in
@@ -122,10 +122,10 @@ module _ (form : Form) (old new : PacketsModel) (was now : Capture) (rest : Opti
       let others = listing_from is_left.settings given.0.suffix refusal taken.progress in
       let first = here found given.0.prefix given.0.suffix packet count given.0.counted given.0.parts in
       let rest = there found given.0.prefix given.0.suffix packet count given.0.counted given.0.parts in (
-        lines_of is_left.settings.form listed.listed,
-        after_line (lines_of is_left.settings.form listed.left) others,
+        lines_of is_left.settings.label listed.listed,
+        after_line (lines_of is_left.settings.label listed.left) others,
         listed.text,
-        is_left.is ∙ ap (λ xs. listing_from is_left.settings xs refusal is_left.progress) first ∙ after_both is_left.settings.form taken.found listed.listed listed.left others listed.parts,
+        is_left.is ∙ ap (λ xs. listing_from is_left.settings xs refusal is_left.progress) first ∙ after_both is_left.settings.label taken.found listed.listed listed.left others listed.parts,
         record {
           file = is_left.file;
           count = suc count;
@@ -134,8 +134,8 @@ module _ (form : Form) (old new : PacketsModel) (was now : Capture) (rest : Opti
           found = listed.left;
           reads = given.1;
           followed = listed.followed;
-          form_is = is_left.form_is;
-          is = ap (λ xs. after_line (lines_of is_left.settings.form listed.left) (listing_from is_left.settings xs refusal taken.progress)) (sym rest);
+          label_is = is_left.label_is;
+          is = ap (λ xs. after_line (lines_of is_left.settings.label listed.left) (listing_from is_left.settings xs refusal taken.progress)) (sym rest);
         },
       )
 
@@ -155,18 +155,18 @@ module _ (form : Form) (old new : PacketsModel) (was now : Capture) (rest : Opti
       ended_so IsLeft before after ended _ left (listing_from is_left.settings [] None is_left.progress) added.0 added.1 last refl refl
 
   -- after which nothing is left
-  pub refusal_added : (IsLeft : RecordListing → Type 0) (e : FileFault) (r : Result (Option RunEnd) RunFault) → Promises old (Err e) new → IfOk r (AddsFileRefusal e was form before after) → AddsLine IsLeft left before after r
+  pub refusal_added : (IsLeft : RecordListing → Type 0) (e : FileFault) (r : Result (Option RunEnd) RunFault) → Promises old (Err e) new → IfOk r (AddsFileRefusal e was label before after) → AddsLine IsLeft left before after r
   refusal_added IsLeft e (Err f) promises adds = tt
   refusal_added IsLeft faults.Read (Ok ended) promises adds = absurd adds
   refusal_added IsLeft faults.Memory (Ok ended) promises adds = absurd adds
   refusal_added IsLeft (faults.Refused fault) (Ok ended) promises adds =
       let given = promises is_left.file is_left.count is_left.reads in
       let last = none_left given.counted (Some fault) given.is in
-      let added = adds is_left.settings is_left.progress is_left.followed is_left.form_is in
-      ended_so IsLeft before after ended run.Refused left (listing_from is_left.settings [] (Some fault) is_left.progress) added.0 added.1 last refl refl
+      let added = adds is_left.settings is_left.progress is_left.followed is_left.label_is in
+      ended_so IsLeft before after ended _ left (listing_from is_left.settings [] (Some fault) is_left.progress) (added.0 ∙ ap (λ counts. Some (refused_end (has_no_packet counts))) is_left.followed.counts) added.1 last refl refl
 
 -- before the first packet
-pub all_left : (settings : Settings) (file : List ℕ) (model : PacketsModel) (capture : Capture) → Reads model file 0 → HasFollowed capture settings at_first → IsCaptureLeft model capture None settings.form (capture_listing settings file)
+pub all_left : (settings : Settings) (file : List ℕ) (model : PacketsModel) (capture : Capture) → Reads model file 0 → HasFollowed capture settings at_first → IsCaptureLeft model capture None settings.label (capture_listing settings file)
 unfolding capture_listing
 all_left settings file model capture reads h = record {
   file = file;
@@ -175,7 +175,7 @@ all_left settings file model capture reads h = record {
   progress = at_first;
   found = [];
   reads = reads;
-  followed = record { profile = h.profile; port = h.port; form = h.form; fragments = h.fragments; table = (h.table, refl); last = h.last; counts = h.counts };
-  form_is = refl;
+  followed = record { profile = h.profile; port = h.port; label = h.label; fragments = h.fragments; table = (h.table, refl); last = h.last; counts = h.counts };
+  label_is = refl;
   is = refl;
 }

@@ -3,7 +3,7 @@ use Rattle.std.specs.Prelude.{ℕ, Bool, true, false, List, [], ◌∷◌, ◌++
 use Rattle.krb_file.specs.Fields.{Fault}
 use Rattle.krb_packet.specs.Captures.{packets}
 use Rattle.krb_packet.specs.declared.packet.Packet.{Packet}
-use Rattle.krb_capture.specs.Captures.{Progress, Settings, all_counts, at_first, end_taken, end_text, is_clean, lines_of, packet_taken, refusal_text}
+use Rattle.krb_capture.specs.Captures.{Progress, Settings, all_counts, at_first, end_taken, end_text, has_no_packet, is_clean, lines_of, packet_taken, refusal_text}
 use Rattle.krb_run.specs.Extents.{extent_of}
 use Rattle.krb_run.specs.Records.{RecordListing}
 use Rattle.krb_run.specs.Paths.{field_path}
@@ -14,7 +14,7 @@ use Rattle.krb_run.specs.declared.run.RunEnd.TheVariants as run
 abbrev pub lines_from : Settings → List Packet → Progress → List ℕ
 lines_from settings [] progress = []
 lines_from settings (first ∷ others) progress =
-    let taken = packet_taken settings first progress in lines_of settings.form taken.found ++ lines_from settings others taken.progress
+    let taken = packet_taken settings first progress in lines_of settings.label taken.found ++ lines_from settings others taken.progress
 
 -- the progress after packets
 abbrev pub after_packets : Settings → List Packet → Progress → Progress
@@ -30,10 +30,15 @@ abbrev pub run_end : Bool → RunEnd
 run_end true = run.Clean
 run_end false = run.Refused
 
+-- how a run ends whose file is refused: at once, if no packet came before
+abbrev pub refused_end : (at_once : Bool) → RunEnd
+refused_end true = run.RefusedAtOnce
+refused_end false = run.Refused
+
 -- a run is clean if the file was read to its end, and nothing is refused, lost or unread
 abbrev pub capture_run_end : Settings → Option Fault → Progress → RunEnd
 capture_run_end settings None progress = run_end (is_clean (all_counts (end_taken settings progress).progress))
-capture_run_end settings (Some refusal) progress = run.Refused
+capture_run_end settings (Some refusal) progress = refused_end (has_no_packet progress.counts)
 
 -- of packets, and the refusal of the file after them
 abbrev pub listing_from : Settings → List Packet → Option Fault → Progress → RecordListing

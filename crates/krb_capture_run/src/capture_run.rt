@@ -1,7 +1,7 @@
 //! The run over a capture.
 
 ghost use Rattle.std.specs.Prelude.{◌≡◌, ℕ, List, Some, IfErr, IfOk};
-ghost use Rattle.krb_capture_run.specs.Captures.{capture_listing};
+ghost use Rattle.krb_capture_run.specs.Captures.{capture_listing, refused_end};
 ghost use Rattle.krb_run.specs.Faults.{IsRead, IsWrite};
 ghost use Rattle.krb_run.specs.Records.{ListsRecords};
 ghost use Rattle.krb_capture_run.specs.inner.CaptureRuns.{AddsCaptureEnd, AddsFileRefusal, IsCaptureLeft};
@@ -11,7 +11,7 @@ use krb_der::Profile;
 use krb_file::{FileFault, FileItem};
 use krb_frame::Limit;
 use krb_packet::Packets;
-use krb_record::{Form, TextBuffer};
+use krb_record::{Label, TextBuffer};
 use krb_run::{
     RecordLines, RunEnd, RunFault, Watch, Watched, extent_of, file_path, in_pieces, list_records,
 };
@@ -22,15 +22,15 @@ use std::io::{Read, Write};
 #[derive(Drop)]
 struct CaptureLines<'a, R: Read> {
     packets: Packets<R>,
-    capture: Capture,
+    capture: Capture<'a>,
     /// What is left of the packet that came last, if its records are not all listed.
     rest: Option<Box<Rest>>,
-    form: Form,
+    label: &'a Label<'a>,
     watch: &'a Watch,
 }
 
 /// Appends the records of the end of a file.
-fn put_end(capture: &mut Capture, text: &mut TextBuffer) -> Result<Option<RunEnd>, RunFault>
+fn put_end(capture: &mut Capture<'_>, text: &mut TextBuffer) -> Result<Option<RunEnd>, RunFault>
     ensures put { IfOk result (AddsCaptureEnd capture.old text.old text.new) }
     ensures fault { IfErr result (λ e. e ≡ RunFault.Memory) }
 {
@@ -38,6 +38,17 @@ fn put_end(capture: &mut Capture, text: &mut TextBuffer) -> Result<Option<RunEnd
         Ok(Some(RunEnd::Clean))
     } else {
         Ok(Some(RunEnd::Refused))
+    }
+}
+
+/// Returns how a run ends whose file is refused: at once, if no packet came before.
+fn refused_end(at_once: bool) -> RunEnd
+    ensures { result ≡ refused_end at_once }
+{
+    if at_once {
+        RunEnd::RefusedAtOnce
+    } else {
+        RunEnd::Refused
     }
 }
 
@@ -51,21 +62,22 @@ impl<R: Read> CaptureLines<'_, R> {
         fault: FileFault,
         text: &mut TextBuffer,
     ) -> Result<Option<RunEnd>, RunFault>
-        ensures put { IfOk result (AddsFileRefusal fault self.old.capture self.old.form text.old text.new) }
+        ensures put { IfOk result (AddsFileRefusal fault self.old.capture self.old.label.now text.old text.new) }
         ensures fault { IfErr result (λ e. IsWrite e → ⊥) }
         ensures kept { IfErr result (λ e. IsRead e → text.new ≡ text.old) }
     {
         match fault {
             FileFault::Refused(refusal) => {
-                let path = file_path(alloc, self.form, FileItem::File, refusal.field)?;
+                let path = file_path(alloc, self.label.form(), FileItem::File, refusal.field)?;
                 let path = match &path {
                     None => None,
                     Some(path) => Some(path.as_str()),
                 };
                 let extent = extent_of(refusal);
+                let at_once = self.capture.is_empty();
                 self.capture
                     .refuse(refusal.place, refusal.why, path, extent, text)?;
-                Ok(Some(RunEnd::Refused))
+                Ok(Some(refused_end(at_once)))
             }
             FileFault::Read => Err(RunFault::Read(self.watch.error())),
             FileFault::Memory => Err(RunFault::Memory),
@@ -74,7 +86,7 @@ impl<R: Read> CaptureLines<'_, R> {
 }
 
 impl<R: Read> RecordLines for CaptureLines<'_, R> {
-    ghost IsLeft = { λ lines _ left. IsCaptureLeft lines.packets lines.capture lines.rest lines.form left };
+    ghost IsLeft = { λ lines _ left. IsCaptureLeft lines.packets lines.capture lines.rest lines.label.now left };
 
     fn put_next(
         &mut self,
@@ -98,26 +110,25 @@ impl<R: Read> RecordLines for CaptureLines<'_, R> {
     }
 }
 
-/// Lists the Kerberos messages of a capture, a pcap or a pcapng, in a form: writes the records of
-/// each packet, and at the end those of the end and the totals, or the refusal of the file. Frames
+/// Lists the Kerberos messages of a capture, a pcap or a pcapng: writes the records of each packet, and at the end those of the end and the totals, or the refusal of the file. Frames
 /// of more than `limit` octets are refused, messages are judged by `profile`, and `port` is the one
 /// of KDCs. Reads and writes as [`list_records`] does.
 pub fn run_capture<R: Read, W: Write>(
     alloc: Global,
-    form: Form,
+    label: &Label<'_>,
     profile: Profile,
     reader: &mut R,
     writer: &mut W,
     limit: Limit,
     port: u16,
 ) -> Result<RunEnd, RunFault>
-    ensures listed { (file : List ℕ) → R.remaining reader.old ≡ Some file → ListsRecords (capture_listing (record { form = form; profile = profile; limit = limit; port = port }) file) (W.contents writer.old) (W.contents writer.new) result }
+    ensures listed { (file : List ℕ) → R.remaining reader.old ≡ Some file → ListsRecords (capture_listing (record { label = label.now; profile = profile; limit = limit; port = port }) file) (W.contents writer.old) (W.contents writer.new) result }
 {
     let watch = Watch::new();
     let watch = &watch;
     let reader = in_pieces(alloc, Watched { reader, watch })?;
     let packets = Packets::new(reader);
-    let capture = Capture::new(alloc, form, profile, limit, port);
+    let capture = Capture::new(alloc, label, profile, limit, port);
     let mut text = TextBuffer::new(alloc);
     list_records(
         alloc,
@@ -125,7 +136,7 @@ pub fn run_capture<R: Read, W: Write>(
             packets,
             capture,
             rest: None,
-            form,
+            label,
             watch,
         },
         &mut text,

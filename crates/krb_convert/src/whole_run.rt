@@ -16,7 +16,7 @@ use krb_der::{Profile, Refusal, Why};
 use krb_frame::Limit;
 use krb_judge::read_message_in;
 use krb_record::Form;
-use krb_run::{CountedReader, PIECE_OCTETS, RunFault, write_all};
+use krb_run::{CountedReader, RunFault, piece_buffer, write_all};
 use krb_tool::refused_path;
 use std::alloc::Global;
 use std::io::{Read, Write};
@@ -77,7 +77,7 @@ fn read_most<R: Read>(
     ensures read { IfOk result (λ octets. ReadsMost (R.remaining counted.old.reader.now) (R.remaining counted.new.reader.now) most octets.items) }
     ensures taken { OnErr result (ReadsSome (R.remaining counted.old.reader.now) (R.remaining counted.new.reader.now)) }
 {
-    let mut buffer = vec![in alloc; 0u8; PIECE_OCTETS]?;
+    let mut buffer = piece_buffer(alloc)?;
     let mut octets = Vec::new(alloc);
     'pieces: while octets.len() < most {
         buffer.truncate(most - octets.len());

@@ -3,6 +3,7 @@
 use crate::fakes::{Narrow, Slow};
 use krb_der::Profile;
 use krb_file_run::{run_ccache, run_keytab};
+use krb_record::Label;
 use krb_run::{RunEnd, RunFault};
 use krb_tool::{Form, Limit, run_lines_in, run_message_in, run_stream_in};
 use std::alloc::Global;
@@ -29,7 +30,7 @@ impl Run {
             Run::Stream(profile) => {
                 run_stream_in(
                     alloc,
-                    Form::Lines,
+                    &Label::none(Form::Lines),
                     profile,
                     false,
                     reader,
@@ -37,8 +38,20 @@ impl Run {
                     Limit::DEFAULT,
                 )
             }
-            Run::Message(profile) => run_message_in(alloc, Form::Lines, profile, reader, writer),
-            Run::Lines(profile) => run_lines_in(alloc, Form::Lines, profile, reader, writer),
+            Run::Message(profile) => run_message_in(
+                alloc,
+                &Label::none(Form::Lines),
+                profile,
+                reader,
+                writer,
+            ),
+            Run::Lines(profile) => run_lines_in(
+                alloc,
+                &Label::none(Form::Lines),
+                profile,
+                reader,
+                writer,
+            ),
             Run::Keytab => run_keytab(alloc, reader, writer),
             Run::Ccache => run_ccache(alloc, reader, writer, Some(946688399)),
         }

@@ -24,7 +24,7 @@ use krb_msg::{
 };
 use krb_packet::{Packet, Packets};
 use krb_padata::{EtypeInfo2, EtypeInfo2Entry, view_pac_request};
-use krb_record::{Form, TextBuffer, principal_text};
+use krb_record::{Form, Label, TextBuffer, principal_text};
 use krb_registry::{Registry, name_of};
 use krb_run::status;
 use krb_scan::Scanner;
@@ -302,7 +302,8 @@ fn put_capture(
 /// Returns the records of a capture.
 fn capture_records(alloc: Global, file: &[u8]) -> Result<Vec<u8>, FileFault> {
     let mut packets = Packets::new(file);
-    let mut capture = Capture::new(alloc, Form::Lines, Profile::Lenient, Limit::DEFAULT, 88);
+    let label = Label::none(Form::Lines);
+    let mut capture = Capture::new(alloc, &label, Profile::Lenient, Limit::DEFAULT, 88);
     let mut text = TextBuffer::new(alloc);
     let mut records = Vec::new(alloc);
     let clean = put_capture(alloc, &mut packets, &mut capture, &mut text, &mut records);

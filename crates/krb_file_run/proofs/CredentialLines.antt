@@ -7,19 +7,19 @@ use Rattle.krb_file.specs.declared.fault.FileFault.TheVariants as faults
 use Rattle.krb_file.specs.declared.progress.Progress.{Progress}
 use Rattle.krb_ccache.specs.declared.reading.Start.{Start}
 use Rattle.krb_ccache.specs.Streaming.{Reads, FailsStart, credentials}
-use Rattle.krb_record.specs.declared.form.Form.{Form}
+use Rattle.krb_record.specs.Labels.{Label}
 use Rattle.krb_file_run.specs.Lines.{cache_line}
 use Rattle.krb_run.specs.Records.{after_line}
 use Rattle.krb_file_run.specs.Files.{field_limit, credentials_listing, cache_listing, ccache_listing}
 use Rattle.krb_run.specs.Records.{IsRefusal}
 
-pub first_line : (form : Form) (now : Option ℕ) (file : List ℕ) (cursor : Cursor) (start : Start) (state : Progress (Unit {0}) (Unit {0})) → Reads field_limit cursor start state file 0 → after_line (cache_line form start.header start.principal) (credentials_listing form now (credentials field_limit file)) ≡ ccache_listing form now file
+pub first_line : (label : Label) (now : Option ℕ) (file : List ℕ) (cursor : Cursor) (start : Start) (state : Progress (Unit {0}) (Unit {0})) → Reads field_limit cursor start state file 0 → after_line (cache_line label start.header start.principal) (credentials_listing label now (credentials field_limit file)) ≡ ccache_listing label now file
 unfolding ccache_listing
-first_line form now file cursor start state reads = ap (λ (r : Result (Start × Source) Fault). cache_listing form now r (credentials field_limit file)) (sym reads.begins)
+first_line label now file cursor start state reads = ap (λ (r : Result (Start × Source) Fault). cache_listing label now r (credentials field_limit file)) (sym reads.begins)
 
 -- a file that is refused before its credentials
-pub start_refused : (form : Form) (now : Option ℕ) (file : List ℕ) (e : FileFault) → FailsStart field_limit file e → IsRefusal form e (ccache_listing form now file)
+pub start_refused : (label : Label) (now : Option ℕ) (file : List ℕ) (e : FileFault) → FailsStart field_limit file e → IsRefusal label e (ccache_listing label now file)
 unfolding ccache_listing
-start_refused form now file faults.Read fails = tt
-start_refused form now file faults.Memory fails = tt
-start_refused form now file (faults.Refused fault) fails = ap (λ (r : Result (Start × Source) Fault). cache_listing form now r (credentials field_limit file)) fails
+start_refused label now file faults.Read fails = tt
+start_refused label now file faults.Memory fails = tt
+start_refused label now file (faults.Refused fault) fails = ap (λ (r : Result (Start × Source) Fault). cache_listing label now r (credentials field_limit file)) fails

@@ -2,15 +2,16 @@
 
 ghost use Rattle.std.specs.Prelude.{◌≡◌, ℕ, List, Some};
 ghost use Rattle.krb_ccache.specs.Streaming.{Reads};
+ghost use Rattle.krb_record.specs.Labels.{no_label};
 ghost use Rattle.krb_run.specs.Records.{ListsRecords};
 ghost use Rattle.krb_file_run.specs.Files.{field_limit, keytab_listing, ccache_listing};
 ghost use Rattle.krb_file_run.specs.inner.RecordRuns.{AreRecordsLeft, AreCredentialsLeft};
 
+use crate::labelled::{put_cache, put_cache_end, put_credential, put_keytab_end, put_record};
 use krb_ccache::Credentials;
 use krb_file::{FileItem, Limit};
 use krb_keytab::{Next, Records};
-use krb_list::{put_cache, put_cache_end, put_credential, put_keytab_end, put_record};
-use krb_record::{Form, TextBuffer};
+use krb_record::{Form, Label, TextBuffer};
 use krb_run::{
     RecordLines, RunEnd, RunFault, Watch, Watched, in_pieces, list_records, list_refusal, put_fault,
 };
@@ -21,12 +22,12 @@ use std::io::{Read, Write};
 #[derive(Drop)]
 struct KeytabLines<'a, R: Read> {
     records: Records<R>,
-    form: Form,
+    label: &'a Label<'a>,
     watch: &'a Watch,
 }
 
 impl<R: Read> RecordLines for KeytabLines<'_, R> {
-    ghost IsLeft = { λ lines. AreRecordsLeft lines.form lines.records.reader lines.records.state };
+    ghost IsLeft = { λ lines. AreRecordsLeft lines.label.now lines.records.reader lines.records.state };
 
     fn put_next(
         &mut self,
@@ -36,18 +37,18 @@ impl<R: Read> RecordLines for KeytabLines<'_, R> {
     ) -> Result<Option<RunEnd>, RunFault> {
         match self.records.next_record(alloc) {
             Ok(Next::Item(record)) => {
-                let put = put_record(text, self.form, &record);
+                let put = put_record(text, self.label, &record);
                 self.records.give_back(record);
                 put?;
                 Ok(None)
             }
             Ok(Next::Done(stop)) => {
-                put_keytab_end(text, self.form, count, &stop)?;
+                put_keytab_end(text, self.label, count, &stop)?;
                 Ok(Some(RunEnd::Clean))
             }
             Err(fault) => {
                 let item = FileItem::Record(count);
-                let ended = put_fault(alloc, text, self.form, item, fault, self.watch)?;
+                let ended = put_fault(alloc, text, self.label, item, fault, self.watch)?;
                 Ok(Some(ended))
             }
         }
@@ -58,13 +59,13 @@ impl<R: Read> RecordLines for KeytabLines<'_, R> {
 #[derive(Drop)]
 struct CredentialLines<'a, R: Read> {
     credentials: Credentials<R>,
-    form: Form,
+    label: &'a Label<'a>,
     now: Option<u32>,
     watch: &'a Watch,
 }
 
 impl<R: Read + Drop> RecordLines for CredentialLines<'_, R> {
-    ghost IsLeft = { λ lines. AreCredentialsLeft lines.form lines.credentials.reader lines.credentials.start lines.credentials.state lines.now };
+    ghost IsLeft = { λ lines. AreCredentialsLeft lines.label.now lines.credentials.reader lines.credentials.start lines.credentials.state lines.now };
 
     fn put_next(
         &mut self,
@@ -74,18 +75,18 @@ impl<R: Read + Drop> RecordLines for CredentialLines<'_, R> {
     ) -> Result<Option<RunEnd>, RunFault> {
         match self.credentials.next_credential(alloc) {
             Ok(Some(credential)) => {
-                let put = put_credential(text, self.form, &credential, self.now);
+                let put = put_credential(text, self.label, &credential, self.now);
                 self.credentials.give_back(credential);
                 put?;
                 Ok(None)
             }
             Ok(None) => {
-                put_cache_end(text, self.form, count)?;
+                put_cache_end(text, self.label, count)?;
                 Ok(Some(RunEnd::Clean))
             }
             Err(fault) => {
                 let item = FileItem::Credential(count);
-                let ended = put_fault(alloc, text, self.form, item, fault, self.watch)?;
+                let ended = put_fault(alloc, text, self.label, item, fault, self.watch)?;
                 Ok(Some(ended))
             }
         }
@@ -98,23 +99,23 @@ pub fn run_keytab<R: Read, W: Write>(
     reader: &mut R,
     writer: &mut W,
 ) -> Result<RunEnd, RunFault>
-    ensures listed { (file : List ℕ) → R.remaining reader.old ≡ Some file → ListsRecords (keytab_listing Form.Lines file) (W.contents writer.old) (W.contents writer.new) result }
+    ensures listed { (file : List ℕ) → R.remaining reader.old ≡ Some file → ListsRecords (keytab_listing (no_label Form.Lines) file) (W.contents writer.old) (W.contents writer.new) result }
 {
-    run_keytab_in(alloc, Form::Lines, reader, writer)
+    run_keytab_in(alloc, &Label::none(Form::Lines), reader, writer)
 }
 
-/// Lists a keytab of format 0x0502 in a form: writes a line for each record, and then the line of
-/// the end or of the refusal. A field of more than 16777216 octets is refused. The reader is asked
+/// Lists a keytab of format 0x0502: writes a record for each one of the file, each with a label, and
+/// then that of the end or of the refusal. A field of more than 16777216 octets is refused. The reader is asked
 /// at most 2^40 times, for 64 KiB or the octets of a field, and not again after its end or an
 /// error. Each line is written as its record ends, but the lines of a reader that returns all that
 /// it is asked for are written together.
 pub fn run_keytab_in<R: Read, W: Write>(
     alloc: Global,
-    form: Form,
+    label: &Label<'_>,
     reader: &mut R,
     writer: &mut W,
 ) -> Result<RunEnd, RunFault>
-    ensures listed { (file : List ℕ) → R.remaining reader.old ≡ Some file → ListsRecords (keytab_listing form file) (W.contents writer.old) (W.contents writer.new) result }
+    ensures listed { (file : List ℕ) → R.remaining reader.old ≡ Some file → ListsRecords (keytab_listing label.now file) (W.contents writer.old) (W.contents writer.new) result }
 {
     let watch = Watch::new();
     let watch = &watch;
@@ -125,7 +126,7 @@ pub fn run_keytab_in<R: Read, W: Write>(
         alloc,
         &mut KeytabLines {
             records,
-            form,
+            label,
             watch,
         },
         &mut text,
@@ -140,11 +141,11 @@ fn list_credentials<R: Read + Drop, W: Write>(
     lines: &mut CredentialLines<'_, R>,
     writer: &mut W,
 ) -> Result<RunEnd, RunFault>
-    ensures listed { (file : List ℕ) → Reads field_limit lines.old.credentials.reader lines.old.credentials.start lines.old.credentials.state file 0 → ListsRecords (ccache_listing lines.old.form lines.old.now file) (W.contents writer.old) (W.contents writer.new) result }
+    ensures listed { (file : List ℕ) → Reads field_limit lines.old.credentials.reader lines.old.credentials.start lines.old.credentials.state file 0 → ListsRecords (ccache_listing lines.old.label.now lines.old.now file) (W.contents writer.old) (W.contents writer.new) result }
 {
     let mut text = TextBuffer::new(alloc);
     let cache = &lines.credentials;
-    put_cache(&mut text, lines.form, cache.header(), cache.principal())?;
+    put_cache(&mut text, lines.label, cache.header(), cache.principal())?;
     let watch = lines.watch;
     list_records(alloc, lines, &mut text, watch, writer)
 }
@@ -156,9 +157,9 @@ pub fn run_ccache<R: Read, W: Write>(
     writer: &mut W,
     now: Option<u32>,
 ) -> Result<RunEnd, RunFault>
-    ensures listed { (file : List ℕ) → R.remaining reader.old ≡ Some file → ListsRecords (ccache_listing Form.Lines now file) (W.contents writer.old) (W.contents writer.new) result }
+    ensures listed { (file : List ℕ) → R.remaining reader.old ≡ Some file → ListsRecords (ccache_listing (no_label Form.Lines) now file) (W.contents writer.old) (W.contents writer.new) result }
 {
-    run_ccache_in(alloc, Form::Lines, reader, writer, now)
+    run_ccache_in(alloc, &Label::none(Form::Lines), reader, writer, now)
 }
 
 /// Lists a credential cache of version 3 or 4 in a form: writes a line for the cache, one for each
@@ -167,12 +168,12 @@ pub fn run_ccache<R: Read, W: Write>(
 /// [`run_keytab_in`] does.
 pub fn run_ccache_in<R: Read, W: Write>(
     alloc: Global,
-    form: Form,
+    label: &Label<'_>,
     reader: &mut R,
     writer: &mut W,
     now: Option<u32>,
 ) -> Result<RunEnd, RunFault>
-    ensures listed { (file : List ℕ) → R.remaining reader.old ≡ Some file → ListsRecords (ccache_listing form now file) (W.contents writer.old) (W.contents writer.new) result }
+    ensures listed { (file : List ℕ) → R.remaining reader.old ≡ Some file → ListsRecords (ccache_listing label.now now file) (W.contents writer.old) (W.contents writer.new) result }
 {
     let watch = Watch::new();
     let watch = &watch;
@@ -182,12 +183,12 @@ pub fn run_ccache_in<R: Read, W: Write>(
             alloc,
             &mut CredentialLines {
                 credentials,
-                form,
+                label,
                 now,
                 watch,
             },
             writer,
         ),
-        Err(fault) => list_refusal(alloc, form, fault, watch, writer),
+        Err(fault) => list_refusal(alloc, label, fault, watch, writer),
     }
 }

@@ -77,8 +77,11 @@ count_fields counts =
     ∷ the (codes "unread") (Number (pos counts.unread))
     ∷ []
 
+abbrev pub capture_end_record : CaptureCounts → Printed
+capture_end_record counts = printed (codes "end") (count_fields counts)
+
 abbrev pub capture_end_line : Form → CaptureCounts → List ℕ
-capture_end_line form counts = record_line form (printed (codes "end") (count_fields counts))
+capture_end_line form counts = record_line form (capture_end_record counts)
 
 -- a refused file, and what was counted before the fault
 abbrev pub capture_refused_record : Form → CaptureCounts → ℕ → FileWhy → Option (List ℕ) → Extent → Printed

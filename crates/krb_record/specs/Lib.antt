@@ -13,6 +13,7 @@ pub mod Captures
 pub mod Inputs
 pub mod Files
 pub mod Streams
+pub mod Labels
 pub mod Laws
 pub mod Examples
 pub mod CaptureExamples

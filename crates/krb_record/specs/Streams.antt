@@ -33,8 +33,11 @@ abbrev pub untold_refused_line : Form → ℕ → ℕ → Why → Option (List �
 untold_refused_line form messages place reason path = record_line form (refused_frame messages place reason (path_in form path))
 
 -- a listing that ends between frames
+abbrev pub stream_end_record : ℕ → Printed
+stream_end_record messages = printed (codes "end") (the (codes "messages") (Number (pos messages)) ∷ [])
+
 abbrev pub stream_end_line : Form → ℕ → List ℕ
-stream_end_line form messages = record_line form (printed (codes "end") (the (codes "messages") (Number (pos messages)) ∷ []))
+stream_end_line form messages = record_line form (stream_end_record messages)
 
 abbrev pub counted_end_line : Form → ℕ → ℕ → List ℕ
 counted_end_line form messages refused = record_line form (counted_end_record messages refused)

@@ -223,6 +223,15 @@ impl TextBuffer {
         self.size = 0;
     }
 
+    /// Forgets what follows the first octets of the text.
+    pub fn truncate(&mut self, size: usize)
+        requires within { size ≤ length self.old }
+        requires before { IsUtf8 (take size self.old) }
+        ensures { self.new ≡ take size self.old }
+    {
+        self.size = size;
+    }
+
     /// Returns the text as a `String`, and copies nothing.
     pub fn into_string(self) -> String
         ensures { string_bytes result ≡ self }
@@ -401,7 +410,7 @@ impl TextBuffer {
     }
 
     /// Inserts text at a place that has text before it.
-    fn insert(&mut self, place: usize, text: &str) -> Result<(), AllocError>
+    pub(crate) fn insert(&mut self, place: usize, text: &str) -> Result<(), AllocError>
         requires place { place ≤ length self.old }
         requires before { IsUtf8 (take place self.old) }
         ensures { OnOk result ((self.new ≡ take place self.old ++ text.now ++ drop place self.old) × (length self.new < 2 ^ 64)) }

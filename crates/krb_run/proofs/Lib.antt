@@ -9,9 +9,4 @@ pub mod Pieces
 pub mod Files
 pub mod ConversionRuns
 pub mod LineReaders
-pub mod OutputWords
-pub mod OutputLabels
-pub mod OutputLines
-pub mod OutputTexts
-pub mod OutputSteps
 pub mod SourceRuns

@@ -6,7 +6,7 @@ use Rattle.std.proofs.KnownBytes.{Appends-nil, Appends-trans}
 use Rattle.krb_file.specs.declared.fault.FileFault.{FileFault}
 use Rattle.krb_file.specs.declared.fault.FileFault.TheVariants as faults
 use Rattle.krb_file.specs.declared.field_path.FileItem.TheVariants as items
-use Rattle.krb_record.specs.declared.form.Form.{Form}
+use Rattle.krb_record.specs.Labels.{Label}
 use Rattle.krb_run.specs.declared.run.RunEnd.{RunEnd}
 use Rattle.krb_run.specs.declared.run.RunFault.{RunFault}
 use Rattle.krb_run.specs.declared.run.RunFault.TheVariants as fault
@@ -151,7 +151,7 @@ pub none_written : (all : RecordListing) (written_before : Option (List ℕ)) (e
 none_written all written_before e is = subst (λ (f : RunFault). ListsRecords all written_before written_before (Err f)) (sym is) (record { prefix = []; rest = all.lines; added = Appends-nil written_before; whole = refl })
 
 -- a file of which nothing but its refusal is listed
-pub refusal_is : (form : Form) (fault : FileFault) (listing : RecordListing) (text : List ℕ) (ended : RunEnd) → IsRefusal form fault listing → AddsRefusal items.File form fault [] text ended → (text ≡ text_of listing) × (ended ≡ listing.end)
-refusal_is form faults.Read listing text ended is adds = absurd adds
-refusal_is form faults.Memory listing text ended is adds = absurd adds
-refusal_is form (faults.Refused fault) listing text ended is adds = (adds.1 ∙ ap text_of (sym is), adds.0 ∙ ap (λ (l : RecordListing). l.end) (sym is))
+pub refusal_is : (label : Label) (fault : FileFault) (listing : RecordListing) (text : List ℕ) (ended : RunEnd) → IsRefusal label fault listing → AddsRefusal items.File label fault [] text ended → (text ≡ text_of listing) × (ended ≡ listing.end)
+refusal_is label faults.Read listing text ended is adds = absurd adds
+refusal_is label faults.Memory listing text ended is adds = absurd adds
+refusal_is label (faults.Refused fault) listing text ended is adds = (adds.1 ∙ ap text_of (sym is), adds.0 ∙ ap (λ (l : RecordListing). l.end) (sym is))

@@ -1,15 +1,8 @@
 -- Sources that are listed one after another.
-use Rattle.std.proofs.Common.{◌≡◌, ℕ, max, true, false, List, [], ◌∷◌, Option, Result, Ok, Err, refl, sym, ◌∙◌, ap, subst, arith}
+use Rattle.std.proofs.Common.{◌≡◌, ℕ, max, true, false, List, [], ◌∷◌, Option, refl, sym, ◌∙◌, ap, subst, arith}
 use Rattle.std.specs.Ordering.{ord_max, nat_cmp}
-use Rattle.krb_run.specs.Records.{AppendsPrefix}
 use Rattle.krb_run.specs.Statuses.{status_of}
-use Rattle.krb_run.specs.Outputs.{IsSent, Sends, labelled, mark_of, output_contents}
-use Rattle.krb_run.specs.declared.output.Output.{Output}
-use Rattle.krb_run.specs.declared.output.Place.{Place}
 use Rattle.krb_run.specs.Sources.{Outcome, Run, ListsEach, ends_run}
-use Rattle.std.specs.Io.KnownBytes.{Appends}
-use Rattle.std.specs.Option.{option_map}
-use Rattle.std.specs.Prelude.{IsSome, Some, None, ◌++◌}
 
 -- the greater of two statuses, as `max` compares them
 greater-is : (a b : ℕ) → ord_max nat_cmp a b ≡ max a b
@@ -45,29 +38,3 @@ module _ {S : Type 0} (Lists : S → Run) (all : List S) (written_before : Optio
           (goes.whole written_after (max (status_of outcome) status) (subst (λ (l : List S). ListsEach Lists l now written_after (max (status_of outcome) status)) (sym parts)
           (record { between = after; outcome = outcome; others = status; first = listed; follow = rw ends each; greater = refl })));
     }
-
--- ---- with labels
--- what an output sent is the text that it took, with its labels
-took : (place : Place) (label had text : List ℕ) (after : Option (List ℕ)) → Appends (Some (mark_of place label had)) after text → after ≡ Some (mark_of place label had ++ text)
-took place label had text None a = absurd a
-took place label had text (Some xs) a = ap Some a
-
-pub through-ok : {W T E : Type 0} (contents : W → Option (List ℕ)) (output : Output W) (writer : W) (place : Place) (label : List ℕ) (written_before before : Option (List ℕ)) (text : List ℕ) (result : Result T E) (done : T) → result ≡ Ok done → before ≡ option_map (λ had. mark_of place label had) written_before
-    → Appends before (output_contents contents output) text → Sends contents output writer result → Appends written_before (contents writer) (labelled place label text)
-through-ok contents output writer place label None before text result done is known took_text sends = tt
-through-ok {T = T} {E = E} contents output writer place label (Some had) before text result done is known took_text sends =
-    subst (λ (r : Result T E). IsSent had (labelled place label text) (contents writer) r) is
-    (sends place label had text (took place label had text (output_contents contents output) (subst (λ (o : Option (List ℕ)). Appends o (output_contents contents output) text) known took_text)))
-
-pub through-err : {W T E : Type 0} (contents : W → Option (List ℕ)) (output : Output W) (writer : W) (place : Place) (label : List ℕ) (written_before before : Option (List ℕ)) (text : List ℕ) (result : Result T E) (error : E) → result ≡ Err error → before ≡ option_map (λ had. mark_of place label had) written_before
-    → Appends before (output_contents contents output) text → Sends contents output writer result → AppendsPrefix written_before (contents writer) (labelled place label text)
-through-err contents output writer place label None before text result error is known took_text sends = record { prefix = []; rest = labelled place label text; added = tt; whole = refl }
-through-err {T = T} {E = E} contents output writer place label (Some had) before text result error is known took_text sends =
-    let s = subst (λ (r : Result T E). IsSent had (labelled place label text) (contents writer) r) is
-    (sends place label had text (took place label had text (output_contents contents output) (subst (λ (o : Option (List ℕ)). Appends o (output_contents contents output) text) known took_text))) in
-    record { prefix = s.0; rest = s.1; added = s.2; whole = s.3 }
-
--- what is known of a writer is known of an output to it
-pub known-before : (place : Place) (label : List ℕ) (written_before before : Option (List ℕ)) → before ≡ option_map (λ had. mark_of place label had) written_before → IsSome written_before → IsSome before
-known-before place label None before is some = absurd cc
-known-before place label (Some had) before is some = subst (λ (o : Option (List ℕ)). IsSome o) (sym is) refl

@@ -1,5 +1,5 @@
 -- What is left of a reader whose first octets were read.
-use Rattle.std.specs.Prelude.{ℕ, ◌≡◌, ◌<◌, List, [], length, take, drop, Option, Some, ◌++◌, None}
+use Rattle.std.specs.Prelude.{ℕ, ◌≡◌, ◌<◌, ◌≤◌, min, List, [], length, take, drop, Option, Some, ◌++◌, None}
 use Rattle.std.specs.Io.KnownBytes.{Consumes, IsAtEnd, prepend_known}
 use Rattle.krb_run.specs.declared.begun.Begun.{Begun}
 use Rattle.krb_run.specs.declared.begun.Then.{Then}
@@ -30,3 +30,9 @@ Gives had left count buffer = Consumes had left (take count buffer) × (count �
 abbrev pub BeginsWith : (first : List ℕ) → Option (List ℕ) → Type 0
 BeginsWith first None = Unit {0}
 BeginsWith first (Some octets) = (rest : List ℕ) × (octets ≡ first ++ rest)
+
+-- As many octets are there as are awaited, or 16, unless the reader has ended or a read of it failed.
+abbrev pub IsEnough : Then → (least size : ℕ) → Type 0
+IsEnough Others least size = min least 16 ≤ size
+IsEnough End least size = Unit {0}
+IsEnough (Fault error) least size = Unit {0}

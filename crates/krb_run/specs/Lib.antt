@@ -12,7 +12,6 @@ pub mod Conversions
 pub mod ConversionRules
 pub mod LineReaders
 pub mod Files
-pub mod Outputs
 pub mod Sources
 pub mod Begun
 pub mod inner

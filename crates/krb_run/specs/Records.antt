@@ -1,11 +1,12 @@
 -- The listing of a file record by record, and what a run on it does to its writer.
-use Rattle.std.specs.Prelude.{ℕ, ◌≡◌, List, [], ◌++◌, Option, Some, None, Result, Ok, Err}
+use Rattle.std.specs.Prelude.{ℕ, zero, suc, ◌≡◌, List, [], ◌++◌, Option, Some, None, Result, Ok, Err}
 use Rattle.std.specs.Io.KnownBytes.{Appends}
 use Rattle.krb_file.specs.Fields.{Fault}
 use Rattle.krb_file.specs.declared.fault.FileFault.{FileFault}
 use Rattle.krb_file.specs.declared.fault.FileFault.TheVariants as faults
 use Rattle.krb_file.specs.declared.field_path.FileItem.{FileItem}
-use Rattle.krb_record.specs.declared.form.Form.{Form}
+use Rattle.krb_file.specs.declared.field_path.FileItem.TheVariants as items
+use Rattle.krb_record.specs.Labels.{Label}
 use Rattle.krb_run.specs.Extents.{fault_line}
 use Rattle.krb_run.specs.Paths.{file_path, field_path}
 use Rattle.krb_run.specs.declared.run.RunEnd.{RunEnd}
@@ -25,13 +26,21 @@ text_of listing = listing.lines ++ listing.last
 abbrev pub after_line : List ℕ → RecordListing → RecordListing
 after_line line listing = record { lines = line ++ listing.lines; last = listing.last; end = listing.end }
 
-abbrev pub end_of : {A : Type 0} → Result A Fault → RunEnd
-end_of (Ok end) = run.Clean
-end_of (Err fault) = run.Refused
+-- How a run ends whose file is refused in an item: at once, if no line is before that of the refusal. A cache has its own line before those of its credentials.
+abbrev pub refused_in : FileItem → RunEnd
+refused_in items.File = run.RefusedAtOnce
+refused_in (items.Record zero) = run.RefusedAtOnce
+refused_in (items.Record (suc count)) = run.Refused
+refused_in (items.Credential count) = run.Refused
+
+-- after the items before this one
+abbrev pub end_of : {A : Type 0} → FileItem → Result A Fault → RunEnd
+end_of item (Ok end) = run.Clean
+end_of item (Err fault) = refused_in item
 
 -- the one line of what is refused before any record
-abbrev pub refused_listing : Form → Fault → RecordListing
-refused_listing form refusal = record { lines = []; last = fault_line form refusal (field_path refusal.field); end = run.Refused }
+abbrev pub refused_listing : Label → Fault → RecordListing
+refused_listing label refusal = record { lines = []; last = fault_line label refusal (field_path refusal.field); end = run.RefusedAtOnce }
 
 -- ---- what a run does
 
@@ -58,13 +67,13 @@ AddsLine IsLeft left old new (Err failed) = Unit {0}
 -- ---- a refusal
 
 -- The line of a refusal in this item was added, which ends the run.
-abbrev pub AddsRefusal : FileItem → Form → FileFault → List ℕ → List ℕ → RunEnd → Type 0
-AddsRefusal item form (faults.Refused fault) old new ended = (ended ≡ run.Refused) × (new ≡ old ++ fault_line form fault (file_path item fault.field))
-AddsRefusal item form faults.Read old new ended = ⊥
-AddsRefusal item form faults.Memory old new ended = ⊥
+abbrev pub AddsRefusal : FileItem → Label → FileFault → List ℕ → List ℕ → RunEnd → Type 0
+AddsRefusal item label (faults.Refused fault) old new ended = (ended ≡ refused_in item) × (new ≡ old ++ fault_line label fault (file_path item fault.field))
+AddsRefusal item label faults.Read old new ended = ⊥
+AddsRefusal item label faults.Memory old new ended = ⊥
 
 -- if a file is refused, the line of the refusal is what is left
-abbrev pub IsRefusal : Form → FileFault → RecordListing → Type 0
-IsRefusal form (faults.Refused fault) left = left ≡ refused_listing form fault
-IsRefusal form faults.Read left = Unit {0}
-IsRefusal form faults.Memory left = Unit {0}
+abbrev pub IsRefusal : Label → FileFault → RecordListing → Type 0
+IsRefusal label (faults.Refused fault) left = left ≡ refused_listing label fault
+IsRefusal label faults.Read left = Unit {0}
+IsRefusal label faults.Memory left = Unit {0}

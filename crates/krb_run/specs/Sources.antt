@@ -1,13 +1,10 @@
 -- What a run over several sources does to its writer, and the status that it returns.
-use Rattle.std.specs.Prelude.{ℕ, ◌≡◌, ◌⊎◌, ◌&&◌, max, nat_lt, Bool, true, false, List, [], ◌∷◌, Option, IsSome, Result, Ok, Err, IfErr, IsErrAnd}
+use Rattle.std.specs.Prelude.{ℕ, ◌≡◌, ◌⊎◌, ◌&&◌, max, nat_lt, Bool, true, false, List, [], ◌∷◌, Option, Some, Result, Ok, Err, IfErr}
 use Rattle.std.specs.Io.KnownBytes.{Appends}
 use Rattle.krb_record.specs.declared.form.Form.{Form}
 use Rattle.krb_record.specs.declared.form.Form.TheVariants as forms
-use Rattle.krb_run.specs.Faults.{IsWrite}
 use Rattle.krb_record.specs.Files.{file_line}
-use Rattle.krb_run.specs.Outputs.{label_place, label_text, labelled}
-use Rattle.krb_run.specs.declared.output.Place.{Place}
-use Rattle.krb_run.specs.declared.output.Place.TheVariants.{Nowhere}
+use Rattle.krb_record.specs.Labels.{Label, no_label}
 use Rattle.krb_run.specs.declared.naming.Naming.{Naming}
 use Rattle.krb_run.specs.declared.naming.Naming.TheVariants as namings
 use Rattle.krb_run.specs.declared.run.RunEnd.{RunEnd}
@@ -43,39 +40,21 @@ abbrev pub FailsFirst : Form → List ℕ → Run
 FailsFirst form name written_before written_after (Ok ended) = ⊥
 FailsFirst form name written_before written_after (Err fault) = FailsName form name written_before written_after fault
 
--- ---- with a label in each of its lines
+-- ---- with a label in each of its records
 
--- A text was written with its labels, unless a write failed: then the first of it was, and that is how the run ends.
-abbrev pub IsWritten : (text : List ℕ) → (written_before written_after : Option (List ℕ)) → (result outcome : Outcome) → Type 0
-IsWritten text written_before written_after result outcome =
-    ((outcome ≡ result) × Appends written_before written_after text) ⊎ (IsErrAnd outcome IsWrite × AppendsPrefix written_before written_after text)
+-- the label of a source, if its records have one
+abbrev pub label_of : Form → (has_label : Bool) → (name : List ℕ) → Label
+label_of form false name = no_label form
+label_of form true name = record { form = form; file = Some name }
 
--- A source was listed to an output: what is written of the text that this took is that text with labels.
-pub record ListsThrough (place : Place) (label : List ℕ) (Lists : Run) (written_before written_after : Option (List ℕ)) (outcome : Outcome) : Type 0 where
-  pub before : Option (List ℕ)
-  pub after : Option (List ℕ)
-  pub result : Outcome
-  pub listed : Lists before after result
-  pub known : IsSome written_before → IsSome before
-  pub written : (text : List ℕ) → Appends before after text → IsWritten (labelled place label text) written_before written_after result outcome
-
--- the label of a source, if its lines have one
-abbrev pub place_of : Form → (has_label : Bool) → Place
-place_of form false = Nowhere
-place_of form true = label_place form
-
-abbrev pub label_of : Form → (has_label : Bool) → (name : List ℕ) → List ℕ
-label_of form false name = []
-label_of form true name = label_text form name
-
--- or memory ran out for the label
-abbrev pub ListsLabelled : Form → (has_label : Bool) → (name : List ℕ) → Run → Run
+-- a source is listed with its label, or memory ran out for the label
+abbrev pub ListsLabelled : Form → (has_label : Bool) → (name : List ℕ) → (Label → Run) → Run
 ListsLabelled form has_label name Lists written_before written_after outcome =
-    ListsThrough (place_of form has_label) (label_of form has_label name) Lists written_before written_after outcome ⊎ ((outcome ≡ Err fault.Memory) × (written_after ≡ written_before))
+    Lists (label_of form has_label name) written_before written_after outcome ⊎ ((outcome ≡ Err fault.Memory) × (written_after ≡ written_before))
 
 -- ---- how sources are told apart
 
--- there is a record of the name before a source, and its lines have a label
+-- there is a record of the name before a source, and its records have a label
 pub record Named : Type 0 where
   pub has_record : Bool
   pub has_label : Bool
@@ -101,8 +80,8 @@ abbrev pub ListsAfter : Form → (has_record : Bool) → (name : List ℕ) → R
 ListsAfter form false name Lists written_before written_after outcome = Lists written_before written_after outcome
 ListsAfter form true name Lists written_before written_after outcome = ListsNamed form Lists name written_before written_after outcome ⊎ FailsFirst form name written_before written_after outcome
 
--- a source is listed after the line of its name, if it has one, with labels, if its lines have these
-abbrev pub ListsOne : Form → Named → (name : List ℕ) → Run → Run
+-- a source is listed after the line of its name, if it has one, with a label, if its records have one
+abbrev pub ListsOne : Form → Named → (name : List ℕ) → (Label → Run) → Run
 ListsOne form how name Lists = ListsAfter form how.has_record name (ListsLabelled form how.has_label name Lists)
 
 -- a source is listed, and a fault by which its listing ends is reported

@@ -8,4 +8,5 @@ use Rattle.krb_run.specs.declared.run.RunFault.{RunFault}
 abbrev pub status_of : Result RunEnd RunFault → ℕ
 status_of (Ok run.Clean) = 0
 status_of (Ok run.Refused) = 1
+status_of (Ok run.RefusedAtOnce) = 1
 status_of (Err fault) = 3

@@ -1,9 +1,9 @@
 //! Readers that were begun.
 
-ghost use Rattle.std.specs.Prelude.{◌≡◌, ◌<◌, ◌≤◌, length, IfOk};
+ghost use Rattle.std.specs.Prelude.{◌≡◌, ◌<◌, ◌≤◌, length, IfOk, Some};
 ghost use Rattle.std.specs.Io.KnownBytes.{Keeps};
 
-use crate::run::PIECE_OCTETS;
+use crate::run::piece_buffer;
 use std::alloc::{AllocError, Global};
 use std::io;
 use std::io::{Error, Read};
@@ -49,7 +49,7 @@ impl<R> Begun<R> {
 }
 
 impl<R: Read + Drop> Begun<R> {
-    ghost use Rattle.krb_run.specs.Begun.{BeginsWith, begun_remaining, first_of};
+    ghost use Rattle.krb_run.specs.Begun.{BeginsWith, IsEnough, begun_remaining, first_of};
 
     /// Reads the first pieces of a reader, until there are at least `least` octets, or 16, or it ends
     /// or a read fails. It is asked for 64 KiB at once, as by a run: what keeps records, as a socket
@@ -58,10 +58,12 @@ impl<R: Read + Drop> Begun<R> {
     pub fn begin(alloc: Global, reader: R, least: usize) -> Result<Begun<R>, AllocError>
         ensures keeps { IfOk result (λ begun. Keeps (R.remaining reader) (begun_remaining R.remaining begun)) }
         ensures begins { IfOk result (λ begun. BeginsWith (first_of begun) (begun_remaining R.remaining begun)) }
+        ensures enough { IfOk result (λ begun. IsEnough begun.then least (length (first_of begun))) }
+        ensures whole { IfOk result (λ begun. begun.then ≡ Then.End → begun_remaining R.remaining begun ≡ Some (first_of begun)) }
     {
         let least = least.min(FIRST_OCTETS);
         let mut reader = reader;
-        let mut piece = vec![in alloc; 0u8; PIECE_OCTETS]?;
+        let mut piece = piece_buffer(alloc)?;
         let mut octets = Vec::new(alloc);
         'reads: while octets.len() < least {
             match reader.read(piece.as_mut_slice()) {

@@ -5,7 +5,7 @@ ghost use Rattle.krb_run.specs.declared.transfer.ReaderState.TheVariants as read
 ghost use Rattle.krb_run.specs.Files.{ReadsSome, FileListing, ListsFile, FailsFile, IsDecidedByPrefix, MatchesReader, shown};
 ghost use Rattle.krb_run.specs.inner.FileRuns.{IsNotFailed, IsOfReading, ReadsUpTo};
 
-use crate::run::{PIECE_OCTETS, RunEnd, RunFault};
+use crate::run::{PIECE_OCTETS, RunEnd, RunFault, piece_buffer};
 use crate::transfer::{CountedReader, write_all};
 use krb_record::TextBuffer;
 use std::alloc::Global;
@@ -49,7 +49,7 @@ fn read_all<R: Read>(
     ensures taken { OnErr result (ReadsSome (R.remaining counted.old.reader.now) (R.remaining counted.new.reader.now)) }
     ensures asks { counted.new.made ≤ 2 ^ 40 }
 {
-    let mut buffer = vec![in alloc; 0u8; PIECE_OCTETS]?;
+    let mut buffer = piece_buffer(alloc)?;
     let mut file = Vec::new(alloc);
     'pieces: loop {
         let room = room(most, file.len());

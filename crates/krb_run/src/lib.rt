@@ -10,8 +10,8 @@
 //!   lists messages so, and `krb_convert` turns them into JSON and back. [`run_file`] lists a file
 //!   that is read whole first, by its [`FileFormat`].
 //! - [`run_sources`] lists several sources one after another, each by what a [`ListSource`] does;
-//!   [`run_sources_unnamed`] does so without their names. An [`Output`] gives each line the name of
-//!   its source.
+//!   [`run_sources_unnamed`] does so without their names. Records may have the name of their source,
+//!   by the [`Label`](krb_record::Label) that a [`ListSource`] is given.
 //! - A [`Begun`] reader has the first octets of another, which say what file it is.
 //!
 //! Nothing here knows messages or formats of files, and nothing opens a file.
@@ -21,11 +21,9 @@ mod begun;
 mod extent;
 mod field_path;
 mod file_run;
-mod head;
 mod line;
 mod lines;
 mod naming;
-mod output;
 mod record_lines;
 mod run;
 mod sources;
@@ -39,11 +37,10 @@ pub use file_run::{FileFormat, FileText, run_file};
 pub use line::line_length;
 pub use lines::{ReadLines, end_lines, feed_lines, is_blank_line};
 pub use naming::Naming;
-pub use output::{Label, Output, Place};
 pub use record_lines::{
     RecordLines, Watch, Watched, in_pieces, list_records, list_refusal, put_fault,
 };
-pub use run::{PIECE_OCTETS, RunEnd, RunFault, status};
+pub use run::{PIECE_OCTETS, RunEnd, RunFault, piece_buffer, status};
 pub use sources::{ListSource, run_sources, run_sources_unnamed};
 pub use stream_run::{ListStream, list_all};
 pub use transfer::{CountedReader, ReaderState, write_all};

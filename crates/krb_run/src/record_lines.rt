@@ -6,7 +6,7 @@ ghost use Rattle.std.specs.Io.KnownBytes.{Appends};
 ghost use Rattle.std.specs.Option.{option_map};
 ghost use Rattle.krb_run.specs.Extents.{fault_line};
 ghost use Rattle.krb_run.specs.Faults.{IsFaultAt, IsRead, IsWrite};
-ghost use Rattle.krb_run.specs.Records.{AddsLine, AddsRefusal, AppendsPrefix, IsRefusal, ListsRecords, RecordListing, after_line};
+ghost use Rattle.krb_run.specs.Records.{AddsLine, AddsRefusal, AppendsPrefix, IsRefusal, ListsRecords, RecordListing, after_line, refused_in};
 ghost use Rattle.krb_run.specs.inner.RecordRuns.{Moves, WritesBefore};
 
 use crate::extent::extent_of;
@@ -14,7 +14,7 @@ use crate::field_path::file_path;
 use crate::run::{PIECE_OCTETS, RunEnd, RunFault};
 use crate::transfer::{MOST_ASKS, too_many_reads, write_all};
 use krb_file::{FileFault, FileItem, FileRefusal};
-use krb_record::{Form, TextBuffer, put_file_refusal};
+use krb_record::{Label, TextBuffer, put_file_refusal};
 use std::alloc::Global;
 use std::cell::Cell;
 use std::io;
@@ -104,40 +104,50 @@ pub trait RecordLines {
 /// Appends the line of a refused file, with the path of the field at fault.
 fn put_refusal(
     text: &mut TextBuffer,
-    form: Form,
+    label: &Label<'_>,
     refusal: FileRefusal,
     path: &Option<String>,
 ) -> Result<(), RunFault>
-    ensures line { OnOk result (text.new ≡ text.old ++ fault_line form refusal (option_map string_bytes path.now)) }
+    ensures line { OnOk result (text.new ≡ text.old ++ fault_line label.now refusal (option_map string_bytes path.now)) }
     ensures fault { IfErr result (λ e. e ≡ RunFault.Memory) }
 {
     let FileRefusal { place, why, .. } = refusal;
     let extent = extent_of(refusal);
-    match path {
-        None => put_file_refusal(text, form, place, why, None, extent)?,
-        Some(path) => put_file_refusal(text, form, place, why, Some(path.as_str()), extent)?,
-    }
+    label.begin(text)?;
+    put_file_refusal(text, label.form(), place, why, path.as_deref(), extent)?;
+    label.end(text)?;
     Ok(())
+}
+
+/// Returns how a run ends that is refused in this item: at once, if no record is before it. The record
+/// of a cache is before its credentials.
+fn refused_in(item: FileItem) -> RunEnd
+    ensures { result ≡ refused_in item }
+{
+    match item {
+        FileItem::File | FileItem::Record(0) => RunEnd::RefusedAtOnce,
+        FileItem::Record(_) | FileItem::Credential(_) => RunEnd::Refused,
+    }
 }
 
 /// Appends the line of a refusal in this item, which ends the run. Other faults have no line.
 pub fn put_fault(
     alloc: Global,
     text: &mut TextBuffer,
-    form: Form,
+    label: &Label<'_>,
     item: FileItem,
     fault: FileFault,
     watch: &Watch,
 ) -> Result<RunEnd, RunFault>
-    ensures refused { IfOk result (AddsRefusal item form fault text.old text.new) }
+    ensures refused { IfOk result (AddsRefusal item label.now fault text.old text.new) }
     ensures fault { IfErr result (IsFaultAt fault) }
     ensures kept { IfErr result (λ e. IsRead e → text.new ≡ text.old) }
 {
     match fault {
         FileFault::Refused(refusal) => {
-            let path = file_path(alloc, form, item, refusal.field)?;
-            put_refusal(text, form, refusal, &path)?;
-            Ok(RunEnd::Refused)
+            let path = file_path(alloc, label.form(), item, refusal.field)?;
+            put_refusal(text, label, refusal, &path)?;
+            Ok(refused_in(item))
         }
         FileFault::Read => Err(RunFault::Read(watch.error())),
         FileFault::Memory => Err(RunFault::Memory),
@@ -218,16 +228,16 @@ pub fn list_records<L: RecordLines, W: Write>(
 /// Lists the refusal of a file and nothing else, if this fault is a refusal.
 pub fn list_refusal<W: Write>(
     alloc: Global,
-    form: Form,
+    label: &Label<'_>,
     fault: FileFault,
     watch: &Watch,
     writer: &mut W,
 ) -> Result<RunEnd, RunFault>
-    ensures listed { (listing : RecordListing) → IsRefusal form fault listing → ListsRecords listing (W.contents writer.old) (W.contents writer.new) result }
+    ensures listed { (listing : RecordListing) → IsRefusal label.now fault listing → ListsRecords listing (W.contents writer.old) (W.contents writer.new) result }
     ensures fault { IfErr result (λ e. IsFaultAt fault e ⊎ IsWrite e) }
 {
     let mut text = TextBuffer::new(alloc);
-    match put_fault(alloc, &mut text, form, FileItem::File, fault, watch) {
+    match put_fault(alloc, &mut text, label, FileItem::File, fault, watch) {
         Ok(ended) => {
             write_all(writer, text.octets())?;
             Ok(ended)

@@ -1,16 +1,27 @@
 //! How runs end.
 
-ghost use Rattle.std.specs.Prelude.{◌≡◌};
+ghost use Rattle.std.specs.Prelude.{◌≡◌, length, IfOk};
 ghost use Rattle.krb_run.specs.Statuses.{status_of};
 ghost use Rattle.krb_run.specs.declared.run.RunFault.TheVariants as fault;
 
 use krb_der::Memory;
-use std::alloc::{AllocError, AllocFailed};
+use std::alloc::{AllocError, AllocFailed, Global};
 use std::io;
 use thiserror::Error;
 
 /// The number of octets that a run asks its reader for at once: 64 KiB.
 pub const PIECE_OCTETS: usize = 1 << 16;
+
+/// The octets that a buffer has before the first read: zeros.
+const UNREAD: [u8; PIECE_OCTETS] = [0; PIECE_OCTETS];
+
+/// Returns a buffer for what a run asks its reader for at once. It is filled by one copy: `vec!` puts
+/// octet by octet, which takes longer than all else that is done for a small file.
+pub fn piece_buffer(alloc: Global) -> Result<Vec<u8>, AllocError>
+    ensures { IfOk result (λ buffer. length buffer.items ≡ 65536) }
+{
+    Vec::from_slice(alloc, &UNREAD)
+}
 
 /// How a run without faults ended.
 #[derive(Clone, Copy, PartialEq, Eq, Debug)]
@@ -19,6 +30,8 @@ pub enum RunEnd {
     Clean,
     /// Something was refused, and a line says what.
     Refused,
+    /// The same, and that line is the first: it may be that the file is one of another kind.
+    RefusedAtOnce,
 }
 
 /// Why a run could not go on.
@@ -42,7 +55,7 @@ pub fn status(outcome: &Result<RunEnd, RunFault>) -> u8
 {
     match outcome {
         Ok(RunEnd::Clean) => 0,
-        Ok(RunEnd::Refused) => 1,
+        Ok(RunEnd::Refused | RunEnd::RefusedAtOnce) => 1,
         Err(_) => 3,
     }
 }

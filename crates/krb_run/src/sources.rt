@@ -3,26 +3,25 @@
 ghost use Rattle.std.specs.Prelude.{◌≡◌, ℕ, List, length, IfErr, IfOk, OnOk, true};
 ghost use Rattle.std.specs.Io.KnownBytes.{Appends};
 ghost use Rattle.krb_record.specs.Files.{file_line};
-ghost use Rattle.krb_run.specs.Outputs.{output_contents};
-ghost use Rattle.krb_run.specs.Sources.{Run, FailsName, ListsAfter, ListsLabelled, ListsOne, ListsThrough, Reports, ListsEach, ends_run, label_of, named_of, names_of, place_of, unnamed};
+ghost use Rattle.krb_run.specs.Sources.{Run, FailsName, ListsAfter, ListsLabelled, ListsOne, Reports, ListsEach, ends_run, label_of, named_of, names_of, unnamed};
 
 use crate::naming::Naming;
-use crate::output::{Label, Output};
 use crate::run::{RunEnd, RunFault, status};
 use crate::transfer::write_all;
-use krb_record::{Form, TextBuffer, put_file};
+use krb_record::{Form, Label, TextBuffer, put_file};
 use std::alloc::{AllocError, Global};
 use std::io::Write;
 
 /// Lists sources of a kind: opens a source if it has to be opened, and reports its faults.
 pub trait ListSource<S> {
+    ghost use Rattle.krb_record.specs.Labels.{Label};
     ghost use Rattle.krb_run.specs.declared.run.RunFault.{RunFault};
 
     /// The name of a source.
     ghost called: { S → List ℕ };
 
-    /// What the listing of a source does.
-    ghost Lists: { Self → S → Run };
+    /// What the listing of a source does, each of whose records has a label.
+    ghost Lists: { Self → S → Label → Run };
 
     /// Returns the name of a source that is printed.
     fn name<'a>(&self, source: &'a S) -> &'a [u8]
@@ -31,9 +30,14 @@ pub trait ListSource<S> {
     /// That a fault of a source was reported.
     ghost IsReported: { Self → S → RunFault → Type 0 };
 
-    /// Opens a source and lists it.
-    fn list<W: Write>(&self, source: &S, output: &mut Output<W>) -> Result<RunEnd, RunFault>
-        ensures { Lists self.now source.now (output_contents W.contents output.old) (output_contents W.contents output.new) result };
+    /// Opens a source and lists it, each record with a label.
+    fn list<W: Write>(
+        &self,
+        source: &S,
+        label: &Label<'_>,
+        writer: &mut W,
+    ) -> Result<RunEnd, RunFault>
+        ensures { Lists self.now source.now label.now (W.contents writer.old) (W.contents writer.new) result };
 
     /// Reports a fault by which the listing of a source ended.
     fn report(&self, source: &S, fault: &RunFault)
@@ -83,64 +87,49 @@ fn names_of(naming: Naming, form: Form, sources: usize) -> Named
     }
 }
 
-/// Returns the label of a source, if its lines have one.
-fn label_of(alloc: Global, form: Form, has_label: bool, name: &[u8]) -> Result<Label, AllocError>
-    ensures place { IfOk result (λ label. label.place ≡ place_of form has_label) }
-    ensures octets { IfOk result (λ label. label.octets ≡ label_of form has_label name.now) }
+/// Returns the label of a source, if its records have one.
+fn label_of<'a>(
+    alloc: Global,
+    form: Form,
+    has_label: bool,
+    name: &'a [u8],
+) -> Result<Label<'a>, AllocError>
+    ensures { IfOk result (λ label. label ≡ label_of form has_label name.now) }
 {
     if has_label {
-        Label::of_name(alloc, form, name)
+        Label::of_file(alloc, form, name)
     } else {
-        Ok(Label::none(alloc))
+        Ok(Label::none(form))
     }
 }
 
-/// Lists a source, with a label in each line if its lines have one, and returns the writer.
+/// Lists a source, with a label in each record if its records have one.
 fn list_labelled<S, L: ListSource<S>, W: Write>(
     alloc: Global,
     form: Form,
     lister: &L,
     source: &S,
     has_label: bool,
-    writer: W,
-) -> (W, Result<RunEnd, RunFault>)
-    ensures { ListsLabelled form has_label (L.called source.now) (L.Lists lister.now source.now) (W.contents writer) (W.contents result.0) result.1 }
+    writer: &mut W,
+) -> Result<RunEnd, RunFault>
+    ensures { ListsLabelled form has_label (L.called source.now) (L.Lists lister.now source.now) (W.contents writer.old) (W.contents writer.new) result }
 {
     match label_of(alloc, form, has_label, lister.name(source)) {
-        Ok(label) => list_through(alloc, lister, source, label, writer),
-        Err(_) => (writer, Err(RunFault::Memory)),
+        Ok(label) => lister.list(source, &label, writer),
+        Err(_) => Err(RunFault::Memory),
     }
 }
 
-/// Lists a source, with a label in each line, and returns the writer.
-fn list_through<S, L: ListSource<S>, W: Write>(
-    alloc: Global,
-    lister: &L,
-    source: &S,
-    label: Label,
-    writer: W,
-) -> (W, Result<RunEnd, RunFault>)
-    ensures { ListsThrough label.place label.octets (L.Lists lister.now source.now) (W.contents writer) (W.contents result.0) result.1 }
-{
-    let mut output = Output::new(alloc, writer, label);
-    let outcome = lister.list(source, &mut output);
-    let (writer, sent) = output.finish();
-    match sent {
-        Ok(()) => (writer, outcome),
-        Err(error) => (writer, Err(RunFault::Write(error))),
-    }
-}
-
-/// Lists a source, after a line with its name if it has one, and returns the writer.
+/// Lists a source, after a line with its name if it has one.
 fn list_named<S, L: ListSource<S>, W: Write>(
     alloc: Global,
     form: Form,
     lister: &L,
     source: &S,
     how: Named,
-    writer: W,
-) -> (W, Result<RunEnd, RunFault>)
-    ensures { ListsOne form (named_of how) (L.called source.now) (L.Lists lister.now source.now) (W.contents writer) (W.contents result.0) result.1 }
+    writer: &mut W,
+) -> Result<RunEnd, RunFault>
+    ensures { ListsOne form (named_of how) (L.called source.now) (L.Lists lister.now source.now) (W.contents writer.old) (W.contents writer.new) result }
 {
     if how.has_record {
         list_after_name(alloc, form, lister, source, how.has_label, writer)
@@ -149,41 +138,39 @@ fn list_named<S, L: ListSource<S>, W: Write>(
     }
 }
 
-/// Lists a source, after a line with its name, and returns the writer.
+/// Lists a source, after a line with its name.
 fn list_after_name<S, L: ListSource<S>, W: Write>(
     alloc: Global,
     form: Form,
     lister: &L,
     source: &S,
     has_label: bool,
-    writer: W,
-) -> (W, Result<RunEnd, RunFault>)
-    ensures { ListsAfter form true (L.called source.now) (ListsLabelled form has_label (L.called source.now) (L.Lists lister.now source.now)) (W.contents writer) (W.contents result.0) result.1 }
+    writer: &mut W,
+) -> Result<RunEnd, RunFault>
+    ensures { ListsAfter form true (L.called source.now) (ListsLabelled form has_label (L.called source.now) (L.Lists lister.now source.now)) (W.contents writer.old) (W.contents writer.new) result }
 {
-    let mut writer = writer;
-    match write_name(alloc, form, lister.name(source), &mut writer) {
+    match write_name(alloc, form, lister.name(source), writer) {
         Ok(()) => list_labelled(alloc, form, lister, source, has_label, writer),
-        Err(fault) => (writer, Err(fault)),
+        Err(fault) => Err(fault),
     }
 }
 
-/// Lists a source, reports the fault by which its listing ends, if there is one, and returns the
-/// writer.
+/// Lists a source, and reports the fault by which its listing ends, if there is one.
 fn list_one<S, L: ListSource<S>, W: Write>(
     alloc: Global,
     form: Form,
     lister: &L,
     source: &S,
     how: Named,
-    writer: W,
-) -> (W, Result<RunEnd, RunFault>)
-    ensures { Reports (L.IsReported lister.now source.now) (ListsOne form (named_of how) (L.called source.now) (L.Lists lister.now source.now)) (W.contents writer) (W.contents result.0) result.1 }
+    writer: &mut W,
+) -> Result<RunEnd, RunFault>
+    ensures { Reports (L.IsReported lister.now source.now) (ListsOne form (named_of how) (L.called source.now) (L.Lists lister.now source.now)) (W.contents writer.old) (W.contents writer.new) result }
 {
-    let (writer, outcome) = list_named(alloc, form, lister, source, how, writer);
+    let outcome = list_named(alloc, form, lister, source, how, writer);
     if let Err(fault) = &outcome {
         lister.report(source, fault);
     }
-    (writer, outcome)
+    outcome
 }
 
 /// Returns whether no source is listed after one of this outcome.
@@ -208,8 +195,7 @@ fn run_each<S, L: ListSource<S>, W: Write>(
     let mut rest = sources;
     let mut writer = writer;
     'sources: while let Some((source, others)) = rest.split_first() {
-        let (after, outcome) = list_one(alloc, form, lister, source, how, writer);
-        writer = after;
+        let outcome = list_one(alloc, form, lister, source, how, &mut writer);
         greatest = greatest.max(status(&outcome));
         if ends_run(&outcome) {
             return (writer, greatest);

@@ -4,7 +4,7 @@ ghost use Rattle.std.specs.Prelude.{◌≡◌, ◌+◌, ◌^◌, ◌≤◌, leng
 ghost use Rattle.krb_run.specs.declared.transfer.ReaderState.TheVariants as reader;
 ghost use Rattle.krb_run.specs.Streams.{Rules, Listing, IsNew, AcceptsPiece, Feeds, Clears, MayFinish, Finishes, ListsBy, FailsBy, Reads, FailsToRead};
 
-use crate::run::{PIECE_OCTETS, RunFault};
+use crate::run::{RunFault, piece_buffer};
 use crate::transfer::{CountedReader, write_all};
 use std::alloc::Global;
 use std::io::{Read, Write};
@@ -93,7 +93,7 @@ pub fn list_all<L: ListStream, R: Read, W: Write>(
     ensures asks { counted.new.made ≤ 2 ^ 40 }
 {
     let mut lister = L::new(alloc, request);
-    let mut buffer = vec![in alloc; 0u8; PIECE_OCTETS]?;
+    let mut buffer = piece_buffer(alloc)?;
     'pieces: while feed_next(&mut lister, counted, buffer.as_mut_slice())? {
         write_all(writer, lister.text())?;
         lister.clear_text();

@@ -7,7 +7,7 @@ use krb_der::{Memory, Profile};
 use krb_file::FileFault;
 use krb_frame::Limit;
 use krb_packet::{Packet, Packets};
-use krb_record::{Extent, Form, TextBuffer};
+use krb_record::{Extent, Form, Label, TextBuffer};
 use std::alloc::Global;
 use std::test::Fail;
 
@@ -82,7 +82,8 @@ fn put_records(
 /// Appends the listing of a capture. Returns whether nothing is refused, lost or unread.
 fn put_listing(alloc: Global, octets: &[u8], text: &mut TextBuffer) -> Result<bool, Fail> {
     let mut packets = Packets::new(octets);
-    let mut capture = Capture::new(alloc, Form::Lines, Profile::Lenient, Limit::DEFAULT, 88);
+    let label = Label::none(Form::Lines);
+    let mut capture = Capture::new(alloc, &label, Profile::Lenient, Limit::DEFAULT, 88);
     let clean = put_records(alloc, &mut packets, &mut capture, text);
     drop(capture);
     drop(packets);
@@ -122,7 +123,8 @@ const TOO_MUCH: usize = FULL + 2 * 108;
 
 /// Returns how many octets of text each step over the packet leaves.
 fn step_sizes(alloc: Global, packet: &Packet, text: &mut TextBuffer) -> Result<Vec<usize>, Memory> {
-    let mut capture = Capture::new(alloc, Form::Lines, Profile::Lenient, Limit::DEFAULT, 88);
+    let label = Label::none(Form::Lines);
+    let mut capture = Capture::new(alloc, &label, Profile::Lenient, Limit::DEFAULT, 88);
     let mut sizes = Vec::new(alloc);
     let mut rest = capture.take(packet, text)?;
     for _ in 0..8 {

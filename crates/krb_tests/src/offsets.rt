@@ -3,6 +3,7 @@
 
 use crate::examples::octets_of;
 use krb_capture_run::run_capture;
+use krb_record::Label;
 use krb_run::{RunEnd, RunFault};
 use krb_tool::{Form, Limit, Profile, run_stream_in};
 use std::alloc::Global;
@@ -65,13 +66,14 @@ fn list(
     listed: &mut Vec<u8>,
 ) -> Result<RunEnd, RunFault> {
     let mut octets = octets;
-    let (form, profile, limit) = (Form::NamedLines, Profile::Lenient, Limit::DEFAULT);
+    let label = &Label::none(Form::NamedLines);
+    let (profile, limit) = (Profile::Lenient, Limit::DEFAULT);
     match source {
-        Source::Stream => run_stream_in(alloc, form, profile, false, &mut octets, listed, limit),
-        Source::GoingOn => run_stream_in(alloc, form, profile, true, &mut octets, listed, limit),
+        Source::Stream => run_stream_in(alloc, label, profile, false, &mut octets, listed, limit),
+        Source::GoingOn => run_stream_in(alloc, label, profile, true, &mut octets, listed, limit),
         Source::Capture => run_capture(
             alloc,
-            form,
+            label,
             Profile::Lenient,
             &mut octets,
             listed,

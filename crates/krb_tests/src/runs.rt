@@ -7,6 +7,7 @@ use krb_convert::{
     DecodeEnd, EncodeEnd, run_decode, run_decode_unframed, run_encode, run_encode_unframed,
 };
 use krb_file_run::{run_ccache, run_keytab};
+use krb_record::Label;
 use krb_run::{RunEnd, RunFault, status};
 use krb_tool::{Form, Limit, Profile, run_lines_in, run_message, run_stream};
 use std::alloc::{AllocError, Global};
@@ -52,7 +53,13 @@ fn list<R: Read, W: Write>(
     match run {
         Run::Stream => run_stream(alloc, reader, writer, Limit::DEFAULT),
         Run::Message => run_message(alloc, reader, writer),
-        Run::Lines => run_lines_in(alloc, Form::Lines, Profile::Lenient, reader, writer),
+        Run::Lines => run_lines_in(
+            alloc,
+            &Label::none(Form::Lines),
+            Profile::Lenient,
+            reader,
+            writer,
+        ),
         Run::Keytab => run_keytab(alloc, reader, writer),
         Run::Ccache => run_ccache(alloc, reader, writer, None),
         Run::Decode => decoded(run_decode(alloc, Profile::Lenient, reader, writer, Limit::DEFAULT)),

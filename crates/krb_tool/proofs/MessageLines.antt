@@ -4,12 +4,12 @@ use Rattle.std.specs.Prelude.{nat_lt, not, ◌&&◌, ◌==◌}
 use Rattle.std.proofs.lemmas.Bool.Decides.{nat_tests}
 use Rattle.krb_der.specs.Octets.{when}
 use Rattle.krb_der.specs.declared.profile.Profile.{Profile}
-use Rattle.krb_record.specs.declared.form.Form.{Form}
+use Rattle.krb_record.specs.Labels.{Label, line_of}
 use Rattle.krb_run.specs.Conversions.{Converted, Converts, after_text}
 use Rattle.krb_run.specs.TextLines.{is_blank_line}
 use Rattle.krb_run.specs.Files.{FileListing}
 use Rattle.krb_tool.specs.MessageLines.{ListsLines, is_passed, lines_listed, next_line, with_line, with_record}
-use Rattle.krb_tool.specs.Messages.{Puts, input_limit, input_listing}
+use Rattle.krb_tool.specs.Messages.{OneRecord, input_limit, input_listing, listing_with}
 use Rattle.krb_tool.specs.declared.lines_run.LineLister.{LineLister}
 use Rattle.krb_tool.specs.declared.lines_run.LinesRequest.{LinesRequest}
 use Rattle.krb_tool.specs.declared.lines_run.Seen.{Seen}
@@ -59,6 +59,7 @@ decides line = decides_by line (nat_lt input_limit (length line)) refl
 with_record-line : (end : RunEnd) (seen : Seen) (size : ℕ) → with_record end (with_line seen size) ≡ with_line (with_record end seen) size
 with_record-line run.Clean seen size = refl
 with_record-line run.Refused seen size = refl
+with_record-line run.RefusedAtOnce seen size = refl
 
 -- a record more is counted, and nothing else
 pub record CountsRecord (old new : Seen) : Type 0 where
@@ -69,10 +70,11 @@ pub record CountsRecord (old new : Seen) : Type 0 where
 pub counts_record : (end : RunEnd) (seen : Seen) → CountsRecord seen (with_record end seen)
 counts_record run.Clean seen = record { lines = refl; octets = refl; few = omega arith }
 counts_record run.Refused seen = record { lines = refl; octets = refl; few = omega arith }
+counts_record run.RefusedAtOnce seen = record { lines = refl; octets = refl; few = omega arith }
 
 -- a line more is counted
-pub with_line-is : (old new : Seen) (size : ℕ) → new.lines ≡ old.lines + 1 → new.octets ≡ old.octets + (size + 1) → new.messages ≡ old.messages → new.refused ≡ old.refused → new ≡ with_line old size
-with_line-is old new size lines octets messages refused = λ i. record { lines = lines i; octets = (octets ∙ more old.octets size) i; messages = messages i; refused = refused i }
+pub with_line-is : (old new : Seen) (size : ℕ) → new.lines ≡ old.lines + 1 → new.octets ≡ old.octets + (size + 1) → new.messages ≡ old.messages → new.refused ≡ old.refused → new.is_refused_at_once ≡ old.is_refused_at_once → new ≡ with_line old size
+with_line-is old new size lines octets messages refused at_once = λ i. record { lines = lines i; octets = (octets ∙ more old.octets size) i; messages = messages i; refused = refused i; is_refused_at_once = at_once i }
   where
     more : (all size : ℕ) → all + (size + 1) ≡ all + size + 1
     more all size = omega arith
@@ -80,15 +82,15 @@ with_line-is old new size lines octets messages refused = λ i. record { lines =
 -- a line that is passed over
 passed-step : (request : LinesRequest) (seen : Seen) (line : List ℕ) (more : List (List ℕ)) → is_passed line ≡ true → records_from request seen (line ∷ more) ≡ after_text [] (records_from request (with_line seen (length line)) more)
 passed-step request seen line more e =
-    ap (λ b. when b (λ _. records_from request (with_line seen (length line)) more) (λ _. put_and request seen line more (input_listing (next_line request.form request.profile seen) line))) e
+    ap (λ b. when b (λ _. records_from request (with_line seen (length line)) more) (λ _. put_and request seen line more (listing_with request.label.now (input_listing (next_line request.label.now request.profile seen) line)))) e
   where
     put_and : LinesRequest → Seen → List ℕ → List (List ℕ) → FileListing → Converted RunEnd
     put_and request seen line more listing = after_text listing.text (records_from request (with_record listing.end (with_line seen (length line))) more)
 
 -- one that has a record
-put-step : (request : LinesRequest) (seen : Seen) (line : List ℕ) (more : List (List ℕ)) (added : List ℕ) (end : RunEnd) → is_passed line ≡ false → input_listing (next_line request.form request.profile seen) line ≡ record { text = added; end = end } → records_from request seen (line ∷ more) ≡ after_text added (records_from request (with_line (with_record end seen) (length line)) more)
+put-step : (request : LinesRequest) (seen : Seen) (line : List ℕ) (more : List (List ℕ)) (added : List ℕ) (end : RunEnd) → is_passed line ≡ false → listing_with request.label.now (input_listing (next_line request.label.now request.profile seen) line) ≡ record { text = added; end = end } → records_from request seen (line ∷ more) ≡ after_text added (records_from request (with_line (with_record end seen) (length line)) more)
 put-step request seen line more added end e is =
-    ap (λ b. when b (λ _. records_from request (with_line seen (length line)) more) (λ _. after_text (input_listing (next_line request.form request.profile seen) line).text (records_from request (with_record (input_listing (next_line request.form request.profile seen) line).end (with_line seen (length line))) more))) e
+    ap (λ b. when b (λ _. records_from request (with_line seen (length line)) more) (λ _. after_text (listing_with request.label.now (input_listing (next_line request.label.now request.profile seen) line)).text (records_from request (with_record (input_listing (next_line request.label.now request.profile seen) line).end (with_line seen (length line))) more))) e
     ∙ ap (λ listing. after_text listing.text (records_from request (with_record listing.end (with_line seen (length line))) more)) is
     ∙ ap (λ s. after_text added (records_from request s more)) (with_record-line end seen (length line))
 
@@ -107,13 +109,17 @@ PutsLine-passed lister passed = record {
 }
 
 -- its record was added
-pub PutsLine-made : (old new : LineLister) (octets : List ℕ) (ended : RunEnd) → is_passed old.line.items ≡ false → octets ≡ old.line.items → Puts old.text new.text (input_listing (next_line old.request.form old.request.profile old.seen) octets) ended → new.seen ≡ with_record ended old.seen → new.line ≡ old.line → new.size ≡ old.size → new.request ≡ old.request → PutsLine old new
-PutsLine-made old new octets ended passed same put seen line size request =
-    let input : MessageInput = next_line old.request.form old.request.profile old.seen in
+pub PutsLine-made : (old new : LineLister) (octets : List ℕ) (ended : RunEnd) → is_passed old.line.items ≡ false → octets ≡ old.line.items
+    → new.text ≡ old.text ++ line_of old.request.label.now (input_listing (next_line old.request.label.now old.request.profile old.seen) octets).shown
+    → ended ≡ (input_listing (next_line old.request.label.now old.request.profile old.seen) octets).end
+    → new.seen ≡ with_record ended old.seen → new.line ≡ old.line → new.size ≡ old.size → new.request ≡ old.request → PutsLine old new
+PutsLine-made old new octets ended passed same text end seen line size request =
+    let label : Label = old.request.label.now in
+    let input : MessageInput = next_line label old.request.profile old.seen in
     let counted = counts_record ended old.seen in
     record {
-      added = (input_listing input octets).text;
-      text = put.0;
+      added = line_of label (input_listing input octets).shown;
+      text = text;
       line = line;
       size = size;
       request = request;
@@ -121,10 +127,10 @@ PutsLine-made old new octets ended passed same put seen line size request =
       lines = ap (λ s. s.lines) seen ∙ counted.lines;
       few = omega (arith, ap (λ s. s.messages) seen, ap (λ s. s.refused) seen, counted.few);
       step = λ whole more kept.
-          put-step old.request old.seen whole more (input_listing input octets).text ended
+          put-step old.request old.seen whole more (line_of label (input_listing input octets).shown) ended
           (sym ((decides whole).passed) ∙ ap is_passed (sym kept) ∙ passed)
-          (sym ((decides whole).listing input) ∙ ap (input_listing input) (sym kept ∙ sym same) ∙ (λ i. record { text = (input_listing input octets).text; end = sym put.1 i }))
-          ∙ ap (λ s. after_text (input_listing input octets).text (records_from old.request (with_line s (length whole)) more)) (sym seen);
+          (ap (listing_with label) (sym ((decides whole).listing input) ∙ ap (input_listing input) (sym kept ∙ sym same)) ∙ (λ i. record { text = line_of label (input_listing input octets).shown; end = sym end i }))
+          ∙ ap (λ s. after_text (line_of label (input_listing input octets).shown) (records_from old.request (with_line s (length whole)) more)) (sym seen);
     }
 
 -- it has ended
@@ -202,8 +208,8 @@ has-line lister empty is = by empty (sym is)
 abbrev pub NoneEnds : List ℕ → Type 0
 NoneEnds text = Unit {0} × Unit {0}
 
-pub lists-lines : (form : Form) (profile : Profile) (had left written_before written_after : Option (List ℕ)) (ended : RunEnd) → Converts (lines_listed form profile) NoneEnds had left written_before written_after ended → ListsLines form profile had left written_before written_after ended
-lists-lines form profile had left written_before written_after ended c = record {
+pub lists-lines : (label : Label) (profile : Profile) (had left written_before written_after : Option (List ℕ)) (ended : RunEnd) → Converts (lines_listed label profile) NoneEnds had left written_before written_after ended → ListsLines label profile had left written_before written_after ended
+lists-lines label profile had left written_before written_after ended c = record {
   read = c.read;
   taken = c.taken;
   added = c.added;

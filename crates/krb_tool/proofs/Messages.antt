@@ -17,12 +17,11 @@ use Rattle.krb_judge.specs.Laws.{RefusalsAreInside}
 use Rattle.krb_judge.specs.Parses.{AreOfTicket, refusal_of, ticket_refusal}
 use Rattle.krb_judge.specs.Paths.{ticket_path}
 use Rattle.krb_judge.proofs.Slices.{IsWholeSlice, whole_message, whole_not_refused}
-use Rattle.krb_record.specs.Forms.{record_line}
 use Rattle.krb_record.specs.Origins.{message_origin}
 use Rattle.krb_text.specs.Messages.{PutsMessage, message_line_from, ticket_line}
 use Rattle.krb_record.specs.Refusals.{path_in, extent_in, spelling_in, refusal_record}
-use Rattle.krb_record.specs.Values.{Field, with_origin}
-use Rattle.krb_record.specs.declared.form.Form.{Form}
+use Rattle.krb_record.specs.Labels.{Label}
+use Rattle.krb_record.specs.Values.{Field}
 use Rattle.krb_record.specs.declared.input.InputFault.TheVariants as faults
 use Rattle.krb_source.specs.declared.spelling.Spelling.{Spelling}
 use Rattle.krb_source.specs.declared.layer.Layer.{Layer}
@@ -31,7 +30,7 @@ use Rattle.krb_token.specs.Tokens.{opened}
 use Rattle.krb_token.specs.declared.opening.Found.{Found as FoundOfCode}
 use Rattle.krb_token.specs.declared.opening.Opened.{Opened as OpenedOfCode}
 use Rattle.krb_run.specs.Files.{FileListing}
-use Rattle.krb_tool.specs.Messages.{IsMessageListing, Layered, Puts, extent_of, found_listing, input_limit, input_listing, input_octets_listing, judged_listing, message_listing, opened_listing, refused_listing, refused_with, spelled_in, spelled_listing, ticket_listing, ticket_of_der, unread_listing, whole_input}
+use Rattle.krb_tool.specs.Messages.{IsMessageListing, Layered, Puts, extent_of, found_listing, input_limit, input_listing, input_octets_listing, judged_listing, listing_with, message_listing, opened_listing, refused_listing, refused_with, spelled_in, spelled_listing, ticket_listing, ticket_of_der, unread_listing, whole_input}
 use Rattle.krb_tool.specs.Paths.{refused_path, ticket_refused_path}
 use Rattle.krb_run.proofs.FirstOctets.{take-few}
 use Rattle.krb_tool.specs.declared.message_input.MessageInput.{MessageInput}
@@ -46,8 +45,8 @@ not_refused (Some r) never = absurd (never r refl)
 -- a record of a refusal shows a path as the form does
 same-path : (input : MessageInput) (layered : Layered) (refusal : Refusal) (path other : Option (List ℕ)) → path_in input.form path ≡ path_in input.form other → refused_listing input layered refusal path ≡ refused_listing input layered refusal other
 same-path input layered refusal path other same =
-    ap (λ (fields : List Field). refused_with (record_line input.form (with_origin (message_origin input.line layered.layers)
-    (refusal_record refusal (fields ++ extent_in input.form (extent_of input layered.all) ++ spelling_in input.form layered.spelling))))) same
+    ap (λ (fields : List Field). refused_with (message_origin input.line layered.layers)
+    (refusal_record refusal (fields ++ extent_in input.form (extent_of input layered.all) ++ spelling_in input.form layered.spelling))) same
 
 pub refused-message : (input : MessageInput) (layered : Layered) (place : ℕ) (octets : List ℕ) (refusal : Refusal) (path : Option (List ℕ)) → refusal_of input.profile octets ≡ Some refusal → path_in input.form path ≡ path_in input.form (refused_path input.profile octets refusal)
     → refused_listing input layered (record { place = place + refusal.place; why = refusal.why }) path ≡ judged_listing input layered place octets (refusal_of input.profile octets)
@@ -57,9 +56,9 @@ refused-message input layered place octets refusal path is same =
 
 -- octets are a message, whose record was put
 pub puts-message : (input : MessageInput) (layered : Layered) (place : ℕ) (octets : List ℕ) (line : Option ℕ) (layers : List Layer) (old new : List ℕ) → line ≡ input.line → layers ≡ layered.layers → length octets < 2 ^ 31 → PutsMessage input.profile octets (message_line_from input.form (message_origin line layers)) old new true
-    → Puts old new (judged_listing input layered place octets (refusal_of input.profile octets)) run.Clean
+    → Puts input.form old new (judged_listing input layered place octets (refusal_of input.profile octets)) run.Clean
 puts-message input layered place octets line layers old new is_line is_layers short put =
-    subst (λ (found : Option Refusal). Puts old new (judged_listing input layered place octets found) run.Clean) (sym (whole_not_refused input.profile octets short put.0))
+    subst (λ (found : Option Refusal). Puts input.form old new (judged_listing input layered place octets found) run.Clean) (sym (whole_not_refused input.profile octets short put.0))
     (put.1 ∙ (λ i. old ++ message_line_from input.form (message_origin (is_line i) (is_layers i)) (message_of_der octets)), refl)
 
 -- and none, if nothing was put
@@ -83,9 +82,9 @@ refusal-within inside profile (x ∷ xs) refusal is =
 
 -- ---- a Ticket
 pub puts-ticket : (input : MessageInput) (layered : Layered) (t : Ticket) (line : Option ℕ) (layers : List Layer) (old new : List ℕ) → line ≡ input.line → layers ≡ layered.layers → ticket_refusal input.profile layered.all ≡ None → t ≡ ticket_of_der layered.all
-    → new ≡ old ++ ticket_line input.form (message_origin line layers) t → Puts old new (ticket_listing input layered (ticket_refusal input.profile layered.all)) run.Clean
+    → new ≡ old ++ ticket_line input.form (message_origin line layers) t → Puts input.form old new (ticket_listing input layered (ticket_refusal input.profile layered.all)) run.Clean
 puts-ticket input layered t line layers old new is_line is_layers none is put =
-    subst (λ (found : Option Refusal). Puts old new (ticket_listing input layered found) run.Clean) (sym none)
+    subst (λ (found : Option Refusal). Puts input.form old new (ticket_listing input layered found) run.Clean) (sym none)
     (put ∙ (λ i. old ++ ticket_line input.form (message_origin (is_line i) (is_layers i)) (is i)), refl)
 
 pub refused-ticket : (input : MessageInput) (layered : Layered) (refusal : Refusal) (path : Option (List ℕ)) → ticket_refusal input.profile layered.all ≡ Some refusal → path_in input.form path ≡ path_in input.form (ticket_refused_path input.profile layered.all refusal)
@@ -131,6 +130,6 @@ some_number (Some n) = n
 some_number None = 0
 
 -- the listing of too much input is that of its first octets
-pub cut-listed : (form : Form) (profile : Profile) (kept rest : List ℕ) (listing : FileListing) → Some 16777217 ≡ Some (length kept) → IsMessageListing form profile kept listing → IsMessageListing form profile (kept ++ rest) listing
+pub cut-listed : (label : Label) (profile : Profile) (kept rest : List ℕ) (listing : FileListing) → Some 16777217 ≡ Some (length kept) → IsMessageListing label profile kept listing → IsMessageListing label profile (kept ++ rest) listing
 unfolding message_listing
-cut-listed form profile kept rest listing e l = l ∙ sym (cut-long (whole_input form profile) kept rest (sym (ap some_number e)))
+cut-listed label profile kept rest listing e l = l ∙ ap (listing_with label) (sym (cut-long (whole_input label.form profile) kept rest (sym (ap some_number e))))

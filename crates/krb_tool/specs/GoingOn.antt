@@ -8,15 +8,15 @@ use Rattle.krb_msg.specs.declared.message.Message.{Message}
 use Rattle.krb_msg.specs.Grammar.{messages}
 use Rattle.krb_msg.specs.Views.{message_der}
 use Rattle.krb_frame.specs.GoingOn.{Entry, Contents, Fault, entries, entry_size}
-use Rattle.krb_record.specs.declared.form.Form.{Form}
-use Rattle.krb_text.specs.Messages.{message_line}
+use Rattle.krb_record.specs.Labels.{Label, line_of}
 use Rattle.krb_tool.specs.Paths.{frame_extent, frame_path}
-use Rattle.krb_record.specs.Streams.{refused_line, counted_end_line}
+use Rattle.krb_record.specs.Streams.{refused_record, counted_end_record}
+use Rattle.krb_record.specs.declared.extent.Extent.{Extent}
 use Rattle.krb_run.specs.declared.run.RunEnd.{RunEnd}
 use Rattle.krb_run.specs.declared.run.RunEnd.TheVariants as run
 use Rattle.krb_run.specs.declared.run.RunFault.{RunFault}
 use Rattle.krb_run.specs.declared.run.RunFault.TheVariants as fault
-use Rattle.krb_tool.specs.Listing.{Fails, Lists}
+use Rattle.krb_tool.specs.Listing.{Fails, Lists, message_line}
 use Rattle.krb_run.specs.Runs.{StopsInPiece, WritesPrefix}
 
 -- what is listed of a frame: its message, or what it is refused for, with its octets up to the refused one
@@ -45,22 +45,39 @@ abbrev pub octets_in : List Listed → ℕ
 octets_in [] = 0
 octets_in (listed ∷ others) = entry_size (entry_of listed) + octets_in others
 
+-- the line of a frame that is refused after n messages, and that of the end
+abbrev pub refused_line : Label → ℕ → ℕ → Why → Option (List ℕ) → Extent → List ℕ
+refused_line label messages place reason path extent = line_of label (refused_record label.form messages place reason path extent)
+
+abbrev pub counted_end_line : Label → ℕ → ℕ → List ℕ
+counted_end_line label messages refused = line_of label (counted_end_record messages refused)
+
 -- their lines, after n messages and so many octets: each refusal has the number of the messages before it, and where its frame begins
-abbrev pub lines_after : Form → Profile → ℕ → ℕ → List Listed → List ℕ
-lines_after form profile n offset [] = []
-lines_after form profile n offset (Whole message ∷ others) = message_line form message ++ lines_after form profile (n + 1) (offset + entry_size (entry_of (Whole message))) others
-lines_after form profile n offset (Faulty place reason prefix ∷ others) = refused_line form n place reason (frame_path profile prefix) (frame_extent offset prefix) ++ lines_after form profile n (offset + entry_size (entry_of (Faulty place reason prefix))) others
+abbrev pub lines_after : Label → Profile → ℕ → ℕ → List Listed → List ℕ
+lines_after label profile n offset [] = []
+lines_after label profile n offset (Whole message ∷ others) = message_line label message ++ lines_after label profile (n + 1) (offset + entry_size (entry_of (Whole message))) others
+lines_after label profile n offset (Faulty place reason prefix ∷ others) = refused_line label n place reason (frame_path profile prefix) (frame_extent offset prefix) ++ lines_after label profile n (offset + entry_size (entry_of (Faulty place reason prefix))) others
 
 -- The text is the listing of the stream: the line of each frame, in order, and then the line that counts them.
-pub record IsCountedListing (form : Form) (profile : Profile) (limit : ℕ) (stream text : List ℕ) : Type 0 where
+pub record IsCountedListing (label : Label) (profile : Profile) (limit : ℕ) (stream text : List ℕ) : Type 0 where
   pub found : List Listed
   pub in_frames : map entry_of found ≡ entries (messages profile) limit stream
-  pub lines : text ≡ lines_after form profile 0 0 found ++ counted_end_line form (messages_in found) (refused_in found)
+  pub lines : text ≡ lines_after label profile 0 0 found ++ counted_end_line label (messages_in found) (refused_in found)
+
+-- the first of them is refused
+abbrev pub is_refused_at_once : List Listed → Bool
+is_refused_at_once [] = false
+is_refused_at_once (Whole message ∷ others) = false
+is_refused_at_once (Faulty place reason prefix ∷ others) = true
+
+abbrev pub refused_end : (at_once : Bool) → RunEnd
+refused_end true = run.RefusedAtOnce
+refused_end false = run.Refused
 
 -- a run is clean if nothing is refused
-abbrev pub counted_run_end : ℕ → RunEnd
-counted_run_end zero = run.Clean
-counted_run_end (suc refused) = run.Refused
+abbrev pub counted_run_end : (at_once : Bool) → (refused : ℕ) → RunEnd
+counted_run_end at_once zero = run.Clean
+counted_run_end at_once (suc refused) = refused_end at_once
 
 -- the last frame is one whose length is not known
 pub record EndsUnknown (found : List Entry) : Type 0 where
@@ -69,35 +86,35 @@ pub record EndsUnknown (found : List Entry) : Type 0 where
   pub parts : found ≡ before ++ Fault 3 HighBit length_octets ∷ []
 
 -- A run read octets that its reader had, and appended their listing to what is written. It left none, unless the length of the last frame is not known.
-pub record ListsAll (form : Form) (profile : Profile) (limit : ℕ) (had left written_before written_after : Option (List ℕ)) (ended : RunEnd) : Type 0 where
+pub record ListsAll (label : Label) (profile : Profile) (limit : ℕ) (had left written_before written_after : Option (List ℕ)) (ended : RunEnd) : Type 0 where
   pub read : List ℕ
   pub written : List ℕ
   pub taken : Consumes had left read
   pub added : Appends written_before written_after written
-  pub listed : IsCountedListing form profile limit read written
-  pub ended_so : ended ≡ counted_run_end (refused_in listed.found)
+  pub listed : IsCountedListing label profile limit read written
+  pub ended_so : ended ≡ counted_run_end (is_refused_at_once listed.found) (refused_in listed.found)
   pub all_read : IsAtEnd left ⊎ EndsUnknown (entries (messages profile) limit read)
   -- no more than octets whose last frame has a known length, and then one piece
   pub stops : StopsInPiece (λ prefix. EndsUnknown (entries (messages profile) limit prefix) → ⊥) read
 
 -- The text is the lines of the first frames of the stream, in order.
-pub record AreCountedLines (form : Form) (profile : Profile) (limit : ℕ) (stream text : List ℕ) : Type 0 where
+pub record AreCountedLines (label : Label) (profile : Profile) (limit : ℕ) (stream text : List ℕ) : Type 0 where
   pub found : List Listed
   pub others : List Entry
   pub in_frames : entries (messages profile) limit stream ≡ map entry_of found ++ others
-  pub lines : text ≡ lines_after form profile 0 0 found
+  pub lines : text ≡ lines_after label profile 0 0 found
 
 -- If a run fails by a write, a prefix of the listing of what was read is written. If a read fails or memory runs out, it is a prefix of the lines of its frames, and no last line.
-abbrev pub FailsAll : Form → Profile → ℕ → Option (List ℕ) → Option (List ℕ) → Option (List ℕ) → Option (List ℕ) → RunFault → Type 0
-FailsAll form profile limit had left written_before written_after (fault.Write error) = WritesPrefix (IsCountedListing form profile limit) had left written_before written_after
-FailsAll form profile limit had left written_before written_after (fault.Read error) = WritesPrefix (AreCountedLines form profile limit) had left written_before written_after
-FailsAll form profile limit had left written_before written_after fault.Memory = WritesPrefix (AreCountedLines form profile limit) had left written_before written_after
+abbrev pub FailsAll : Label → Profile → ℕ → Option (List ℕ) → Option (List ℕ) → Option (List ℕ) → Option (List ℕ) → RunFault → Type 0
+FailsAll label profile limit had left written_before written_after (fault.Write error) = WritesPrefix (IsCountedListing label profile limit) had left written_before written_after
+FailsAll label profile limit had left written_before written_after (fault.Read error) = WritesPrefix (AreCountedLines label profile limit) had left written_before written_after
+FailsAll label profile limit had left written_before written_after fault.Memory = WritesPrefix (AreCountedLines label profile limit) had left written_before written_after
 
 -- what a run does that goes on after refusals if it is asked to
-abbrev pub ListsStream : (keep_going : Bool) → Form → Profile → (limit : ℕ) → (had left written_before written_after : Option (List ℕ)) → RunEnd → Type 0
-ListsStream true form profile limit had left written_before written_after ended = ListsAll form profile limit had left written_before written_after ended
-ListsStream false form profile limit had left written_before written_after ended = Lists form profile limit had left written_before written_after ended
+abbrev pub ListsStream : (keep_going : Bool) → Label → Profile → (limit : ℕ) → (had left written_before written_after : Option (List ℕ)) → RunEnd → Type 0
+ListsStream true label profile limit had left written_before written_after ended = ListsAll label profile limit had left written_before written_after ended
+ListsStream false label profile limit had left written_before written_after ended = Lists label profile limit had left written_before written_after ended
 
-abbrev pub FailsStream : (keep_going : Bool) → Form → Profile → (limit : ℕ) → (had left written_before written_after : Option (List ℕ)) → RunFault → Type 0
-FailsStream true form profile limit had left written_before written_after fault = FailsAll form profile limit had left written_before written_after fault
-FailsStream false form profile limit had left written_before written_after fault = Fails form profile limit had left written_before written_after fault
+abbrev pub FailsStream : (keep_going : Bool) → Label → Profile → (limit : ℕ) → (had left written_before written_after : Option (List ℕ)) → RunFault → Type 0
+FailsStream true label profile limit had left written_before written_after fault = FailsAll label profile limit had left written_before written_after fault
+FailsStream false label profile limit had left written_before written_after fault = Fails label profile limit had left written_before written_after fault

@@ -1,15 +1,16 @@
 //! A run over messages that the lines of a text spell, one in each line.
 
 ghost use Rattle.std.specs.Prelude.{◌≡◌, ◌+◌, ◌<◌, ◌^◌, IfOk, IfErr, OnOk, OnErr};
-ghost use Rattle.krb_tool.specs.MessageLines.{ListsLines, FailsLines, end_of, is_passed};
+ghost use Rattle.krb_tool.specs.MessageLines.{ListsLines, FailsLines, is_passed};
 ghost use Rattle.krb_run.specs.declared.run.RunFault.TheVariants as fault;
 ghost use Rattle.krb_run.specs.LineReaders.{line_rules, reader_kind};
 ghost use Rattle.krb_tool.specs.inner.MessageLines.{PutsLine, message_lines};
 ghost use Rattle.krb_run.specs.Pieces.{listing_of};
 
+use crate::listing::counted_end;
 use crate::message_input::{MOST_INPUT, MessageInput};
 use krb_der::Profile;
-use krb_record::{Form, TextBuffer, put_counted_stream_end};
+use krb_record::{Label, TextBuffer, put_counted_stream_end};
 use krb_run::{
     CountedReader, ListStream, ReadLines, RunEnd, RunFault, end_lines, feed_lines, is_blank_line,
     list_all,
@@ -25,12 +26,14 @@ pub(crate) struct Seen {
     octets: u64,
     messages: u64,
     refused: u64,
+    /// Whether the first record is that of a refusal.
+    is_refused_at_once: bool,
 }
 
-/// What a listing of lines is asked for: the form of the records, and the profile of the messages.
+/// What a listing of lines is asked for: the label of the records, and the profile of the messages.
 #[derive(Clone, Copy, Drop)]
-pub(crate) struct LinesRequest {
-    form: Form,
+pub(crate) struct LinesRequest<'a> {
+    label: &'a Label<'a>,
     profile: Profile,
 }
 
@@ -38,16 +41,16 @@ pub(crate) struct LinesRequest {
 /// not ended, as far as they decide its record, and how many that line has, what was seen of the
 /// lines before it, and the records that are not written yet.
 #[derive(Drop)]
-pub(crate) struct LineLister {
+pub(crate) struct LineLister<'a> {
     alloc: Global,
-    request: LinesRequest,
+    request: LinesRequest<'a>,
     line: Vec<u8>,
     size: u64,
     seen: Seen,
     text: TextBuffer,
 }
 
-impl LineLister {
+impl LineLister<'_> {
     /// Returns whether the line is passed over.
     fn is_passed(&self) -> bool
         ensures { result ≡ is_passed self.now.line.items }
@@ -66,20 +69,27 @@ impl LineLister {
             return Ok(());
         }
         let input = MessageInput {
-            form: self.request.form,
+            form: self.request.label.form(),
             profile: self.request.profile,
             line: Some(self.seen.lines + 1),
             at: self.seen.octets,
         };
-        match input.put(self.alloc, &mut self.text, self.line.as_slice())? {
+        self.request.label.begin(&mut self.text)?;
+        let ended = input.put(self.alloc, &mut self.text, self.line.as_slice())?;
+        self.request.label.end(&mut self.text)?;
+        match ended {
             RunEnd::Clean => self.seen.messages += 1,
-            RunEnd::Refused => self.seen.refused += 1,
+            RunEnd::Refused | RunEnd::RefusedAtOnce => {
+                self.seen.is_refused_at_once |= (self.seen.messages == 0)
+                    & (self.seen.refused == 0);
+                self.seen.refused += 1;
+            }
         }
         Ok(())
     }
 }
 
-impl ReadLines for LineLister {
+impl ReadLines for LineLister<'_> {
     ghost kind = { message_lines };
 
     fn add(&mut self, octets: &[u8]) -> Result<bool, RunFault> {
@@ -104,19 +114,8 @@ impl ReadLines for LineLister {
     }
 }
 
-/// Returns how a run ends of whose lines so many are refused.
-fn end_of(refused: u64) -> RunEnd
-    ensures { result ≡ end_of refused }
-{
-    if refused == 0 {
-        RunEnd::Clean
-    } else {
-        RunEnd::Refused
-    }
-}
-
-impl ListStream for LineLister {
-    type Request = LinesRequest;
+impl<'a> ListStream for LineLister<'a> {
+    type Request = LinesRequest<'a>;
 
     type End = RunEnd;
 
@@ -124,7 +123,7 @@ impl ListStream for LineLister {
 
     ghost listing = { listing_of (reader_kind message_lines) };
 
-    fn new(alloc: Global, request: LinesRequest) -> LineLister {
+    fn new(alloc: Global, request: LinesRequest<'a>) -> LineLister<'a> {
         LineLister {
             alloc,
             request,
@@ -135,6 +134,7 @@ impl ListStream for LineLister {
                 octets: 0,
                 messages: 0,
                 refused: 0,
+                is_refused_at_once: false,
             },
             text: TextBuffer::new(alloc),
         }
@@ -157,16 +157,20 @@ impl ListStream for LineLister {
         let Seen {
             messages,
             refused,
+            is_refused_at_once,
             ..
         } = self.seen;
-        put_counted_stream_end(&mut self.text, self.request.form, messages, refused)?;
-        Ok(end_of(refused))
+        let label = self.request.label;
+        label.begin(&mut self.text)?;
+        put_counted_stream_end(&mut self.text, label.form(), messages, refused)?;
+        label.end(&mut self.text)?;
+        Ok(counted_end(is_refused_at_once, refused))
     }
 }
 
-/// Lists the messages of a profile, in a form, that the lines of a text spell, one in each line, as
+/// Lists the messages of a profile that the lines of a text spell, one in each line, as
 /// [`run_message_in`](crate::run_message_in) lists one, but that a line is text, and no dump: writes
-/// a record of each line, with its number, from 1, and then the record of the end, with how many
+/// a record of each line, with its number, from 1, and with a label, and then the record of the end, with how many
 /// lines spell a message or a Ticket and how many are refused. A line is what comes before a line
 /// feed, and the rest if it is not empty; a line of spaces, tabs and CR alone is passed over, and
 /// one of more than 16777216 octets is `refused length`. The reader is asked at most 2^40 times, for
@@ -175,15 +179,15 @@ impl ListStream for LineLister {
 /// or the first of them, and no last one. Memory is allocated for the greatest line alone.
 pub fn run_lines_in<R: Read, W: Write>(
     alloc: Global,
-    form: Form,
+    label: &Label<'_>,
     profile: Profile,
     reader: &mut R,
     writer: &mut W,
 ) -> Result<RunEnd, RunFault>
-    ensures listed { IfOk result (ListsLines form profile (R.remaining reader.old) (R.remaining reader.new) (W.contents writer.old) (W.contents writer.new)) }
-    ensures fault { OnErr result (FailsLines form profile (R.remaining reader.old) (R.remaining reader.new) (W.contents writer.old) (W.contents writer.new)) }
+    ensures listed { IfOk result (ListsLines label.now profile (R.remaining reader.old) (R.remaining reader.new) (W.contents writer.old) (W.contents writer.new)) }
+    ensures fault { OnErr result (FailsLines label.now profile (R.remaining reader.old) (R.remaining reader.new) (W.contents writer.old) (W.contents writer.new)) }
 {
     let mut counted = CountedReader::new(reader);
-    let request = LinesRequest { form, profile };
-    list_all::<LineLister, _, _>(alloc, request, &mut counted, writer)
+    let request = LinesRequest { label, profile };
+    list_all::<LineLister<'_>, _, _>(alloc, request, &mut counted, writer)
 }

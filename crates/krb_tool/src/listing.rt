@@ -11,7 +11,7 @@ ghost use Rattle.krb_tool.specs.inner.StreamLines.{AddsRefused, ListsEntry, Puts
 use crate::fault_path::{frame_extent, frame_path};
 use krb_der::{Memory, Profile, Refusal};
 use krb_frame::{Decoder, Delivered, Limit, Receiver, SkippingDecoder};
-use krb_record::{Form, TextBuffer, put_counted_stream_end, put_stream_end, put_stream_refusal};
+use krb_record::{Label, TextBuffer, put_counted_stream_end, put_stream_end, put_stream_refusal};
 use krb_run::{ListStream, RunEnd, RunFault};
 use krb_text::put_message_in;
 use std::alloc::Global;
@@ -19,11 +19,11 @@ use std::alloc::Global;
 /// The number of octets of a frame's length.
 const LENGTH_OCTETS: u64 = 4;
 
-/// What a listing is asked for: its form, the profile of the messages, the greatest length of a
-/// frame, and whether it goes on after refusals.
+/// What a listing is asked for: the label of its records, the profile of the messages, the greatest
+/// length of a frame, and whether it goes on after refusals.
 #[derive(Drop)]
-pub(crate) struct Request {
-    pub form: Form,
+pub(crate) struct Request<'a> {
+    pub label: &'a Label<'a>,
     pub profile: Profile,
     pub limit: Limit,
     pub keep_going: bool,
@@ -41,16 +41,18 @@ pub fn start_stream(alloc: Global, limit: Limit, profile: Profile) -> SkippingDe
 /// asked for, the numbers of messages and of refused frames so far, and where the current frame
 /// begins: the octets of the frames before it.
 #[derive(Drop)]
-pub(crate) struct StreamLines {
+pub(crate) struct StreamLines<'a> {
     alloc: Global,
-    request: Request,
+    request: Request<'a>,
     text: TextBuffer,
     messages: u64,
     refused: u64,
     offset: u64,
+    /// Whether the first frame is refused.
+    is_refused_at_once: bool,
 }
 
-impl StreamLines {
+impl StreamLines<'_> {
     /// Adds the line of the frame that a decoder refused or has a part of, as a message by a
     /// profile, and counts it.
     fn put_refusal(
@@ -61,9 +63,11 @@ impl StreamLines {
     ) -> Result<(), Memory>
         ensures { OnOk result (AddsRefused profile refusal decoder.now.octets self.old self.new) }
     {
-        let form = self.request.form;
+        let label = self.request.label;
+        let form = label.form();
         let path = frame_path(self.alloc, form, profile, decoder)?;
         let extent = frame_extent(self.offset, decoder);
+        label.begin(&mut self.text)?;
         put_stream_refusal(
             &mut self.text,
             form,
@@ -72,6 +76,8 @@ impl StreamLines {
             path.as_deref(),
             extent,
         )?;
+        label.end(&mut self.text)?;
+        self.is_refused_at_once |= (self.messages == 0) & (self.refused == 0);
         self.refused = self.refused.saturating_add(1);
         Ok(())
     }
@@ -82,25 +88,34 @@ impl StreamLines {
         ensures put { IfOk result (PutsClosing self.old self.new) }
         ensures fault { IfErr result (λ e. e ≡ fault.Memory) }
     {
-        let form = self.request.form;
+        let label = self.request.label;
         if self.request.keep_going {
-            put_counted_stream_end(&mut self.text, form, self.messages, self.refused)?;
+            label.begin(&mut self.text)?;
+            put_counted_stream_end(&mut self.text, label.form(), self.messages, self.refused)?;
+            label.end(&mut self.text)?;
         } else if self.refused == 0 {
-            put_stream_end(&mut self.text, form, self.messages)?;
+            label.begin(&mut self.text)?;
+            put_stream_end(&mut self.text, label.form(), self.messages)?;
+            label.end(&mut self.text)?;
         }
-        Ok(counted_end(self.refused))
+        Ok(counted_end(self.is_refused_at_once, self.refused))
     }
 }
 
-impl Receiver for StreamLines {
+impl Receiver for StreamLines<'_> {
     ghost Receives = { ListsEntry };
 
     ghost IsFull = { λ lines. ⊥ };
 
     fn receive_contents(&mut self, profile: Profile, contents: &[u8]) -> Result<bool, Memory> {
-        if !put_message_in(&mut self.text, self.request.form, profile, contents)? {
+        let label = self.request.label;
+        let begin = self.text.size();
+        label.begin(&mut self.text)?;
+        if !put_message_in(&mut self.text, label.form(), profile, contents)? {
+            self.text.truncate(begin);
             return Ok(false);
         }
+        label.end(&mut self.text)?;
         self.messages = self.messages.saturating_add(1);
         let size = LENGTH_OCTETS + contents.len() as u64;
         self.offset = self.offset.saturating_add(size);
@@ -125,13 +140,13 @@ impl Receiver for StreamLines {
 
 /// A lister of a stream, which goes on after refusals if it is asked to: its decoder, and the lines.
 #[derive(Drop)]
-pub(crate) struct Lister {
+pub(crate) struct Lister<'a> {
     decoder: SkippingDecoder,
-    lines: StreamLines,
+    lines: StreamLines<'a>,
 }
 
-impl ListStream for Lister {
-    type Request = Request;
+impl<'a> ListStream for Lister<'a> {
+    type Request = Request<'a>;
 
     type End = RunEnd;
 
@@ -139,7 +154,7 @@ impl ListStream for Lister {
 
     ghost listing = { λ lister. listing_of (lister_kind stream_lines) (record { decoder = lister.decoder; lines = lister.lines }) };
 
-    fn new(alloc: Global, request: Request) -> Lister {
+    fn new(alloc: Global, request: Request<'a>) -> Lister<'a> {
         Lister {
             decoder: start_stream(alloc, request.limit, request.profile),
             lines: StreamLines {
@@ -149,6 +164,7 @@ impl ListStream for Lister {
                 messages: 0,
                 refused: 0,
                 offset: 0,
+                is_refused_at_once: false,
             },
         }
     }
@@ -179,12 +195,14 @@ impl ListStream for Lister {
     }
 }
 
-/// Returns how a run ends in which this number of frames is refused.
-fn counted_end(refused: u64) -> RunEnd
-    ensures { result ≡ counted_run_end refused }
+/// Returns how a run ends in which this number of frames or lines is refused, and the first or not.
+pub(crate) fn counted_end(at_once: bool, refused: u64) -> RunEnd
+    ensures { result ≡ counted_run_end at_once refused }
 {
     if refused == 0 {
         RunEnd::Clean
+    } else if at_once {
+        RunEnd::RefusedAtOnce
     } else {
         RunEnd::Refused
     }

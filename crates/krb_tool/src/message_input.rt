@@ -69,7 +69,7 @@ impl MessageInput {
         text: &mut TextBuffer,
         input: &[u8],
     ) -> Result<RunEnd, RunFault>
-        ensures put { IfOk result (Puts text.old text.new (input_listing self.now input.now)) }
+        ensures put { IfOk result (Puts self.now.form text.old text.new (input_listing self.now input.now)) }
         ensures fault { IfErr result (λ e. e ≡ RunFault.Memory) }
     {
         if input.len() > MOST_INPUT {
@@ -104,7 +104,7 @@ impl MessageInput {
         spelling: Spelling,
         octets: &[u8],
     ) -> Result<RunEnd, RunFault>
-        ensures put { IfOk result (Puts text.old text.new (input_octets_listing self.now spelling octets.now)) }
+        ensures put { IfOk result (Puts self.now.form text.old text.new (input_octets_listing self.now spelling octets.now)) }
         ensures fault { IfErr result (λ e. e ≡ RunFault.Memory) }
     {
         if octets.len() > MOST_OCTETS {
@@ -135,7 +135,7 @@ impl MessageInput {
         spelling: Spelling,
         octets: &[u8],
     ) -> Result<RunEnd, RunFault>
-        ensures put { IfOk result (Puts text.old text.new (too_long_listing self.now spelling octets.now)) }
+        ensures put { IfOk result (Puts self.now.form text.old text.new (too_long_listing self.now spelling octets.now)) }
         ensures fault { IfErr result (λ e. e ≡ RunFault.Memory) }
     {
         let layered = Layered {
@@ -158,7 +158,7 @@ impl MessageInput {
         octets: &[u8],
     ) -> Result<RunEnd, RunFault>
         requires short { place + length octets.now < 2 ^ 31 }
-        ensures put { IfOk result (Puts text.old text.new (judged_listing self.now (layered_of layered.now) place octets.now (refusal_of self.now.profile octets.now))) }
+        ensures put { IfOk result (Puts self.now.form text.old text.new (judged_listing self.now (layered_of layered.now) place octets.now (refusal_of self.now.profile octets.now))) }
         ensures fault { IfErr result (λ e. e ≡ RunFault.Memory) }
     {
         let origin = self.origin(layered.layers);
@@ -183,7 +183,7 @@ impl MessageInput {
         layered: &Layered<'_>,
     ) -> Result<RunEnd, RunFault>
         requires short { length layered.now.all.now < 2 ^ 31 }
-        ensures put { IfOk result (Puts text.old text.new (ticket_listing self.now (layered_of layered.now) (ticket_refusal self.now.profile layered.now.all.now))) }
+        ensures put { IfOk result (Puts self.now.form text.old text.new (ticket_listing self.now (layered_of layered.now) (ticket_refusal self.now.profile layered.now.all.now))) }
         ensures fault { IfErr result (λ e. e ≡ RunFault.Memory) }
     {
         match read_ticket_in(self.profile, layered.all) {
@@ -224,7 +224,7 @@ impl MessageInput {
         layered: &Layered<'_>,
         place: u32,
     ) -> Result<RunEnd, RunFault>
-        ensures put { IfOk result (Puts text.old text.new (ntlm_listing self.now (layered_of layered.now) place)) }
+        ensures put { IfOk result (Puts self.now.form text.old text.new (ntlm_listing self.now (layered_of layered.now) place)) }
         ensures fault { IfErr result (λ e. e ≡ RunFault.Memory) }
     {
         put_input_refusal(
@@ -236,7 +236,7 @@ impl MessageInput {
             self.extent(layered.all),
             Some(layered.spelling),
         )?;
-        Ok(RunEnd::Refused)
+        Ok(RunEnd::RefusedAtOnce)
     }
 
     /// Appends the record of an octet of a layer that is at fault.
@@ -248,7 +248,7 @@ impl MessageInput {
         refusal: Refusal,
         path: Option<TokenPath>,
     ) -> Result<RunEnd, RunFault>
-        ensures put { IfOk result (Puts text.old text.new (refused_listing self.now (layered_of layered.now) refusal (option_map path_text path))) }
+        ensures put { IfOk result (Puts self.now.form text.old text.new (refused_listing self.now (layered_of layered.now) refusal (option_map path_text path))) }
         ensures fault { IfErr result (λ e. e ≡ RunFault.Memory) }
     {
         match path {
@@ -268,7 +268,7 @@ impl MessageInput {
         refusal: Refusal,
         path: &Option<String>,
     ) -> Result<RunEnd, RunFault>
-        ensures put { IfOk result (Puts text.old text.new (refused_listing self.now (layered_of layered.now) refusal (option_map string_bytes path.now))) }
+        ensures put { IfOk result (Puts self.now.form text.old text.new (refused_listing self.now (layered_of layered.now) refusal (option_map string_bytes path.now))) }
         ensures fault { IfErr result (λ e. e ≡ RunFault.Memory) }
     {
         put_message_refusal(
@@ -280,12 +280,12 @@ impl MessageInput {
             self.extent(layered.all),
             layered.spelling,
         )?;
-        Ok(RunEnd::Refused)
+        Ok(RunEnd::RefusedAtOnce)
     }
 
     /// Appends the record of a text that spells no octets.
     fn put_misspelling(&self, text: &mut TextBuffer, fault: Misspelling) -> Result<RunEnd, RunFault>
-        ensures put { IfOk result (Puts text.old text.new (unread_listing self.now (Misspelled fault.form) (Some fault.place))) }
+        ensures put { IfOk result (Puts self.now.form text.old text.new (unread_listing self.now (Misspelled fault.form) (Some fault.place))) }
         ensures fault { IfErr result (λ e. e ≡ RunFault.Memory) }
     {
         self.put_unread(text, InputFault::Misspelled(fault.form), Some(fault.place))
@@ -298,7 +298,7 @@ impl MessageInput {
         fault: InputFault,
         place: Option<u64>,
     ) -> Result<RunEnd, RunFault>
-        ensures put { IfOk result (Puts text.old text.new (unread_listing self.now fault place)) }
+        ensures put { IfOk result (Puts self.now.form text.old text.new (unread_listing self.now fault place)) }
         ensures fault { IfErr result (λ e. e ≡ RunFault.Memory) }
     {
         let extent = Extent {
@@ -307,7 +307,7 @@ impl MessageInput {
         };
         let origin = self.origin(&[]);
         put_input_refusal(text, self.form, &origin, fault, place, extent, None)?;
-        Ok(RunEnd::Refused)
+        Ok(RunEnd::RefusedAtOnce)
     }
 
     /// Returns where a record comes from.

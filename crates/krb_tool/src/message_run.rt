@@ -1,13 +1,14 @@
 //! A run over one message, which an input spells.
 
 ghost use Rattle.std.specs.Prelude.{◌≡◌, IfErr, IfOk};
+ghost use Rattle.krb_record.specs.Labels.{no_label};
 ghost use Rattle.krb_run.specs.Files.{ListsFile, FailsFile, shown};
 ghost use Rattle.krb_tool.specs.Messages.{IsMessageListing, octets_listing};
 
 use crate::message_input::{MOST_INPUT, MessageInput};
 use krb_der::Profile;
 use krb_input::Spelling;
-use krb_record::{Form, TextBuffer};
+use krb_record::{Form, Label, TextBuffer};
 use krb_run::{CountedReader, FileFormat, FileText, RunEnd, RunFault, run_file};
 use std::alloc::Global;
 use std::io::{Read, Write};
@@ -34,13 +35,13 @@ pub fn list_octets(
 
 /// An input that spells a message of a profile, and the form of its listing.
 #[derive(Drop)]
-struct SpelledMessage {
-    form: Form,
+struct SpelledMessage<'a> {
+    label: &'a Label<'a>,
     profile: Profile,
 }
 
-impl FileFormat for SpelledMessage {
-    ghost Lists = { λ format input listing. IsMessageListing format.form format.profile input listing };
+impl FileFormat for SpelledMessage<'_> {
+    ghost Lists = { λ format input listing. IsMessageListing format.label.now format.profile input listing };
 
     fn most(&self) -> Option<usize> {
         Some(MOST_INPUT + 1)
@@ -49,7 +50,10 @@ impl FileFormat for SpelledMessage {
     #[tactic(auto, unfolding(crate::specs::Messages::message_listing))]
     fn list(&self, alloc: Global, input: &[u8]) -> Result<FileText, RunFault> {
         let mut text = TextBuffer::new(alloc);
-        let end = MessageInput::whole(self.form, self.profile).put(alloc, &mut text, input)?;
+        let whole = MessageInput::whole(self.label.form(), self.profile);
+        self.label.begin(&mut text)?;
+        let end = whole.put(alloc, &mut text, input)?;
+        self.label.end(&mut text)?;
         Ok(FileText { text, end })
     }
 }
@@ -60,10 +64,16 @@ pub fn run_message<R: Read, W: Write>(
     reader: &mut R,
     writer: &mut W,
 ) -> Result<RunEnd, RunFault>
-    ensures listed { IfOk result (ListsFile (IsMessageListing Form.Lines Profile.Lenient) (R.remaining reader.old) (R.remaining reader.new) (W.contents writer.old) (W.contents writer.new)) }
-    ensures fault { IfErr result (FailsFile (IsMessageListing Form.Lines Profile.Lenient) (R.remaining reader.old) (R.remaining reader.new) (W.contents writer.old) (W.contents writer.new)) }
+    ensures listed { IfOk result (ListsFile (IsMessageListing (no_label Form.Lines) Profile.Lenient) (R.remaining reader.old) (R.remaining reader.new) (W.contents writer.old) (W.contents writer.new)) }
+    ensures fault { IfErr result (FailsFile (IsMessageListing (no_label Form.Lines) Profile.Lenient) (R.remaining reader.old) (R.remaining reader.new) (W.contents writer.old) (W.contents writer.new)) }
 {
-    run_message_in(alloc, Form::Lines, Profile::Lenient, reader, writer)
+    run_message_in(
+        alloc,
+        &Label::none(Form::Lines),
+        Profile::Lenient,
+        reader,
+        writer,
+    )
 }
 
 /// Lists one message of a profile in a form: writes its record, or that of its refusal. The input
@@ -74,15 +84,15 @@ pub fn run_message<R: Read, W: Write>(
 /// 2^40 reads of at most 64 KiB each: all that the reader has, or 16777217 octets, which settle that.
 pub fn run_message_in<R: Read, W: Write>(
     alloc: Global,
-    form: Form,
+    label: &Label<'_>,
     profile: Profile,
     reader: &mut R,
     writer: &mut W,
 ) -> Result<RunEnd, RunFault>
-    ensures listed { IfOk result (ListsFile (IsMessageListing form profile) (R.remaining reader.old) (R.remaining reader.new) (W.contents writer.old) (W.contents writer.new)) }
-    ensures fault { IfErr result (FailsFile (IsMessageListing form profile) (R.remaining reader.old) (R.remaining reader.new) (W.contents writer.old) (W.contents writer.new)) }
+    ensures listed { IfOk result (ListsFile (IsMessageListing label.now profile) (R.remaining reader.old) (R.remaining reader.new) (W.contents writer.old) (W.contents writer.new)) }
+    ensures fault { IfErr result (FailsFile (IsMessageListing label.now profile) (R.remaining reader.old) (R.remaining reader.new) (W.contents writer.old) (W.contents writer.new)) }
 {
     let mut counted = CountedReader::new(reader);
-    let message = SpelledMessage { form, profile };
+    let message = SpelledMessage { label, profile };
     run_file(alloc, &mut counted, writer, &message)
 }

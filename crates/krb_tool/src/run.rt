@@ -1,13 +1,14 @@
 //! Runs over a reader and a writer.
 
 ghost use Rattle.std.specs.Prelude.{IfErr, IfOk};
+ghost use Rattle.krb_record.specs.Labels.{no_label};
 ghost use Rattle.krb_tool.specs.GoingOn.{ListsStream, FailsStream};
 ghost use Rattle.krb_tool.specs.Listing.{Lists, Fails};
 
 use crate::listing::{Lister, Request};
 use krb_der::Profile;
 use krb_frame::Limit;
-use krb_record::Form;
+use krb_record::{Form, Label};
 use krb_run::{CountedReader, RunEnd, RunFault, list_all};
 use std::alloc::Global;
 use std::io::{Read, Write};
@@ -20,12 +21,12 @@ pub fn run_stream<R: Read, W: Write>(
     writer: &mut W,
     limit: Limit,
 ) -> Result<RunEnd, RunFault>
-    ensures listed { IfOk result (Lists Form.Lines Profile.Lenient limit (R.remaining reader.old) (R.remaining reader.new) (W.contents writer.old) (W.contents writer.new)) }
-    ensures fault { IfErr result (Fails Form.Lines Profile.Lenient limit (R.remaining reader.old) (R.remaining reader.new) (W.contents writer.old) (W.contents writer.new)) }
+    ensures listed { IfOk result (Lists (no_label Form.Lines) Profile.Lenient limit (R.remaining reader.old) (R.remaining reader.new) (W.contents writer.old) (W.contents writer.new)) }
+    ensures fault { IfErr result (Fails (no_label Form.Lines) Profile.Lenient limit (R.remaining reader.old) (R.remaining reader.new) (W.contents writer.old) (W.contents writer.new)) }
 {
     run_stream_in(
         alloc,
-        Form::Lines,
+        &Label::none(Form::Lines),
         Profile::Lenient,
         false,
         reader,
@@ -46,22 +47,22 @@ pub fn run_stream<R: Read, W: Write>(
 /// first of them, and no last line.
 pub fn run_stream_in<R: Read, W: Write>(
     alloc: Global,
-    form: Form,
+    label: &Label<'_>,
     profile: Profile,
     keep_going: bool,
     reader: &mut R,
     writer: &mut W,
     limit: Limit,
 ) -> Result<RunEnd, RunFault>
-    ensures listed { IfOk result (ListsStream keep_going form profile limit (R.remaining reader.old) (R.remaining reader.new) (W.contents writer.old) (W.contents writer.new)) }
-    ensures fault { IfErr result (FailsStream keep_going form profile limit (R.remaining reader.old) (R.remaining reader.new) (W.contents writer.old) (W.contents writer.new)) }
+    ensures listed { IfOk result (ListsStream keep_going label.now profile limit (R.remaining reader.old) (R.remaining reader.new) (W.contents writer.old) (W.contents writer.new)) }
+    ensures fault { IfErr result (FailsStream keep_going label.now profile limit (R.remaining reader.old) (R.remaining reader.new) (W.contents writer.old) (W.contents writer.new)) }
 {
     let mut counted = CountedReader::new(reader);
     let request = Request {
-        form,
+        label,
         profile,
         limit,
         keep_going,
     };
-    list_all::<Lister, _, _>(alloc, request, &mut counted, writer)
+    list_all::<Lister<'_>, _, _>(alloc, request, &mut counted, writer)
 }

@@ -22,7 +22,8 @@ use Rattle.krb_keytab.specs.declared.reading.Next.TheVariants as nexts
 use Rattle.krb_keytab.specs.declared.value.Record.{Record}
 use Rattle.krb_keytab.specs.declared.value.Record.TheVariants as records
 use Rattle.krb_keytab.proofs.RecordSpellings.{inside_file, record-again, spelled-some}
-use Rattle.krb_record.specs.declared.form.Form.{Form}
+use Rattle.krb_file.specs.declared.field_path.FileItem.TheVariants as places
+use Rattle.krb_record.specs.Labels.{Label}
 use Rattle.krb_run.specs.Records.{end_of}
 use Rattle.krb_file_run.specs.Files.{field_limit, keytab_last, keytab_listing, records_listing}
 use Rattle.krb_file_run.specs.Lines.{record_line}
@@ -162,19 +163,19 @@ hole-same limit before hole other after (suc n) up le len =
     (after-records n up.range.1 limit (hole ++ after) (other ++ after) long (same-after (suc n) hole other after le len) up.records (length (body ++ (signed w32 (negsuc n) ++ (hole ++ after)))) 2 body up.first.spelled.1)
 
 -- ---- its listing
-records-listed : (form : Form) (r other : Record) (one another : Records) → AreButOne r other one another → AreSameButLine (record_line form r) (record_line form other) (records_listing form one) (records_listing form another)
-records-listed form r other one another (inl e) = inl (ap (records_listing form) e)
-records-listed form r other one another (inr d) = inr (record {
-  before = flat_map (record_line form) d.before;
-  after = flat_map (record_line form) d.after;
-  lines = ap (flat_map (record_line form)) d.items ∙ flat_map-append (record_line form) d.before (r ∷ d.after);
-  others = ap (flat_map (record_line form)) d.others ∙ flat_map-append (record_line form) d.before (other ∷ d.after);
-  last = ap₂ (λ count end. keytab_last form count end) (omega (arith, ap length d.items, ap length d.others, length-append d.before (r ∷ d.after), length-append d.before (other ∷ d.after))) d.end;
-  end = ap (λ end. end_of end) d.end;
+records-listed : (label : Label) (r other : Record) (one another : Records) → AreButOne r other one another → AreSameButLine (record_line label r) (record_line label other) (records_listing label one) (records_listing label another)
+records-listed label r other one another (inl e) = inl (ap (records_listing label) e)
+records-listed label r other one another (inr d) = inr (record {
+  before = flat_map (record_line label) d.before;
+  after = flat_map (record_line label) d.after;
+  lines = ap (flat_map (record_line label)) d.items ∙ flat_map-append (record_line label) d.before (r ∷ d.after);
+  others = ap (flat_map (record_line label)) d.others ∙ flat_map-append (record_line label) d.before (other ∷ d.after);
+  last = ap₂ (λ count end. keytab_last label count end) (omega (arith, ap length d.items, ap length d.others, length-append d.before (r ∷ d.after), length-append d.before (other ∷ d.after))) d.end;
+  end = ap₂ (λ count end. end_of (places.Record count) end) (omega (arith, ap length d.items, ap length d.others, length-append d.before (r ∷ d.after), length-append d.before (other ∷ d.after))) d.end;
 })
 
-pub hole-listed : (form : Form) (before hole other after : List ℕ) (size : ℕ) → IsUpToHole before size → length hole ≤ size → length other ≡ length hole
-    → AreSameButLine (hole_line form size (are_zero (take size (hole ++ after)))) (hole_line form size (are_zero (take size (other ++ after)))) (keytab_listing form (before ++ (hole ++ after))) (keytab_listing form (before ++ (other ++ after)))
+pub hole-listed : (label : Label) (before hole other after : List ℕ) (size : ℕ) → IsUpToHole before size → length hole ≤ size → length other ≡ length hole
+    → AreSameButLine (hole_line label size (are_zero (take size (hole ++ after)))) (hole_line label size (are_zero (take size (other ++ after)))) (keytab_listing label (before ++ (hole ++ after))) (keytab_listing label (before ++ (other ++ after)))
 unfolding keytab_listing
-hole-listed form before hole other after size up le len =
-    records-listed form (hole_in size (hole ++ after)) (hole_in size (other ++ after)) (items field_limit (before ++ (hole ++ after))) (items field_limit (before ++ (other ++ after))) (hole-same field_limit before hole other after size up le len)
+hole-listed label before hole other after size up le len =
+    records-listed label (hole_in size (hole ++ after)) (hole_in size (other ++ after)) (items field_limit (before ++ (hole ++ after))) (items field_limit (before ++ (other ++ after))) (hole-same field_limit before hole other after size up le len)

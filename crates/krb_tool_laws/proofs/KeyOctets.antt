@@ -12,8 +12,8 @@ use Rattle.krb_ccache.specs.Reading.{CacheItems}
 use Rattle.krb_ccache.specs.Spelling.{masked_credential}
 use Rattle.krb_ccache.specs.Streaming.{file_start, credentials}
 use Rattle.krb_ccache.specs.Laws.{IsUpToKey as IsUpToSessionKey, masked_items, start_alone, SessionKeysChangeNothingElse}
-use Rattle.krb_record.specs.declared.form.Form.{Form}
-use Rattle.krb_record.specs.Forms.{record_line as line_of}
+use Rattle.krb_record.specs.Labels.{Label, line_of}
+use Rattle.krb_file.specs.declared.field_path.FileItem.TheVariants as items
 use Rattle.krb_list.specs.Laws.{RecordKeyIsNotShown, CredentialKeyIsNotShown}
 use Rattle.krb_file_run.specs.Lines.{record_line, cache_line, credential_line}
 use Rattle.krb_run.specs.Records.{RecordListing, after_line, refused_listing, end_of}
@@ -25,42 +25,42 @@ lines-same line mask same [] = refl
 lines-same line mask same (a ∷ values) = ap₂ (λ (first others : List ℕ). first ++ others) (same a) (lines-same line mask same values)
 
 -- ---- keytabs
-records-masked : RecordKeyIsNotShown → (form : Form) (found : Records) → records_listing form (masked_records found) ≡ records_listing form found
-records-masked shown form found =
-    ap₂ (λ (lines last : List ℕ). let it : RecordListing = record { lines = lines; last = last; end = end_of found.end } in it)
-    (lines-same (λ r. record_line form r) masked_record (λ r. ap (λ printed. line_of form printed) (shown r)) found.items)
-    (ap (λ (count : ℕ). keytab_last form count found.end) (length-map found.items masked_record))
+records-masked : RecordKeyIsNotShown → (label : Label) (found : Records) → records_listing label (masked_records found) ≡ records_listing label found
+records-masked shown label found =
+    ap₂ (λ (lines : List ℕ) (count : ℕ). let it : RecordListing = record { lines = lines; last = keytab_last label count found.end; end = end_of (items.Record count) found.end } in it)
+    (lines-same (λ r. record_line label r) masked_record (λ r. ap (λ printed. line_of label printed) (shown r)) found.items)
+    (length-map found.items masked_record)
 
-pub keytab-same : KeysChangeNothingElse → RecordKeyIsNotShown → (form : Form) (before key other after : List ℕ) (size : ℕ) → IsUpToKey before size → length key ≤ size → length other ≡ length key → keytab_listing form (before ++ (key ++ after)) ≡ keytab_listing form (before ++ (other ++ after))
+pub keytab-same : KeysChangeNothingElse → RecordKeyIsNotShown → (label : Label) (before key other after : List ℕ) (size : ℕ) → IsUpToKey before size → length key ≤ size → length other ≡ length key → keytab_listing label (before ++ (key ++ after)) ≡ keytab_listing label (before ++ (other ++ after))
 unfolding keytab_listing
-keytab-same alike shown form before key other after size up le len =
-    sym (records-masked shown form (keytab_records field_limit (before ++ (key ++ after))))
-    ∙ ap (records_listing form) (alike field_limit before key other after size up le len)
-    ∙ records-masked shown form (keytab_records field_limit (before ++ (other ++ after)))
+keytab-same alike shown label before key other after size up le len =
+    sym (records-masked shown label (keytab_records field_limit (before ++ (key ++ after))))
+    ∙ ap (records_listing label) (alike field_limit before key other after size up le len)
+    ∙ records-masked shown label (keytab_records field_limit (before ++ (other ++ after)))
 
 -- ---- caches
-credentials-masked : CredentialKeyIsNotShown → (form : Form) (now : Option ℕ) (found : CacheItems Credential) → credentials_listing form now (masked_items found) ≡ credentials_listing form now found
-credentials-masked shown form now found =
-    ap₂ (λ (lines last : List ℕ). let it : RecordListing = record { lines = lines; last = last; end = end_of found.end } in it)
-    (lines-same (λ c. credential_line form now c) masked_credential (λ c. ap (λ printed. line_of form printed) (shown form now c)) found.items)
-    (ap (λ (count : ℕ). ccache_last form count found.end) (length-map found.items masked_credential))
+credentials-masked : CredentialKeyIsNotShown → (label : Label) (now : Option ℕ) (found : CacheItems Credential) → credentials_listing label now (masked_items found) ≡ credentials_listing label now found
+credentials-masked shown label now found =
+    ap₂ (λ (lines : List ℕ) (count : ℕ). let it : RecordListing = record { lines = lines; last = ccache_last label count found.end; end = end_of (items.Credential count) found.end } in it)
+    (lines-same (λ c. credential_line label now c) masked_credential (λ c. ap (λ printed. line_of label printed) (shown label.form now c)) found.items)
+    (length-map found.items masked_credential)
 
 -- the listing by what is before the credentials, without what is left of the file
-abbrev listing_by : Form → Result Start Fault → RecordListing → RecordListing
-listing_by form (Err fault) others = refused_listing form fault
-listing_by form (Ok start) others = after_line (cache_line form start.header start.principal) others
+abbrev listing_by : Label → Result Start Fault → RecordListing → RecordListing
+listing_by label (Err fault) others = refused_listing label fault
+listing_by label (Ok start) others = after_line (cache_line label start.header start.principal) others
 
-listing-by : (form : Form) (now : Option ℕ) (r : Result (Start × Source) Fault) (found : CacheItems Credential) → cache_listing form now r found ≡ listing_by form (start_alone r) (credentials_listing form now found)
-listing-by form now (Err fault) found = refl
-listing-by form now (Ok start) found = refl
+listing-by : (label : Label) (now : Option ℕ) (r : Result (Start × Source) Fault) (found : CacheItems Credential) → cache_listing label now r found ≡ listing_by label (start_alone r) (credentials_listing label now found)
+listing-by label now (Err fault) found = refl
+listing-by label now (Ok start) found = refl
 
-pub ccache-same : SessionKeysChangeNothingElse → CredentialKeyIsNotShown → (form : Form) (now : Option ℕ) (before key other after : List ℕ) (size : ℕ) → IsUpToSessionKey before size → length key ≤ size → length other ≡ length key → ccache_listing form now (before ++ (key ++ after)) ≡ ccache_listing form now (before ++ (other ++ after))
+pub ccache-same : SessionKeysChangeNothingElse → CredentialKeyIsNotShown → (label : Label) (now : Option ℕ) (before key other after : List ℕ) (size : ℕ) → IsUpToSessionKey before size → length key ≤ size → length other ≡ length key → ccache_listing label now (before ++ (key ++ after)) ≡ ccache_listing label now (before ++ (other ++ after))
 unfolding ccache_listing
-ccache-same alike shown form now before key other after size up le len =
+ccache-same alike shown label now before key other after size up le len =
     let one : List ℕ = before ++ (key ++ after) in
     let another : List ℕ = before ++ (other ++ after) in
     let same = alike field_limit before key other after size up le len in
-    let all = sym (credentials-masked shown form now (credentials field_limit one)) ∙ ap (credentials_listing form now) same.credentials ∙ credentials-masked shown form now (credentials field_limit another) in
-    listing-by form now (file_start field_limit one) (credentials field_limit one)
-    ∙ ap₂ (λ (start : Result Start Fault) (others : RecordListing). listing_by form start others) same.starts all
-    ∙ sym (listing-by form now (file_start field_limit another) (credentials field_limit another))
+    let all = sym (credentials-masked shown label now (credentials field_limit one)) ∙ ap (credentials_listing label now) same.credentials ∙ credentials-masked shown label now (credentials field_limit another) in
+    listing-by label now (file_start field_limit one) (credentials field_limit one)
+    ∙ ap₂ (λ (start : Result Start Fault) (others : RecordListing). listing_by label start others) same.starts all
+    ∙ sym (listing-by label now (file_start field_limit another) (credentials field_limit another))

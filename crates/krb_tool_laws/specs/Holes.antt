@@ -7,7 +7,7 @@ use Rattle.krb_keytab.specs.Laws.{AreFirst}
 use Rattle.krb_keytab.specs.Spelling.{negated}
 use Rattle.krb_keytab.specs.declared.value.Record.{Record}
 use Rattle.krb_keytab.specs.declared.value.Record.TheVariants as records
-use Rattle.krb_record.specs.declared.form.Form.{Form}
+use Rattle.krb_record.specs.Labels.{Label}
 use Rattle.krb_run.specs.Records.{RecordListing}
 use Rattle.krb_file_run.specs.Files.{keytab_listing}
 use Rattle.krb_file_run.specs.Lines.{record_line}
@@ -21,8 +21,8 @@ pub record IsUpToHole (octets : List ℕ) (size : ℕ) : Type 0 where
   pub announced : drop start octets ≡ signed w32 (negated size)
 
 -- the line of a hole: how many octets it has, and whether all of them are 00
-abbrev pub hole_line : Form → (size : ℕ) → (clean : Bool) → List ℕ
-hole_line form size clean = record_line form (records.Hole (record { size = size; clean = clean }))
+abbrev pub hole_line : Label → (size : ℕ) → (clean : Bool) → List ℕ
+hole_line label size clean = record_line label (records.Hole (record { size = size; clean = clean }))
 
 -- Listings are the same but for one line.
 pub record DifferInLine (line other : List ℕ) (one another : RecordListing) : Type 0 where
@@ -39,5 +39,5 @@ AreSameButLine line other one another = (one ≡ another) ⊎ DifferInLine line 
 -- Two keytabs that differ in octets of one hole alone have one listing, but for the hole's line: that has the size, and whether all octets of the hole are 00.
 abbrev pub HolesAreNotListed : Type 0
 HolesAreNotListed =
-    (form : Form) (before hole other after : List ℕ) (size : ℕ) → IsUpToHole before size → length hole ≤ size → length other ≡ length hole
-    → AreSameButLine (hole_line form size (are_zero (take size (hole ++ after)))) (hole_line form size (are_zero (take size (other ++ after)))) (keytab_listing form (before ++ (hole ++ after))) (keytab_listing form (before ++ (other ++ after)))
+    (label : Label) (before hole other after : List ℕ) (size : ℕ) → IsUpToHole before size → length hole ≤ size → length other ≡ length hole
+    → AreSameButLine (hole_line label size (are_zero (take size (hole ++ after)))) (hole_line label size (are_zero (take size (other ++ after)))) (keytab_listing label (before ++ (hole ++ after))) (keytab_listing label (before ++ (other ++ after)))

@@ -6,6 +6,7 @@ use Rattle.krb_der.specs.Octets.{AreOctets}
 use Rattle.krb_der.specs.declared.profile.Profile.{Profile}
 use Rattle.krb_file_run.specs.Files.{ccache_listing, keytab_listing}
 use Rattle.krb_laws.specs.JsonLaws.{IsJson}
+use Rattle.krb_record.specs.Labels.{no_label}
 use Rattle.krb_record.specs.Text.{IsPrintable, line_feed}
 use Rattle.krb_record.specs.declared.form.Form.{Form}
 use Rattle.krb_record.specs.declared.form.Form.TheVariants as forms
@@ -29,10 +30,10 @@ AreRead octets = AreOctets octets × (length octets < 2 ^ 64)
 
 -- the listing of a stream, with which a run ends, and the part of it that is written before a read that fails; and those of a stream that goes on after refusals
 pub record StreamsAreLines : Type 0 where
-  pub whole : (form : Form) (profile : Profile) (limit : ℕ) (stream text : List ℕ) → AreRead stream → IsListing form profile limit stream text → AreLinesOf form text
-  pub part : (form : Form) (profile : Profile) (limit : ℕ) (stream text : List ℕ) → AreRead stream → AreLines form profile limit stream text → AreLinesOf form text
-  pub counted : (form : Form) (profile : Profile) (limit : ℕ) (stream text : List ℕ) → AreRead stream → IsCountedListing form profile limit stream text → AreLinesOf form text
-  pub counted_part : (form : Form) (profile : Profile) (limit : ℕ) (stream text : List ℕ) → AreRead stream → AreCountedLines form profile limit stream text → AreLinesOf form text
+  pub whole : (form : Form) (profile : Profile) (limit : ℕ) (stream text : List ℕ) → AreRead stream → IsListing (no_label form) profile limit stream text → AreLinesOf form text
+  pub part : (form : Form) (profile : Profile) (limit : ℕ) (stream text : List ℕ) → AreRead stream → AreLines (no_label form) profile limit stream text → AreLinesOf form text
+  pub counted : (form : Form) (profile : Profile) (limit : ℕ) (stream text : List ℕ) → AreRead stream → IsCountedListing (no_label form) profile limit stream text → AreLinesOf form text
+  pub counted_part : (form : Form) (profile : Profile) (limit : ℕ) (stream text : List ℕ) → AreRead stream → AreCountedLines (no_label form) profile limit stream text → AreLinesOf form text
 
 -- ---- files
 -- A text is lines of printable ASCII, each with a line feed after it.
@@ -41,10 +42,10 @@ ArePrintedLines text = (lines : List (List ℕ)) × AllByRecursion IsPrintable l
 
 -- the listing of a keytab, and of a cache
 abbrev pub KeytabsArePrinted : Type 0
-KeytabsArePrinted = (form : Form) (file : List ℕ) → AreOctets file → ArePrintedLines (text_of (keytab_listing form file))
+KeytabsArePrinted = (form : Form) (file : List ℕ) → AreOctets file → ArePrintedLines (text_of (keytab_listing (no_label form) file))
 
 abbrev pub CachesArePrinted : Type 0
-CachesArePrinted = (form : Form) (now : Option ℕ) (file : List ℕ) → AreOctets file → ArePrintedLines (text_of (ccache_listing form now file))
+CachesArePrinted = (form : Form) (now : Option ℕ) (file : List ℕ) → AreOctets file → ArePrintedLines (text_of (ccache_listing (no_label form) now file))
 
 -- The listing of a file is lines in its form, but for the line of a refusal: the lines of its records, and all of it if nothing is refused.
 pub record AreLinesBut (form : Form) (listing : RecordListing) : Type 0 where
@@ -52,7 +53,7 @@ pub record AreLinesBut (form : Form) (listing : RecordListing) : Type 0 where
   pub whole : listing.end ≡ run.Clean → AreLinesOf form (text_of listing)
 
 abbrev pub KeytabsAreLines : Type 0
-KeytabsAreLines = (form : Form) (file : List ℕ) → AreRead file → AreLinesBut form (keytab_listing form file)
+KeytabsAreLines = (form : Form) (file : List ℕ) → AreRead file → AreLinesBut form (keytab_listing (no_label form) file)
 
 abbrev pub CachesAreLines : Type 0
-CachesAreLines = (form : Form) (now : Option ℕ) (file : List ℕ) → AreRead file → AreLinesBut form (ccache_listing form now file)
+CachesAreLines = (form : Form) (now : Option ℕ) (file : List ℕ) → AreRead file → AreLinesBut form (ccache_listing (no_label form) now file)

@@ -11,14 +11,14 @@ use Rattle.krbls.specs.Program.{DoesFrom, IsFaultReported, ListsSources, labels_
 
 module _ (around : Around) (command_line : CommandLine) (now : Option ℕ) (sources : List Source) (written_before written_after : Option (List ℕ)) (status : ℕ) where
   abbrev lists : Named → Source → Run
-  lists how s = Reports (IsFaultReported around command_line.command s) (ListsOne command_line.form how (name_of s) (DoesFrom around command_line.form now command_line.command s))
+  lists how s = Reports (IsFaultReported around command_line.command s) (ListsOne command_line.form how (name_of s) (λ label. DoesFrom around label now command_line.command s))
 
   by_job : (b : Bool) → is_conversion command_line.command ≡ b → ListsEach (lists (cond b unnamed (names_of (labels_of command_line) command_line.form (length sources)))) sources written_before written_after status → ListsSources around command_line now sources written_before written_after status
   by_job b command listed =
       subst (λ (c : Bool). ListsEach (lists (cond c unnamed (names_of (labels_of command_line) command_line.form (length sources)))) sources written_before written_after status) (sym command) listed
 
   -- without names the form of a record does not count
-  pub each_unnamed : is_conversion command_line.command ≡ true → ListsEach (λ s. Reports (IsFaultReported around command_line.command s) (ListsOne form.Lines unnamed (name_of s) (DoesFrom around command_line.form now command_line.command s))) sources written_before written_after status → ListsSources around command_line now sources written_before written_after status
+  pub each_unnamed : is_conversion command_line.command ≡ true → ListsEach (λ s. Reports (IsFaultReported around command_line.command s) (ListsOne form.Lines unnamed (name_of s) (λ label. DoesFrom around label now command_line.command s))) sources written_before written_after status → ListsSources around command_line now sources written_before written_after status
   each_unnamed command listed = by_job true command listed
 
   pub each_named : (naming : Labels) → naming ≡ labels_of command_line → is_conversion command_line.command ≡ false → ListsEach (lists (names_of naming command_line.form (length sources))) sources written_before written_after status → ListsSources around command_line now sources written_before written_after status

@@ -1,10 +1,10 @@
--- What is done with a source by a command: the run of its command, in the form and by the profile, the limit and the numbers of the command.
+-- What is done with a source by a command: the run of its command, with the label of the source and by the profile, the limit and the numbers of the command.
 use Rattle.std.specs.Prelude.{ℕ, ◌≡◌, List, [], ◌∷◌, Option, Some, IfOk, IfErr, OnErr}
 use Rattle.std.specs.Option.{option_and_then}
 use Rattle.krb_input.specs.Hints.{hint_for}
 use Rattle.krb_input.specs.Sources.{command_for}
 use Rattle.krb_input.specs.declared.hint.Hint.{Hint}
-use Rattle.krb_record.specs.declared.form.Form.{Form}
+use Rattle.krb_record.specs.Labels.{Label}
 use Rattle.krb_capture_run.specs.Captures.{capture_listing}
 use Rattle.krb_convert.specs.Conversions.{DecodesBy, EncodesBy, FailsToDecodeBy, is_framed}
 use Rattle.krb_convert.specs.Ends.{decode_end_line, encode_end_line}
@@ -47,27 +47,27 @@ abbrev pub hint_by : Command → (first : List ℕ) → Option Hint
 hint_by used first = option_and_then (λ kind. hint_for kind first) (kind_used used)
 
 -- ---- a command over a reader that had octets and has others left, and what is written
-abbrev pub Does : (IsTold : List ℕ → Type 0) → Form → (now : Option ℕ) → Command → (had left : Option (List ℕ)) → Run
-Does IsTold form now (commands.Stream limit profile after.Ends) had left written_before written_after outcome =
-    IfOk outcome (Lists form profile limit had left written_before written_after) × IfErr outcome (Fails form profile limit had left written_before written_after)
-Does IsTold form now (commands.Stream limit profile after.GoesOn) had left written_before written_after outcome =
-    IfOk outcome (ListsAll form profile limit had left written_before written_after) × IfErr outcome (FailsAll form profile limit had left written_before written_after)
-Does IsTold form now (commands.Message profile inputs.Whole) had left written_before written_after outcome =
-    IfOk outcome (ListsFile (IsMessageListing form profile) had left written_before written_after) × IfErr outcome (FailsFile (IsMessageListing form profile) had left written_before written_after)
-Does IsTold form now (commands.Message profile inputs.EachLine) had left written_before written_after outcome =
-    IfOk outcome (ListsLines form profile had left written_before written_after) × OnErr outcome (FailsLines form profile had left written_before written_after)
-Does IsTold form now commands.Keytab had left written_before written_after outcome =
-    (file : List ℕ) → had ≡ Some file → ListsRecords (keytab_listing form file) written_before written_after outcome
-Does IsTold form now (commands.Ccache when) had left written_before written_after outcome =
-    (file : List ℕ) → had ≡ Some file → ListsRecords (ccache_listing form now file) written_before written_after outcome
-Does IsTold form now (commands.Capture limit profile port) had left written_before written_after outcome =
-    (file : List ℕ) → had ≡ Some file → ListsRecords (capture_listing (record { form = form; profile = profile; limit = limit; port = port }) file) written_before written_after outcome
-Does IsTold form now (commands.Decode limit profile how) had left written_before written_after outcome =
+abbrev pub Does : (IsTold : List ℕ → Type 0) → Label → (now : Option ℕ) → Command → (had left : Option (List ℕ)) → Run
+Does IsTold label now (commands.Stream limit profile after.Ends) had left written_before written_after outcome =
+    IfOk outcome (Lists label profile limit had left written_before written_after) × IfErr outcome (Fails label profile limit had left written_before written_after)
+Does IsTold label now (commands.Stream limit profile after.GoesOn) had left written_before written_after outcome =
+    IfOk outcome (ListsAll label profile limit had left written_before written_after) × IfErr outcome (FailsAll label profile limit had left written_before written_after)
+Does IsTold label now (commands.Message profile inputs.Whole) had left written_before written_after outcome =
+    IfOk outcome (ListsFile (IsMessageListing label profile) had left written_before written_after) × IfErr outcome (FailsFile (IsMessageListing label profile) had left written_before written_after)
+Does IsTold label now (commands.Message profile inputs.EachLine) had left written_before written_after outcome =
+    IfOk outcome (ListsLines label profile had left written_before written_after) × OnErr outcome (FailsLines label profile had left written_before written_after)
+Does IsTold label now commands.Keytab had left written_before written_after outcome =
+    (file : List ℕ) → had ≡ Some file → ListsRecords (keytab_listing label file) written_before written_after outcome
+Does IsTold label now (commands.Ccache when) had left written_before written_after outcome =
+    (file : List ℕ) → had ≡ Some file → ListsRecords (ccache_listing label now file) written_before written_after outcome
+Does IsTold label now (commands.Capture limit profile port) had left written_before written_after outcome =
+    (file : List ℕ) → had ≡ Some file → ListsRecords (capture_listing (record { label = label; profile = profile; limit = limit; port = port }) file) written_before written_after outcome
+Does IsTold label now (commands.Decode limit profile how) had left written_before written_after outcome =
     IfOk outcome (Turns (DecodesBy how profile limit had left written_before written_after) (decode_end_line how) IsTold)
     × OnErr outcome (FailsToDecodeBy how profile limit had left written_before written_after)
-Does IsTold form now (commands.Encode limit profile how) had left written_before written_after outcome =
+Does IsTold label now (commands.Encode limit profile how) had left written_before written_after outcome =
     IfOk outcome (Turns (EncodesBy how profile limit had left written_before written_after) encode_end_line IsTold)
     × OnErr outcome (FailsToEncode (is_framed how) profile limit had left written_before written_after)
-Does IsTold form now (commands.List when) had left written_before written_after outcome = written_after ≡ written_before
-Does IsTold form now (commands.Help text) had left written_before written_after outcome = written_after ≡ written_before
-Does IsTold form now (commands.Version text) had left written_before written_after outcome = written_after ≡ written_before
+Does IsTold label now (commands.List when) had left written_before written_after outcome = written_after ≡ written_before
+Does IsTold label now (commands.Help text) had left written_before written_after outcome = written_after ≡ written_before
+Does IsTold label now (commands.Version text) had left written_before written_after outcome = written_after ≡ written_before

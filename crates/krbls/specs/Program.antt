@@ -5,19 +5,22 @@ use Rattle.std.specs.List.{list_any}
 use Rattle.krb_input.specs.Hints.{hint_text}
 use Rattle.krb_input.specs.declared.hint.Hint.{Hint}
 use Rattle.krb_input.specs.declared.source_kind.SourceKind.{SourceKind}
-use Rattle.krb_record.specs.declared.form.Form.{Form}
+use Rattle.krb_record.specs.Labels.{Label}
 use Rattle.krb_run.specs.Faults.{IsWrite}
-use Rattle.krb_run.specs.Outputs.{head_of, is_refusal, mark_of}
+use Rattle.krb_run.specs.Begun.{IsEnough}
 use Rattle.krb_run.specs.Sources.{ListsEach, ListsOne, Named, Outcome, Reports, Run, RunOver, names_of, unnamed}
 use Rattle.krb_run.specs.declared.naming.Naming.{Naming as Labels}
 use Rattle.krb_run.specs.declared.naming.Naming.TheVariants as labels
-use Rattle.krb_run.specs.declared.output.Place.{Place}
+use Rattle.krb_run.specs.declared.begun.Then.{Then}
+use Rattle.krb_run.specs.declared.begun.Then.TheVariants.{End}
+use Rattle.krb_run.specs.declared.run.RunEnd.{RunEnd}
+use Rattle.krb_run.specs.declared.run.RunEnd.TheVariants as run
 use Rattle.krb_run.specs.declared.run.RunFault.{RunFault}
 use Rattle.krb_run.specs.declared.run.RunFault.TheVariants as fault
 use Rattle.krb_words.specs.CacheTypes.{other_cache}
 use Rattle.krb_words.specs.Shell.{shell_word}
 use Rattle.krb_words.specs.Sources.{place_of}
-use Rattle.krb_words.specs.Tasks.{is_conversion, kind_used, names_caches, text_of, when_of, writes_messages}
+use Rattle.krb_words.specs.Tasks.{is_conversion, kind_used, names_caches, octets_awaited, text_of, when_of, writes_messages}
 use Rattle.krb_words.specs.Words.{IsFaultIn, IsCommandLineIn}
 use Rattle.krb_words.specs.declared.sources.Source.{Source}
 use Rattle.krb_words.specs.declared.sources.Source.TheVariants as source
@@ -60,40 +63,40 @@ abbrev pub IsHinted : Around → Source → Option SourceKind → Option Hint �
 IsHinted around s given None = Unit {0}
 IsHinted around s given (Some hint) = around.IsHintTold s (hint_text hint given (shell_word (name_of s)))
 
-abbrev pub IsHintedIf : Bool → Around → Source → Option SourceKind → Option Hint → Type 0
-IsHintedIf false around s given hint = Unit {0}
-IsHintedIf true around s given hint = IsHinted around s given hint
-
--- a hint for a source is told if the first record of its listing is a refusal
-abbrev pub Hints : Around → Source → Option SourceKind → Option Hint → (written_after : Option (List ℕ)) → Type 0
-Hints around s given hint written_after =
-    (place : Place) (label before told : List ℕ) → written_after ≡ Some (mark_of place label before ++ told) → IsHintedIf (is_refusal (head_of told)) around s given hint
+-- a hint for a source is told if its run is refused at once: the first record of its listing is that of a refusal
+abbrev pub Hints : Around → Source → Option SourceKind → Option Hint → RunEnd → Type 0
+Hints around s given hint run.Clean = Unit {0}
+Hints around s given hint run.Refused = Unit {0}
+Hints around s given hint run.RefusedAtOnce = IsHinted around s given hint
 
 -- A command is done with a source that begins with some octets, and a hint is told.
-pub record ListsBy (around : Around) (form : Form) (now : Option ℕ) (command : Command) (s : Source) (used : Command) (first : List ℕ) (had written_before written_after : Option (List ℕ)) (outcome : Outcome) : Type 0 where
+pub record ListsBy (around : Around) (label : Label) (now : Option ℕ) (command : Command) (s : Source) (used : Command) (first : List ℕ) (had written_before written_after : Option (List ℕ)) (outcome : Outcome) : Type 0 where
   pub left : Option (List ℕ)
   pub result : Outcome
-  pub does : Does (around.IsEndTold s) form now used had left written_before written_after result
+  pub does : Does (around.IsEndTold s) label now used had left written_before written_after result
   pub ends : (outcome ≡ result) ⊎ (outcome ≡ Err fault.Memory)
-  pub hinted : IfOk outcome (λ ended. Hints around s (kind_used command) (hint_by used first) written_after)
+  pub hinted : IfOk outcome (Hints around s (kind_used command) (hint_by used first))
 
 -- octets that are known begin with these
 abbrev pub BeginsWith : (first : List ℕ) → Option (List ℕ) → Type 0
 BeginsWith first None = Unit {0}
 BeginsWith first (Some octets) = (rest : List ℕ) × (octets ≡ first ++ rest)
 
--- A source was opened, and its command was done: that of the command line, or, if this has none, that of its first octets, of which 16 are looked at, or all that could be read at first.
-pub record DoesOpened (around : Around) (form : Form) (now : Option ℕ) (command : Command) (s : Source) (written_before written_after : Option (List ℕ)) (outcome : Outcome) : Type 0 where
+-- A source was opened, and its command was done: that of the command line, or, if this has none, that of its first octets. These are 16, or as many as the command awaits, or all that the source has, or those before a read that failed.
+pub record DoesOpened (around : Around) (label : Label) (now : Option ℕ) (command : Command) (s : Source) (written_before written_after : Option (List ℕ)) (outcome : Outcome) : Type 0 where
   pub first : List ℕ
-  pub begins : BeginsWith first (around.octets s)
   pub had : Option (List ℕ)
+  pub begins : BeginsWith first (around.octets s)
+  pub then : Then
+  pub enough : IsEnough then (octets_awaited command) (length first)
+  pub whole : then ≡ End → had ≡ Some first
   pub same : Keeps (around.octets s) had
-  pub lists : ListsBy around form now command s (chosen command first) first had written_before written_after outcome
+  pub lists : ListsBy around label now command s (chosen command first) first had written_before written_after outcome
 
 -- a source was opened, or it could not be
-abbrev pub DoesFrom : Around → Form → Option ℕ → Command → Source → Run
-DoesFrom around form now command s written_before written_after outcome =
-    DoesOpened around form now command s written_before written_after outcome
+abbrev pub DoesFrom : Around → Label → Option ℕ → Command → Source → Run
+DoesFrom around label now command s written_before written_after outcome =
+    DoesOpened around label now command s written_before written_after outcome
     ⊎ ((written_after ≡ written_before) × IsUnread outcome)
 
 -- Each cache of a directory has its record, even if it is the only one.
@@ -129,7 +132,7 @@ IsFaultReported around command s fault.Memory = around.IsFaultTold s fault.Memor
 
 abbrev pub ListsSources : Around → CommandLine → Option ℕ → List Source → RunOver
 ListsSources around command_line now sources =
-    ListsEach (λ s. Reports (IsFaultReported around command_line.command s) (ListsOne command_line.form (names_for command_line (length sources)) (name_of s) (DoesFrom around command_line.form now command_line.command s))) sources
+    ListsEach (λ s. Reports (IsFaultReported around command_line.command s) (ListsOne command_line.form (names_for command_line (length sources)) (name_of s) (λ label. DoesFrom around label now command_line.command s))) sources
 
 -- The command of a command line is done with each of its sources, each cache of a directory among them, and the fault by which a run ends is told.
 pub record DoesEach (around : Around) (command_line : CommandLine) (written_before written_after : Option (List ℕ)) (status : ℕ) : Type 0 where

@@ -3,7 +3,6 @@
 ghost use Rattle.std.specs.Prelude.{◌≡◌, IfOk, OnErr, OnOk, string_bytes};
 ghost use Rattle.krb_run.specs.Begun.{begun_remaining, first_of};
 ghost use Rattle.krb_convert.specs.Encoding.{FailsToEncode};
-ghost use Rattle.krb_run.specs.Outputs.{output_contents};
 ghost use Rattle.krb_words.specs.Shell.{shell_word};
 ghost use Rattle.krb_words.specs.Tasks.{kind_used};
 ghost use Rattle.krb_convert.specs.Conversions.{DecodesBy, EncodesBy, FailsToDecodeBy, is_framed};
@@ -16,9 +15,9 @@ use krb_convert::{decode, encode, put_decode_end, put_encode_end};
 use krb_file_run::{run_ccache_in, run_keytab_in};
 use krb_host::Host;
 use krb_input::{Hint, hint_of, kind_of};
-use krb_record::TextBuffer;
-use krb_run::{Begun, ListSource, Output, RunEnd, RunFault};
-use krb_tool::{Form, Limit, Profile, run_lines_in, run_message_in, run_stream_in};
+use krb_record::{Label, TextBuffer};
+use krb_run::{Begun, ListSource, RunEnd, RunFault};
+use krb_tool::{Limit, Profile, run_lines_in, run_message_in, run_stream_in};
 use krb_words::{AfterRefusal, Command, Framing, Inputs, ShellWord, Source, other_cache};
 use std::alloc::{AllocError, Global};
 use std::io::{Read, Write};
@@ -29,7 +28,6 @@ pub(crate) struct Lister<'a, H> {
     pub(crate) alloc: Global,
     pub(crate) host: &'a H,
     pub(crate) command: &'a Command,
-    pub(crate) form: Form,
     /// The time that credentials are compared with, in seconds since 1970, if there is one.
     pub(crate) time: Option<u32>,
 }
@@ -40,30 +38,30 @@ impl<H: Host> Lister<'_, H> {
         &self,
         source: &Source,
         command: &Command,
+        label: &Label<'_>,
         reader: &mut R,
         writer: &mut W,
     ) -> Result<RunEnd, RunFault>
-        ensures { Does ((H.around self.now.host.now).IsEndTold source.now) self.now.form self.now.time command.now (R.remaining reader.old) (R.remaining reader.new) (W.contents writer.old) (W.contents writer.new) result }
+        ensures { Does ((H.around self.now.host.now).IsEndTold source.now) label.now self.now.time command.now (R.remaining reader.old) (R.remaining reader.new) (W.contents writer.old) (W.contents writer.new) result }
     {
         let alloc = self.alloc;
-        let form = self.form;
         match command {
             Command::Stream(limit, profile, AfterRefusal::Ends) => {
-                run_stream_in(alloc, form, *profile, false, reader, writer, *limit)
+                run_stream_in(alloc, label, *profile, false, reader, writer, *limit)
             }
             Command::Stream(limit, profile, AfterRefusal::GoesOn) => {
-                run_stream_in(alloc, form, *profile, true, reader, writer, *limit)
+                run_stream_in(alloc, label, *profile, true, reader, writer, *limit)
             }
             Command::Message(profile, Inputs::Whole) => {
-                run_message_in(alloc, form, *profile, reader, writer)
+                run_message_in(alloc, label, *profile, reader, writer)
             }
             Command::Message(profile, Inputs::EachLine) => {
-                run_lines_in(alloc, form, *profile, reader, writer)
+                run_lines_in(alloc, label, *profile, reader, writer)
             }
-            Command::Keytab => run_keytab_in(alloc, form, reader, writer),
-            Command::Ccache(_) => run_ccache_in(alloc, form, reader, writer, self.time),
+            Command::Keytab => run_keytab_in(alloc, label, reader, writer),
+            Command::Ccache(_) => run_ccache_in(alloc, label, reader, writer, self.time),
             Command::Capture(limit, profile, port) => {
-                run_capture(alloc, form, *profile, reader, writer, *limit, *port)
+                run_capture(alloc, label, *profile, reader, writer, *limit, *port)
             }
             Command::Decode(limit, profile, framing) => {
                 self.run_decode(source, *framing, *profile, reader, writer, *limit)
@@ -157,14 +155,15 @@ impl<H: Host> Lister<'_, H> {
         &self,
         source: &Source,
         command: &Command,
+        label: &Label<'_>,
         reader: &mut Begun<R>,
-        output: &mut Output<W>,
+        writer: &mut W,
     ) -> Result<RunEnd, RunFault>
-        ensures { ListsBy (H.around self.now.host.now) self.now.form self.now.time self.now.command.now source.now command.now (first_of reader.old) (begun_remaining R.remaining reader.old) (output_contents W.contents output.old) (output_contents W.contents output.new) result }
+        ensures { ListsBy (H.around self.now.host.now) label.now self.now.time self.now.command.now source.now command.now (first_of reader.old) (begun_remaining R.remaining reader.old) (W.contents writer.old) (W.contents writer.new) result }
     {
         let hint = hint_by(command, reader.first());
-        let end = self.run(source, command, reader, output)?;
-        if output.began_with_refusal() {
+        let end = self.run(source, command, label, reader, writer)?;
+        if end == RunEnd::RefusedAtOnce {
             self.tell_hint(source, hint)?;
         }
         Ok(end)
@@ -174,17 +173,18 @@ impl<H: Host> Lister<'_, H> {
     fn list_begun<R: Read, W: Write>(
         &self,
         source: &Source,
+        label: &Label<'_>,
         reader: &mut Begun<R>,
-        output: &mut Output<W>,
+        writer: &mut W,
     ) -> Result<RunEnd, RunFault>
-        ensures { ListsBy (H.around self.now.host.now) self.now.form self.now.time self.now.command.now source.now (chosen self.now.command.now (first_of reader.old)) (first_of reader.old) (begun_remaining R.remaining reader.old) (output_contents W.contents output.old) (output_contents W.contents output.new) result }
+        ensures { ListsBy (H.around self.now.host.now) label.now self.now.time self.now.command.now source.now (chosen self.now.command.now (first_of reader.old)) (first_of reader.old) (begun_remaining R.remaining reader.old) (W.contents writer.old) (W.contents writer.new) result }
     {
         match self.command {
             Command::List(when) => {
                 let command = Command::listing(kind_of(reader.first()), *when);
-                self.list_by(source, &command, reader, output)
+                self.list_by(source, &command, label, reader, writer)
             }
-            command => self.list_by(source, command, reader, output),
+            command => self.list_by(source, command, label, reader, writer),
         }
     }
 }
@@ -224,7 +224,7 @@ fn octets_name(source: &Source) -> &[u8]
 impl<H: Host> ListSource<Source> for Lister<'_, H> {
     ghost called = { name_of };
 
-    ghost Lists = { λ lister source. DoesFrom (H.around lister.host.now) lister.form lister.time lister.command.now source };
+    ghost Lists = { λ lister source label. DoesFrom (H.around lister.host.now) label lister.time lister.command.now source };
 
     ghost IsReported = { λ lister source fault. IsFaultReported (H.around lister.host.now) lister.command.now source fault };
 
@@ -232,11 +232,16 @@ impl<H: Host> ListSource<Source> for Lister<'_, H> {
         octets_name(source)
     }
 
-    fn list<W: Write>(&self, source: &Source, output: &mut Output<W>) -> Result<RunEnd, RunFault> {
+    fn list<W: Write>(
+        &self,
+        source: &Source,
+        label: &Label<'_>,
+        writer: &mut W,
+    ) -> Result<RunEnd, RunFault> {
         match self.host.open(source) {
             Ok(reader) => {
                 let mut begun = Begun::begin(self.alloc, reader, self.command.octets_awaited())?;
-                self.list_begun(source, &mut begun, output)
+                self.list_begun(source, label, &mut begun, writer)
             }
             Err(error) => Err(RunFault::Read(error)),
         }

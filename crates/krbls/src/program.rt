@@ -126,7 +126,6 @@ fn list_each<H: Host, W: Write>(
         alloc,
         host,
         command: &command_line.command,
-        form: command_line.form,
         time: now,
     };
     if command_line.command.is_conversion() {

@@ -5,20 +5,19 @@ use Rattle.krb_file.specs.declared.fault.FileFault.{FileFault}
 use Rattle.krb_file.specs.declared.fault.FileFault.TheVariants as faults
 use Rattle.krb_packet.specs.Captures.{packets}
 use Rattle.krb_packet.specs.Streaming.{PacketsModel, Reads}
-use Rattle.krb_record.specs.declared.form.Form.{Form}
-use Rattle.krb_capture.specs.Captures.{Finding, HasFollowed, Progress, Settings, end_text, lines_of, refusal_text}
+use Rattle.krb_record.specs.Labels.{Label}
+use Rattle.krb_capture.specs.Captures.{Finding, HasFollowed, Progress, Settings, end_text, has_no_packet, lines_of, refusal_text}
 use Rattle.krb_capture.specs.Rests.{HasFollowedBut}
 use Rattle.krb_capture.specs.declared.capture.Capture.{Capture}
 use Rattle.krb_capture.specs.declared.directions.Rest.{Rest}
-use Rattle.krb_capture_run.specs.Captures.{capture_run_end, listing_from}
+use Rattle.krb_capture_run.specs.Captures.{capture_run_end, listing_from, refused_end}
 use Rattle.krb_run.specs.Extents.{extent_of}
 use Rattle.krb_run.specs.Records.{RecordListing, after_line}
 use Rattle.krb_run.specs.Paths.{field_path}
 use Rattle.krb_run.specs.declared.run.RunEnd.{RunEnd}
-use Rattle.krb_run.specs.declared.run.RunEnd.TheVariants as run
 
 -- A reader returned the first packets of a file, they were followed, but for findings of the last one, and this is left of its listing.
-pub record IsCaptureLeft (model : PacketsModel) (capture : Capture) (rest : Option (Box Rest Global)) (form : Form) (left : RecordListing) : Type 0 where
+pub record IsCaptureLeft (model : PacketsModel) (capture : Capture) (rest : Option (Box Rest Global)) (label : Label) (left : RecordListing) : Type 0 where
   pub file : List ℕ
   pub count : ℕ
   pub settings : Settings
@@ -26,8 +25,8 @@ pub record IsCaptureLeft (model : PacketsModel) (capture : Capture) (rest : Opti
   pub found : List Finding
   pub reads : Reads model file count
   pub followed : HasFollowedBut capture settings progress rest found
-  pub form_is : form ≡ settings.form
-  pub is : left ≡ after_line (lines_of settings.form found) (listing_from settings (drop count (packets file).items) (packets file).end progress)
+  pub label_is : label ≡ settings.label
+  pub is : left ≡ after_line (lines_of settings.label found) (listing_from settings (drop count (packets file).items) (packets file).end progress)
 
 -- the records of the end were added
 abbrev pub AddsCaptureEnd : Capture → List ℕ → List ℕ → Option RunEnd → Type 0
@@ -35,8 +34,8 @@ AddsCaptureEnd capture old new ended =
     (settings : Settings) (progress : Progress) → HasFollowed capture settings progress → (ended ≡ Some (capture_run_end settings None progress)) × (new ≡ old ++ end_text settings progress)
 
 -- the record of a refused file was added; other faults have none
-abbrev pub AddsFileRefusal : FileFault → Capture → Form → List ℕ → List ℕ → Option RunEnd → Type 0
-AddsFileRefusal (faults.Refused fault) capture form old new ended =
-    (settings : Settings) (progress : Progress) → HasFollowed capture settings progress → form ≡ settings.form → (ended ≡ Some run.Refused) × (new ≡ old ++ refusal_text settings progress fault.place fault.why (field_path fault.field) (extent_of fault))
-AddsFileRefusal faults.Read capture form old new ended = ⊥
-AddsFileRefusal faults.Memory capture form old new ended = ⊥
+abbrev pub AddsFileRefusal : FileFault → Capture → Label → List ℕ → List ℕ → Option RunEnd → Type 0
+AddsFileRefusal (faults.Refused fault) capture label old new ended =
+    (settings : Settings) (progress : Progress) → HasFollowed capture settings progress → label ≡ settings.label → (ended ≡ Some (refused_end (has_no_packet capture.listing.counts))) × (new ≡ old ++ refusal_text settings progress fault.place fault.why (field_path fault.field) (extent_of fault))
+AddsFileRefusal faults.Read capture label old new ended = ⊥
+AddsFileRefusal faults.Memory capture label old new ended = ⊥

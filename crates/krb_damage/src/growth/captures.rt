@@ -9,7 +9,7 @@ use krb_file::{FileFault, FileRefusal};
 use krb_flow::Direction;
 use krb_frame::Limit;
 use krb_packet::{Fragment, Fragments, Original, Packets, Payload, Reassembled, Segment};
-use krb_record::{Extent, Form, TextBuffer};
+use krb_record::{Extent, Form, Label, TextBuffer};
 use krb_source::Endpoint;
 use std::alloc::Global;
 use std::net::{IpAddr, Ipv4Addr};
@@ -92,7 +92,8 @@ fn put_records(
 /// Lists a capture.
 pub(super) fn lists(alloc: Global, form: Form, octets: &[u8], wanted: &str) -> Outcome {
     let mut packets = Packets::new(octets);
-    let mut capture = Capture::new(alloc, form, Profile::Lenient, Limit::DEFAULT, 88);
+    let label = Label::none(form);
+    let mut capture = Capture::new(alloc, &label, Profile::Lenient, Limit::DEFAULT, 88);
     let mut text = TextBuffer::new(alloc);
     let outcome = put_records(alloc, &mut packets, &mut capture, &mut text);
     if outcome == Outcome::Done && text.octets() != wanted.as_bytes() {

@@ -2,7 +2,7 @@
 
 use super::conversions::{Known, is_written};
 use krb_der::{Memory, Profile};
-use krb_record::Form;
+use krb_record::{Form, Label};
 use krb_run::RunEnd;
 use krb_tool::run_lines_in;
 use std::alloc::Global;
@@ -21,7 +21,7 @@ pub(super) fn lists_lines(alloc: Global) -> Result<bool, Memory> {
     let mut writer = Known { rest: LISTING };
     let outcome = run_lines_in(
         alloc,
-        Form::NamedLines,
+        &Label::none(Form::NamedLines),
         Profile::Lenient,
         &mut reader,
         &mut writer,

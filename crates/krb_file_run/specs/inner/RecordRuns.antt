@@ -5,29 +5,31 @@ use Rattle.krb_file.specs.FieldReaders.{Cursor}
 use Rattle.krb_file.specs.declared.progress.Progress.{Progress}
 use Rattle.krb_file.specs.Fields.{Fault}
 use Rattle.krb_file.specs.Items.{Items}
+use Rattle.krb_file.specs.declared.field_path.FileItem.{FileItem}
+use Rattle.krb_file.specs.declared.field_path.FileItem.TheVariants as items
 use Rattle.krb_keytab.specs.Reading.{items as keytab_records}
 use Rattle.krb_keytab.specs.Streaming.{Reads as ReadsRecords}
 use Rattle.krb_keytab.specs.declared.value.Stop.{Stop}
 use Rattle.krb_ccache.specs.declared.reading.Start.{Start}
 use Rattle.krb_ccache.specs.Streaming.{Reads as ReadsCredentials, credentials}
-use Rattle.krb_record.specs.declared.form.Form.{Form}
+use Rattle.krb_record.specs.Labels.{Label}
 use Rattle.krb_file_run.specs.Lines.{record_line, credential_line}
 use Rattle.krb_run.specs.Records.{RecordListing, end_of}
 use Rattle.krb_file_run.specs.Files.{field_limit, keytab_last, ccache_last}
 
 -- what is left after `count` items
-abbrev pub left_of : {A E : Type 0} → (A → List ℕ) → (ℕ → Result E Fault → List ℕ) → Items A (Result E Fault) → ℕ → RecordListing
-left_of line last all count = record { lines = flat_map line (drop count all.items); last = last (length all.items) all.end; end = end_of all.end }
+abbrev pub left_of : {A E : Type 0} → (A → List ℕ) → (ℕ → Result E Fault → List ℕ) → (ℕ → FileItem) → Items A (Result E Fault) → ℕ → RecordListing
+left_of line last item all count = record { lines = flat_map line (drop count all.items); last = last (length all.items) all.end; end = end_of (item (length all.items)) all.end }
 
 -- A reader returned the first `count` items of a file, and this is left of its listing.
-pub record AreLeft {A E : Type 0} (line : A → List ℕ) (last : ℕ → Result E Fault → List ℕ) (all : List ℕ → Items A (Result E Fault)) (Reads : List ℕ → ℕ → Type 0) (count : ℕ) (left : RecordListing) : Type 0 where
+pub record AreLeft {A E : Type 0} (line : A → List ℕ) (last : ℕ → Result E Fault → List ℕ) (item : ℕ → FileItem) (all : List ℕ → Items A (Result E Fault)) (Reads : List ℕ → ℕ → Type 0) (count : ℕ) (left : RecordListing) : Type 0 where
   pub file : List ℕ
   pub reads : Reads file count
-  pub is : left ≡ left_of line last (all file) count
+  pub is : left ≡ left_of line last item (all file) count
 
-abbrev pub AreRecordsLeft : Form → Cursor → Progress Bool Stop → ℕ → RecordListing → Type 0
-AreRecordsLeft form cursor state = AreLeft (λ r. record_line form r) (keytab_last form) (keytab_records field_limit) (λ file count. ReadsRecords field_limit cursor state file count)
+abbrev pub AreRecordsLeft : Label → Cursor → Progress Bool Stop → ℕ → RecordListing → Type 0
+AreRecordsLeft label cursor state = AreLeft (λ r. record_line label r) (keytab_last label) items.Record (keytab_records field_limit) (λ file count. ReadsRecords field_limit cursor state file count)
 
 -- the same of credentials, at a time if there is one
-abbrev pub AreCredentialsLeft : Form → Cursor → Start → Progress (Unit {0}) (Unit {0}) → Option ℕ → ℕ → RecordListing → Type 0
-AreCredentialsLeft form cursor start state now = AreLeft (λ c. credential_line form now c) (ccache_last form) (credentials field_limit) (λ file count. ReadsCredentials field_limit cursor start state file count)
+abbrev pub AreCredentialsLeft : Label → Cursor → Start → Progress (Unit {0}) (Unit {0}) → Option ℕ → ℕ → RecordListing → Type 0
+AreCredentialsLeft label cursor start state now = AreLeft (λ c. credential_line label now c) (ccache_last label) items.Credential (credentials field_limit) (λ file count. ReadsCredentials field_limit cursor start state file count)

@@ -13,7 +13,7 @@ abbrev pub kept_octets : ℕ
 kept_octets = 16777217
 
 abbrev pub records_from : LinesRequest → Seen → List (List ℕ) → Converted RunEnd
-records_from request seen lines = records_of request.form request.profile seen lines
+records_from request seen lines = records_of request.label.now request.profile seen lines
 
 -- The record of the line was added and counted, if it has one.
 pub record PutsLine (old new : LineLister) : Type 0 where

@@ -13,11 +13,11 @@ returns g c = record {
   listed = λ file reads.
       let lines = c.args.lines.now in
       let cache = lines.credentials in
-      let listing = credentials_listing lines.form lines.now (credentials field_limit file) in
-      let text : c.put_cache.new.text ≡ cache_line lines.form cache.start.header cache.start.principal =
+      let listing = credentials_listing lines.label.now lines.now (credentials field_limit file) in
+      let text : c.put_cache.new.text ≡ cache_line lines.label.now cache.start.header cache.start.principal =
       c.in_ok-put_cache.ensures
-      ∙ ap₂ (λ (text line : List ℕ). text ++ line) c.new-text.ensures (ap₂ (cache_line lines.form) c.header.ensures c.principal.ensures) in
-      let whole = ap (λ (t : List ℕ). after_line t listing) text ∙ first_line lines.form lines.now file cache.reader cache.start cache.state reads in
+      ∙ ap₂ (λ (text line : List ℕ). text ++ line) c.new-text.ensures (ap₂ (cache_line lines.label.now) c.header.ensures c.principal.ensures) in
+      let whole = ap (λ (t : List ℕ). after_line t listing) text ∙ first_line lines.label.now lines.now file cache.reader cache.start cache.state reads in
       subst (λ (l : RecordListing). ListsRecords l (g.W.Write.contents c.args.writer.now) (g.W.Write.contents c.list_records.new.writer) c.list_records.result) whole (c.list_records.ensures.listed listing (record { file = file; reads = reads; is = refl }));
 }
 
@@ -26,5 +26,5 @@ returns-in_err-put_cache g c = record {
   listed = λ file reads.
       let lines = c.args.lines.now in
       let p = err_from_is_err_and c.from_residual.result c.from_residual.ensures.1 in
-      rw p.1 (none_written (ccache_listing lines.form lines.now file) (g.W.Write.contents c.args.writer.now) p.0 p.2);
+      rw p.1 (none_written (ccache_listing lines.label.now lines.now file) (g.W.Write.contents c.args.writer.now) p.0 p.2);
 }

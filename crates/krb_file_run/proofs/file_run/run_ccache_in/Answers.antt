@@ -10,5 +10,5 @@ returns-in-Ok g c = record {
 pub returns-in-Err : goal.returns-in-Err
 returns-in-Err g c = record {
   listed = λ file known.
-      c.list_refusal.ensures.listed (ccache_listing c.args.form c.args.now file) (start_refused c.args.form c.args.now file c.in-Err.fault (c.in-Err.ensures.fault file (c.in_ok-reader.ensures.same file known)));
+      c.list_refusal.ensures.listed (ccache_listing c.args.label.now c.args.now file) (start_refused c.args.label.now c.args.now file c.in-Err.fault (c.in-Err.ensures.fault file (c.in_ok-reader.ensures.same file known)));
 }

@@ -7,13 +7,13 @@ use Rattle.krb_run.proofs.record_lines.list_refusal.Goals as goal
 
 pub returns-in-Ok-clause-listed : goal.returns-in-Ok-clause-listed
 returns-in-Ok-clause-listed g c = λ listing refused.
-    let is = refusal_is c.args.form c.args.fault listing c.put_fault.new.text c.in-Ok.ended refused (rw c.new-text.ensures at c.in-Ok.ensures.refused) in
+    let is = refusal_is c.args.label.now c.args.fault listing c.put_fault.new.text c.in-Ok.ended refused (rw c.new-text.ensures at c.in-Ok.ensures.refused) in
     (subst (Appends (g.W.Write.contents c.args.writer.now) (g.W.Write.contents c.write_all.new.writer)) is.0 (rw c.octets.ensures at c.in_ok-write_all-in-Ok.ensures.all), is.1)
 
 pub returns-in_err-write_all-in-Ok-clause-listed : goal.returns-in_err-write_all-in-Ok-clause-listed
 returns-in_err-write_all-in-Ok-clause-listed g c = λ listing refused.
     let p = err_from_is_err_and c.from_residual.result c.from_residual.ensures.1 in
-    let is = refusal_is c.args.form c.args.fault listing c.put_fault.new.text c.in-Ok.ended refused (rw c.new-text.ensures at c.in-Ok.ensures.refused) in
+    let is = refusal_is c.args.label.now c.args.fault listing c.put_fault.new.text c.in-Ok.ended refused (rw c.new-text.ensures at c.in-Ok.ensures.refused) in
     let prefix = rw c.octets.ensures at c.in_err-write_all-in-Ok.ensures.prefix in
     rw (p.1, p.2) (write-fault listing (g.W.Write.contents c.args.writer.now) (g.W.Write.contents c.write_all.new.writer) _ c.in_err-write_all-in-Ok.ensures.fault
     (subst (AppendsPrefix (g.W.Write.contents c.args.writer.now) (g.W.Write.contents c.write_all.new.writer)) is.0 prefix))
@@ -25,7 +25,7 @@ returns-in_err-write_all-in-Ok-clause-fault g c =
 
 pub returns-clause-listed : goal.returns-clause-listed
 returns-clause-listed g c = λ listing refused.
-    let none = Listed-start (IsRefusal c.args.form c.args.fault) listing (g.W.Write.contents c.args.writer.now) [] refused in
+    let none = Listed-start (IsRefusal c.args.label.now c.args.fault) listing (g.W.Write.contents c.args.writer.now) [] refused in
     Listed-before _ _ _ _ _ none c.in-Err.fault (g.W.Write.contents c.write_before.new.writer) c.put_fault.new.text c.write_before.new.text c.write_before.result (rw c.new-text.ensures at c.in-Err.ensures.kept) c.write_before.ensures
 
 pub returns-clause-fault : goal.returns-clause-fault

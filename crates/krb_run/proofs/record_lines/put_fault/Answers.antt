@@ -6,4 +6,4 @@ use Rattle.krb_run.proofs.record_lines.put_fault.Goals as goal
 pub returns-in_ok-put_refusal-in-Refused-clause-refused : goal.returns-in_ok-put_refusal-in-Refused-clause-refused
 returns-in_ok-put_refusal-in-Refused-clause-refused c =
     rw c.in-Refused.is
-    (refl, refusal_shown c.args.item c.args.form c.in-Refused.refusal (option_map string_bytes c.in_ok-path-in-Refused.path) c.args.text.now c.put_refusal.new.text c.in_ok-path-in-Refused.ensures.path c.in_ok-put_refusal-in-Refused.ensures.line)
+    (refl, refusal_shown c.args.item c.args.label.now c.in-Refused.refusal (option_map string_bytes c.in_ok-path-in-Refused.path) c.args.text.now c.put_refusal.new.text c.in_ok-path-in-Refused.ensures.path c.in_ok-put_refusal-in-Refused.ensures.line)

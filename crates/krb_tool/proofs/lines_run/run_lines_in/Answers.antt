@@ -7,8 +7,8 @@ use Rattle.krb_tool.proofs.lines_run.run_lines_in.Goals as goal
 
 pub returns-clause-listed : goal.returns-clause-listed
 unfolding lines_listed
-returns-clause-listed g c = let listed = IfOk-weaker c.list_all.result _ _ (λ ended l. lists-lines c.args.form c.args.profile _ _ _ _ ended (Converts-listed (lines_listed c.args.form c.args.profile) NoneEnds (λ end. end) _ _ _ _ ended l)) c.list_all.ensures.listed in search rules
+returns-clause-listed g c = let listed = IfOk-weaker c.list_all.result _ _ (λ ended l. lists-lines c.args.label.now c.args.profile _ _ _ _ ended (Converts-listed (lines_listed c.args.label.now c.args.profile) NoneEnds (λ end. end) _ _ _ _ ended l)) c.list_all.ensures.listed in search rules
 
 pub returns-clause-fault : goal.returns-clause-fault
 unfolding lines_listed
-returns-clause-fault g c = let failed = ConvertsInPart-failed (lines_listed c.args.form c.args.profile) NoneEnds (λ end. end) _ _ _ _ c.list_all.result c.list_all.ensures.fault in search rules
+returns-clause-fault g c = let failed = ConvertsInPart-failed (lines_listed c.args.label.now c.args.profile) NoneEnds (λ end. end) _ _ _ _ c.list_all.result c.list_all.ensures.fault in search rules

@@ -1,5 +1,6 @@
-use Rattle.std.proofs.Common.{◌∙◌, ap}
-use Rattle.krb_record.specs.Captures.{capture_end_line}
+use Rattle.std.proofs.Common.{◌++◌, ◌∙◌, ap}
+use Rattle.krb_record.specs.Captures.{capture_end_record}
+use Rattle.krb_record.specs.Labels.{line_of}
 use Rattle.krb_capture.specs.Captures.{end_taken, end_text, is_clean}
 use Rattle.krb_capture.proofs.Following.{last-listed}
 use Rattle.krb_capture.proofs.capture.Capture.put_end.Goals as goal
@@ -7,7 +8,8 @@ use Rattle.krb_capture.proofs.capture.Capture.put_end.Goals as goal
 pub returns-clause-listed : goal.returns-clause-listed
 unfolding end_text
 returns-clause-listed c = λ settings progress h.
-    last-listed c.end_directions.new.self settings (end_taken settings progress) c.args.text.now c.end_directions.new.text c.put_capture_end.new.text c.totals-totals.result capture_end_line (c.in_ok-end_directions.ensures settings progress h) c.totals-totals.ensures c.in_ok-put_capture_end.ensures
+    last-listed c.end_directions.new.self settings (end_taken settings progress) c.args.text.now c.end_directions.new.text c.end.new.text c.totals-totals.result (λ label counts. line_of label (capture_end_record counts)) (c.in_ok-end_directions.ensures settings progress h) c.totals-totals.ensures
+    (c.in_ok-end.ensures c.end_directions.new.text (capture_end_record c.totals-totals.result) (c.in_ok-put_capture_end.ensures ∙ ap (λ t. t ++ _) c.in_ok-begin.ensures))
 
 pub returns-clause-clean : goal.returns-clause-clean
 returns-clause-clean c = λ settings progress h.

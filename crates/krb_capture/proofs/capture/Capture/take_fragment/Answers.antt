@@ -18,7 +18,7 @@ returns-in-Some c = IfOk-weaker c.take_whole.result _ _
     (k settings next (record {
       profile = h.profile;
       port = h.port;
-      form = h.form;
+      label = h.label;
       fragments = c.in_ok-whole.ensures.state ∙ ap₂ (λ port held. (nested_step port held c.args.fragment.now).1) h.port h.fragments;
       table = h.table;
       last = h.last;

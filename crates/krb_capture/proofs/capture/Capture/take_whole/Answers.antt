@@ -25,7 +25,7 @@ returns-in-UnreadBetween c = λ settings progress h.
     let ends = c.in-UnreadBetween.ends in
     let text = c.args.text.now in
     subst (λ x. Lists c.take_unread.new.self settings (and_counted (whole_taken settings x progress)) None text text) (sym c.in-UnreadBetween.is)
-    (lists-whole c.take_unread.new.self settings (and_counted (whole_taken settings (contents.UnreadBetween ends) progress)) text text (c.take_unread.ensures settings progress h) (unread-listed (service_of settings.profile settings.port ends.source ends.target) settings.form progress text))
+    (lists-whole c.take_unread.new.self settings (and_counted (whole_taken settings (contents.UnreadBetween ends) progress)) text text (c.take_unread.ensures settings progress h) (unread-listed (service_of settings.profile settings.port ends.source ends.target) settings.label progress text))
 
 pub returns-in-Unread : goal.returns-in-Unread
 returns-in-Unread c = λ settings progress h.
@@ -36,7 +36,7 @@ returns-in-Unread c = λ settings progress h.
     (record {
       profile = h.profile;
       port = h.port;
-      form = ap (λ w. w.form) c.count_unread.ensures ∙ h.form;
+      label = ap (λ w. w.label.now) c.count_unread.ensures ∙ h.label;
       fragments = h.fragments;
       table = h.table;
       last = h.last;
@@ -48,4 +48,4 @@ pub returns-in-Fragment : goal.returns-in-Fragment
 returns-in-Fragment c = λ settings progress h.
     let text = c.args.text.now in
     subst (λ t. Lists c.args.self.now settings (and_counted t) None text text) (sym (passed-over settings c.args.contents.now progress c.in-Fragment.is))
-    (lists-whole c.args.self.now settings (and_counted (nothing_in progress)) text text (record { profile = h.profile; port = h.port; form = h.form; fragments = h.fragments; table = h.table; last = h.last; counts = h.counts }) (sym (append-nil text)))
+    (lists-whole c.args.self.now settings (and_counted (nothing_in progress)) text text (record { profile = h.profile; port = h.port; label = h.label; fragments = h.fragments; table = h.table; last = h.last; counts = h.counts }) (sym (append-nil text)))

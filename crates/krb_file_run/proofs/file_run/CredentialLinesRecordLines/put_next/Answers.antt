@@ -13,7 +13,7 @@ returns-in_ok-put-in-Ok-Some-clause-line g c = λ left is_left.
     let new = c.next_credential.new.self in
     let same = c.give_back.ensures in
     rw (same.same_reader, same.same_start, same.same_state)
-    (item_added (λ x. credential_line lines.form lines.now x) (ccache_last lines.form) (credentials field_limit) (λ file count. Reads field_limit old.reader old.start old.state file count) c.args.count left is_left c.args.text.now c.put_credential-put.new.text
+    (item_added (λ x. credential_line lines.label.now lines.now x) (ccache_last lines.label.now) items.Credential (credentials field_limit) (λ file count. Reads field_limit old.reader old.start old.state file count) c.args.count left is_left c.args.text.now c.put_credential-put.new.text
     (λ file count. Reads field_limit new.reader new.start new.state file count) c.in-Ok-Some.credential (λ file reads. (rw c.in-Ok-Some.field-0-is at c.in-Ok-Some.ensures.next) file 16777216 c.args.count reads) (rw c.in-Ok-Some.field-0-is at c.in_ok-put-in-Ok-Some.ensures))
 
 pub returns-in_ok-put_cache_end-in-Ok-None-clause-line : goal.returns-in_ok-put_cache_end-in-Ok-None-clause-line
@@ -21,12 +21,12 @@ returns-in_ok-put_cache_end-in-Ok-None-clause-line g c = λ left is_left.
     let lines = c.args.self.now in
     let old = lines.credentials in
     let new = c.next_credential.new.self in
-    end_added (λ x. credential_line lines.form lines.now x) (ccache_last lines.form) (credentials field_limit) (λ file count. Reads field_limit old.reader old.start old.state file count) c.args.count left is_left c.args.text.now c.put_cache_end.new.text
+    end_added (λ x. credential_line lines.label.now lines.now x) (ccache_last lines.label.now) items.Credential (credentials field_limit) (λ file count. Reads field_limit old.reader old.start old.state file count) c.args.count left is_left c.args.text.now c.put_cache_end.new.text
     (Ok new.reader.place) (λ file reads. (rw c.in-Ok-None.field-0-is at c.in-Ok-None.ensures.next) file 16777216 c.args.count reads) c.in_ok-put_cache_end-in-Ok-None.ensures
 
 pub returns-in_ok-ended-in-Err-clause-line : goal.returns-in_ok-ended-in-Err-clause-line
 returns-in_ok-ended-in-Err-clause-line g c = λ left is_left.
     let lines = c.args.self.now in
     let old = lines.credentials in
-    refusal_added (λ x. credential_line lines.form lines.now x) (ccache_last lines.form) (credentials field_limit) (λ file count. Reads field_limit old.reader old.start old.state file count) c.args.count left is_left c.args.text.now c.put_fault.new.text
-    (items.Credential c.args.count) lines.form (λ f. refl) c.in-Err.fault (λ file reads. c.in-Err.ensures.next file 16777216 c.args.count reads) c.in_ok-ended-in-Err.ended c.in_ok-ended-in-Err.ensures.refused
+    refusal_added (λ x. credential_line lines.label.now lines.now x) (ccache_last lines.label.now) items.Credential (credentials field_limit) (λ file count. Reads field_limit old.reader old.start old.state file count) c.args.count left is_left c.args.text.now c.put_fault.new.text
+    lines.label.now (λ f. refl) c.in-Err.fault (λ file reads. c.in-Err.ensures.next file 16777216 c.args.count reads) c.in_ok-ended-in-Err.ended c.in_ok-ended-in-Err.ensures.refused

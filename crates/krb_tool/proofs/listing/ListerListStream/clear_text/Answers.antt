@@ -14,5 +14,6 @@ returns c =
       text = ap (λ l. (written ++ old.text) ++ l) c.clear.ensures ∙ append-nil (written ++ old.text) ∙ h.text;
       messages = h.messages;
       refused = h.refused;
+      at_once = h.at_once;
       offset = h.offset;
     })

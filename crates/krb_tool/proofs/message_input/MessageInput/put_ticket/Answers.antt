@@ -2,8 +2,7 @@ use Rattle.std.proofs.Common.{refl, subst}
 use Rattle.std.specs.Prelude.{IfOk, string_bytes}
 use Rattle.std.specs.Option.{option_map}
 use Rattle.krb_judge.specs.Parses.{ticket_refusal}
-use Rattle.krb_run.specs.Files.{FileListing}
-use Rattle.krb_tool.specs.Messages.{Puts, layered_of}
+use Rattle.krb_tool.specs.Messages.{OneRecord, Puts, layered_of}
 use Rattle.krb_tool.proofs.Messages.{not_refused, puts-ticket, refused-ticket, ticket-read}
 use Rattle.krb_tool.proofs.message_input.MessageInput.put_ticket.Goals as goal
 
@@ -13,7 +12,7 @@ returns-in_ok-put_ticket-in-Ok-clause-put c =
 
 pub returns-in_ok-path-in-Err-clause-put : goal.returns-in_ok-path-in-Err-clause-put
 returns-in_ok-path-in-Err-clause-put c =
-    subst (λ (listing : FileListing). IfOk c.put_refusal.result (Puts c.args.text.now c.put_refusal.new.text listing))
+    subst (λ (listing : OneRecord). IfOk c.put_refusal.result (Puts c.args.self.now.form c.args.text.now c.put_refusal.new.text listing))
     (refused-ticket c.args.self.now (layered_of c.args.layered.now) c.in-Err.refusal (option_map string_bytes c.in_ok-path-in-Err.path)
     ((c.in-Err.ensures.refused c.in-Err.refusal).0 refl) c.in_ok-path-in-Err.ensures.path)
     c.put_refusal.ensures.put

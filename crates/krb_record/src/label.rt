@@ -1,0 +1,115 @@
+//! Labels of records: the name of their file, which tells them from those of other files.
+
+ghost use Rattle.std.specs.Prelude.{◌≡◌, ◌++◌, IfOk, None, OnOk, Some};
+ghost use Rattle.krb_record.specs.Labels.{AddsMembers, EndsRecord, begin_text, label_text};
+
+use crate::file_name::FileName;
+use crate::form::Form;
+use crate::put_field;
+use crate::text_buffer::TextBuffer;
+use std::alloc::{AllocError, Global};
+use std::marker::Model;
+
+/// The name of a file, and what each of its records has of it.
+#[derive(Drop)]
+struct Named<'a> {
+    file: &'a [u8],
+    /// `file=NAME` and a blank, which begin a line, or `,"file":NAME`, which ends an object.
+    text: String,
+}
+
+/// In which form records are written, and the name of their file, if each of them has it.
+#[derive(Drop)]
+pub struct Label<'a> {
+    form: Form,
+    named: Option<Named<'a>>,
+}
+
+impl<'a> Model for Label<'a> {
+    ghost use Rattle.std.specs.Prelude.{◌≡◌, IfSome, string_bytes};
+    ghost use Rattle.std.specs.Option.{option_map};
+    ghost use Rattle.krb_record.specs.Labels.{Label, label_text};
+
+    ghost Value = { Label };
+
+    ghost view = { λ label. record { form = label.form; file = option_map (λ named. named.file.now) label.named } };
+
+    ghost invariant = { λ label. IfSome label.named (λ named. string_bytes named.text ≡ label_text label.form named.file.now) };
+}
+
+/// Returns the text of the label of the records of a file.
+#[tactic(auto, unfolding(crate::specs::Labels::label_text))]
+fn label_text(alloc: Global, form: Form, file: &[u8]) -> Result<TextBuffer, AllocError>
+    ensures { IfOk result (λ text. text ≡ label_text form file.now) }
+{
+    let mut text = TextBuffer::new(alloc);
+    put_field!(&mut text, form, first "file": &FileName(file))?;
+    match form {
+        Form::Lines | Form::NamedLines => text.push_str(" ")?,
+        Form::Json => {}
+    }
+    Ok(text)
+}
+
+/// Inserts members at the end of the object that ends a text, with its line feed.
+#[inline(never)]
+fn insert_members(text: &mut TextBuffer, members: &str) -> Result<(), AllocError>
+    ensures { OnOk result (AddsMembers members.now text.old text.new) }
+{
+    match text.octets().strip_suffix(b"}\n") {
+        None => Ok(()),
+        Some(object) => {
+            let place = object.len();
+            text.insert(place, members)
+        }
+    }
+}
+
+impl<'a> Label<'a> {
+    /// Returns that records do not name their file.
+    pub fn none(form: Form) -> Label<'a>
+        ensures { result ≡ record { form = form; file = None } }
+    {
+        Label { form, named: None }
+    }
+
+    /// Returns that each record names its file.
+    pub fn of_file(alloc: Global, form: Form, file: &'a [u8]) -> Result<Label<'a>, AllocError>
+        ensures { IfOk result (λ label. label ≡ record { form = form; file = Some file.now }) }
+    {
+        let text = label_text(alloc, form, file)?.into_string();
+        let named = Some(Named { file, text });
+        Ok(Label { form, named })
+    }
+
+    /// Returns the form of the records.
+    #[inline(always)]
+    pub fn form(&self) -> Form
+        ensures { result ≡ self.now.form }
+    {
+        self.form
+    }
+
+    /// Appends what a line has before its record.
+    #[inline(always)]
+    pub fn begin(&self, text: &mut TextBuffer) -> Result<(), AllocError>
+        ensures { OnOk result (text.new ≡ text.old ++ begin_text self.now) }
+    {
+        match (&self.named, self.form) {
+            (Some(named), Form::Lines | Form::NamedLines) => text.push_str(named.text.as_str()),
+            _ => Ok(()),
+        }
+    }
+
+    /// Ends the record that ends a text and was begun so: an object gets the name of its file as its
+    /// last member.
+    #[inline(always)]
+    pub fn end(&self, text: &mut TextBuffer) -> Result<(), AllocError>
+        ensures { OnOk result (EndsRecord self.now text.old text.new) }
+    {
+        match (&self.named, self.form) {
+            (Some(named), Form::Json) => insert_members(text, named.text.as_str()),
+            _ => Ok(()),
+        }
+    }
+}
