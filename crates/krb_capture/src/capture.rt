@@ -11,14 +11,13 @@ ghost use Rattle.krb_capture.specs.Rests.{HasFollowedBut, Lists};
 use crate::datagram::list_with_surplus;
 use crate::directions::{Directions, Rest};
 use crate::flow::{Due, Service};
+use crate::labelled;
 use crate::listing::{Listing, Tally};
 use krb_der::{Memory, Profile};
 use krb_file::FileWhy;
 use krb_frame::Limit;
 use krb_packet::{Contents, Datagram, Ends, Fragment, Fragments, Packet, Segment, contents_of};
-use krb_record::{
-    CaptureCounts, Extent, Label, TextBuffer, Transport, put_capture_end, put_capture_refusal,
-};
+use krb_record::{CaptureCounts, Extent, Label, TextBuffer, Transport};
 use std::alloc::Global;
 
 /// What was found in the packets of a capture so far. It allocates for the fragments of datagrams
@@ -53,7 +52,7 @@ impl<'a> Capture<'a> {
     /// are refused, messages are judged by `profile`, and `port` is the one of KDCs.
     pub fn new(
         alloc: Global,
-        label: &'a Label<'a>,
+        label: &'a Label,
         profile: Profile,
         limit: Limit,
         port: u16,
@@ -308,10 +307,7 @@ impl<'a> Capture<'a> {
     {
         self.end_directions(text)?;
         let totals = self.totals();
-        let label = self.listing.label;
-        label.begin(text)?;
-        put_capture_end(text, label.form(), &totals)?;
-        label.end(text)?;
+        labelled::put_end(text, self.listing.label, &totals)?;
         Ok(is_clean(&totals))
     }
 
@@ -352,10 +348,15 @@ impl<'a> Capture<'a> {
     {
         self.end_directions(text)?;
         let totals = self.totals();
-        let label = self.listing.label;
-        label.begin(text)?;
-        put_capture_refusal(text, label.form(), &totals, place, why, path, extent)?;
-        label.end(text)?;
+        labelled::put_file_refusal(
+            text,
+            self.listing.label,
+            &totals,
+            place,
+            why,
+            path,
+            extent,
+        )?;
         Ok(())
     }
 }

@@ -24,6 +24,7 @@ mod directions;
 mod ended;
 mod flow;
 mod frames;
+mod labelled;
 mod listing;
 mod message;
 mod message_frames;

@@ -6,13 +6,10 @@ ghost use Rattle.krb_capture.specs.Found.{IsFull, Faulty, Joined, Missing, Passw
 ghost use Rattle.krb_capture.specs.Found as found;
 ghost use Rattle.krb_capture.specs.Listed.{IsListed};
 
+use crate::labelled;
 use krb_der::{Memory, Profile, Refusal};
 use krb_flow::{Lost, Unread};
-use krb_record::{
-    CaptureCounts, CaptureOrigin, Extent, Form, Label, TextBuffer, put_captured_refusal,
-    put_joined, put_lost, put_password, put_unread,
-};
-use krb_text::put_captured_message;
+use krb_record::{CaptureCounts, CaptureOrigin, Extent, Form, Label, TextBuffer};
 use std::alloc::Global;
 use std::marker::Model;
 
@@ -23,7 +20,7 @@ const FULL_OCTETS: usize = 1 << 16;
 #[derive(Clone, Copy)]
 pub(crate) struct Tally<'a> {
     pub(crate) alloc: Global,
-    pub(crate) label: &'a Label<'a>,
+    pub(crate) label: &'a Label,
     pub(crate) counts: CaptureCounts,
 }
 
@@ -114,14 +111,9 @@ impl<'text> Listing<'text> {
         requires { length octets.now < 2 ^ 31 }
         ensures { IfOk result (IsListed profile octets.now origin.now self.old self.new) }
     {
-        let label = self.tally.label;
-        let begin = self.text.size();
-        label.begin(self.text)?;
-        if !put_captured_message(self.text, label.form(), origin, profile, octets)? {
-            self.text.truncate(begin);
+        if !labelled::put_message(self.text, self.tally.label, origin, profile, octets)? {
             return Ok(false);
         }
-        label.end(self.text)?;
         self.tally.counts.messages = and_more(self.tally.counts.messages, 1);
         Ok(true)
     }
@@ -137,10 +129,7 @@ impl<'text> Listing<'text> {
     ) -> Result<(), Memory>
         ensures { OnOk result (self.new ≡ with_found origin.now (Faulty refusal (option_copied path.entry) extent) self.old) }
     {
-        let label = self.tally.label;
-        label.begin(self.text)?;
-        put_captured_refusal(self.text, label.form(), origin, refusal, path, extent)?;
-        label.end(self.text)?;
+        labelled::put_refusal(self.text, self.tally.label, origin, refusal, path, extent)?;
         self.tally.counts.refused = and_more(self.tally.counts.refused, 1);
         Ok(())
     }
@@ -149,10 +138,7 @@ impl<'text> Listing<'text> {
     pub(crate) fn put_joined(&mut self, origin: &CaptureOrigin) -> Result<(), Memory>
         ensures { OnOk result (self.new ≡ with_found origin.now Joined self.old) }
     {
-        let label = self.tally.label;
-        label.begin(self.text)?;
-        put_joined(self.text, label.form(), origin)?;
-        label.end(self.text)?;
+        labelled::put_joined(self.text, self.tally.label, origin)?;
         Ok(())
     }
 
@@ -165,17 +151,7 @@ impl<'text> Listing<'text> {
     ) -> Result<(), Memory>
         ensures { OnOk result (self.new ≡ with_found origin.now (Missing lost.place lost.octets (option_copied path.entry)) self.old) }
     {
-        let label = self.tally.label;
-        label.begin(self.text)?;
-        put_lost(
-            self.text,
-            label.form(),
-            origin,
-            lost.place,
-            lost.octets,
-            path,
-        )?;
-        label.end(self.text)?;
+        labelled::put_lost(self.text, self.tally.label, origin, lost, path)?;
         self.tally.counts.lost = and_more(self.tally.counts.lost, 1);
         Ok(())
     }
@@ -188,11 +164,7 @@ impl<'text> Listing<'text> {
     ) -> Result<(), Memory>
         ensures { OnOk result (self.new ≡ with_found origin.now (found.Unread unread.place unread.octets unread.why) self.old) }
     {
-        let Unread { place, octets, why } = unread;
-        let label = self.tally.label;
-        label.begin(self.text)?;
-        put_unread(self.text, label.form(), origin, place, octets, why)?;
-        label.end(self.text)?;
+        labelled::put_unread(self.text, self.tally.label, origin, unread)?;
         self.tally.counts.unread = and_more(self.tally.counts.unread, 1);
         Ok(())
     }
@@ -208,10 +180,7 @@ impl<'text> Listing<'text> {
     ) -> Result<(), Memory>
         ensures { OnOk result (self.new ≡ with_found origin.now (Password version ap rest) self.old) }
     {
-        let label = self.tally.label;
-        label.begin(self.text)?;
-        put_password(self.text, label.form(), origin, version, ap, rest)?;
-        label.end(self.text)?;
+        labelled::put_password(self.text, self.tally.label, origin, version, ap, rest)?;
         Ok(())
     }
 }

@@ -25,7 +25,7 @@ struct CaptureLines<'a, R: Read> {
     capture: Capture<'a>,
     /// What is left of the packet that came last, if its records are not all listed.
     rest: Option<Box<Rest>>,
-    label: &'a Label<'a>,
+    label: &'a Label,
     watch: &'a Watch,
 }
 
@@ -115,7 +115,7 @@ impl<R: Read> RecordLines for CaptureLines<'_, R> {
 /// of KDCs. Reads and writes as [`list_records`] does.
 pub fn run_capture<R: Read, W: Write>(
     alloc: Global,
-    label: &Label<'_>,
+    label: &Label,
     profile: Profile,
     reader: &mut R,
     writer: &mut W,
@@ -130,17 +130,12 @@ pub fn run_capture<R: Read, W: Write>(
     let packets = Packets::new(reader);
     let capture = Capture::new(alloc, label, profile, limit, port);
     let mut text = TextBuffer::new(alloc);
-    list_records(
-        alloc,
-        &mut CaptureLines {
-            packets,
-            capture,
-            rest: None,
-            label,
-            watch,
-        },
-        &mut text,
+    let mut lines = CaptureLines {
+        packets,
+        capture,
+        rest: None,
+        label,
         watch,
-        writer,
-    )
+    };
+    list_records(alloc, &mut lines, &mut text, watch, writer)
 }

@@ -22,7 +22,7 @@ use std::io::{Read, Write};
 #[derive(Drop)]
 struct KeytabLines<'a, R: Read> {
     records: Records<R>,
-    label: &'a Label<'a>,
+    label: &'a Label,
     watch: &'a Watch,
 }
 
@@ -59,7 +59,7 @@ impl<R: Read> RecordLines for KeytabLines<'_, R> {
 #[derive(Drop)]
 struct CredentialLines<'a, R: Read> {
     credentials: Credentials<R>,
-    label: &'a Label<'a>,
+    label: &'a Label,
     now: Option<u32>,
     watch: &'a Watch,
 }
@@ -111,7 +111,7 @@ pub fn run_keytab<R: Read, W: Write>(
 /// it is asked for are written together.
 pub fn run_keytab_in<R: Read, W: Write>(
     alloc: Global,
-    label: &Label<'_>,
+    label: &Label,
     reader: &mut R,
     writer: &mut W,
 ) -> Result<RunEnd, RunFault>
@@ -122,17 +122,12 @@ pub fn run_keytab_in<R: Read, W: Write>(
     let reader = in_pieces(alloc, Watched { reader, watch })?;
     let records = Records::new(reader, Limit::DEFAULT);
     let mut text = TextBuffer::new(alloc);
-    list_records(
-        alloc,
-        &mut KeytabLines {
-            records,
-            label,
-            watch,
-        },
-        &mut text,
+    let mut lines = KeytabLines {
+        records,
+        label,
         watch,
-        writer,
-    )
+    };
+    list_records(alloc, &mut lines, &mut text, watch, writer)
 }
 
 /// Lists the credentials of a cache after its own line.
@@ -168,7 +163,7 @@ pub fn run_ccache<R: Read, W: Write>(
 /// [`run_keytab_in`] does.
 pub fn run_ccache_in<R: Read, W: Write>(
     alloc: Global,
-    label: &Label<'_>,
+    label: &Label,
     reader: &mut R,
     writer: &mut W,
     now: Option<u32>,
@@ -179,16 +174,15 @@ pub fn run_ccache_in<R: Read, W: Write>(
     let watch = &watch;
     let reader = in_pieces(alloc, Watched { reader, watch })?;
     match Credentials::start(alloc, reader, Limit::DEFAULT) {
-        Ok(credentials) => list_credentials(
-            alloc,
-            &mut CredentialLines {
+        Ok(credentials) => {
+            let mut lines = CredentialLines {
                 credentials,
                 label,
                 now,
                 watch,
-            },
-            writer,
-        ),
+            };
+            list_credentials(alloc, &mut lines, writer)
+        }
         Err(fault) => list_refusal(alloc, label, fault, watch, writer),
     }
 }

@@ -11,7 +11,7 @@ use std::alloc::AllocError;
 /// Appends a record of a keytab.
 pub(crate) fn put_record(
     text: &mut TextBuffer,
-    label: &Label<'_>,
+    label: &Label,
     record: &Record,
 ) -> Result<(), AllocError>
     ensures { OnOk result (text.new ≡ text.old ++ record_line label.now «record».now) }
@@ -24,7 +24,7 @@ pub(crate) fn put_record(
 /// Appends the record of the end of a keytab of so many records.
 pub(crate) fn put_keytab_end(
     text: &mut TextBuffer,
-    label: &Label<'_>,
+    label: &Label,
     records: u64,
     stop: &Stop,
 ) -> Result<(), AllocError>
@@ -38,7 +38,7 @@ pub(crate) fn put_keytab_end(
 /// Appends the record of a cache.
 pub(crate) fn put_cache(
     text: &mut TextBuffer,
-    label: &Label<'_>,
+    label: &Label,
     header: &Header,
     principal: &FilePrincipal,
 ) -> Result<(), AllocError>
@@ -52,7 +52,7 @@ pub(crate) fn put_cache(
 /// Appends the record of a credential, at a time in seconds since 1970 if there is one.
 pub(crate) fn put_credential(
     text: &mut TextBuffer,
-    label: &Label<'_>,
+    label: &Label,
     credential: &Credential,
     now: Option<u32>,
 ) -> Result<(), AllocError>
@@ -66,7 +66,7 @@ pub(crate) fn put_credential(
 /// Appends the record of the end of a cache of so many credentials.
 pub(crate) fn put_cache_end(
     text: &mut TextBuffer,
-    label: &Label<'_>,
+    label: &Label,
     credentials: u64,
 ) -> Result<(), AllocError>
     ensures { OnOk result (text.new ≡ text.old ++ cache_end_line label.now credentials) }

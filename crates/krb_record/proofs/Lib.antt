@@ -13,4 +13,5 @@ pub mod Times
 pub mod Moments
 pub mod Reasons
 pub mod Records
+pub mod Labels
 pub mod Appended

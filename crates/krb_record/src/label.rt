@@ -12,29 +12,29 @@ use std::marker::Model;
 
 /// The name of a file, and what each of its records has of it.
 #[derive(Drop)]
-struct Named<'a> {
-    file: &'a [u8],
+struct Named {
+    file: Vec<u8>,
     /// `file=NAME` and a blank, which begin a line, or `,"file":NAME`, which ends an object.
     text: String,
 }
 
 /// In which form records are written, and the name of their file, if each of them has it.
 #[derive(Drop)]
-pub struct Label<'a> {
+pub struct Label {
     form: Form,
-    named: Option<Named<'a>>,
+    named: Option<Named>,
 }
 
-impl<'a> Model for Label<'a> {
+impl Model for Label {
     ghost use Rattle.std.specs.Prelude.{◌≡◌, IfSome, string_bytes};
     ghost use Rattle.std.specs.Option.{option_map};
     ghost use Rattle.krb_record.specs.Labels.{Label, label_text};
 
     ghost Value = { Label };
 
-    ghost view = { λ label. record { form = label.form; file = option_map (λ named. named.file.now) label.named } };
+    ghost view = { λ label. record { form = label.form; file = option_map (λ named. named.file.items) label.named } };
 
-    ghost invariant = { λ label. IfSome label.named (λ named. string_bytes named.text ≡ label_text label.form named.file.now) };
+    ghost invariant = { λ label. IfSome label.named (λ named. string_bytes named.text ≡ label_text label.form named.file.items) };
 }
 
 /// Returns the text of the label of the records of a file.
@@ -51,33 +51,35 @@ fn label_text(alloc: Global, form: Form, file: &[u8]) -> Result<TextBuffer, Allo
     Ok(text)
 }
 
+/// The number of octets that end an object: `}` and a line feed.
+const CLOSING_OCTETS: usize = 2;
+
 /// Inserts members at the end of the object that ends a text, with its line feed.
 #[inline(never)]
 fn insert_members(text: &mut TextBuffer, members: &str) -> Result<(), AllocError>
     ensures { OnOk result (AddsMembers members.now text.old text.new) }
 {
+    let size = text.size();
     match text.octets().strip_suffix(b"}\n") {
         None => Ok(()),
-        Some(object) => {
-            let place = object.len();
-            text.insert(place, members)
-        }
+        Some(_) => text.insert(size - CLOSING_OCTETS, members),
     }
 }
 
-impl<'a> Label<'a> {
+impl Label {
     /// Returns that records do not name their file.
-    pub fn none(form: Form) -> Label<'a>
+    pub fn none(form: Form) -> Label
         ensures { result ≡ record { form = form; file = None } }
     {
         Label { form, named: None }
     }
 
     /// Returns that each record names its file.
-    pub fn of_file(alloc: Global, form: Form, file: &'a [u8]) -> Result<Label<'a>, AllocError>
+    pub fn of_file(alloc: Global, form: Form, file: &[u8]) -> Result<Label, AllocError>
         ensures { IfOk result (λ label. label ≡ record { form = form; file = Some file.now }) }
     {
         let text = label_text(alloc, form, file)?.into_string();
+        let file = Vec::from_slice(alloc, file)?;
         let named = Some(Named { file, text });
         Ok(Label { form, named })
     }
@@ -95,9 +97,12 @@ impl<'a> Label<'a> {
     pub fn begin(&self, text: &mut TextBuffer) -> Result<(), AllocError>
         ensures { OnOk result (text.new ≡ text.old ++ begin_text self.now) }
     {
-        match (&self.named, self.form) {
-            (Some(named), Form::Lines | Form::NamedLines) => text.push_str(named.text.as_str()),
-            _ => Ok(()),
+        match &self.named {
+            None => Ok(()),
+            Some(named) => match self.form {
+                Form::Lines | Form::NamedLines => text.push_str(named.text.as_str()),
+                Form::Json => Ok(()),
+            },
         }
     }
 
@@ -107,9 +112,13 @@ impl<'a> Label<'a> {
     pub fn end(&self, text: &mut TextBuffer) -> Result<(), AllocError>
         ensures { OnOk result (EndsRecord self.now text.old text.new) }
     {
-        match (&self.named, self.form) {
-            (Some(named), Form::Json) => insert_members(text, named.text.as_str()),
-            _ => Ok(()),
+        match &self.named {
+            None => Ok(()),
+            Some(named) => match self.form {
+                Form::Lines => Ok(()),
+                Form::NamedLines => Ok(()),
+                Form::Json => insert_members(text, named.text.as_str()),
+            },
         }
     }
 }

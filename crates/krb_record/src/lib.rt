@@ -5,6 +5,7 @@
 //! [`Form::Json`] an object of JSON. What a record has is said once, whatever the form; each
 //! function appends to one text ([`TextBuffer`]), and its contract says what was appended. A record
 //! may have an origin, which is fields, too: a line has it before the kind, an object after it.
+//! A [`Label`] puts the name of a file into each record: first in a line, last in an object.
 //!
 //! Records are made of [`put_opening`], [`put_field`] of what is [`Shown`], and [`put_end`]; values
 //! are numbers of registries ([`Numbered`]), names of principals ([`Principal`]), flags

@@ -2,10 +2,10 @@
 use Rattle.std.proofs.Common.{◌≡◌, ℕ, ◌+◌, ◌-◌, ◌<◌, ◌≤◌, min, List, [], ◌++◌, length, take, drop, Option, Some, None, Result, refl, sym, ◌∙◌, ap, ap₂, subst, arith, append-nil, append_assoc, length-append, length-take, length-drop, take-append-drop}
 use Rattle.std.specs.Io.KnownBytes.{Consumes, IsAtEnd, Keeps, ReadConsumes, prepend_known}
 use Rattle.std.proofs.KnownBytes.{Consumes-trans}
-use Rattle.std.proofs.lemmas.List.{drop-drop, drop_all, take_at}
-use Rattle.krb_run.specs.Begun.{BeginsWith, others_of}
+use Rattle.std.proofs.lemmas.List.{drop-drop, drop_all, take_all, take_at}
+use Rattle.krb_run.specs.Begun.{BeginsWith, IsEnough, others_of}
 use Rattle.krb_run.specs.declared.begun.Then.{Then}
-use Rattle.krb_run.specs.declared.begun.Then.TheVariants.{Others}
+use Rattle.krb_run.specs.declared.begun.Then.TheVariants.{End, Fault, Others}
 
 -- the first of the octets before others are read
 consumes-first : (all first rest : List ℕ) (others : Option (List ℕ)) → all ≡ first ++ rest → Consumes (prepend_known all others) (prepend_known rest others) first
@@ -68,3 +68,35 @@ begins-with read given others none = subst (λ n. BeginsWith (take 16 read) (pre
     known : (others : Option (List ℕ)) → BeginsWith (take 16 read) (prepend_known read others)
     known None = tt
     known (Some xs) = (drop 16 read ++ xs, ap (λ l. l ++ xs) (sym (take-append-drop 16 read)) ∙ append_assoc (take 16 read) (drop 16 read) xs)
+
+-- ---- whether they are enough
+pub enough-ended : (then : Then) (least size : ℕ) → then ≡ End → IsEnough then least size
+enough-ended then least size is = subst (λ t. IsEnough t least size) (sym is) tt
+
+-- a read failed
+abbrev pub IsFailed : Then → Type 0
+IsFailed Others = ⊥
+IsFailed End = ⊥
+IsFailed (Fault error) = Unit {0}
+
+pub enough-failed : (then : Then) (least size : ℕ) → IsFailed then → IsEnough then least size
+enough-failed Others least size failed = absurd failed
+enough-failed End least size failed = tt
+enough-failed (Fault error) least size failed = tt
+
+pub whole-failed : {A : Type 0} (then : Then) → IsFailed then → then ≡ End → A
+whole-failed then failed end = absurd (subst IsFailed end failed)
+
+pub enough-read : (then : Then) (least : ℕ) (octets : List ℕ) → then ≡ Others → min least 16 ≤ length octets → IsEnough then least (length (take 16 octets))
+enough-read then least octets is many =
+    let few : min least 16 ≤ length (take 16 octets) = omega (arith, many, length-take 16 octets) in
+    subst (λ t. IsEnough t least (length (take 16 octets))) (sym is) few
+
+-- all that a reader has was read
+pub whole-read : (octets : List ℕ) (given : ℕ) (then : Then) (others : Option (List ℕ)) → given ≡ 0 → length octets ≤ 16 → then ≡ End → prepend_known (drop given octets) (others_of then others) ≡ Some (take 16 octets)
+whole-read octets given then others none few is =
+    ap₂ (λ n t. prepend_known (drop n octets) (others_of t others)) none is
+    ∙ ap Some (append-nil octets ∙ sym (take_all 16 octets few))
+
+pub not-ended : {A : Type 0} (then : Then) → (then ≡ End → ⊥) → then ≡ End → A
+not-ended then never end = absurd (never end)

@@ -1,5 +1,5 @@
 -- Sources that are listed one after another.
-use Rattle.std.proofs.Common.{◌≡◌, ℕ, max, true, false, List, [], ◌∷◌, Option, refl, sym, ◌∙◌, ap, subst, arith}
+use Rattle.std.proofs.Common.{◌≡◌, ℕ, max, true, false, List, [], ◌∷◌, Option, refl, sym, ◌∙◌, subst, arith}
 use Rattle.std.specs.Ordering.{ord_max, nat_cmp}
 use Rattle.krb_run.specs.Statuses.{status_of}
 use Rattle.krb_run.specs.Sources.{Outcome, Run, ListsEach, ends_run}

@@ -104,7 +104,7 @@ pub trait RecordLines {
 /// Appends the line of a refused file, with the path of the field at fault.
 fn put_refusal(
     text: &mut TextBuffer,
-    label: &Label<'_>,
+    label: &Label,
     refusal: FileRefusal,
     path: &Option<String>,
 ) -> Result<(), RunFault>
@@ -134,7 +134,7 @@ fn refused_in(item: FileItem) -> RunEnd
 pub fn put_fault(
     alloc: Global,
     text: &mut TextBuffer,
-    label: &Label<'_>,
+    label: &Label,
     item: FileItem,
     fault: FileFault,
     watch: &Watch,
@@ -228,7 +228,7 @@ pub fn list_records<L: RecordLines, W: Write>(
 /// Lists the refusal of a file and nothing else, if this fault is a refusal.
 pub fn list_refusal<W: Write>(
     alloc: Global,
-    label: &Label<'_>,
+    label: &Label,
     fault: FileFault,
     watch: &Watch,
     writer: &mut W,

@@ -34,7 +34,7 @@ pub trait ListSource<S> {
     fn list<W: Write>(
         &self,
         source: &S,
-        label: &Label<'_>,
+        label: &Label,
         writer: &mut W,
     ) -> Result<RunEnd, RunFault>
         ensures { Lists self.now source.now label.now (W.contents writer.old) (W.contents writer.new) result };
@@ -88,12 +88,12 @@ fn names_of(naming: Naming, form: Form, sources: usize) -> Named
 }
 
 /// Returns the label of a source, if its records have one.
-fn label_of<'a>(
+fn label_of(
     alloc: Global,
     form: Form,
     has_label: bool,
-    name: &'a [u8],
-) -> Result<Label<'a>, AllocError>
+    name: &[u8],
+) -> Result<Label, AllocError>
     ensures { IfOk result (λ label. label ≡ label_of form has_label name.now) }
 {
     if has_label {

@@ -89,7 +89,7 @@ fn refusals_say_where_they_are(rt: HostRuntime) -> Result<(), Fail> {
         let octets = octets_of(rt.alloc(), digits)?;
         let mut listed = Vec::new(rt.alloc());
         let end = list(rt.alloc(), source, octets.as_slice(), &mut listed);
-        assert!(rt; matches!(end, Ok(RunEnd::Refused)));
+        assert!(rt; matches!(end, Ok(RunEnd::Refused | RunEnd::RefusedAtOnce)));
         assert!(rt; listed.as_slice() == lines.as_bytes());
     }
     Ok(())

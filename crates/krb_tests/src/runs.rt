@@ -300,7 +300,7 @@ fn asks_until_a_refusal_and_no_more(rt: HostRuntime) -> Result<(), Fail> {
     let octets = repeated(rt.alloc(), b"\x00\x00\x00\x1F\x30", 1, 200000)?;
     for (at_most, asks) in [(1, 5), (5, 1), (65536, 1)] {
         let wanted = Given {
-            outcome: Some(RunEnd::Refused),
+            outcome: Some(RunEnd::RefusedAtOnce),
             lines: b"refused messages=0 place=4 why=4 Tag\n",
             asks,
         };

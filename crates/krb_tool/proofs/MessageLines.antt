@@ -9,7 +9,7 @@ use Rattle.krb_run.specs.Conversions.{Converted, Converts, after_text}
 use Rattle.krb_run.specs.TextLines.{is_blank_line}
 use Rattle.krb_run.specs.Files.{FileListing}
 use Rattle.krb_tool.specs.MessageLines.{ListsLines, is_passed, lines_listed, next_line, with_line, with_record}
-use Rattle.krb_tool.specs.Messages.{OneRecord, input_limit, input_listing, listing_with}
+use Rattle.krb_tool.specs.Messages.{input_limit, input_listing, listing_with}
 use Rattle.krb_tool.specs.declared.lines_run.LineLister.{LineLister}
 use Rattle.krb_tool.specs.declared.lines_run.LinesRequest.{LinesRequest}
 use Rattle.krb_tool.specs.declared.lines_run.Seen.{Seen}

@@ -2,7 +2,7 @@
 use Rattle.std.specs.Prelude.{ℕ, ◌+◌, ◌==◌, ◌&&◌, ◌||◌, nat_lt, not, Bool, false, List, [], ◌∷◌, length, Option, Some}
 use Rattle.krb_der.specs.Octets.{when}
 use Rattle.krb_der.specs.declared.profile.Profile.{Profile}
-use Rattle.krb_record.specs.Labels.{Label, line_of}
+use Rattle.krb_record.specs.Labels.{Label}
 use Rattle.krb_run.specs.Conversions.{Converted, after_text, Converts, ConvertsInPart}
 use Rattle.krb_run.specs.TextLines.{lines_of}
 use Rattle.krb_run.specs.TextLines.{is_blank_line}

@@ -4,8 +4,8 @@
 //! The main calls:
 //!
 //! - [`run_stream`] lists framed messages, [`run_message`] one message that an input spells, and
-//!   [`run_lines_in`] messages that lines spell. [`run_stream_in`] and its like take the form of the
-//!   records ([`Form`]) and the profile of messages ([`Profile`]), and a stream whether it is gone
+//!   [`run_lines_in`] messages that lines spell. [`run_stream_in`] and its like take the label of the
+//!   records ([`Label`](krb_record::Label)), which has their form ([`Form`]), and the profile of messages ([`Profile`]), and a stream whether it is gone
 //!   on with after refusals.
 //! - [`list_octets`] returns the line of a message that is in memory.
 //! - [`start_stream`] begins the decoder of a stream, and [`frame_path`] and [`refused_path`] return
@@ -20,6 +20,7 @@
 #![tactic(auto)]
 
 mod fault_path;
+mod labelled;
 mod lines_run;
 mod listing;
 mod message_input;

@@ -7,10 +7,11 @@ ghost use Rattle.krb_run.specs.LineReaders.{line_rules, reader_kind};
 ghost use Rattle.krb_tool.specs.inner.MessageLines.{PutsLine, message_lines};
 ghost use Rattle.krb_run.specs.Pieces.{listing_of};
 
+use crate::labelled::put_counted_end;
 use crate::listing::counted_end;
 use crate::message_input::{MOST_INPUT, MessageInput};
 use krb_der::Profile;
-use krb_record::{Label, TextBuffer, put_counted_stream_end};
+use krb_record::{Label, TextBuffer};
 use krb_run::{
     CountedReader, ListStream, ReadLines, RunEnd, RunFault, end_lines, feed_lines, is_blank_line,
     list_all,
@@ -33,7 +34,7 @@ pub(crate) struct Seen {
 /// What a listing of lines is asked for: the label of the records, and the profile of the messages.
 #[derive(Clone, Copy, Drop)]
 pub(crate) struct LinesRequest<'a> {
-    label: &'a Label<'a>,
+    label: &'a Label,
     profile: Profile,
 }
 
@@ -160,10 +161,7 @@ impl<'a> ListStream for LineLister<'a> {
             is_refused_at_once,
             ..
         } = self.seen;
-        let label = self.request.label;
-        label.begin(&mut self.text)?;
-        put_counted_stream_end(&mut self.text, label.form(), messages, refused)?;
-        label.end(&mut self.text)?;
+        put_counted_end(&mut self.text, self.request.label, messages, refused)?;
         Ok(counted_end(is_refused_at_once, refused))
     }
 }
@@ -179,7 +177,7 @@ impl<'a> ListStream for LineLister<'a> {
 /// or the first of them, and no last one. Memory is allocated for the greatest line alone.
 pub fn run_lines_in<R: Read, W: Write>(
     alloc: Global,
-    label: &Label<'_>,
+    label: &Label,
     profile: Profile,
     reader: &mut R,
     writer: &mut W,

@@ -9,11 +9,11 @@ ghost use Rattle.krb_run.specs.Pieces.{listing_of};
 ghost use Rattle.krb_tool.specs.inner.StreamLines.{AddsRefused, ListsEntry, PutsClosing, stream_lines};
 
 use crate::fault_path::{frame_extent, frame_path};
+use crate::labelled::{put_counted_end, put_end, put_message, put_refusal};
 use krb_der::{Memory, Profile, Refusal};
 use krb_frame::{Decoder, Delivered, Limit, Receiver, SkippingDecoder};
-use krb_record::{Label, TextBuffer, put_counted_stream_end, put_stream_end, put_stream_refusal};
+use krb_record::{Label, TextBuffer};
 use krb_run::{ListStream, RunEnd, RunFault};
-use krb_text::put_message_in;
 use std::alloc::Global;
 
 /// The number of octets of a frame's length.
@@ -23,7 +23,7 @@ const LENGTH_OCTETS: u64 = 4;
 /// length of a frame, and whether it goes on after refusals.
 #[derive(Drop)]
 pub(crate) struct Request<'a> {
-    pub label: &'a Label<'a>,
+    pub label: &'a Label,
     pub profile: Profile,
     pub limit: Limit,
     pub keep_going: bool,
@@ -64,19 +64,16 @@ impl StreamLines<'_> {
         ensures { OnOk result (AddsRefused profile refusal decoder.now.octets self.old self.new) }
     {
         let label = self.request.label;
-        let form = label.form();
-        let path = frame_path(self.alloc, form, profile, decoder)?;
+        let path = frame_path(self.alloc, label.form(), profile, decoder)?;
         let extent = frame_extent(self.offset, decoder);
-        label.begin(&mut self.text)?;
-        put_stream_refusal(
+        put_refusal(
             &mut self.text,
-            form,
+            label,
             self.messages,
             refusal,
             path.as_deref(),
             extent,
         )?;
-        label.end(&mut self.text)?;
         self.is_refused_at_once |= (self.messages == 0) & (self.refused == 0);
         self.refused = self.refused.saturating_add(1);
         Ok(())
@@ -90,13 +87,9 @@ impl StreamLines<'_> {
     {
         let label = self.request.label;
         if self.request.keep_going {
-            label.begin(&mut self.text)?;
-            put_counted_stream_end(&mut self.text, label.form(), self.messages, self.refused)?;
-            label.end(&mut self.text)?;
+            put_counted_end(&mut self.text, label, self.messages, self.refused)?;
         } else if self.refused == 0 {
-            label.begin(&mut self.text)?;
-            put_stream_end(&mut self.text, label.form(), self.messages)?;
-            label.end(&mut self.text)?;
+            put_end(&mut self.text, label, self.messages)?;
         }
         Ok(counted_end(self.is_refused_at_once, self.refused))
     }
@@ -108,14 +101,9 @@ impl Receiver for StreamLines<'_> {
     ghost IsFull = { λ lines. ⊥ };
 
     fn receive_contents(&mut self, profile: Profile, contents: &[u8]) -> Result<bool, Memory> {
-        let label = self.request.label;
-        let begin = self.text.size();
-        label.begin(&mut self.text)?;
-        if !put_message_in(&mut self.text, label.form(), profile, contents)? {
-            self.text.truncate(begin);
+        if !put_message(&mut self.text, self.request.label, profile, contents)? {
             return Ok(false);
         }
-        label.end(&mut self.text)?;
         self.messages = self.messages.saturating_add(1);
         let size = LENGTH_OCTETS + contents.len() as u64;
         self.offset = self.offset.saturating_add(size);

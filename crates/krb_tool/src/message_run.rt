@@ -36,7 +36,7 @@ pub fn list_octets(
 /// An input that spells a message of a profile, and the form of its listing.
 #[derive(Drop)]
 struct SpelledMessage<'a> {
-    label: &'a Label<'a>,
+    label: &'a Label,
     profile: Profile,
 }
 
@@ -84,7 +84,7 @@ pub fn run_message<R: Read, W: Write>(
 /// 2^40 reads of at most 64 KiB each: all that the reader has, or 16777217 octets, which settle that.
 pub fn run_message_in<R: Read, W: Write>(
     alloc: Global,
-    label: &Label<'_>,
+    label: &Label,
     profile: Profile,
     reader: &mut R,
     writer: &mut W,

@@ -47,7 +47,7 @@ pub fn run_stream<R: Read, W: Write>(
 /// first of them, and no last line.
 pub fn run_stream_in<R: Read, W: Write>(
     alloc: Global,
-    label: &Label<'_>,
+    label: &Label,
     profile: Profile,
     keep_going: bool,
     reader: &mut R,

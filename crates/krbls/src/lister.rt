@@ -38,7 +38,7 @@ impl<H: Host> Lister<'_, H> {
         &self,
         source: &Source,
         command: &Command,
-        label: &Label<'_>,
+        label: &Label,
         reader: &mut R,
         writer: &mut W,
     ) -> Result<RunEnd, RunFault>
@@ -155,7 +155,7 @@ impl<H: Host> Lister<'_, H> {
         &self,
         source: &Source,
         command: &Command,
-        label: &Label<'_>,
+        label: &Label,
         reader: &mut Begun<R>,
         writer: &mut W,
     ) -> Result<RunEnd, RunFault>
@@ -173,7 +173,7 @@ impl<H: Host> Lister<'_, H> {
     fn list_begun<R: Read, W: Write>(
         &self,
         source: &Source,
-        label: &Label<'_>,
+        label: &Label,
         reader: &mut Begun<R>,
         writer: &mut W,
     ) -> Result<RunEnd, RunFault>
@@ -235,7 +235,7 @@ impl<H: Host> ListSource<Source> for Lister<'_, H> {
     fn list<W: Write>(
         &self,
         source: &Source,
-        label: &Label<'_>,
+        label: &Label,
         writer: &mut W,
     ) -> Result<RunEnd, RunFault> {
         match self.host.open(source) {

@@ -1,7 +1,10 @@
-use Rattle.std.proofs.Common.{◌++◌, ap, ◌∙◌}
-use Rattle.std.proofs.lemmas.Result.{OnOk-weaker}
+use Rattle.std.proofs.lemmas.Result.{on_ok_weaker}
+use Rattle.krb_record.proofs.Labels.{ends-after}
 use Rattle.krb_list.specs.Ccaches.{cache_record}
 use Rattle.krb_file_run.proofs.labelled.put_cache.Goals as goal
 
 pub returns : goal.returns
-returns c = OnOk-weaker c.end.result (λ ended. ended c.args.text.now (cache_record c.args.header.now c.args.principal.now) (c.in_ok-put_cache.ensures ∙ ap (λ t. t ++ _) c.in_ok-begin.ensures)) c.end.ensures
+returns c =
+    on_ok_weaker c.end.result
+    (λ ended. ends-after c.args.label.now c.args.text.now c.begin.new.text c.put_cache.new.text c.end.new.text (cache_record c.args.header.now c.args.principal.now) ended c.in_ok-begin.ensures (rw c.form.ensures at c.in_ok-put_cache.ensures))
+    c.end.ensures

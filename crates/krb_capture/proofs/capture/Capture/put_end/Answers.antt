@@ -1,4 +1,4 @@
-use Rattle.std.proofs.Common.{◌++◌, ◌∙◌, ap}
+use Rattle.std.proofs.Common.{◌∙◌, ap}
 use Rattle.krb_record.specs.Captures.{capture_end_record}
 use Rattle.krb_record.specs.Labels.{line_of}
 use Rattle.krb_capture.specs.Captures.{end_taken, end_text, is_clean}
@@ -8,8 +8,7 @@ use Rattle.krb_capture.proofs.capture.Capture.put_end.Goals as goal
 pub returns-clause-listed : goal.returns-clause-listed
 unfolding end_text
 returns-clause-listed c = λ settings progress h.
-    last-listed c.end_directions.new.self settings (end_taken settings progress) c.args.text.now c.end_directions.new.text c.end.new.text c.totals-totals.result (λ label counts. line_of label (capture_end_record counts)) (c.in_ok-end_directions.ensures settings progress h) c.totals-totals.ensures
-    (c.in_ok-end.ensures c.end_directions.new.text (capture_end_record c.totals-totals.result) (c.in_ok-put_capture_end.ensures ∙ ap (λ t. t ++ _) c.in_ok-begin.ensures))
+    last-listed c.end_directions.new.self settings (end_taken settings progress) c.args.text.now c.end_directions.new.text c.put_end.new.text c.totals-totals.result (λ label counts. line_of label (capture_end_record counts)) (c.in_ok-end_directions.ensures settings progress h) c.totals-totals.ensures c.in_ok-put_end.ensures
 
 pub returns-clause-clean : goal.returns-clause-clean
 returns-clause-clean c = λ settings progress h.

@@ -1,4 +1,3 @@
-use Rattle.std.proofs.Common.{◌++◌, ◌∙◌, ap}
 use Rattle.std.specs.Option.{option_copied}
 use Rattle.krb_record.specs.Captures.{capture_refused_record}
 use Rattle.krb_record.specs.Labels.{line_of}
@@ -9,5 +8,4 @@ use Rattle.krb_capture.proofs.capture.Capture.put_refusal.Goals as goal
 pub returns : goal.returns
 unfolding refusal_text
 returns c = λ settings progress h.
-    last-listed c.end_directions.new.self settings (end_taken settings progress) c.args.text.now c.end_directions.new.text c.end.new.text c.totals-totals.result (λ label counts. line_of label (capture_refused_record label.form counts c.args.place c.args.why (option_copied c.args.path) c.args.extent)) (c.in_ok-end_directions.ensures settings progress h) c.totals-totals.ensures
-    (c.in_ok-end.ensures c.end_directions.new.text (capture_refused_record c.label.form c.totals-totals.result c.args.place c.args.why (option_copied c.args.path) c.args.extent) (c.in_ok-put_capture_refusal.ensures ∙ ap (λ t. t ++ _) c.in_ok-begin.ensures))
+    last-listed c.end_directions.new.self settings (end_taken settings progress) c.args.text.now c.end_directions.new.text c.put_file_refusal.new.text c.totals-totals.result (λ label counts. line_of label (capture_refused_record label.form counts c.args.place c.args.why (option_copied c.args.path) c.args.extent)) (c.in_ok-end_directions.ensures settings progress h) c.totals-totals.ensures c.in_ok-put_file_refusal.ensures

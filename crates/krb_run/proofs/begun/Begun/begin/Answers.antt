@@ -1,8 +1,8 @@
-use Rattle.std.proofs.Common.{◌≡◌, ℕ, List, ◌++◌, length, take, drop, sym, ap, subst, arith, length-append, length-take}
+use Rattle.std.proofs.Common.{◌∙◌, ◌≡◌, ℕ, List, ◌++◌, length, take, drop, sym, ap, subst, arith, length-append, length-take}
 use Rattle.std.specs.Io.KnownBytes.{Consumes, Keeps, prepend_known}
 use Rattle.std.proofs.KnownBytes.{Consumes-kept, Consumes-nil, Consumes-trans}
 use Rattle.krb_run.specs.Begun.{others_of}
-use Rattle.krb_run.proofs.BegunReaders.{begins-with, ended, keeps-all, keeps-others}
+use Rattle.krb_run.proofs.BegunReaders.{IsFailed, begins-with, ended, enough-ended, enough-failed, enough-read, keeps-all, keeps-others, not-ended, whole-failed, whole-read}
 use Rattle.krb_run.proofs.StreamRuns.{written-slice}
 use Rattle.krb_run.proofs.begun.Begun.begin.Goals as goal
 
@@ -62,3 +62,25 @@ returns-clause-keeps g c =
 
 pub returns-clause-begins : goal.returns-clause-begins
 returns-clause-begins g c = begins-with c.begun_reader-2.result.octets.items c.begun_reader-2.result.given _ c.begun_reader-2.ensures.given
+
+pub returns-in-Ok-eq0-clause-enough : goal.returns-in-Ok-eq0-clause-enough
+returns-in-Ok-eq0-clause-enough g c = enough-ended _ _ _ c.begun_reader.ensures.then
+
+pub returns-in-Ok-eq0-clause-whole : goal.returns-in-Ok-eq0-clause-whole
+returns-in-Ok-eq0-clause-whole g c = λ end.
+    whole-read c.begun_reader.result.octets.items _ _ _ c.begun_reader.ensures.given
+    (omega (arith, c.reads-test.true, c.min-least.ensures, c.len.ensures, ap (λ v. length v.items) c.begun_reader.ensures.octets)) end
+
+pub returns-in-Err-clause-enough : goal.returns-in-Err-clause-enough
+returns-in-Err-clause-enough g c = enough-failed _ _ _ (subst IsFailed (sym c.begun_reader-in-Err.ensures.then) tt)
+
+pub returns-in-Err-clause-whole : goal.returns-in-Err-clause-whole
+returns-in-Err-clause-whole g c = whole-failed _ (subst IsFailed (sym c.begun_reader-in-Err.ensures.then) tt)
+
+pub returns-clause-enough : goal.returns-clause-enough
+returns-clause-enough g c =
+    enough-read _ _ c.begun_reader-2.result.octets.items c.begun_reader-2.ensures.then
+    (omega (arith, c.reads-test.false, c.min-least.ensures, c.len.ensures, ap (λ v. length v.items) c.begun_reader-2.ensures.octets))
+
+pub returns-clause-whole : goal.returns-clause-whole
+returns-clause-whole g c = not-ended _ (λ e. let both = sym c.begun_reader-2.ensures.then ∙ e in cc)
