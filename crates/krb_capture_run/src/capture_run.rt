@@ -20,13 +20,13 @@ use std::io::{Read, Write};
 
 /// The records of a capture.
 #[derive(Drop)]
-struct CaptureLines<'a, R: Read> {
+struct CaptureLines<'label, 'watch, R: Read> {
     packets: Packets<R>,
-    capture: Capture<'a>,
+    capture: Capture<'label>,
     /// What is left of the packet that came last, if its records are not all listed.
     rest: Option<Box<Rest>>,
-    label: &'a Label,
-    watch: &'a Watch,
+    label: &'label Label,
+    watch: &'watch Watch,
 }
 
 /// Appends the records of the end of a file.
@@ -52,7 +52,7 @@ fn refused_end(at_once: bool) -> RunEnd
     }
 }
 
-impl<R: Read> CaptureLines<'_, R> {
+impl<R: Read> CaptureLines<'_, '_, R> {
     /// Appends the records of a fault of the file, which ends the run. Faults of the reader have
     /// none.
     #[tactic(auto, unfolding(krb_capture::specs::Captures::refusal_text))]
@@ -85,7 +85,7 @@ impl<R: Read> CaptureLines<'_, R> {
     }
 }
 
-impl<R: Read> RecordLines for CaptureLines<'_, R> {
+impl<R: Read> RecordLines for CaptureLines<'_, '_, R> {
     ghost IsLeft = { λ lines _ left. IsCaptureLeft lines.packets lines.capture lines.rest lines.label.now left };
 
     fn put_next(

@@ -20,13 +20,13 @@ use std::io::{Read, Write};
 
 /// The lines of a keytab.
 #[derive(Drop)]
-struct KeytabLines<'a, R: Read> {
+struct KeytabLines<'label, 'watch, R: Read> {
     records: Records<R>,
-    label: &'a Label,
-    watch: &'a Watch,
+    label: &'label Label,
+    watch: &'watch Watch,
 }
 
-impl<R: Read> RecordLines for KeytabLines<'_, R> {
+impl<R: Read> RecordLines for KeytabLines<'_, '_, R> {
     ghost IsLeft = { λ lines. AreRecordsLeft lines.label.now lines.records.reader lines.records.state };
 
     fn put_next(
@@ -57,14 +57,14 @@ impl<R: Read> RecordLines for KeytabLines<'_, R> {
 
 /// The lines of the credentials of a cache, at a time in seconds since 1970 if there is one.
 #[derive(Drop)]
-struct CredentialLines<'a, R: Read> {
+struct CredentialLines<'label, 'watch, R: Read> {
     credentials: Credentials<R>,
-    label: &'a Label,
+    label: &'label Label,
     now: Option<u32>,
-    watch: &'a Watch,
+    watch: &'watch Watch,
 }
 
-impl<R: Read + Drop> RecordLines for CredentialLines<'_, R> {
+impl<R: Read + Drop> RecordLines for CredentialLines<'_, '_, R> {
     ghost IsLeft = { λ lines. AreCredentialsLeft lines.label.now lines.credentials.reader lines.credentials.start lines.credentials.state lines.now };
 
     fn put_next(
@@ -133,7 +133,7 @@ pub fn run_keytab_in<R: Read, W: Write>(
 /// Lists the credentials of a cache after its own line.
 fn list_credentials<R: Read + Drop, W: Write>(
     alloc: Global,
-    lines: &mut CredentialLines<'_, R>,
+    lines: &mut CredentialLines<'_, '_, R>,
     writer: &mut W,
 ) -> Result<RunEnd, RunFault>
     ensures listed { (file : List ℕ) → Reads field_limit lines.old.credentials.reader lines.old.credentials.start lines.old.credentials.state file 0 → ListsRecords (ccache_listing lines.old.label.now lines.old.now file) (W.contents writer.old) (W.contents writer.new) result }

@@ -1,8 +1,9 @@
 -- The lines of a stream, up to its end or the first refusal, or also after refusals.
-use Rattle.std.proofs.Common.{◌≡◌, ℕ, ◌+◌, ◌^◌, ◌<◌, ◌⊎◌, inl, inr, Bool, true, false, List, [], ◌∷◌, ◌++◌, length, map, Option, Result, Ok, Err, refl, sym, ◌∙◌, ap, ap₂, subst, arith, append_assoc, append-nil}
+use Rattle.std.proofs.Common.{◌≡◌, ℕ, suc, ◌+◌, ◌^◌, ◌<◌, ◌⊎◌, inl, inr, Bool, true, false, List, [], ◌∷◌, ◌++◌, length, map, Option, Result, Ok, Err, refl, sym, ◌∙◌, ap, ap₂, subst, arith, append_assoc, append-nil}
 use Rattle.std.specs.Prelude.{◌==◌, ◌&&◌, ◌||◌}
 use Rattle.std.specs.Io.KnownBytes.{IsAtEnd}
 use Rattle.std.specs.List.{AllByRecursion, flat_map}
+use Rattle.std.proofs.lemmas.Bool.Decides.{nat_tests}
 use Rattle.std.proofs.lemmas.List.{map-append}
 use Rattle.std.proofs.lemmas.List.Sums.{sum_by-cons}
 use Rattle.krb_der.specs.declared.profile.Profile.{Profile}
@@ -99,16 +100,21 @@ are_whole label profile n offset (Whole message ∷ others) m =
 are_whole label profile n offset (Faulty place reason prefix ∷ others) m = absurd m.0
 
 -- ---- whether the first of them is refused
+not_none : (n : ℕ) → (1 + n == 0) ≡ false
+not_none n = grind (arith, nat_tests)
+
 -- after some that are counted
 at_once-more : (xs ys : List Listed) (flag : Bool) (m r : ℕ) → flag ≡ is_refused_at_once xs → m ≡ messages_in xs → r ≡ refused_in xs → (flag || ((m == 0 && r == 0) && is_refused_at_once ys)) ≡ is_refused_at_once (xs ++ ys)
 at_once-more [] ys flag m r f p q = λ i. f i || ((p i == 0 && q i == 0) && is_refused_at_once ys)
-at_once-more (Whole message ∷ xs) ys flag m r f p q = λ i. f i || ((p i == 0 && r == 0) && is_refused_at_once ys)
+at_once-more (Whole message ∷ xs) ys flag m r f p q =
+    (λ i. f i || ((p i == 0 && r == 0) && is_refused_at_once ys))
+    ∙ ap (λ b. false || ((b && r == 0) && is_refused_at_once ys)) (not_none (messages_in xs))
 at_once-more (Faulty place reason prefix ∷ xs) ys flag m r f p q = λ i. f i || ((m == 0 && r == 0) && is_refused_at_once ys)
 
 -- after messages, and nothing else
 at_once-whole : (xs : List Listed) (place : ℕ) (reason : Why) (prefix : List ℕ) → AllByRecursion IsMessage (map entry_of xs) → refused_end (is_refused_at_once (xs ++ Faulty place reason prefix ∷ [])) ≡ refused_after (messages_in xs)
 at_once-whole [] place reason prefix m = refl
-at_once-whole (Whole message ∷ xs) place reason prefix m = refl
+at_once-whole (Whole message ∷ xs) place reason prefix m = let e : suc (messages_in xs) ≡ 1 + messages_in xs = omega arith in ap refused_after e
 at_once-whole (Faulty place' reason' prefix' ∷ xs) place reason prefix m = absurd m.0
 
 -- none follows
@@ -385,7 +391,7 @@ module _ (lister : FrameLister StreamLines) (taken : Taken) (d : IsDone stream_l
   })
 
   ends-by : (going : Bool) → lister.lines.request.keep_going ≡ going → (text : List ℕ) (left : Option (List ℕ)) (ended : RunEnd) → (IsNotRefused (current_end lister) → IsAtEnd left) → text ≡ text_of going → ended ≡ counted_run_end (is_refused_at_once (h.listed ++ listed_last lister)) (refused_in h.listed + refused_in (listed_last lister)) → EndsListing (rules_of going label profile limit) taken.octets text left ended
-  unfolding counted
+  unfolding counted stopped whole
   ends-by true kept text left ended a t e =
       let unknown = (d.end room).unknown kept in
       record {

@@ -1,7 +1,7 @@
 //! A run over messages that the lines of a text spell, one in each line.
 
 ghost use Rattle.std.specs.Prelude.{◌≡◌, ◌+◌, ◌<◌, ◌^◌, IfOk, IfErr, OnOk, OnErr};
-ghost use Rattle.krb_tool.specs.MessageLines.{ListsLines, FailsLines, is_passed};
+ghost use Rattle.krb_tool.specs.MessageLines.{ListsLines, FailsLines, is_passed, with_refused};
 ghost use Rattle.krb_run.specs.declared.run.RunFault.TheVariants as fault;
 ghost use Rattle.krb_run.specs.LineReaders.{line_rules, reader_kind};
 ghost use Rattle.krb_tool.specs.inner.MessageLines.{PutsLine, message_lines};
@@ -29,6 +29,17 @@ pub(crate) struct Seen {
     refused: u64,
     /// Whether the first record is that of a refusal.
     is_refused_at_once: bool,
+}
+
+impl Seen {
+    /// Counts a record of a refusal.
+    fn count_refused(&mut self)
+        requires { self.old.messages + self.old.refused + 1 < 2 ^ 64 }
+        ensures { self.new ≡ with_refused self.old }
+    {
+        self.is_refused_at_once |= (self.messages == 0) & (self.refused == 0);
+        self.refused += 1;
+    }
 }
 
 /// What a listing of lines is asked for: the label of the records, and the profile of the messages.
@@ -80,11 +91,8 @@ impl LineLister<'_> {
         self.request.label.end(&mut self.text)?;
         match ended {
             RunEnd::Clean => self.seen.messages += 1,
-            RunEnd::Refused | RunEnd::RefusedAtOnce => {
-                self.seen.is_refused_at_once |= (self.seen.messages == 0)
-                    & (self.seen.refused == 0);
-                self.seen.refused += 1;
-            }
+            RunEnd::Refused => self.seen.count_refused(),
+            RunEnd::RefusedAtOnce => self.seen.count_refused(),
         }
         Ok(())
     }

@@ -143,18 +143,18 @@ impl<'a> ListStream for Lister<'a> {
     ghost listing = { λ lister. listing_of (lister_kind stream_lines) (record { decoder = lister.decoder; lines = lister.lines }) };
 
     fn new(alloc: Global, request: Request<'a>) -> Lister<'a> {
-        Lister {
-            decoder: start_stream(alloc, request.limit, request.profile),
-            lines: StreamLines {
-                alloc,
-                request,
-                text: TextBuffer::new(alloc),
-                messages: 0,
-                refused: 0,
-                offset: 0,
-                is_refused_at_once: false,
-            },
-        }
+        let decoder = start_stream(alloc, request.limit, request.profile);
+        let text = TextBuffer::new(alloc);
+        let lines = StreamLines {
+            alloc,
+            request,
+            text,
+            messages: 0,
+            refused: 0,
+            offset: 0,
+            is_refused_at_once: false,
+        };
+        Lister { decoder, lines }
     }
 
     fn feed(&mut self, piece: &[u8]) -> Result<bool, RunFault> {

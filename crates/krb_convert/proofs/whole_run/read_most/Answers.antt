@@ -8,7 +8,7 @@ use Rattle.krb_convert.proofs.whole_run.read_most.Goals as goal
 
 pub pieces-init : goal.pieces-init
 pieces-init g c = record {
-  room = some-room _ c.in_ok-buffer.ensures.len;
+  room = some-room _ c.in_ok-buffer.ensures;
   opens = c.requires.open;
   same_reader = refl;
   taken = subst (Consumes _ _) (sym c.new-octets.ensures.items) (Consumes-nil _);

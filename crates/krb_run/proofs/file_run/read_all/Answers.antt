@@ -4,7 +4,7 @@ use Rattle.krb_run.proofs.Files.{HasRead-start, HasRead-more, ReadsUpTo-ended, R
 use Rattle.krb_run.proofs.file_run.read_all.Goals as goal
 
 pub pieces-init : goal.pieces-init
-pieces-init g c = (c.in_ok-buffer.ensures.len, c.requires.open, refl, rw c.new-file.ensures.items (HasRead-start (g.R.Read.remaining c.args.counted.now.reader.now) c.args.most))
+pieces-init g c = (c.in_ok-buffer.ensures, c.requires.open, refl, rw c.new-file.ensures.items (HasRead-start (g.R.Read.remaining c.args.counted.now.reader.now) c.args.most))
 
 pub returns-then-room-eq0-clause-read : goal.returns-then-room-eq0-clause-read
 returns-then-room-eq0-clause-read g c = ReadsUpTo-full _ _ _ _ c.len.result c.pieces.invariant.3 (c.room-room.ensures.full c.if-room-eq0.true) (omega arith)

@@ -10,7 +10,7 @@ returns-in_err-buffer-clause-fault g c = Fails-start _ _ _ _ _ c.new-lister.ensu
 
 pub pieces-init : goal.pieces-init
 pieces-init g c = record {
-  size = c.in_ok-buffer.ensures.len;
+  size = c.in_ok-buffer.ensures;
   opens = c.requires.open;
   same_reader = refl;
   runs = Runs-start _ _ _ _ _ c.new-lister.ensures _ c.requires.none;

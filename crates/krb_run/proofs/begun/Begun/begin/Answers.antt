@@ -7,7 +7,7 @@ use Rattle.krb_run.proofs.StreamRuns.{written-slice}
 use Rattle.krb_run.proofs.begun.Begun.begin.Goals as goal
 
 pub reads-init : goal.reads-init
-reads-init g c = (c.in_ok-piece.ensures.len, rw c.new-octets.ensures.items (Consumes-nil (g.R.Read.remaining c.args.reader)))
+reads-init g c = (c.in_ok-piece.ensures, rw c.new-octets.ensures.items (Consumes-nil (g.R.Read.remaining c.args.reader)))
 
 pub reads-preserved : goal.reads-preserved
 reads-preserved g c =
