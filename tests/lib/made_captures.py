@@ -497,6 +497,16 @@ def again(dice, octets):
     return found
 
 
+def damaged(dice, octets):
+    """A capture, some packets of which are lost, twice, exchanged or cut, or come again with another octet."""
+    found = again(dice, octets)
+    for _ in range(dice.choice([0, 0, 1, 2])):
+        place = dice.randrange(len(found))
+        before, last = found[place].octets[:-1], found[place].octets[-1:]
+        found.insert(dice.randint(place + 1, len(found)), found[place]._replace(octets=before + bytes(octet ^ 1 for octet in last)))
+    return FileMaker(dice, 0).pcap(found)
+
+
 def other_packets(dice, one):
     """What comes in place of a packet."""
     octets = changed(dice, one.octets)

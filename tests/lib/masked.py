@@ -1,9 +1,21 @@
-"""Messages in which each octet of a cipher and of a checksum is 00, also inside of pre-authentication data: what is shown of them
-has to stay as it is."""
+"""Messages in which each octet of a cipher and of a checksum is 00, also inside of pre-authentication data and of the data of errors:
+what is shown of them has to stay as it is."""
 
 from reference.der import der
 from reference.grammar import CHECKSUM, ENCRYPTED_DATA, MESSAGES, PA_DATA, ListOf, Sequence, Tagged
-from reference.inside import ARMOR_AP_REQUEST, ERROR_DATA, FAST_ARMOR, OF_OTHERS, OF_REQUESTS, PA_TGS_REQ, SALT, value_of
+from reference.inside import (
+    ARMOR_AP_REQUEST,
+    ERROR_DATA,
+    FAST_ARMOR,
+    KERB_ERROR_DATA,
+    OF_OTHERS,
+    OF_REQUESTS,
+    PA_TGS_REQ,
+    SALT,
+    TYPED_DATA,
+    extended,
+    value_of,
+)
 
 REQUESTS = ("AS-REQ", "TGS-REQ")
 
@@ -33,6 +45,13 @@ def masked_armor(value, rows):
     return {**value, "armor-value": masked_octets(PA_TGS_REQ, octets, rows) if is_request else zeros(octets)}
 
 
+def masked_typed(value):
+    """A typed value: zeros, but of an extended error."""
+    if "data-value" not in value or next(extended(value), None) is not None:
+        return value
+    return {**value, "data-value": zeros(value["data-value"])}
+
+
 def masked(item, value, rows):
     """A value of a type, by the rows of pre-authentication data of requests or of others."""
     if item == ENCRYPTED_DATA:
@@ -43,6 +62,8 @@ def masked(item, value, rows):
         return masked_pa_data(value, rows)
     if item == FAST_ARMOR:
         return masked_armor(value, rows)
+    if item in (TYPED_DATA.item, KERB_ERROR_DATA):
+        return masked_typed(value)
     match item:
         case Tagged():
             return masked(item.item, value, rows)
@@ -55,7 +76,7 @@ def masked(item, value, rows):
 
 
 def masked_data(octets, rows):
-    """The data of an error: of METHOD-DATA the values are masked, and what is of no type is zeros."""
+    """The data of an error: the values in it are masked, and what is of no type is zeros."""
     for item, _ in ERROR_DATA:
         if value_of(item, octets) is not None:
             return masked_octets(item, octets, rows)

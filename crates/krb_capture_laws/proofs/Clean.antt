@@ -1,13 +1,12 @@
 -- A capture that is clean: all of its records are clear, and so nothing of a direction or a datagram is hidden.
-use Rattle.std.proofs.Common.{◌≡◌, ℕ, ◌+◌, ◌-◌, ◌^◌, ◌<◌, ◌≤◌, ◌==◌, Bool, true, false, ◌&&◌, Option, Some, None, List, [], ◌∷◌, ◌++◌, length, map, cond, refl, sym, ap, ap₂, ◌∙◌, arith, eq-eqb, eqb-true}
-use Rattle.std.specs.Prelude.{max, min, if◌then◌else◌}
+use Rattle.std.proofs.Common.{◌≡◌, ℕ, ◌-◌, ◌≤◌, ◌==◌, Bool, true, false, ◌&&◌, Option, Some, None, List, [], ◌∷◌, length, map, cond, refl, sym, ap, ap₂, ◌∙◌, arith, eq-eqb, eqb-true}
+use Rattle.std.specs.Prelude.{if◌then◌else◌}
 use Rattle.std.specs.List.{AllByRecursion, filter, flat_map, list_all}
 use Rattle.std.proofs.lemmas.Bool.{and_parts}
 use Rattle.std.proofs.lemmas.List.{nil_from_length}
 use Rattle.std.proofs.lemmas.List.Concat.{flat_map-cons}
 use Rattle.std.proofs.lemmas.List.Elements.{All-from_recursion}
 use Rattle.std.proofs.lemmas.List.Folds.{list_all-append}
-use Rattle.krb_der.specs.declared.profile.Profile.{Profile}
 use Rattle.krb_der.specs.declared.verdict.Refusal.{Refusal}
 use Rattle.krb_der.specs.declared.why.Why.TheVariants as why
 use Rattle.krb_packet.specs.Fragments.{contents_of_whole, nested_step, unread}
@@ -20,7 +19,6 @@ use Rattle.krb_packet.specs.declared.fragments.Reassembled.{Reassembled}
 use Rattle.krb_packet.specs.declared.packet.Packet.{Packet}
 use Rattle.krb_source.specs.declared.unread_why.UnreadWhy.TheVariants as reasons
 use Rattle.krb_record.specs.declared.capture.CaptureCounts.{CaptureCounts}
-use Rattle.krb_record.specs.declared.extent.Extent.{Extent}
 use Rattle.krb_record.specs.declared.flow.Transport.TheVariants as transports
 use Rattle.krb_capture.specs.Captures.{Finding, Progress, Settings, all_counts, at_first, completed, contents_in, contents_taken, counted_each, datagram_taken, end_taken, is_clean, packet_taken, segment_taken, unread_taken, whole_taken, with_packet}
 use Rattle.krb_capture.specs.Datagrams.{all_found, by_service, datagram_found, extent_of, surplus_found}
@@ -31,7 +29,7 @@ use Rattle.krb_capture.specs.WholeCaptures.{are_ends, carried, datagrams_between
 use Rattle.krb_capture.specs.declared.flow.Service.{Service}
 use Rattle.krb_capture.specs.declared.flow.Service.TheVariants as services
 use Rattle.krb_capture_laws.specs.Shown.{size_of}
-use Rattle.krb_capture_laws.specs.Hidden.{CleanHidesNothing, IsListed, ShowsAll, counts_after, is_clear}
+use Rattle.krb_capture_laws.specs.Hidden.{CleanHidesNothing, IsListed, counts_after, is_clear}
 use Rattle.krb_capture_laws.proofs.Clear.{AreClear, clear_parts, direction_hides_nothing}
 use Rattle.krb_capture_laws.proofs.Datagrams.{datagrams_are_apart}
 use Rattle.krb_capture_laws.proofs.WholeCaptures.{directions_are_apart}
@@ -117,13 +115,11 @@ module _ (settings : Settings) where
   packet_clear : (packet : Packet) (progress : Progress) → IsCleanOf (packet_taken settings packet progress).progress.counts → AllClear (packet_taken settings packet progress).found × IsCleanOf progress.counts
   unfolding packet_taken
   packet_clear packet progress clean =
-      let taken = contents_taken settings (contents_in settings.port packet) (with_packet packet progress) in
       let each = each_clear (contents_taken settings (contents_in settings.port packet) (with_packet packet progress)).found (contents_taken settings (contents_in settings.port packet) (with_packet packet progress)).progress.counts clean in
       (each.0, contents_stay (contents_in settings.port packet) (with_packet packet progress) each.1)
 
   packets_clear : (packets : List Packet) (progress : Progress) → IsCleanOf (counts_after settings progress packets) → AllClear (found_after settings progress packets) × IsCleanOf progress.counts
   packets_clear [] progress clean =
-      let counts : CaptureCounts = (end_taken settings progress).progress.counts in
       let parts = parts_of (all_counts (end_taken settings progress).progress) clean in
       each_clear (end_taken settings progress).found progress.counts
       (ap₂ (λ (a b : Bool). a && b) (ap₂ (λ (a b : Bool). a && b) parts.refused parts.lost) (none_more (end_taken settings progress).progress.counts.unread (unread (end_taken settings progress).progress.fragments) parts.unread))

@@ -1,5 +1,5 @@
 -- Records that are all clear: nothing is told of segments and ends, and all that is found in streams is listed.
-use Rattle.std.proofs.Common.{◌≡◌, ℕ, zero, suc, ◌+◌, ◌^◌, ◌<◌, ◌≤◌, ◌⊎◌, inl, inr, Bool, true, false, not, ◌&&◌, ◌||◌, Option, Some, None, List, [], ◌∷◌, ◌++◌, length, take, drop, cond, refl, sym, ap, ap₂, ◌∙◌, arith}
+use Rattle.std.proofs.Common.{◌≡◌, ℕ, zero, suc, ◌+◌, ◌^◌, inl, inr, Bool, true, false, not, ◌&&◌, ◌||◌, Option, Some, None, List, [], ◌∷◌, ◌++◌, length, take, drop, cond, refl, sym, ap, ap₂, ◌∙◌}
 use Rattle.std.specs.Prelude.{nat_le, nat_lt, if◌then◌else◌}
 use Rattle.std.specs.List.{list_all, list_any}
 use Rattle.std.proofs.lemmas.Bool.{and_parts, leb-true, le-ltb}
@@ -13,7 +13,7 @@ use Rattle.krb_msg.specs.Grammar.{messages}
 use Rattle.krb_frame.specs.Frame.{length_fault}
 use Rattle.krb_frame.specs.GoingOn.{Entry, Contents, Fault, entries}
 use Rattle.krb_packet.specs.declared.contents.Segment.{Segment}
-use Rattle.krb_flow.specs.Directions.{Outcome, end_of, step}
+use Rattle.krb_flow.specs.Directions.{end_of, step}
 use Rattle.krb_flow.specs.Unread.{untaken_of}
 use Rattle.krb_flow.specs.Window.{stream_at, stream_with}
 use Rattle.krb_flow.specs.declared.direction.Beginning.{Beginning}
@@ -26,13 +26,13 @@ use Rattle.krb_flow.specs.declared.unread.Untaken.{Untaken}
 use Rattle.krb_capture.specs.Found.{Found}
 use Rattle.krb_capture.specs.Laws.{compared, direction_found, found_if, still}
 use Rattle.krb_capture.specs.Passwords.{password_found}
-use Rattle.krb_capture.specs.Sending.{Sent, after_segment, beginning_found, end_if, last_found, nothing_sent, unread_found, untaken_found}
-use Rattle.krb_capture.specs.Streams.{Framed, after_entry, after_frame, before_frames, cut_refusal, end_found, entries_found, found_with, frame_of, framed, is_unknown, known_end, messages_framed, no_frames, not_cut, password_frame_by, password_frames, passwords_framed, refusal_found}
+use Rattle.krb_capture.specs.Sending.{Sent, after_segment, beginning_found, end_if, unread_found, untaken_found}
+use Rattle.krb_capture.specs.Streams.{Framed, after_entry, after_frame, before_frames, end_found, entries_found, found_with, frame_of, framed, is_unknown, known_end, messages_framed, no_frames, not_cut, password_frame_by, password_frames, passwords_framed}
 use Rattle.krb_capture.specs.declared.flow.Flow.{Flow}
 use Rattle.krb_capture.specs.declared.flow.Service.{Service}
 use Rattle.krb_capture.specs.declared.flow.Service.TheVariants as services
 use Rattle.krb_capture.proofs.Prefixes.{extends, found_with-all, found_with-none}
-use Rattle.krb_capture_laws.specs.Shown.{HidesNothing, TakenStream, size_of}
+use Rattle.krb_capture_laws.specs.Shown.{HidesNothing, TakenStream}
 use Rattle.krb_capture_laws.specs.Hidden.{DirectionHidesNothing, IsAllListed, is_clear, streams_in}
 use Rattle.krb_capture_laws.proofs.Showing.{AreUntold, EndsWell, IsCompared, Shows, shown}
 use Rattle.krb_capture_laws.proofs.Untold.{NoneTold}
@@ -149,17 +149,18 @@ module _ (limit : ℕ) (flow : Flow) (service : Service) where
       let b = clear_parts (beginning_found (step state segment).0.begins) _ a.1 in
       let c = clear_parts (untaken_found (untaken_of state (compared (still kept) state stream) segment)) _ b.1 in
       let d = clear_parts (found_with service limit (stream_at (step state segment).0.begins stream) (step state segment).0.octets) (end_if service limit (stream_at (step state segment).0.begins stream ++ (step state segment).0.octets) (step state segment).0.end) c.1 in
-      let all : AreClear (framed service limit (stream_with state stream segment)).found = clear_with stream (step state segment).0.begins (step state segment).0.octets clear d.0 in
-      (record {
-        others = compared (still kept) state stream;
-        compared = compared_with (still kept) state stream;
-        untold = record {
-          none = none_told (untaken_of state (compared (still kept) state stream) segment) c.0;
-          before = ends_well stream (step state segment).0.before clear a.0;
-          end = ends_well (stream_with state stream segment) (step state segment).0.end all d.1;
-        };
-      },
-      untold (drop 1 kept) segments (step state segment).1 (stream_with state stream segment) all split.1)
+      let all : AreClear (framed service limit (stream_with state stream segment)).found = clear_with stream (step state segment).0.begins (step state segment).0.octets clear d.0 in (
+        record {
+          others = compared (still kept) state stream;
+          compared = compared_with (still kept) state stream;
+          untold = record {
+            none = none_told (untaken_of state (compared (still kept) state stream) segment) c.0;
+            before = ends_well stream (step state segment).0.before clear a.0;
+            end = ends_well (stream_with state stream segment) (step state segment).0.end all d.1;
+          };
+        },
+        untold (drop 1 kept) segments (step state segment).1 (stream_with state stream segment) all split.1,
+      )
 
 pub direction_hides_nothing : DirectionHidesNothing
 direction_hides_nothing limit flow service kept segments few clear =

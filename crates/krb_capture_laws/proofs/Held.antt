@@ -1,5 +1,5 @@
 -- Octets that were taken, or that wait, stay so as a direction goes on; and those of a segment are among them, if no copy differs.
-use Rattle.std.proofs.Common.{◌≡◌, ℕ, zero, suc, ◌+◌, ◌-◌, ◌<◌, ◌≤◌, ◌==◌, ◌⊎◌, inl, inr, Bool, true, false, not, is_some, Option, Some, None, List, [], ◌∷◌, ◌++◌, length, drop, cond, refl, sym, ap, subst, ◌∙◌, arith, add-zero, length-append}
+use Rattle.std.proofs.Common.{◌≡◌, ℕ, zero, suc, ◌+◌, ◌-◌, ◌≤◌, ◌==◌, ◌⊎◌, inl, inr, Bool, true, false, not, is_some, Option, Some, None, List, [], ◌∷◌, ◌++◌, length, drop, cond, refl, sym, ap, subst, ◌∙◌, arith, add-zero}
 use Rattle.std.specs.Prelude.{slice_get}
 use Rattle.std.specs.Ordering.{nat_cmp, match_ordering, is_eq}
 use Rattle.std.specs.Cmp.{ranked}
@@ -7,9 +7,9 @@ use Rattle.std.specs.declared.cmp.Ordering.{Ordering}
 use Rattle.std.specs.declared.cmp.Ordering.TheVariants.{Less, Equal, Greater}
 use Rattle.std.specs.Map.{lookup}
 use Rattle.std.specs.BTreeMap.{insert_entry, is_at}
-use Rattle.std.proofs.lemmas.Bool.{eqb-true, eqb-false}
+use Rattle.std.proofs.lemmas.Bool.{eqb-true}
 use Rattle.std.proofs.lemmas.Cmp.{nat_cmp_total}
-use Rattle.std.proofs.lemmas.Option.{slice_get_within, none-some, same_Some}
+use Rattle.std.proofs.lemmas.Option.{none-some, same_Some}
 use Rattle.krb_der.specs.Octets.{when}
 use Rattle.krb_flow.specs.Copies.{is_other}
 use Rattle.krb_flow.specs.Waiting.{Waiting, keep_one, keep, ready, early}

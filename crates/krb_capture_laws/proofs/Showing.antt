@@ -1,17 +1,17 @@
 -- A direction of whose segments and ends nothing is told: its streams have each octet that was captured.
-use Rattle.std.proofs.Common.{◌≡◌, ℕ, suc, ◌+◌, ◌-◌, ◌%◌, ◌^◌, ◌<◌, ◌≤◌, ◌==◌, ◌⊎◌, inl, inr, Bool, true, false, not, ◌&&◌, ◌||◌, is_some, Option, Some, None, List, [], ◌∷◌, ◌++◌, length, drop, refl, sym, ap, ap₂, subst, ◌∙◌, arith, append-nil, length-append, length-drop}
-use Rattle.std.specs.Prelude.{slice_get, max, nat_lt, nat_le, if◌then◌else◌}
+use Rattle.std.proofs.Common.{◌≡◌, ℕ, suc, ◌+◌, ◌-◌, ◌%◌, ◌^◌, ◌<◌, ◌≤◌, ◌⊎◌, inl, inr, Bool, true, false, not, ◌&&◌, is_some, Option, Some, None, List, [], ◌∷◌, ◌++◌, length, drop, refl, sym, ap, ap₂, subst, ◌∙◌, arith, append-nil, length-append, length-drop}
+use Rattle.std.specs.Prelude.{slice_get, max, nat_lt, if◌then◌else◌}
 use Rattle.std.specs.List.{AllByRecursion, Contains}
-use Rattle.std.proofs.lemmas.Bool.{lt-ltb, lt-leb, le-ltb, ltb-true, ltb-false}
+use Rattle.std.proofs.lemmas.Bool.{lt-leb, ltb-true, ltb-false}
 use Rattle.std.proofs.lemmas.List.{drop_all}
 use Rattle.std.proofs.lemmas.List.Elements.{All-contains_itself, Contains-append_left, Contains-append_right}
 use Rattle.std.proofs.lemmas.Option.{slice_get_within, none-some}
 use Rattle.krb_der.specs.Octets.{when}
 use Rattle.krb_packet.specs.declared.contents.Segment.{Segment}
-use Rattle.krb_flow.specs.Directions.{Begun, Delivery, Outcome, advanced, at_data, begins, deliver, delivered, distance_to, earlier, end_of, ended, ending, first_number, first_place, glimpsed, goes_on, had, if_later, is_copy_of, is_far, is_first, is_over, joined, kept, may_join, missing, or_seen, passes_all, start, step, unless_over}
+use Rattle.krb_flow.specs.Directions.{Begun, Delivery, Outcome, advanced, begins, deliver, delivered, distance_to, earlier, end_of, ended, ending, first_number, first_place, glimpsed, goes_on, had, if_later, is_copy_of, is_far, is_first, is_over, joined, kept, may_join, missing, or_seen, passes_all, start, step, unless_over}
 use Rattle.krb_flow.specs.Progress.{Progress, begun}
 use Rattle.krb_flow.specs.Serial.{behind}
-use Rattle.krb_flow.specs.Unread.{if_any, nothing, of_far, of_reset, untaken_after, untaken_at, untaken_copy, untaken_in, untaken_near, untaken_of}
+use Rattle.krb_flow.specs.Unread.{if_any, nothing, of_far, of_reset, untaken_at, untaken_copy, untaken_in, untaken_near, untaken_of}
 use Rattle.krb_flow.specs.Waiting.{Waiting}
 use Rattle.krb_flow.specs.Window.{recent, stream_at, stream_with}
 use Rattle.krb_flow.specs.declared.direction.Beginning.{Beginning}
@@ -27,7 +27,7 @@ use Rattle.krb_capture_laws.specs.Shown.{AreTaken, HidesNothing, TakenStream, si
 use Rattle.krb_capture_laws.proofs.Captured.{Clear, Sorted, onward_clear}
 use Rattle.krb_capture_laws.proofs.Held.{Held, at, few_kept, front_stays, held_on, kept_stays, ready_and_early}
 use Rattle.krb_capture_laws.proofs.Pieces.{most_octets}
-use Rattle.krb_capture_laws.proofs.Untold.{IsAlive, Known, NoneTold, after_known, near_known, none_of}
+use Rattle.krb_capture_laws.proofs.Untold.{Known, NoneTold, after_known, near_known, none_of}
 
 -- ---- the streams that go on
 
@@ -198,13 +198,11 @@ module _ (stream : List ℕ) (progress : Progress) (more : ℕ) (segment : Segme
   near_onward : (place octet : ℕ) → Held stream progress.waiting place octet → Held (stream ++ delivered progress segment) (advanced progress segment).waiting place octet
   near_onward place octet (inl taken) = inl (front_stays stream (delivered progress segment) place octet taken)
   near_onward place octet (inr waits) =
-      let by = distance_to progress segment in
       held_on stream progress.expected (kept progress segment) is.count place octet
       (inr (kept_stays place octet (start progress.expected (distance_to progress segment)) (drop (behind (distance_to progress segment)) segment.payload.octets) progress.waiting waits))
 
   near_few : (advanced progress segment).expected + length (advanced progress segment).waiting + more < 2 ^ 61
   near_few =
-      let by = distance_to progress segment in
       omega (arith, is.few, ready_and_early progress.expected (kept progress segment), few_kept (start progress.expected (distance_to progress segment)) (drop (behind (distance_to progress segment)) segment.payload.octets) progress.waiting, length-drop (behind (distance_to progress segment)) segment.payload.octets)
 
   went_near : NoneTold (untaken_near (recent (Open progress) stream) progress segment) → Went stream progress more segment (delivered progress segment, advanced progress segment)
@@ -315,9 +313,10 @@ module _ (Listed : List ℕ → Type 0) where
     -- where these go on, so did what was there, and nothing of the segment is hidden
     reached : (waiting : Waiting) (streams : List TakenStream) → went.1.waiting ≡ waiting → Reaches went.1.first (stream ++ went.0) waiting streams → Reaches progress.first stream progress.waiting streams × HidesNothing streams segment
     reached waiting streams same r =
-        let at_first : Reaches progress.first (stream ++ went.0) went.1.waiting streams = subst (λ (n : ℕ). Reaches n (stream ++ went.0) went.1.waiting streams) w.first_is (subst (λ (l : Waiting). Reaches went.1.first (stream ++ went.0) l streams) (sym same) r) in
-        (reaches_back progress.first stream (stream ++ went.0) progress.waiting went.1.waiting streams w.onward longer at_first,
-        hides_known (stream ++ went.0) went.1.waiting progress.first progress.expected segment streams (omega (arith, count, longer)) at_first w.known)
+        let at_first : Reaches progress.first (stream ++ went.0) went.1.waiting streams = subst (λ (n : ℕ). Reaches n (stream ++ went.0) went.1.waiting streams) w.first_is (subst (λ (l : Waiting). Reaches went.1.first (stream ++ went.0) l streams) (sym same) r) in (
+          reaches_back progress.first stream (stream ++ went.0) progress.waiting went.1.waiting streams w.onward longer at_first,
+          hides_known (stream ++ went.0) went.1.waiting progress.first progress.expected segment streams (omega (arith, count, longer)) at_first w.known,
+        )
 
     goes_of : EndsWell (stream ++ (unless_over went).0) (unless_over went).1 → Goes stream progress more segment (unless_over went)
     goes_of well = by (is_over went.1) well

@@ -10,10 +10,10 @@ use Rattle.krb_packet.specs.declared.contents.Segment.{Segment}
 use Rattle.krb_source.specs.declared.unread_why.UnreadWhy.{UnreadWhy}
 use Rattle.krb_source.specs.declared.unread_why.UnreadWhy.TheVariants as why
 use Rattle.krb_flow.specs.Copies.{differing, differs_taken, differs_waiting, is_other, old_of}
-use Rattle.krb_flow.specs.Directions.{advanced, delivered, distance_to, first_number, is_among, is_copy_of, kept, start}
+use Rattle.krb_flow.specs.Directions.{advanced, delivered, distance_to, first_number, is_copy_of, kept, start}
 use Rattle.krb_flow.specs.Progress.{Progress}
-use Rattle.krb_flow.specs.Serial.{Separates, ahead, behind, distance}
-use Rattle.krb_flow.specs.Unread.{before_first, differs_after, differs_in, distance_after, if_any, is_keep_alive, is_keep_alive_after, is_one_zero, is_zero, octets_in, of_before, of_differing, place_in, untaken_copy, untaken_near}
+use Rattle.krb_flow.specs.Serial.{Separates, ahead, behind}
+use Rattle.krb_flow.specs.Unread.{before_first, differs_after, differs_in, distance_after, if_any, is_keep_alive, is_one_zero, is_zero, octets_in, of_before, of_differing, place_in, untaken_copy, untaken_near}
 use Rattle.krb_flow.specs.Waiting.{Waiting}
 use Rattle.krb_flow.specs.declared.had.Had.{Had}
 use Rattle.krb_flow.specs.declared.serial.Distance.{Distance}
@@ -22,7 +22,7 @@ use Rattle.krb_flow.specs.declared.unread.Unread.{Unread}
 use Rattle.krb_flow.specs.declared.unread.Untaken.{Untaken}
 use Rattle.krb_capture_laws.proofs.Distances.{separates}
 use Rattle.krb_capture_laws.proofs.Held.{Held, at, dropped_at, front_stays, held_on, kept_waits}
-use Rattle.krb_capture_laws.proofs.Pieces.{number_of, same_number}
+use Rattle.krb_capture_laws.proofs.Pieces.{number_of}
 
 -- ---- what is not told
 
@@ -72,14 +72,14 @@ taken_same stream recent skipped place octet is within enough same =
     let index : skipped + (length recent - (length stream - place)) ≡ place = omega (arith, size) in
     let few : nat_lt (length recent) (length stream - place) ≡ false = le-ltb (length recent) (length stream - place) (omega (arith, size)) in
     let there : slice_get recent (length recent - (length stream - place)) ≡ Some (get_or stream place 0) =
-        ap (λ (l : List ℕ). slice_get l (length recent - (length stream - place))) is
-        ∙ dropped_at skipped stream (length recent - (length stream - place))
-        ∙ ap (slice_get stream) index
-        ∙ slice_get-get_or stream place 0 within in
+    ap (λ (l : List ℕ). slice_get l (length recent - (length stream - place))) is
+    ∙ dropped_at skipped stream (length recent - (length stream - place))
+    ∙ ap (slice_get stream) index
+    ∙ slice_get-get_or stream place 0 within in
     let told : is_other (Some (get_or stream place 0)) octet ≡ false =
-        ap (λ (o : Option ℕ). is_other o octet) (sym there)
-        ∙ ap (λ (b : Bool). is_other (if b then None else slice_get recent (length recent - (length stream - place))) octet) (sym few)
-        ∙ same in
+    ap (λ (o : Option ℕ). is_other o octet) (sym there)
+    ∙ ap (λ (b : Bool). is_other (if b then None else slice_get recent (length recent - (length stream - place))) octet) (sym few)
+    ∙ same in
     slice_get-get_or stream place 0 within ∙ ap (λ (n : ℕ). Some n) (sym (same_octet octet (get_or stream place 0) told))
 
 -- ---- places and numbers
@@ -194,10 +194,9 @@ module _ (stream recent : List ℕ) (skipped : ℕ) (progress : Progress) (segme
 
       held_taken : (index octet : ℕ) → slice_get octets index ≡ Some octet → place_in progress segment + index < progress.expected → Held stream_then waiting_then (place_in progress segment + index) octet
       held_taken index octet there before =
-          let place : ℕ = place_in progress segment + index in
           let told : differs_taken recent progress.expected (place_in progress segment + index) octet ≡ false =
-              ap (λ (b : Bool). if b then differs_taken recent progress.expected (place_in progress segment + index) octet else differs_waiting progress.waiting (place_in progress segment + index) octet) (sym (lt-ltb (place_in progress segment + index) progress.expected before))
-              ∙ same_at index octet there in
+          ap (λ (b : Bool). if b then differs_taken recent progress.expected (place_in progress segment + index) octet else differs_waiting progress.waiting (place_in progress segment + index) octet) (sym (lt-ltb (place_in progress segment + index) progress.expected before))
+          ∙ same_at index octet there in
           inl (front_stays stream (delivered progress segment) (place_in progress segment + index) octet
           (taken_same stream recent skipped (place_in progress segment + index) octet is (omega (arith, count)) (omega (arith, count, none_old)) (ap (λ (n : ℕ). differs_taken recent n (place_in progress segment + index) octet) count ∙ told)))
 
@@ -207,8 +206,8 @@ module _ (stream recent : List ℕ) (skipped : ℕ) (progress : Progress) (segme
           let place : start progress.expected by + (index - behind by) ≡ place_in progress segment + index = omega (arith, none_before) in
           let whole : behind by + (index - behind by) ≡ index = omega arith in
           let waits : at (start progress.expected by + (index - behind by)) (kept progress segment) ≡ Some octet =
-              kept_waits (start progress.expected by) (drop (behind by) octets) progress.waiting waits_same (index - behind by) octet
-              (dropped_at (behind by) octets (index - behind by) ∙ ap (slice_get octets) whole ∙ there) in
+          kept_waits (start progress.expected by) (drop (behind by) octets) progress.waiting waits_same (index - behind by) octet
+          (dropped_at (behind by) octets (index - behind by) ∙ ap (slice_get octets) whole ∙ there) in
           held_on stream progress.expected (kept progress segment) count (place_in progress segment + index) octet
           (inr (ap (λ (n : ℕ). at n (kept progress segment)) (sym place) ∙ waits))
 

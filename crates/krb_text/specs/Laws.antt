@@ -1,15 +1,13 @@
 -- Laws of what is printed of messages.
-use Rattle.std.specs.Prelude.{ℕ, ◌≡◌, ◌<◌, ◌^◌, Option, Some, IfSome, List, length, map}
+use Rattle.std.specs.Prelude.{ℕ, ◌≡◌, Option, IfSome, List}
 use Rattle.krb_der.specs.declared.profile.Profile.TheVariants as profiles
 use Rattle.krb_der.specs.Octets.{AreOctets}
 use Rattle.krb_msg.specs.Stream.{End}
-use Rattle.krb_msg.specs.declared.krb_error.KrbError.{KrbError}
 use Rattle.krb_msg.specs.declared.message.Message.{Message}
-use Rattle.krb_msg.specs.declared.message.Message.TheVariants as message
-use Rattle.krb_msg.specs.Grammar.{method_data, ticket}
+use Rattle.krb_msg.specs.Grammar.{ticket}
 use Rattle.krb_msg.specs.Types.{ticket_value}
 use Rattle.krb_msg.specs.declared.ticket.Ticket.{Ticket}
-use Rattle.krb_msg.specs.Term.{Value, Fits, der}
+use Rattle.krb_msg.specs.Term.{Fits}
 use Rattle.krb_msg.specs.Views.{IsInProfile}
 use Rattle.krb_record.specs.Laws.{IsOneLine, OriginIsInRange}
 use Rattle.krb_record.specs.declared.form.Form.{Form}
@@ -18,7 +16,7 @@ use Rattle.krb_record.specs.declared.extent.Extent.{Extent}
 use Rattle.krb_text.specs.StreamEnds.{end_line}
 use Rattle.krb_record.specs.Origins.{message_origin}
 use Rattle.krb_text.specs.Messages.{captured_message_line, message_record, message_line, message_line_from, ticket_line}
-use Rattle.krb_text.specs.Masks.{masked, masked_method, masked_ticket}
+use Rattle.krb_text.specs.Masks.{masked, masked_ticket}
 use Rattle.krb_record.specs.Values.{Field}
 use Rattle.krb_source.specs.declared.layer.Layer.{Layer}
 
@@ -62,9 +60,3 @@ CiphersAreNotInTickets = (form : Form) (origin : List Field) (t : Ticket) → ti
 -- its line in a capture
 abbrev pub CiphersAreNotInCaptures : Type 0
 CiphersAreNotInCaptures = (form : Form) (origin : CaptureOrigin) (m : Message) → captured_message_line form origin (masked m) ≡ captured_message_line form origin m
-
--- the record of an error whose data are METHOD-DATA, of which the values are 00
-abbrev pub MethodsAreNotInRecords : Type 0
-MethodsAreNotInRecords =
-    (m : KrbError) (items : Value method_data) → Fits method_data items → length (der method_data items) < 2 ^ 31 → m.e_data ≡ Some (der method_data items)
-    → message_record (message.KrbError (record m { e_data = Some (der method_data (map masked_method items)) })) ≡ message_record (message.KrbError m)

@@ -1,6 +1,6 @@
--- Messages without what is encrypted or opaque: each octet of ciphers, of checksums and of user data is 00, also inside of pre-authentication data, and so is each octet of other pre-authentication data and of the data of errors that are of no type.
-use Rattle.std.specs.Prelude.{ℕ, ◌||◌, Bool, true, false, List, length, map, Option, Some, None}
-use Rattle.std.specs.Option.{is_some, option_map}
+-- Messages without what is encrypted or opaque: each octet of ciphers, of checksums and of user data is 00, also inside of pre-authentication data and of the data of errors, and so is each octet of what is not told of these.
+use Rattle.std.specs.Prelude.{ℕ, ℤ, Bool, true, false, List, length, map, Option, Some, None}
+use Rattle.std.specs.Option.{option_map}
 use Rattle.krb_file.specs.Fields.{zeros}
 use Rattle.krb_msg.specs.declared.ap_rep.ApRep.{ApRep}
 use Rattle.krb_msg.specs.declared.ap_req.ApReq.{ApReq}
@@ -20,9 +20,9 @@ use Rattle.krb_msg.specs.declared.pa_data.PaData.{PaData}
 use Rattle.krb_msg.specs.declared.ticket.Ticket.{Ticket}
 use Rattle.krb_msg.specs.Grammar.{ap_req, checksum, encrypted_data, method_data, pa_data, ticket}
 use Rattle.krb_msg.specs.Term.{Term, Value, der}
-use Rattle.krb_padata.specs.Grammar.{etype_info, etype_info2, kerb_error_data, krb_fast_armor, pa_for_user, pa_fx_fast_reply, pa_fx_fast_request, pa_pac_options, typed_data}
+use Rattle.krb_padata.specs.Grammar.{etype_info, etype_info2, kerb_error_data, krb_fast_armor, pa_for_user, pa_fx_fast_reply, pa_fx_fast_request, pa_pac_options, typed_data, typed_data_item}
 use Rattle.krb_padata.specs.PacRequest.{pac_request_in}
-use Rattle.krb_text.specs.Inside.{clear_type, is_ap_req_armor}
+use Rattle.krb_text.specs.Inside.{clear_type, ext_error_if, is_ap_req_armor, is_extended}
 use Rattle.krb_text.specs.Judged.{judged}
 use Rattle.krb_text.specs.declared.clear_type.Carrier.{Carrier}
 use Rattle.krb_text.specs.declared.clear_type.Carrier.TheVariants as carriers
@@ -108,9 +108,28 @@ masked_clear types.Other octets = zeros (length octets)
 abbrev pub masked_item : Carrier → PaData → PaData
 masked_item carrier p = record p { padata_value = masked_clear (clear_type carrier p.padata_type) p.padata_value }
 
--- an item of METHOD-DATA, as a value of its term
+-- ---- the data of errors, as values of their terms
 abbrev pub masked_method : Value pa_data → Value pa_data
 masked_method item = (item.0, (masked_clear (clear_type carriers.Error item.0) item.1.0, tt))
+
+-- a value of a type is opaque unless it is an extended error
+abbrev pub masked_typed : ℤ → List ℕ → List ℕ
+masked_typed type octets = octets_or_zeros octets (ext_error_if (is_extended type) octets)
+
+abbrev pub masked_typed_item : Value typed_data_item → Value typed_data_item
+masked_typed_item item = (item.0, (option_map (masked_typed item.0) item.1.0, tt))
+
+abbrev pub masked_error_data : Value kerb_error_data → Value kerb_error_data
+masked_error_data v = (v.0, (option_map (masked_typed v.0) v.1.0, tt))
+
+-- the first of METHOD-DATA, TYPED-DATA and KERB-ERROR-DATA that they are decides; what is none of them is opaque
+abbrev pub masked_first : Option (Value method_data) → Option (Value typed_data) → List ℕ → List ℕ
+masked_first (Some items) typed octets = der method_data (map masked_method items)
+masked_first None (Some items) octets = der typed_data (map masked_typed_item items)
+masked_first None None octets = masked_as kerb_error_data masked_error_data octets
+
+abbrev pub masked_data : List ℕ → List ℕ
+masked_data octets = masked_first (judged method_data octets) (judged typed_data octets) octets
 
 -- ---- messages
 abbrev pub masked_kdc_req : KdcReq → KdcReq
@@ -133,17 +152,6 @@ masked_krb_priv m = record m { enc_part = masked_encrypted m.enc_part }
 
 abbrev pub masked_krb_cred : KrbCred → KrbCred
 masked_krb_cred m = record m { tickets = map masked_ticket m.tickets; enc_part = masked_encrypted m.enc_part }
-
--- the data of an error are opaque unless they are METHOD-DATA, TYPED-DATA or KERB-ERROR-DATA
-abbrev pub opaque_unless : Bool → List ℕ → List ℕ
-opaque_unless true octets = octets
-opaque_unless false octets = zeros (length octets)
-
-abbrev pub has_type : List ℕ → Bool
-has_type octets = is_some (judged method_data octets) || is_some (judged typed_data octets) || is_some (judged kerb_error_data octets)
-
-abbrev pub masked_data : List ℕ → List ℕ
-masked_data octets = opaque_unless (has_type octets) octets
 
 abbrev pub masked_krb_error : KrbError → KrbError
 masked_krb_error m = record m { e_data = option_map masked_data m.e_data }

@@ -1,5 +1,6 @@
 -- Values that differ in as many octets alone: their DER has as many octets, and one fits as the other does.
-use Rattle.std.proofs.Common.{◌≡◌, ℕ, ◌+◌, Option, Some, None, List, length, refl, sym, ◌∙◌, ap, ap₂, subst, ◌++◌, length-append}
+use Rattle.std.proofs.Common.{◌≡◌, ℕ, suc, ◌+◌, ◌||◌, nat_lt, Option, Some, None, List, [], ◌∷◌, length, map, refl, sym, ◌∙◌, ap, ap₂, subst, ◌++◌, length-append}
+use Rattle.std.specs.List.{flat_map, AllByRecursion}
 use Rattle.krb_der.specs.Octets.{AreOctets, item, octets_of_option}
 use Rattle.krb_der.specs.Sizes.{item_length}
 use Rattle.krb_der.proofs.Sizes.{length-item}
@@ -18,6 +19,12 @@ SomeAlike P (Some a) (Some b) = P a b
 SomeAlike P None (Some b) = ⊥
 SomeAlike P (Some a) None = ⊥
 
+abbrev pub EachAlike : {A : Type 0} → (A → A → Type 0) → List A → List A → Type 0
+EachAlike P [] [] = Unit {0}
+EachAlike P (x ∷ xs) (y ∷ ys) = P x y × EachAlike P xs ys
+EachAlike P [] (y ∷ ys) = ⊥
+EachAlike P (x ∷ xs) [] = ⊥
+
 abbrev mutual
   pub Alike : (term : Term) → Value term → Value term → Type 0
   Alike (Integer low high) v w = v ≡ w
@@ -26,7 +33,7 @@ abbrev mutual
   Alike Time v w = v ≡ w
   Alike (Bits least) v w = v ≡ w
   Alike (Sequence fields) v w = AllAlike fields v w
-  Alike (SequenceOf empty term) v w = v ≡ w
+  Alike (SequenceOf empty term) v w = EachAlike (Alike term) v w
   Alike (Tagged index term) v w = Alike term v w
   Alike (Application number term) v w = Alike term v w
 
@@ -45,10 +52,19 @@ pub some_same : {A : Type 0} (P : A → A → Type 0) → ((a : A) → P a a) �
 some_same P each None = tt
 some_same P each (Some a) = each a
 
+pub each_same : {A : Type 0} (P : A → A → Type 0) → ((a : A) → P a a) → (v : List A) → EachAlike P v v
+each_same P each [] = tt
+each_same P each (x ∷ xs) = (each x, each_same P each xs)
+
+pub each_alike : {A : Type 0} (P : A → A → Type 0) (mask : A → A) → ((a : A) → P (mask a) a) → (v : List A) → EachAlike P (map mask v) v
+each_alike P mask each [] = tt
+each_alike P mask each (x ∷ xs) = (each x, each_alike P mask each xs)
+
 mutual
   pub same : (term : Term) (v : Value term) → Alike term v v
   same Octets v = replace_same v
   same (Sequence fields) v = all_same fields v
+  same (SequenceOf empty term) v = each_same (Alike term) (same term) v
   same (Tagged index term) v = same term v
   same (Application number term) v = same term v
   same other v = refl
@@ -70,10 +86,17 @@ some_as_many P octets each None None a = refl
 some_as_many P octets each (Some v) (Some w) a = each v w a
 some_as_many P octets each other another a = absurd a
 
+each_as_many : {A : Type 0} (P : A → A → Type 0) (octets : A → List ℕ) → ((a b : A) → P a b → length (octets a) ≡ length (octets b)) → (v w : List A) → EachAlike P v w → length (flat_map octets v) ≡ length (flat_map octets w)
+each_as_many P octets each [] [] a = refl
+each_as_many P octets each (v ∷ vs) (w ∷ ws) a = same_both (octets v) (flat_map octets vs) (octets w) (flat_map octets ws) (each v w a.0) (each_as_many P octets each vs ws a.1)
+each_as_many P octets each [] (w ∷ ws) a = absurd a
+each_as_many P octets each (v ∷ vs) [] a = absurd a
+
 mutual
   pub as_many : (term : Term) (v w : Value term) → Alike term v w → length (der term v) ≡ length (der term w)
   as_many Octets v w a = same_item 0x04 v w a.many
   as_many (Sequence fields) v w a = same_item 0x30 (der_of_fields fields v) (der_of_fields fields w) (all_as_many fields v w a)
+  as_many (SequenceOf empty term) v w a = same_item 0x30 (flat_map (der term) v) (flat_map (der term) w) (each_as_many (Alike term) (der term) (as_many term) v w a)
   as_many (Tagged index term) v w a = same_item (0xA0 + index) (der term v) (der term w) (as_many term v w a)
   as_many (Application number term) v w a = same_item (0x60 + number) (der term v) (der term w) (as_many term v w a)
   as_many other v w a = ap (λ x. length (der other x)) a
@@ -91,10 +114,23 @@ some_fit_as P F each None w a fit = tt
 some_fit_as P F each (Some v) (Some w) a fit = each v w a fit
 some_fit_as P F each (Some v) None a fit = absurd a
 
+each_many : {A : Type 0} (P : A → A → Type 0) (v w : List A) → EachAlike P v w → length v ≡ length w
+each_many P [] [] a = refl
+each_many P (v ∷ vs) (w ∷ ws) a = ap (λ (n : ℕ). suc n) (each_many P vs ws a.1)
+each_many P [] (w ∷ ws) a = absurd a
+each_many P (v ∷ vs) [] a = absurd a
+
+each_fits_as : {A : Type 0} (P : A → A → Type 0) (F : A → Type 0) → ((a b : A) → P a b → F b → F a) → (v w : List A) → EachAlike P v w → AllByRecursion F w → AllByRecursion F v
+each_fits_as P F each [] w a fit = tt
+each_fits_as P F each (v ∷ vs) (w ∷ ws) a fit = (each v w a.0 fit.0, each_fits_as P F each vs ws a.1 fit.1)
+each_fits_as P F each (v ∷ vs) [] a fit = absurd a
+
 mutual
   pub fits_as : (term : Term) (v w : Value term) → Alike term v w → Fits term w → Fits term v
   fits_as Octets v w a fits = a.octets fits
   fits_as (Sequence fields) v w a fits = all_fit_as fields v w a fits
+  fits_as (SequenceOf empty term) v w a fits =
+      (ap (λ (n : ℕ). empty || nat_lt 0 n) (each_many (Alike term) v w a) ∙ fits.0, each_fits_as (Alike term) (Fits term) (fits_as term) v w a fits.1)
   fits_as (Tagged index term) v w a fits = fits_as term v w a fits
   fits_as (Application number term) v w a fits = fits_as term v w a fits
   fits_as other v w a fits = subst (Fits other) (sym a) fits

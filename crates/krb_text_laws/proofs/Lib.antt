@@ -10,7 +10,7 @@ pub mod InsideOneLine
 pub mod MessageOneLine
 pub mod Alike
 pub mod MaskedParts
+pub mod DataMasks
 pub mod TextMasks
-pub mod MethodMasks
 pub mod FileOneLine
 pub mod ListMasks

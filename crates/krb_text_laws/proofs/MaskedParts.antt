@@ -165,7 +165,7 @@ kept_judged term tag octets = by (judged term octets) refl
     by None e = zeros_not_judged term tag (length octets) ∙ sym e
     by (Some v) e = refl
 
-kept : {A : Type 0} (octets : List ℕ) (found : Option A) → Replace (octets_or_zeros octets found) octets
+pub kept : {A : Type 0} (octets : List ℕ) (found : Option A) → Replace (octets_or_zeros octets found) octets
 kept octets None = replace_zeros octets
 kept octets (Some a) = replace_same octets
 

@@ -1,12 +1,12 @@
 -- What is encrypted, opaque or a checksum has no part in what is printed of a message.
-use Rattle.std.proofs.Common.{◌≡◌, ℕ, ℤ, Bool, true, false, ◌||◌, Option, Some, None, List, [], ◌∷◌, ◌++◌, length, map, codes, refl, sym, ap, ap₂, ◌∙◌}
+use Rattle.std.proofs.Common.{◌≡◌, ℕ, ℤ, Bool, true, false, ◌||◌, Option, Some, None, List, [], ◌∷◌, ◌++◌, length, map, codes, refl, ap, ap₂, ◌∙◌}
 use Rattle.std.proofs.lemmas.List.{length-map}
 use Rattle.std.specs.List.{list_any}
-use Rattle.std.specs.Option.{is_some, option_map}
+use Rattle.std.specs.Option.{option_map}
 use Rattle.krb_file.proofs.Zeros.{length-zeros}
-use Rattle.krb_msg.specs.Term.{Term, Value, tag_of}
+use Rattle.krb_msg.specs.Term.{Term, Value}
 use Rattle.krb_msg.specs.Grammar.{method_data, pa_data, ticket, kdc_req_body, kdc_req, kdc_rep, krb_cred, krb_error}
-use Rattle.krb_msg.specs.Types.{pa_data_value, ticket_value, kdc_req_body_value, kdc_req_value, kdc_rep_value, krb_cred_value, krb_error_value}
+use Rattle.krb_msg.specs.Types.{pa_data_of, pa_data_value, ticket_value, kdc_req_body_value, kdc_req_value, kdc_rep_value, krb_cred_value, krb_error_value}
 use Rattle.krb_msg.specs.Notes.{Note, HighOctet, FewFlags, Negative, EmptyList, list_has, has, message_has, notes_of}
 use Rattle.krb_msg.specs.declared.ap_rep.ApRep.{ApRep}
 use Rattle.krb_msg.specs.declared.ap_req.ApReq.{ApReq}
@@ -28,16 +28,16 @@ use Rattle.krb_record.specs.declared.capture_origin.CaptureOrigin.{CaptureOrigin
 use Rattle.krb_record.specs.Captures.{captured_line}
 use Rattle.krb_text.specs.Messages.{captured_message_line}
 use Rattle.krb_record.specs.Forms.{record_line}
-use Rattle.krb_text.specs.Inside.{data_parts_if, each_if, first_parts, inside_of, kdc_req_parts, krb_error_parts, padata_parts, ticket_part}
+use Rattle.krb_text.specs.Inside.{data_parts_if, each_if, inside_of, kdc_req_parts, krb_error_parts, padata_parts, ticket_part}
 use Rattle.krb_text.specs.Judged.{asks_for_preauth, judged}
 use Rattle.krb_text.specs.declared.clear_type.Carrier.{Carrier}
 use Rattle.krb_text.specs.declared.clear_type.Carrier.TheVariants as carriers
 use Rattle.krb_text.specs.Messages.{padata, notes, methods, kdc_req_fields, kdc_rep_fields, ap_req_fields, ap_rep_fields, krb_safe_fields, krb_priv_fields, krb_cred_fields, krb_error_fields, message_record, message_line, message_line_from, ticket_line, ticket_record}
 use Rattle.krb_text.specs.MessageValues.{encrypted}
 use Rattle.krb_record.specs.Values.{Field, Part, Printed, the, printed, with_inside, with_origin, if_there, count}
-use Rattle.krb_text.specs.Masks.{masked_encrypted, masked_item, masked_ticket, masked_req_body, masked_kdc_req, masked_kdc_rep, masked_ap_req, masked_ap_rep, masked_krb_safe, masked_krb_priv, masked_krb_cred, masked_krb_error, masked, masked_data, has_type, opaque_unless}
-use Rattle.krb_padata.specs.Grammar.{kerb_error_data, typed_data}
-use Rattle.krb_text_laws.proofs.MaskedParts.{items_same, zeros_not_judged}
+use Rattle.krb_text.specs.Masks.{masked_encrypted, masked_item, masked_ticket, masked_req_body, masked_kdc_req, masked_kdc_rep, masked_ap_req, masked_ap_rep, masked_krb_safe, masked_krb_priv, masked_krb_cred, masked_krb_error, masked, masked_data}
+use Rattle.krb_text_laws.proofs.DataMasks.{data_masked, shown_methods-same}
+use Rattle.krb_text_laws.proofs.MaskedParts.{items_same}
 
 -- ---- the values of fields
 pub encrypted-same : (e : EncryptedData) → encrypted (masked_encrypted e) ≡ encrypted e
@@ -84,45 +84,17 @@ krb_safe-same m = rw (length-zeros (length m.body.user_data), length-zeros (leng
 krb_cred-same : (m : KrbCred) → krb_cred_fields (masked_krb_cred m) ≡ krb_cred_fields m
 krb_cred-same m = rw (length-map m.tickets masked_ticket, length-zeros (length m.enc_part.cipher)) refl
 
--- the data of an error, which are of a type or none: as many octets, and of the same types
-opaque-length : (shown : Bool) (octets : List ℕ) → length (opaque_unless shown octets) ≡ length octets
-opaque-length true octets = refl
-opaque-length false octets = length-zeros (length octets)
-
 data-same : (octets : Option (List ℕ)) → if_there count (option_map masked_data octets) ≡ if_there count octets
 data-same None = refl
-data-same (Some octets) = rw (opaque-length (has_type octets) octets) refl
+data-same (Some octets) = rw ((data_masked octets).many) refl
 
-judged_if-same : (term : Term) → (tag_of term ≡ 0 → ⊥) → (octets : List ℕ) (shown : Bool) → (shown ≡ false → judged term octets ≡ None) → judged term (opaque_unless shown octets) ≡ judged term octets
-judged_if-same term tag octets true none = refl
-judged_if-same term tag octets false none = zeros_not_judged term tag (length octets) ∙ sym (none refl)
-
-record AreNone {A B C : Type 0} (a : Option A) (b : Option B) (c : Option C) : Type 0 where
-  first : a ≡ None
-  second : b ≡ None
-  third : c ≡ None
-
-none-of : {A B C : Type 0} (a : Option A) (b : Option B) (c : Option C) → (is_some a || is_some b || is_some c) ≡ false → AreNone a b c
-none-of None None None e = record { first = refl; second = refl; third = refl }
-none-of (Some a) b c e = absurd cc
-none-of None (Some b) c e = absurd cc
-none-of None None (Some c) e = absurd cc
-
-untyped : (octets : List ℕ) → has_type octets ≡ false → AreNone (judged method_data octets) (judged typed_data octets) (judged kerb_error_data octets)
-untyped octets e = none-of (judged method_data octets) (judged typed_data octets) (judged kerb_error_data octets) e
-
-method_data-same : (octets : List ℕ) → judged method_data (masked_data octets) ≡ judged method_data octets
-method_data-same octets = judged_if-same method_data (λ e. absurd cc) octets (has_type octets) (λ e. (untyped octets e).first)
-
-typed_data-same : (octets : List ℕ) → judged typed_data (masked_data octets) ≡ judged typed_data octets
-typed_data-same octets = judged_if-same typed_data (λ e. absurd cc) octets (has_type octets) (λ e. (untyped octets e).second)
-
-error_data-same : (octets : List ℕ) → judged kerb_error_data (masked_data octets) ≡ judged kerb_error_data octets
-error_data-same octets = judged_if-same kerb_error_data (λ e. absurd cc) octets (has_type octets) (λ e. (untyped octets e).third)
+methods_if-same : (asks : Bool) (code : ℤ) (octets : List ℕ) → asks_for_preauth code ≡ asks → methods code (Some (masked_data octets)) ≡ methods code (Some octets)
+methods_if-same false code octets e = rw e refl
+methods_if-same true code octets e = rw e (ap (if_there (λ items. padata (map pa_data_of items))) (data_masked octets).methods ∙ shown_methods-same (judged method_data octets))
 
 methods-same : (code : ℤ) (octets : Option (List ℕ)) → methods code (option_map masked_data octets) ≡ methods code octets
 methods-same code None = refl
-methods-same code (Some octets) = rw (method_data-same octets) refl
+methods-same code (Some octets) = methods_if-same (asks_for_preauth code) code octets refl
 
 krb_error-same : (m : KrbError) → krb_error_fields (masked_krb_error m) ≡ krb_error_fields m
 krb_error-same m = rw (data-same m.e_data, methods-same m.error_code m.e_data) refl
@@ -232,9 +204,7 @@ kdc_req-inside m = ap₂ (λ (a b : List Part). a ++ b) (padata-inside carriers.
 
 data-inside : (asks : Bool) (octets : Option (List ℕ)) → data_parts_if asks (option_map masked_data octets) ≡ data_parts_if asks octets
 data-inside asks None = refl
-data-inside asks (Some octets) =
-    ap (λ found. first_parts asks found (judged typed_data (masked_data octets)) (judged kerb_error_data (masked_data octets))) (method_data-same octets)
-    ∙ ap₂ (λ typed other. first_parts asks (judged method_data octets) typed other) (typed_data-same octets) (error_data-same octets)
+data-inside asks (Some octets) = (data_masked octets).parts asks
 
 krb_error-inside : (m : KrbError) → krb_error_parts (masked_krb_error m) ≡ krb_error_parts m
 krb_error-inside m = data-inside (asks_for_preauth m.error_code) m.e_data

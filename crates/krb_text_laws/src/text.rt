@@ -5,7 +5,7 @@ ghost use Rattle.krb_record.specs.Captures.{unread_line};
 ghost use Rattle.krb_record.specs.declared.capture_origin.CaptureOrigin.{CaptureOrigin};
 ghost use Rattle.krb_record.specs.declared.form.Form.{Form};
 ghost use Rattle.krb_record.specs.Laws.{CaptureEndIsOneLine, CaptureRefusalIsOneLine, CapturedRefusalIsOneLine, CountedStreamEndIsOneLine, DatesAreTheCalendars, EscapeIsGraphic, FileNameIsOneLine, FileRefusalIsOneLine, InputRefusalIsOneLine, IsOneLine, JoinedIsOneLine, LinesHaveNothingLast, LostIsOneLine, MessageRefusalIsOneLine, OriginIsInRange, PasswordIsOneLine, PlainLinesHaveNothingInside, PrincipalTextIsInjective, UntoldMessageRefusalIsOneLine, UntoldStreamRefusalIsOneLine};
-ghost use Rattle.krb_text.specs.Laws.{CapturedMessageIsOneLine, CiphersAreNotInCaptures, CiphersAreNotInLines, CiphersAreNotInLinesFrom, CiphersAreNotInRecords, CiphersAreNotInTickets, MessageFromIsOneLine, MessageIsOneLine, MethodsAreNotInRecords, StreamEndIsOneLine, TicketIsOneLine};
+ghost use Rattle.krb_text.specs.Laws.{CapturedMessageIsOneLine, CiphersAreNotInCaptures, CiphersAreNotInLines, CiphersAreNotInLinesFrom, CiphersAreNotInRecords, CiphersAreNotInTickets, MessageFromIsOneLine, MessageIsOneLine, StreamEndIsOneLine, TicketIsOneLine};
 
 /// Different components or realms have different texts.
 pub fn principal_text_is_injective()
@@ -68,14 +68,12 @@ pub fn lines_have_nothing_last()
 
 /// What is printed of a message or a Ticket, in each form, with an origin and of a capture too, is as
 /// of the same with every octet 00 of its ciphers, its checksum and its user data, of the ciphers
-/// and checksums inside of its pre-authentication data and of what is not shown of these, and of
-/// the data of an error that are neither METHOD-DATA nor TYPED-DATA nor KERB-ERROR-DATA; and the
-/// record of one that has METHOD-DATA is as with such values in it.
+/// and checksums inside of its pre-authentication data and of the data of an error, and of what is
+/// not told of these.
 pub fn ciphers_are_not_shown()
     ensures record { CiphersAreNotInRecords }
     ensures line { CiphersAreNotInLines }
     ensures from { CiphersAreNotInLinesFrom }
     ensures ticket { CiphersAreNotInTickets }
     ensures capture { CiphersAreNotInCaptures }
-    ensures methods { MethodsAreNotInRecords }
 {}

@@ -1,5 +1,4 @@
 use Rattle.krb_text_laws.proofs.TextMasks.{record-same, line-same, line_from-same, ticket_line-same, captured-same}
-use Rattle.krb_text_laws.proofs.MethodMasks.{methods-record}
 use Rattle.krb_text_laws.proofs.text.ciphers_are_not_shown.Goals as goal
 
 pub returns-clause-record : goal.returns-clause-record
@@ -16,6 +15,3 @@ returns-clause-ticket c = ticket_line-same
 
 pub returns-clause-capture : goal.returns-clause-capture
 returns-clause-capture c = captured-same
-
-pub returns-clause-methods : goal.returns-clause-methods
-returns-clause-methods c = methods-record
