@@ -20,7 +20,7 @@ fn list_datagram(
     service: Service,
     payload: &Payload<'_>,
     origin: &CaptureOrigin,
-    listing: &mut Listing<'_, '_>,
+    listing: &mut Listing<'_>,
 ) -> Result<(), Memory>
     ensures { OnOk result (listing.new ≡ with_all origin.now (datagram_found service payload.now) listing.old) }
 {
@@ -63,7 +63,7 @@ fn list_datagram(
 fn list_surplus(
     datagram: &Datagram<'_>,
     origin: &CaptureOrigin,
-    listing: &mut Listing<'_, '_>,
+    listing: &mut Listing<'_>,
 ) -> Result<(), Memory>
     ensures { OnOk result (listing.new ≡ with_all origin.now (surplus_found datagram.now) listing.old) }
 {
@@ -84,7 +84,7 @@ pub(crate) fn list_with_surplus(
     service: Service,
     datagram: &Datagram<'_>,
     origin: &CaptureOrigin,
-    listing: &mut Listing<'_, '_>,
+    listing: &mut Listing<'_>,
 ) -> Result<(), Memory>
     ensures { OnOk result (listing.new ≡ with_all origin.now (all_found service datagram.now) listing.old) }
 {

@@ -121,7 +121,7 @@ fn number_after(number: u64, step: Step, due: Due) -> u64
 fn list_passed_over(
     segment: &Segment<'_>,
     due: Due,
-    listing: &mut Listing<'_, '_>,
+    listing: &mut Listing<'_>,
 ) -> Result<(), Memory>
     ensures { OnOk result (listing.new ≡ with_all (origin_of due transports.Tcp segment.now.source segment.now.target) (untaken_found (record nothing { apart = of_reset segment.now })) listing.old) }
 {
@@ -153,7 +153,7 @@ impl Directions {
         segment: &Segment<'_>,
         service: Service,
         due: Due,
-        listing: &mut Listing<'_, '_>,
+        listing: &mut Listing<'_>,
     ) -> Result<Option<Box<Rest>>, Memory>
         ensures { IfOk result (λ rest. (limit : ℕ) (table : Table) → HoldsTable self.old limit table → Follows self.new limit (followed limit due.packet service segment.now table).table due rest (over_tcp due (followed limit due.packet service segment.now table).found) listing.old listing.new) }
     {
@@ -197,7 +197,7 @@ impl Directions {
         segment: &Segment<'_>,
         service: Service,
         due: Due,
-        listing: &mut Listing<'_, '_>,
+        listing: &mut Listing<'_>,
     ) -> Result<Option<Box<Rest>>, Memory>
         requires of_segment { flow ≡ flow_of segment.now }
         requires none { self.old.last ≡ None }
@@ -229,7 +229,7 @@ impl Directions {
         segment: &Segment<'_>,
         service: Service,
         due: Due,
-        listing: &mut Listing<'_, '_>,
+        listing: &mut Listing<'_>,
     ) -> Result<Option<Box<Rest>>, Memory>
         requires of_segment { flow ≡ flow_of segment.now }
         requires none { self.old.last ≡ None }
@@ -252,7 +252,7 @@ impl Directions {
         segment: &Segment<'_>,
         service: Service,
         due: Due,
-        listing: &mut Listing<'_, '_>,
+        listing: &mut Listing<'_>,
     ) -> Result<Option<Box<Rest>>, Memory>
         requires of_segment { flow ≡ flow_of segment.now }
         requires none { self.old.last ≡ None }
@@ -282,7 +282,7 @@ impl Directions {
         segment: &Segment<'_>,
         service: Service,
         due: Due,
-        listing: &mut Listing<'_, '_>,
+        listing: &mut Listing<'_>,
     ) -> Result<Option<Box<Rest>>, Memory>
         requires of_segment { flow ≡ flow_of segment.now }
         requires none { self.old.last ≡ None }
@@ -312,7 +312,7 @@ impl Directions {
         last: Last,
         segment: &Segment<'_>,
         due: Due,
-        listing: &mut Listing<'_, '_>,
+        listing: &mut Listing<'_>,
     ) -> Result<Option<Box<Rest>>, Memory>
         requires { self.old.last ≡ None }
         ensures { IfOk result (λ rest. (limit : ℕ) (table : Table) (sent : Sent) → HoldsMaps self.old limit (without last.number table) → lookup (is_at (flow_cmp last.flow)) self.old.numbers.entries ≡ Some last.number → Represents last.sending.value limit sent → Follows self.new limit (gone_on limit due.packet last.number sent segment.now table).table due rest (over_tcp due (gone_on limit due.packet last.number sent segment.now table).found) listing.old listing.new) }
@@ -337,7 +337,7 @@ impl Directions {
         segment: &Segment<'_>,
         service: Service,
         due: Due,
-        listing: &mut Listing<'_, '_>,
+        listing: &mut Listing<'_>,
     ) -> Result<Option<Box<Rest>>, Memory>
         requires of_segment { flow ≡ flow_of segment.now }
         requires begins { (step_of (state_after had) segment.now).began ≡ true }
@@ -392,7 +392,7 @@ impl Directions {
         &mut self,
         rest: Box<Rest>,
         due: Due,
-        listing: &mut Listing<'_, '_>,
+        listing: &mut Listing<'_>,
     ) -> Result<Option<Box<Rest>>, Memory>
         ensures { IfOk result (λ next. (limit : ℕ) (table : Table) (found : List Finding) → HoldsBut self.old limit table due rest.value found → Follows self.new limit table due next found listing.old listing.new) }
     {
@@ -439,7 +439,7 @@ impl Directions {
 
     /// Forgets a direction if no more are kept: the one that began first among those that ended,
     /// or, if none has ended, the one that began first, which ends.
-    fn make_room(&mut self, due: Due, listing: &mut Listing<'_, '_>) -> Result<(), Memory>
+    fn make_room(&mut self, due: Due, listing: &mut Listing<'_>) -> Result<(), Memory>
         ensures last { self.new.last ≡ self.old.last }
         ensures table { OnOk result ((limit : ℕ) (table : Table) → HoldsMaps self.old limit table → HoldsMaps self.new limit (with_room limit table).table) }
         ensures found { OnOk result ((limit : ℕ) (table : Table) → HoldsMaps self.old limit table → listing.new ≡ with_each (over_tcp due (with_room limit table).found) listing.old) }
@@ -457,7 +457,7 @@ impl Directions {
     }
 
     /// Ends all directions, in the order in which they began, and lists what is known of each.
-    pub(crate) fn finish(&mut self, due: Due, listing: &mut Listing<'_, '_>) -> Result<(), Memory>
+    pub(crate) fn finish(&mut self, due: Due, listing: &mut Listing<'_>) -> Result<(), Memory>
         ensures { OnOk result ((limit : ℕ) (table : Table) → HoldsTable self.old limit table → listing.new ≡ with_each (over_tcp due (last_of limit table.active)) listing.old) }
     {
         self.put_back()?;

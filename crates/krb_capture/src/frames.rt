@@ -48,7 +48,7 @@ impl Frames {
         &mut self,
         octets: &[u8],
         origin: &CaptureOrigin,
-        listing: &mut Listing<'_, '_>,
+        listing: &mut Listing<'_>,
     ) -> Result<usize, Memory>
         ensures service { OnOk result (service_of self.new ≡ service_of self.old) }
         ensures few { IfOk result (λ count. count ≤ length octets.now) }
@@ -71,7 +71,7 @@ impl Frames {
         &self,
         end: End,
         origin: &CaptureOrigin,
-        listing: &mut Listing<'_, '_>,
+        listing: &mut Listing<'_>,
     ) -> Result<(), Memory>
         ensures { OnOk result ((limit : ℕ) (stream : List ℕ) → Took self.now limit stream → listing.new ≡ with_all origin.now (end_found (service_of self.now) limit stream end) listing.old) }
     {
@@ -99,7 +99,7 @@ impl Frames {
         &self,
         lost: Lost,
         origin: &CaptureOrigin,
-        listing: &mut Listing<'_, '_>,
+        listing: &mut Listing<'_>,
     ) -> Result<(), Memory>
         ensures { OnOk result (listing.new ≡ with_found origin.now (Missing lost.place lost.octets (open_path (service_of self.now) (kept_in self.now))) listing.old) }
     {
@@ -113,7 +113,7 @@ impl Frames {
     }
 
     /// Lists the refusal of the frame that is not whole, if there is one.
-    fn list_cut(&self, origin: &CaptureOrigin, listing: &mut Listing<'_, '_>) -> Result<(), Memory>
+    fn list_cut(&self, origin: &CaptureOrigin, listing: &mut Listing<'_>) -> Result<(), Memory>
         ensures { OnOk result ((limit : ℕ) (stream : List ℕ) → Took self.now limit stream → over_in self.now ≡ false → listing.new ≡ with_all origin.now (refusal_found (service_of self.now) (offset_in self.now) (kept_in self.now) (cut_refusal (kept_in self.now))) listing.old) }
     {
         match self {

@@ -26,12 +26,12 @@ pub(crate) struct Tally<'a> {
 
 /// A text to which the records of a capture are appended, and their tally.
 #[derive(Drop)]
-pub(crate) struct Listing<'text, 'label> {
-    pub(crate) tally: Tally<'label>,
+pub(crate) struct Listing<'text> {
+    pub(crate) tally: Tally<'text>,
     pub(crate) text: &'text mut TextBuffer,
 }
 
-impl<'text, 'label> Model for Listing<'text, 'label> {
+impl<'text> Model for Listing<'text> {
     ghost use Rattle.krb_capture.specs.Found.{Written};
 
     ghost Value = { Written };
@@ -71,9 +71,9 @@ impl Tally<'_> {
     }
 }
 
-impl<'text, 'label> Listing<'text, 'label> {
+impl<'text> Listing<'text> {
     /// Gives the tally and the text back.
-    pub(crate) fn into_parts(self) -> (Tally<'label>, &'text mut TextBuffer)
+    pub(crate) fn into_parts(self) -> (Tally<'text>, &'text mut TextBuffer)
         ensures label { result.0.label.now ≡ self.entry.label }
         ensures counts { result.0.counts ≡ self.entry.counts }
         ensures text { result.1.now ≡ self.entry.text }

@@ -45,7 +45,7 @@ pub(crate) fn list_refused(
     extent: Extent,
     refusal: Refusal,
     origin: &CaptureOrigin,
-    listing: &mut Listing<'_, '_>,
+    listing: &mut Listing<'_>,
 ) -> Result<(), Memory>
     requires present { length octets.now ≤ size }
     requires fits { before + refusal.place < 2 ^ 32 }
@@ -67,7 +67,7 @@ pub(crate) fn list_message(
     before: u32,
     extent: Extent,
     origin: &CaptureOrigin,
-    listing: &mut Listing<'_, '_>,
+    listing: &mut Listing<'_>,
 ) -> Result<(), Memory>
     requires { before < 2 ^ 31 }
     ensures { OnOk result (listing.new ≡ with_found origin.now (message_found profile extent before octets.now) listing.old) }
@@ -111,7 +111,7 @@ pub(crate) fn list_cut_message(
     size: u64,
     extent: Extent,
     origin: &CaptureOrigin,
-    listing: &mut Listing<'_, '_>,
+    listing: &mut Listing<'_>,
 ) -> Result<(), Memory>
     requires some { 0 < size }
     requires present { length octets.now ≤ size }
@@ -129,7 +129,7 @@ fn list_missing(
     octets: &[u8],
     size: u64,
     origin: &CaptureOrigin,
-    listing: &mut Listing<'_, '_>,
+    listing: &mut Listing<'_>,
 ) -> Result<(), Memory>
     requires present { length octets.now ≤ size }
     ensures { OnOk result (listing.new ≡ with_found origin.now (Missing (length octets.now) (size - length octets.now) (path_of profile size octets.now)) listing.old) }

@@ -47,7 +47,7 @@ impl MessageFrames {
         &mut self,
         octets: &[u8],
         origin: &CaptureOrigin,
-        listing: &mut Listing<'_, '_>,
+        listing: &mut Listing<'_>,
     ) -> Result<usize, Memory>
         ensures few { IfOk result (λ count. count ≤ length octets.now) }
         ensures full { IfOk result (λ count. count < length octets.now → IsFull listing.new.text) }
@@ -102,16 +102,16 @@ impl MessageFrames {
 
 /// Lists the frames of a direction.
 #[derive(Drop)]
-struct FrameLister<'a, 'text, 'label> {
+struct FrameLister<'a, 'text> {
     /// Where in the direction the next frame begins.
     offset: u64,
     /// By which the messages are judged.
     profile: Profile,
     origin: &'a CaptureOrigin,
-    listing: &'a mut Listing<'text, 'label>,
+    listing: &'a mut Listing<'text>,
 }
 
-impl<'a, 'text, 'label> FrameLister<'a, 'text, 'label> {
+impl<'a, 'text> FrameLister<'a, 'text> {
     /// Lists the refusal of the current frame of a decoder.
     fn put_refusal(&mut self, refusal: Refusal, decoder: &Decoder) -> Result<(), Memory>
         ensures same { OnOk result (self.new.listing.ghost_name ≡ self.old.listing.ghost_name) }
@@ -126,7 +126,7 @@ impl<'a, 'text, 'label> FrameLister<'a, 'text, 'label> {
     }
 }
 
-impl<'a, 'text, 'label> Receiver for FrameLister<'a, 'text, 'label> {
+impl<'a, 'text> Receiver for FrameLister<'a, 'text> {
     ghost Receives = { ListsEntry };
 
     ghost IsFull = { λ lister. IsFull lister.listing.now.text };

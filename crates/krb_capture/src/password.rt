@@ -111,7 +111,7 @@ fn list_part(
     before: u32,
     extent: Extent,
     origin: &CaptureOrigin,
-    listing: &mut Listing<'_, '_>,
+    listing: &mut Listing<'_>,
 ) -> Result<(), Memory>
     requires { before < 2 ^ 31 }
     ensures { OnOk result (listing.new ≡ with_all origin.now (part_found profile extent before octets.now) listing.old) }
@@ -128,7 +128,7 @@ fn list_fault(
     extent: Extent,
     fault: Fault,
     origin: &CaptureOrigin,
-    listing: &mut Listing<'_, '_>,
+    listing: &mut Listing<'_>,
 ) -> Result<(), Memory>
     requires { before < 2 ^ 30 }
     ensures { OnOk result (listing.new ≡ with_found origin.now (Faulty (record { place = before + place_of fault.field; why = fault.why }) (Some (path_of fault.field)) extent) listing.old) }
@@ -149,7 +149,7 @@ pub(crate) fn list_password(
     before: u32,
     extent: Extent,
     origin: &CaptureOrigin,
-    listing: &mut Listing<'_, '_>,
+    listing: &mut Listing<'_>,
 ) -> Result<(), Memory>
     requires { before < 2 ^ 30 }
     ensures { OnOk result (listing.new ≡ with_all origin.now (password_found profile extent before octets.now) listing.old) }
@@ -169,7 +169,7 @@ fn list_parts(
     extent: Extent,
     header: Header,
     origin: &CaptureOrigin,
-    listing: &mut Listing<'_, '_>,
+    listing: &mut Listing<'_>,
 ) -> Result<(), Memory>
     requires few { before < 2 ^ 30 }
     requires parts { 6 + header.ap ≤ length octets.now }

@@ -57,7 +57,7 @@ impl PasswordFrames {
         &mut self,
         octets: &[u8],
         origin: &CaptureOrigin,
-        listing: &mut Listing<'_, '_>,
+        listing: &mut Listing<'_>,
     ) -> Result<usize, Memory>
         ensures few { IfOk result (λ count. count ≤ length octets.now) }
         ensures full { IfOk result (λ count. count < length octets.now → IsFull listing.new.text) }
@@ -78,7 +78,7 @@ impl PasswordFrames {
         &mut self,
         octets: &[u8],
         origin: &CaptureOrigin,
-        listing: &mut Listing<'_, '_>,
+        listing: &mut Listing<'_>,
     ) -> Result<usize, Memory>
         requires { 0 < length octets.now }
         ensures some { IfOk result (λ count. (0 < count) × (count ≤ length octets.now)) }
@@ -106,7 +106,7 @@ impl PasswordFrames {
         &mut self,
         contents: &[u8],
         origin: &CaptureOrigin,
-        listing: &mut Listing<'_, '_>,
+        listing: &mut Listing<'_>,
     ) -> Result<usize, Memory>
         requires { length contents.now < 2 ^ 31 }
         ensures { IfOk result (λ count. (count ≡ 4 + length contents.now) × ListsContentsOf self.old (length contents.now) contents.now self.new origin.now listing.old listing.new) }
@@ -131,7 +131,7 @@ impl PasswordFrames {
         &mut self,
         octets: &[u8],
         origin: &CaptureOrigin,
-        listing: &mut Listing<'_, '_>,
+        listing: &mut Listing<'_>,
     ) -> Result<usize, Memory>
         requires some { 0 < length octets.now }
         requires goes { self.old.is_over ≡ false }
@@ -160,7 +160,7 @@ impl PasswordFrames {
     fn list_whole(
         &mut self,
         origin: &CaptureOrigin,
-        listing: &mut Listing<'_, '_>,
+        listing: &mut Listing<'_>,
     ) -> Result<(), Memory>
         ensures listed { OnOk result (ListsWhole self.old self.new origin.now listing.old listing.new) }
         ensures profile { OnOk result (self.new.profile ≡ self.old.profile) }
@@ -185,7 +185,7 @@ impl PasswordFrames {
         &mut self,
         size: u32,
         origin: &CaptureOrigin,
-        listing: &mut Listing<'_, '_>,
+        listing: &mut Listing<'_>,
     ) -> Result<(), Memory>
         requires { 4 ≤ length self.old.octets.items }
         ensures { OnOk result (ListsContents self.old size self.new origin.now listing.old listing.new) }
@@ -260,7 +260,7 @@ fn list_refused(
     why: Why,
     extent: Extent,
     origin: &CaptureOrigin,
-    listing: &mut Listing<'_, '_>,
+    listing: &mut Listing<'_>,
 ) -> Result<(), Memory>
     ensures { OnOk result (listing.new ≡ with_found origin.now (length_found extent why) listing.old) }
 {

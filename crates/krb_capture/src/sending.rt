@@ -106,7 +106,7 @@ impl Unlisted {
 fn list_unread(
     unread: Option<Unread>,
     origin: &CaptureOrigin,
-    listing: &mut Listing<'_, '_>,
+    listing: &mut Listing<'_>,
 ) -> Result<(), Memory>
     ensures { OnOk result (listing.new ≡ with_all origin.now (unread_found unread) listing.old) }
 {
@@ -120,7 +120,7 @@ fn list_unread(
 pub(crate) fn list_untaken(
     untaken: Untaken,
     origin: &CaptureOrigin,
-    listing: &mut Listing<'_, '_>,
+    listing: &mut Listing<'_>,
 ) -> Result<(), Memory>
     ensures { OnOk result (listing.new ≡ with_all origin.now (untaken_found untaken) listing.old) }
 {
@@ -192,7 +192,7 @@ impl Sending {
         segment: &Segment<'_>,
         due: Due,
         waited: &mut Vec<u8>,
-        listing: &mut Listing<'_, '_>,
+        listing: &mut Listing<'_>,
     ) -> Result<Stepped, Memory>
         ensures flow { self.new.flow ≡ self.old.flow }
         ensures step { IfOk result (λ stepped. stepped.step ≡ step_of self.old.direction.state segment.now) }
@@ -220,7 +220,7 @@ impl Sending {
         &mut self,
         left: Unlisted,
         due: Due,
-        listing: &mut Listing<'_, '_>,
+        listing: &mut Listing<'_>,
     ) -> Result<Option<Unlisted>, Memory>
         ensures flow { self.new.flow ≡ self.old.flow }
         ensures found { IfOk result (λ rest. (limit : ℕ) (sent : Sent) (found : List Found) → RepresentsBut self.old limit sent (Some left) found → Sends self.new limit sent rest (origin_of due transports.Tcp self.old.flow.source self.old.flow.target) found listing.old listing.new) }
@@ -237,7 +237,7 @@ impl Sending {
         others: &[u8],
         end: Option<End>,
         origin: &CaptureOrigin,
-        listing: &mut Listing<'_, '_>,
+        listing: &mut Listing<'_>,
     ) -> Result<Option<Unlisted>, Memory>
         ensures same { self.new ≡ record self.old { frames = self.new.frames } }
         ensures found { IfOk result (λ rest. (limit : ℕ) (stream : List ℕ) → Took self.old.frames limit stream → Takes self.old.frames self.new.frames limit stream (record { octets = octets.now ++ others.now; end = end }) rest origin.now listing.old listing.new) }
@@ -256,7 +256,7 @@ impl Sending {
         &mut self,
         mut left: Unlisted,
         origin: &CaptureOrigin,
-        listing: &mut Listing<'_, '_>,
+        listing: &mut Listing<'_>,
     ) -> Result<Option<Unlisted>, Memory>
         ensures same { self.new ≡ record self.old { frames = self.new.frames } }
         ensures found { IfOk result (λ rest. (limit : ℕ) (stream : List ℕ) → Took self.old.frames limit stream → Takes self.old.frames self.new.frames limit stream left rest origin.now listing.old listing.new) }
@@ -275,7 +275,7 @@ impl Sending {
         &self,
         end: Option<End>,
         origin: &CaptureOrigin,
-        listing: &mut Listing<'_, '_>,
+        listing: &mut Listing<'_>,
     ) -> Result<(), Memory>
         ensures { OnOk result ((limit : ℕ) (stream : List ℕ) → Took self.now.frames limit stream → listing.new ≡ with_all origin.now (end_if (service_of self.now.frames) limit stream end) listing.old) }
     {
@@ -291,7 +291,7 @@ impl Sending {
         &mut self,
         begins: Option<Beginning>,
         origin: &CaptureOrigin,
-        listing: &mut Listing<'_, '_>,
+        listing: &mut Listing<'_>,
     ) -> Result<(), Memory>
         ensures same { self.new ≡ record self.old { frames = self.new.frames } }
         ensures service { OnOk result (service_of self.old.frames ≡ self.old.service → service_of self.new.frames ≡ self.old.service) }
@@ -309,7 +309,7 @@ impl Sending {
     }
 
     /// Ends the direction, and lists what is known then.
-    pub(crate) fn finish(&mut self, due: Due, listing: &mut Listing<'_, '_>) -> Result<(), Memory>
+    pub(crate) fn finish(&mut self, due: Due, listing: &mut Listing<'_>) -> Result<(), Memory>
         ensures flow { self.new.flow ≡ self.old.flow }
         ensures found { OnOk result ((limit : ℕ) (sent : Sent) → Represents self.old limit sent → listing.new ≡ with_all (origin_of due transports.Tcp self.old.flow.source self.old.flow.target) (last_found limit sent) listing.old) }
     {

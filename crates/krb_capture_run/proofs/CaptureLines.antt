@@ -8,12 +8,12 @@ use Rattle.krb_packet.specs.Captures.{packets}
 use Rattle.krb_packet.specs.Streaming.{ReturnsNext, PacketsModel, Reads}
 use Rattle.krb_packet.specs.declared.packet.Packet.{Packet}
 use Rattle.krb_record.specs.Labels.{Label}
-use Rattle.krb_capture.specs.Captures.{Finding, HasFollowed, Progress, Settings, at_first, counted_each, lines_of, packet_taken}
+use Rattle.krb_capture.specs.Captures.{Finding, HasFollowed, Progress, Settings, at_first, counted_each, has_no_packet, lines_of, packet_taken}
 use Rattle.krb_capture.specs.Found.{found_line}
 use Rattle.krb_capture.specs.Rests.{HasFollowedBut, Lists}
 use Rattle.krb_capture.specs.declared.capture.Capture.{Capture}
 use Rattle.krb_capture.specs.declared.directions.Rest.{Rest}
-use Rattle.krb_capture_run.specs.Captures.{capture_listing, listing_from}
+use Rattle.krb_capture_run.specs.Captures.{capture_listing, listing_from, refused_end}
 use Rattle.krb_run.specs.Records.{RecordListing, after_line}
 use Rattle.krb_run.specs.declared.run.RunEnd.{RunEnd}
 use Rattle.krb_run.specs.declared.run.RunEnd.TheVariants as run

@@ -21,7 +21,7 @@ const LENGTH_OCTETS: u64 = 4;
 
 /// What a listing is asked for: the label of its records, the profile of the messages, the greatest
 /// length of a frame, and whether it goes on after refusals.
-#[derive(Drop)]
+#[derive(Clone, Copy, Drop)]
 pub(crate) struct Request<'a> {
     pub label: &'a Label,
     pub profile: Profile,
@@ -143,11 +143,23 @@ impl<'a> ListStream for Lister<'a> {
     ghost listing = { λ lister. listing_of (lister_kind stream_lines) (record { decoder = lister.decoder; lines = lister.lines }) };
 
     fn new(alloc: Global, request: Request<'a>) -> Lister<'a> {
-        let decoder = start_stream(alloc, request.limit, request.profile);
+        let Request {
+            label,
+            profile,
+            limit,
+            keep_going,
+        } = request;
+        let decoder = start_stream(alloc, limit, profile);
         let text = TextBuffer::new(alloc);
+        let asked = Request {
+            label,
+            profile,
+            limit,
+            keep_going,
+        };
         let lines = StreamLines {
             alloc,
-            request,
+            request: asked,
             text,
             messages: 0,
             refused: 0,
