@@ -27,8 +27,8 @@ abbrev pub lent : Capture → List ℕ → ℕ → Written
 lent capture text name = record { label = capture.listing.label.now; text = text; counts = capture.listing.counts; text_name = name }
 
 -- what was written is the tally of a capture again, and the text of the caller
-pub record IsBack (capture : Capture) (written : Written) (text : List ℕ) : Type 0 where
-  pub label : capture.listing.label.now ≡ written.label
+pub record IsBack (old capture : Capture) (written : Written) (text : List ℕ) : Type 0 where
+  pub label : capture.listing.label.now ≡ old.listing.label.now
   pub counts : capture.listing.counts ≡ written.counts
   pub is : text ≡ written.text
 
@@ -42,9 +42,9 @@ pub record Steps (old new : Capture) (found : List Finding) (before after : List
   pub counts : new.listing.counts ≡ counted_each found old.listing.counts
   pub text : after ≡ before ++ lines_of old.listing.label.now found
 
-pub steps : (old new : Capture) (found : List Finding) (before after : List ℕ) (name : ℕ) (written : Written) → written ≡ with_each found (lent old before name) → IsBack new written after → Steps old new found before after
+pub steps : (old new : Capture) (found : List Finding) (before after : List ℕ) (name : ℕ) (written : Written) → written ≡ with_each found (lent old before name) → IsBack old new written after → Steps old new found before after
 steps old new found before after name written e b = record {
-  label = b.label ∙ ap (λ w. w.label) e ∙ label-each found (lent old before name);
+  label = b.label;
   counts = b.counts ∙ ap (λ w. w.counts) e ∙ counts-each found (lent old before name);
   text = b.is ∙ ap (λ w. w.text) e ∙ text-each found (lent old before name);
 }
@@ -65,7 +65,7 @@ counted-append [] ys counts = refl
 counted-append (x ∷ xs) ys counts = counted-append xs ys (counted x.1 counts)
 
 -- findings are listed, and others are left
-pub lists-found : (old new : Capture) (settings : Settings) (progress : Progress) (rest : Option (Box Rest Global)) (found : List Finding) (before after : List ℕ) (name : ℕ) (written : Written) → Follows new.directions settings.limit progress.table progress.last rest found (lent old before name) written → IsBack new written after → old.listing.label.now ≡ settings.label → counted_each found old.listing.counts ≡ progress.counts → new.profile ≡ settings.profile → new.port ≡ settings.port → new.fragments ≡ progress.fragments → new.last ≡ progress.last → Lists new settings (record { found = found; progress = progress }) rest before after
+pub lists-found : (old new : Capture) (settings : Settings) (progress : Progress) (rest : Option (Box Rest Global)) (found : List Finding) (before after : List ℕ) (name : ℕ) (written : Written) → Follows new.directions settings.limit progress.table progress.last rest found (lent old before name) written → IsBack old new written after → old.listing.label.now ≡ settings.label → counted_each found old.listing.counts ≡ progress.counts → new.profile ≡ settings.profile → new.port ≡ settings.port → new.fragments ≡ progress.fragments → new.last ≡ progress.last → Lists new settings (record { found = found; progress = progress }) rest before after
 lists-found old new settings progress rest found before after name written f b o c q p g l =
     let s = steps old new f.listed before after name written f.written b in
     record {
@@ -90,7 +90,7 @@ lists-found old new settings progress rest found before after name written f b o
     }
 
 -- with a datagram
-pub datagram-lists : (old new : Capture) (settings : Settings) (progress : Progress) (service : Service) (datagram : Datagram) (origin : CaptureOrigin) (before after : List ℕ) (name : ℕ) (written : Written) → HasFollowed old settings progress → service_of old.profile old.port datagram.source datagram.target ≡ Some service → origin ≡ origin_of old.last transports.Udp datagram.source datagram.target → written ≡ with_all origin (all_found service datagram) (lent old before name) → IsBack new written after → new.profile ≡ old.profile → new.port ≡ old.port → new.fragments ≡ old.fragments → new.directions ≡ old.directions → new.last ≡ old.last → Lists new settings (and_counted (datagram_taken (service_of settings.profile settings.port datagram.source datagram.target) datagram progress)) None before after
+pub datagram-lists : (old new : Capture) (settings : Settings) (progress : Progress) (service : Service) (datagram : Datagram) (origin : CaptureOrigin) (before after : List ℕ) (name : ℕ) (written : Written) → HasFollowed old settings progress → service_of old.profile old.port datagram.source datagram.target ≡ Some service → origin ≡ origin_of old.last transports.Udp datagram.source datagram.target → written ≡ with_all origin (all_found service datagram) (lent old before name) → IsBack old new written after → new.profile ≡ old.profile → new.port ≡ old.port → new.fragments ≡ old.fragments → new.directions ≡ old.directions → new.last ≡ old.last → Lists new settings (and_counted (datagram_taken (service_of settings.profile settings.port datagram.source datagram.target) datagram progress)) None before after
 datagram-lists old new settings progress service datagram origin before after name written h s o e b q p g d l =
     let found = over_udp progress.last datagram (all_found service datagram) in
     let follows : Follows new.directions settings.limit progress.table progress.last None found (lent old before name) written = record {
@@ -118,7 +118,7 @@ passed-over settings contents progress (inl e) = ap (λ x. whole_taken settings 
 passed-over settings contents progress (inr e) = ap (λ x. whole_taken settings x progress) e
 
 -- what is found with a segment
-pub segment-lists : (old new : Capture) (settings : Settings) (progress : Progress) (service : Service) (segment : Segment) (rest : Option (Box Rest Global)) (before after : List ℕ) (name : ℕ) (written : Written) → HasFollowed old settings progress → service_of old.profile old.port segment.source segment.target ≡ Some service → Follows new.directions settings.limit (followed settings.limit old.last.packet service segment progress.table).table old.last rest (over_tcp old.last (followed settings.limit old.last.packet service segment progress.table).found) (lent old before name) written → IsBack new written after → new.profile ≡ old.profile → new.port ≡ old.port → new.fragments ≡ old.fragments → new.last ≡ old.last → Lists new settings (and_counted (segment_taken settings.limit (service_of settings.profile settings.port segment.source segment.target) segment progress)) rest before after
+pub segment-lists : (old new : Capture) (settings : Settings) (progress : Progress) (service : Service) (segment : Segment) (rest : Option (Box Rest Global)) (before after : List ℕ) (name : ℕ) (written : Written) → HasFollowed old settings progress → service_of old.profile old.port segment.source segment.target ≡ Some service → Follows new.directions settings.limit (followed settings.limit old.last.packet service segment progress.table).table old.last rest (over_tcp old.last (followed settings.limit old.last.packet service segment progress.table).found) (lent old before name) written → IsBack old new written after → new.profile ≡ old.profile → new.port ≡ old.port → new.fragments ≡ old.fragments → new.last ≡ old.last → Lists new settings (and_counted (segment_taken settings.limit (service_of settings.profile settings.port segment.source segment.target) segment progress)) rest before after
 segment-lists old new settings progress service segment rest before after name written h s f b q p g l =
     let found = over_tcp progress.last (followed settings.limit progress.last.packet service segment progress.table).found in
     let follows = subst (λ x. Follows new.directions settings.limit (followed settings.limit x.packet service segment progress.table).table x rest (over_tcp x (followed settings.limit x.packet service segment progress.table).found) (lent old before name) written) h.last f in
@@ -126,7 +126,7 @@ segment-lists old new settings progress service segment rest before after name w
     (lists-found old new settings (record progress { table = (followed settings.limit progress.last.packet service segment progress.table).table; counts = counted_each found progress.counts }) rest found before after name written follows b h.label (ap (λ x. counted_each found x) h.counts) (q ∙ h.profile) (p ∙ h.port) (g ∙ h.fragments) (l ∙ h.last))
 
 -- others of those that are left were listed
-pub lists-rest : (old new : Capture) (settings : Settings) (progress : Progress) (rest : Box Rest Global) (next : Option (Box Rest Global)) (left : List Finding) (before after : List ℕ) (name : ℕ) (written : Written) → HasFollowedBut old settings progress (Some rest) left → Follows new.directions settings.limit progress.table old.last next left (lent old before name) written → IsBack new written after → new.profile ≡ old.profile → new.port ≡ old.port → new.fragments ≡ old.fragments → new.last ≡ old.last → Lists new settings (record { found = left; progress = progress }) next before after
+pub lists-rest : (old new : Capture) (settings : Settings) (progress : Progress) (rest : Box Rest Global) (next : Option (Box Rest Global)) (left : List Finding) (before after : List ℕ) (name : ℕ) (written : Written) → HasFollowedBut old settings progress (Some rest) left → Follows new.directions settings.limit progress.table old.last next left (lent old before name) written → IsBack old new written after → new.profile ≡ old.profile → new.port ≡ old.port → new.fragments ≡ old.fragments → new.last ≡ old.last → Lists new settings (record { found = left; progress = progress }) next before after
 lists-rest old new settings progress rest next left before after name written h f b q p g l =
     lists-found old new settings progress next left before after name written (subst (λ x. Follows new.directions settings.limit progress.table x next left (lent old before name) written) h.last f) b h.label h.counts (q ∙ h.profile) (p ∙ h.port) (g ∙ h.fragments) (l ∙ h.last)
 
@@ -136,7 +136,7 @@ unread-listed None label progress text = sym (append-nil text)
 unread-listed (Some service) label progress text = sym (append-nil text)
 
 -- ---- the end of the file
-pub directions-ended : (old new : Capture) (settings : Settings) (progress : Progress) (before after : List ℕ) (name : ℕ) (written : Written) → HasFollowed old settings progress → written ≡ with_each (over_tcp old.last (last_of settings.limit progress.table.active)) (lent old before name) → IsBack new written after → new.fragments ≡ old.fragments → HasEnded new settings (end_taken settings progress) before after
+pub directions-ended : (old new : Capture) (settings : Settings) (progress : Progress) (before after : List ℕ) (name : ℕ) (written : Written) → HasFollowed old settings progress → written ≡ with_each (over_tcp old.last (last_of settings.limit progress.table.active)) (lent old before name) → IsBack old new written after → new.fragments ≡ old.fragments → HasEnded new settings (end_taken settings progress) before after
 directions-ended old new settings progress before after name written h e b g =
     let last = last_of settings.limit progress.table.active in
     let found = over_tcp progress.last last in

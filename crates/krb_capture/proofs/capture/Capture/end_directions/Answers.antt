@@ -10,5 +10,5 @@ returns c = on_ok-map c.finish-ended.result
     (λ k settings progress h.
     let e = k settings.limit progress.table h.table in
     let same = same-text (over_tcp c.args.self.now.last (last_of settings.limit progress.table.active)) _ _ e in
-    directions-ended c.args.self.now _ settings progress c.args.text.now _ _ c.finish-ended.new.listing h e (record { label = c.into_parts-text.ensures.label; counts = c.into_parts-text.ensures.counts; is = search rules }) refl)
+    directions-ended c.args.self.now _ settings progress c.args.text.now _ _ c.finish-ended.new.listing h e (record { label = refl; counts = c.into_parts-text.ensures.counts; is = search rules }) refl)
     c.finish-ended.ensures
