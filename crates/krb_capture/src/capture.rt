@@ -122,8 +122,8 @@ impl<'a> Capture<'a> {
         let tally = self.listing;
         let mut listing = Listing { tally, text };
         let gone = self.directions.go_on_with(rest, self.last, &mut listing);
-        let (tally, _text) = listing.into_parts();
-        self.listing.counts = tally.counts;
+        let (counts, _text) = listing.into_parts();
+        self.listing.counts = counts;
         self.has_failed = gone.is_err();
         gone
     }
@@ -226,8 +226,8 @@ impl<'a> Capture<'a> {
         let tally = self.listing;
         let mut listing = Listing { tally, text };
         let listed = list_with_surplus(service, datagram, &origin, &mut listing);
-        let (tally, _text) = listing.into_parts();
-        self.listing.counts = tally.counts;
+        let (counts, _text) = listing.into_parts();
+        self.listing.counts = counts;
         listed
     }
 
@@ -252,8 +252,8 @@ impl<'a> Capture<'a> {
         let left = self
             .directions
             .take(segment, service, self.last, &mut listing);
-        let (tally, _text) = listing.into_parts();
-        self.listing.counts = tally.counts;
+        let (counts, _text) = listing.into_parts();
+        self.listing.counts = counts;
         left
     }
 
@@ -295,8 +295,8 @@ impl<'a> Capture<'a> {
         let tally = self.listing;
         let mut listing = Listing { tally, text };
         let ended = self.directions.finish(self.last, &mut listing);
-        let (tally, _text) = listing.into_parts();
-        self.listing.counts = tally.counts;
+        let (counts, _text) = listing.into_parts();
+        self.listing.counts = counts;
         ended
     }
 

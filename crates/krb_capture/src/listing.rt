@@ -72,14 +72,13 @@ impl Tally<'_> {
 }
 
 impl<'text> Listing<'text> {
-    /// Gives the tally and the text back.
-    pub(crate) fn into_parts(self) -> (Tally<'text>, &'text mut TextBuffer)
-        ensures label { result.0.label.now ≡ self.entry.label }
-        ensures counts { result.0.counts ≡ self.entry.counts }
+    /// Gives the counts and the text back.
+    pub(crate) fn into_parts(self) -> (CaptureCounts, &'text mut TextBuffer)
+        ensures counts { result.0 ≡ self.entry.counts }
         ensures text { result.1.now ≡ self.entry.text }
         ensures same_text { result.1.ghost_name ≡ self.entry.text_name }
     {
-        (self.tally, self.text)
+        (self.tally.counts, self.text)
     }
 
     /// Returns what allocates for the listing.
