@@ -87,9 +87,9 @@ pub record DoesOpened (around : Around) (label : Label) (now : Option ℕ) (comm
   pub first : List ℕ
   pub had : Option (List ℕ)
   pub begins : BeginsWith first (around.octets s)
-  pub then : Then
-  pub enough : IsEnough then (octets_awaited command) (length first)
-  pub whole : then ≡ End → had ≡ Some first
+  pub follows : Then
+  pub enough : IsEnough follows (octets_awaited command) (length first)
+  pub whole : follows ≡ End → had ≡ Some first
   pub same : Keeps (around.octets s) had
   pub lists : ListsBy around label now command s (chosen command first) first had written_before written_after outcome
 
