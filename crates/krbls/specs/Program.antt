@@ -6,6 +6,8 @@ use Rattle.krb_input.specs.Hints.{hint_text}
 use Rattle.krb_input.specs.declared.hint.Hint.{Hint}
 use Rattle.krb_input.specs.declared.source_kind.SourceKind.{SourceKind}
 use Rattle.krb_record.specs.Labels.{Label}
+use Rattle.krb_record.specs.declared.form.Form.{Form}
+use Rattle.krb_record.specs.declared.form.Form.TheVariants as forms
 use Rattle.krb_run.specs.Faults.{IsWrite}
 use Rattle.krb_run.specs.Begun.{IsEnough}
 use Rattle.krb_run.specs.Sources.{ListsEach, ListsOne, Named, Outcome, Reports, Run, RunOver, names_of, unnamed}
@@ -130,9 +132,13 @@ IsFaultReported around command s (fault.Read error) = around.IsFaultTold s (faul
 IsFaultReported around command s (fault.Write error) = around.IsFaultTold s (fault.Write error)
 IsFaultReported around command s fault.Memory = around.IsFaultTold s fault.Memory
 
+-- the form of records; what sources become has no records, and its lines have one form
+abbrev pub form_for : CommandLine → Form
+form_for command_line = if is_conversion command_line.command then forms.Lines else command_line.form
+
 abbrev pub ListsSources : Around → CommandLine → Option ℕ → List Source → RunOver
 ListsSources around command_line now sources =
-    ListsEach (λ s. Reports (IsFaultReported around command_line.command s) (ListsOne command_line.form (names_for command_line (length sources)) (name_of s) (λ label. DoesFrom around label now command_line.command s))) sources
+    ListsEach (λ s. Reports (IsFaultReported around command_line.command s) (ListsOne (form_for command_line) (names_for command_line (length sources)) (name_of s) (λ label. DoesFrom around label now command_line.command s))) sources
 
 -- The command of a command line is done with each of its sources, each cache of a directory among them, and the fault by which a run ends is told.
 pub record DoesEach (around : Around) (command_line : CommandLine) (written_before written_after : Option (List ℕ)) (status : ℕ) : Type 0 where
