@@ -348,15 +348,7 @@ impl<'a> Capture<'a> {
     {
         self.end_directions(text)?;
         let totals = self.totals();
-        labelled::put_file_refusal(
-            text,
-            self.listing.label,
-            &totals,
-            place,
-            why,
-            path,
-            extent,
-        )?;
+        labelled::put_file_refusal(text, self.listing.label, &totals, place, why, path, extent)?;
         Ok(())
     }
 }

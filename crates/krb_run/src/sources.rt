@@ -31,12 +31,7 @@ pub trait ListSource<S> {
     ghost IsReported: { Self → S → RunFault → Type 0 };
 
     /// Opens a source and lists it, each record with a label.
-    fn list<W: Write>(
-        &self,
-        source: &S,
-        label: &Label,
-        writer: &mut W,
-    ) -> Result<RunEnd, RunFault>
+    fn list<W: Write>(&self, source: &S, label: &Label, writer: &mut W) -> Result<RunEnd, RunFault>
         ensures { Lists self.now source.now label.now (W.contents writer.old) (W.contents writer.new) result };
 
     /// Reports a fault by which the listing of a source ended.
@@ -88,12 +83,7 @@ fn names_of(naming: Naming, form: Form, sources: usize) -> Named
 }
 
 /// Returns the label of a source, if its records have one.
-fn label_of(
-    alloc: Global,
-    form: Form,
-    has_label: bool,
-    name: &[u8],
-) -> Result<Label, AllocError>
+fn label_of(alloc: Global, form: Form, has_label: bool, name: &[u8]) -> Result<Label, AllocError>
     ensures { IfOk result (λ label. label ≡ label_of form has_label name.now) }
 {
     if has_label {

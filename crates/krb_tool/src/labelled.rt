@@ -50,11 +50,7 @@ pub(crate) fn put_refusal(
 }
 
 /// Appends the record of the end of a stream after so many messages.
-pub(crate) fn put_end(
-    text: &mut TextBuffer,
-    label: &Label,
-    messages: u64,
-) -> Result<(), AllocError>
+pub(crate) fn put_end(text: &mut TextBuffer, label: &Label, messages: u64) -> Result<(), AllocError>
     ensures { OnOk result (text.new ≡ text.old ++ line_of label.now (stream_end_record messages)) }
 {
     label.begin(text)?;
