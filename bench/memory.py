@@ -1,5 +1,5 @@
 """Says how much memory bin/krbls has on what costs it most: captures of 65536 directions of connections that each
-have the first octets of a frame, a stream of one frame of 16 MiB, of the smallest items, strings without octets, a
+have the first octets of a frame, of requests and SYNs that nothing answers, a stream of one frame of 16 MiB, of the smallest items, strings without octets, a
 capture of one packet of 16 MiB of frames without octets, and captures of packets in packets. And of 1 GiB of connections that end."""
 
 import itertools
@@ -19,6 +19,15 @@ STRING = b"\x1b\0"
 MESSAGES, ALL = 20, 1024 * MIB
 # Where an Ethernet packet has the total length of IPv4.
 TOTAL_LENGTH = 16
+
+
+# The smallest AS-REQ up to its nonce, and what follows that.
+BEFORE_NONCE = bytes.fromhex("6a40 303e a103020105 a20302010a a432 3030 a007030500 00000000 a2031b0141 a511 180f") + b"20261130070000Z" + bytes.fromhex("a706 0204")
+AFTER_NONCE = bytes.fromhex("a805 3003 020112")
+
+
+def request(nonce):
+    return BEFORE_NONCE + struct.pack(">I", 1 << 30 | nonce) + AFTER_NONCE
 
 
 def opened(tag, size):
@@ -69,6 +78,14 @@ def ended_connections():
         yield from connections(number, frame)
 
 
+def sendings():
+    """The packets of requests that are open, of as many flows as are kept, and of as many SYNs."""
+    for number in range(2 * DIRECTIONS):
+        yield segment(*ends(number), 999, SYN, b"")
+        octets = request(number)
+        yield segment(*ends(number), 1000, ACK, struct.pack(">I", len(octets)) + octets)
+
+
 def within(parts, size):
     """Parts, until they have so many octets or some more."""
     for part in parts:
@@ -101,6 +118,8 @@ def main():
     print_memory("a frame of strings without octets", STREAM, whole_frame())
     for form in ([], ["--json"]):
         print_memory(" ".join(["a packet of frames without octets", *form]), [*CAPTURE, *form], capture(empty_frames()))
+    for form in ([], ["--names"]):
+        print_memory(" ".join(["requests and SYNs that are open", *form]), [*CAPTURE, *form], capture(sendings()))
     for name, packets in envelopes.PACKETS.items():
         print_memory(name, CAPTURE, within(capture(packets(FRAME), envelopes.RAW), FRAME))
     print_memory("connections that end", CAPTURE, within(capture(ended_connections()), ALL))

@@ -5,15 +5,18 @@ import random
 import struct
 
 import envelopes
-from capture import ACK, CAPTURE, PORTS, RST, SYN, TCP, UDP, ends, internet, segment
+from capture import ACK, CAPTURE, FIN, PORTS, RST, SYN, TCP, UDP, ends, internet, segment
 from envelopes import FRAMING, RAW, again, datagram, udp
-from memory import capture, names
+from memory import capture, names, request
 from worst_streams import SMALL, repeated
 
 IPV6_OPTIONS = 60
 PASSWORDS = 464
 SECONDS = 1795000000
 PIECE = 1460
+
+# What a direction sends in which no frame is looked for: the first length has its high bit.
+NO_FRAMES = b"\xff" * 64000
 
 # How many octets a packet of a segment of one octet is in a capture.
 LEAST = 57
@@ -65,12 +68,16 @@ def backwards(size):
         yield tcp(place, b"\0")
 
 
-def sent_again(size):
-    """Many runs of octets in front of each other, and then large segments over all of them."""
-    yield begin()
-    for place in range(15000, 0, -1):
-        yield tcp(65 * place, bytes(65))
-    yield from itertools.repeat(tcp(65, bytes(64000)))
+def sent_again(octet):
+    """Many runs of octets in front of each other, and then large segments over all of them, of one octet again and again."""
+
+    def packets(size):
+        yield begin()
+        for place in range(15000, 0, -1):
+            yield tcp(65 * place, bytes(65))
+        yield from itertools.repeat(tcp(65, octet * 64000))
+
+    return packets
 
 
 def last_again(size):
@@ -80,6 +87,18 @@ def last_again(size):
     for place in places:
         yield tcp(place, b"\0")
     yield from itertools.repeat(tcp(places[-1], b"\0"))
+
+
+def taken_before(place, octets, times=1):
+    """What a direction takes, some times, and then a segment again and again, at a place."""
+
+    def packets(size):
+        yield begin()
+        for time in range(times):
+            yield tcp(len(NO_FRAMES) * time, NO_FRAMES)
+        yield from itertools.repeat(tcp(place, octets))
+
+    return packets
 
 
 def in_order(octets):
@@ -155,6 +174,20 @@ def copies(before, pieces):
     return packets
 
 
+def requests(kept):
+    """Requests of one flow, of which none is answered; a number of them are again and again the same."""
+    return lambda size: (udp(request(number % kept)) for number in itertools.count())
+
+
+def open_directions(size):
+    """Directions of connections with many requests that are open, as each begins anew."""
+    for number in itertools.count():
+        yield begin(place=number << 20)
+        for place in range(1000):
+            octets = request(place)
+            yield tcp((number << 20) + 70 * place, struct.pack(">I", len(octets)) + octets)
+
+
 FRAME = names(60000)
 FRAME += repeated(b"\x1b\0", 2900 - len(FRAME))
 
@@ -164,8 +197,14 @@ PACKETS = {
     "octets that wait, downwards": waiting(lambda places: places[::-1]),
     "octets that wait, anywhere": waiting(shuffled),
     "octets that come backwards": backwards,
-    "runs that are sent again": sent_again,
+    "runs that are sent again": sent_again(b"\0"),
+    "runs that come again with other octets": sent_again(b"\1"),
     "an octet that is sent again": last_again,
+    "an octet that comes again as another one": taken_before(63999, b"\1"),
+    "octets that come again as other ones": taken_before(0, bytes(64000)),
+    "an octet that is no longer kept": taken_before(0, b"\xff", times=3),
+    "an octet before the first": taken_before(-100, b"\0"),
+    "an octet too far ahead": taken_before(1 << 22, b"\0"),
     "octets in order": in_order(1),
     "frames without octets": in_order(PIECE),
     "frames without octets over IPv6": over_ipv6,
@@ -173,6 +212,8 @@ PACKETS = {
     "directions that begin anywhere": random_directions,
     "directions that are joined": directions((0, ACK, b"\0")),
     "directions that begin and end": directions((-1, SYN, b""), (0, RST, b"")),
+    "directions that end, with a copy": directions((-1, SYN, b""), (0, FIN, b"\xff"), (0, ACK, b"\1")),
+    "directions that end with a window, with copies": directions((-1, SYN, b""), (0, FIN, NO_FRAMES[:4096]), *10 * [(9, ACK, b"\0")]),
     "directions with a piece of a frame": directions((-1, SYN, b""), (0, ACK, FRAME[:1200])),
     "directions with two pieces of a frame": directions((-1, SYN, b""), (0, ACK, FRAME[:1450]), (1450, ACK, FRAME[1450:])),
     "directions with octets that wait": directions((-1, SYN, b""), *((place, ACK, b"\0") for place in range(2, 42, 2))),
@@ -186,6 +227,10 @@ PACKETS = {
     "datagrams without octets": again(udp(b"")),
     "datagrams with AP-REPs": again(udp(SMALL["AP-REPs"])),
     "datagrams of changes of passwords": again(udp(struct.pack(">HHH", 6, 1, 0), PASSWORDS)),
+    "requests, each another one": requests(1 << 24),
+    "requests that are sent again": requests(3),
+    "requests that a new direction leaves": open_directions,
+    "SYNs with other numbers": lambda size: (begin(place=7 * number) for number in itertools.count()),
     "packets without octets": again(b""),
     "packets with many headers": again(
         ipv6(IPV6_OPTIONS, 8000 * (bytes([IPV6_OPTIONS]) + bytes(7)) + bytes([UDP]) + bytes(7) + datagram(b""))

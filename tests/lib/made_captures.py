@@ -291,6 +291,53 @@ class ConnectionMaker:
         ]
         return before + self.dice.choice(others) + after or [one]
 
+    def exchange(self):
+        """Requests and replies of a few flows, in any order, some of them again, and errors about them."""
+        port = self.dice.choice([88, 88, 88, 464])
+        flows = [self.packets.ends(port) for _ in range(self.dice.choice([1, 2, 3]))]
+        requests, replies = ([self.one_of(kinds, port) for _ in range(3)] for kinds in (b"\x6a\x6c", b"\x6b\x6d\x7e"))
+        sent = []
+        for _ in range(self.dice.choice([3, 8, 20])):
+            ends = self.dice.choice(flows)
+            way, octets = self.dice.choice([(ends, requests), (ends, requests), (ends.turned(), replies), (ends.turned(), requests)])
+            sent += self.packets.datagram(way, self.dice.choice(octets))
+            if self.maybe(0.2):
+                sent += self.failure(self.dice.choice(sent))
+        return sent
+
+    def one_of(self, kinds, port):
+        """A message of some kinds, by its first octet, or one that changes a password."""
+        if port == 464:
+            return self.change_password()
+        octets = self.dice.choice([stream[4:] for stream in self.real if stream[4] in kinds])
+        return octets[:-1] if self.maybe(0.1) else octets
+
+    def handshakes(self):
+        """Segments that ask for connections, answer, reset or say nothing, of a few flows, and errors about them."""
+        flows = [self.packets.ends(88) for _ in range(self.dice.choice([1, 2]))]
+        request = self.one_of(b"\x6a\x6c", 88)
+        pieces = [Piece(0, SYN, b""), Piece(0, SYN, b""), Piece(0, SYN | ACK, b""), Piece(0, RST | ACK, b""), Piece(0, RST, b"")]
+        pieces += [Piece(1, ACK, b""), Piece(1, ACK, number(len(request), 4) + request)]
+        sent = []
+        for _ in range(self.dice.choice([3, 8, 20])):
+            ends = self.dice.choice(flows)
+            way = self.dice.choice([ends, ends, ends.turned()])
+            sent += self.packets.segment(way, self.dice.choice([7, 7, 9]), self.dice.choice(pieces))
+            if self.maybe(0.2):
+                sent += self.failure(self.dice.choice(sent))
+        return sent
+
+    def failure(self, packet):
+        """The packets of an error of ICMP that quotes a packet, or of something like it."""
+        is_ipv6 = len(packet) > 0 and packet[0] >> 4 == 6
+        ends = self.packets.ends(0)
+        while (len(ends.source) == 16) != is_ipv6:
+            ends = self.packets.ends(0)
+        protocol, kinds = (58, [1, 2, 3, 4, 128]) if is_ipv6 else (1, [3, 3, 11, 12, 5, 8])
+        header = number(self.dice.choice(kinds), 1) + number(self.dice.randrange(16), 1) + bytes(6)
+        quote = packet[: self.dice.choice([20, 24, 28, 44, 48, 100])]
+        return self.packets.ip(ends, protocol, header + quote)
+
     def noise(self):
         """What is not of Kerberos."""
         ends = self.packets.ends(self.dice.choice([53, 80, 4789, 4500]))
@@ -305,7 +352,7 @@ class ConnectionMaker:
 
     def sent(self):
         """The packets of some exchanges, mixed."""
-        makers = [self.datagrams, self.connection, self.connection, self.noise]
+        makers = [self.datagrams, self.connection, self.connection, self.exchange, self.handshakes, self.noise]
         sent = merged(self.dice, [self.dice.choice(makers)() for _ in range(self.dice.choice([1, 1, 2, 4]))])
         return EnvelopeMaker(self.packets).wrapped(sent) if self.maybe(0.3) else sent
 

@@ -4,7 +4,8 @@ A table is one of the kinds that the heading before it names, or has the kind of
 Each of its rows has fields and their values, and a kind may have several tables: the end of a stream and that of
 a keytab have other fields. The table of the heading Origin has the fields that come before those of its kind in a
 record of a capture, and that of the heading What a message is in those of an input of `message`, if they are there.
-The table of what is Last has the members that come after all else in an object of a capture.
+The table of what is Last has the members that come after all else in an object of a capture, and that of what is Told those after
+these, by the kind.
 The kinds of the headings What is inside and What is inside of errors are those of records inside of others, and of these alone.
 """
 
@@ -75,6 +76,7 @@ SHAPES = {
     "file name": is_text,
     "time": spelled("[0-9]{14}Z"),
     "date": or_null(spelled("[0-9]{4}(-[0-9]{2}){2}T[0-9]{2}(:[0-9]{2}){2}Z")),
+    "span": is_number,
     "instant": spelled("[0-9]{4}(-[0-9]{2}){2}T[0-9]{2}(:[0-9]{2}){2}[.][0-9]{9}Z"),
     "flow": members(over=spelled("udp|tcp"), source=is_endpoint, target=is_endpoint),
     "yes or no": is_truth,
@@ -129,17 +131,23 @@ def tables():
         elif header[:2] == ["Last", "Value"] and not line.startswith("|---"):
             names, values = cells(line)[:2]
             yield heading, ["Last"], fields_of(names, values)
+        elif header[:3] == ["Kind", "Told", "Value"] and not line.startswith("|---"):
+            kinds, names, values = cells(line)[:3]
+            yield "Told", QUOTED.findall(kinds), fields_of(names, values)
         elif header[:3] == ["Line", "Field", "Value"] and not line.startswith("|---"):
             kinds, names, values = cells(line)[:3]
             yield heading, QUOTED.findall(kinds), fields_of(names, values)
         previous = line
 
 
-def kinds_of_records(is_inside):
-    """The kinds of records inside of others, or of all else, each with the lists of fields that its records may have."""
+RECORDS_OF, PARTS_OF, TOLD_OF = "records", "parts", "told"
+
+
+def kinds_of_records(which):
+    """The kinds of records, of those inside of others, or of what is told, each with the lists of fields that these may have."""
     found, now = {}, []
     for heading, kinds, fields in tables():
-        if (heading in INSIDE) != is_inside:
+        if (heading in INSIDE) != (which is PARTS_OF) or (heading == "Told") != (which is TOLD_OF):
             continue
         if kinds:
             now = []
@@ -149,8 +157,9 @@ def kinds_of_records(is_inside):
     return found
 
 
-KINDS = kinds_of_records(False)
-PARTS = kinds_of_records(True)
+KINDS = kinds_of_records(RECORDS_OF)
+PARTS = kinds_of_records(PARTS_OF)
+TOLD = kinds_of_records(TOLD_OF)
 [ORIGIN] = KINDS.pop("Origin")
 [LAYERS] = KINDS.pop("What a message is in")
 [LAST] = KINDS.pop("Last")
@@ -179,5 +188,6 @@ def is_as_listed(record):
     """Whether an object of a listing has the members that the tables say."""
     in_capture = "packet" in record
     before = ORIGIN if in_capture else [field for field in LAYERS if field[0] in record]
-    after = [*(LAST if in_capture else []), *([("file", "file name")] if "file" in record else [])]
+    [told] = TOLD.get(record["kind"], [[]])
+    after = [*(LAST + told if in_capture else []), *([("file", "file name")] if "file" in record else [])]
     return has_members_of(KINDS, record, before, after)

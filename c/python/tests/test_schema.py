@@ -21,8 +21,9 @@ sys.path.insert(0, str(PACKAGE / "tools"))
 
 BASE = {"kind": "refused", "place": 3, "why": 12, "why_name": "Range", "in": None, "at": 0, "length": None}
 ENDS = {"source": {"address": "::1", "port": 1}, "target": {"address": "::1", "port": 88}}
-ORIGIN = {"packet": 1, "t": None, "flow": {"over": "udp", **ENDS}, "t_us": None}
+ORIGIN = {"packet": 1, "t": None, "flow": {"over": "udp", **ENDS}, "t_us": None, "of": None, "after": None, "waited": None}
 COUNTS = {"packets": 1, "messages": 0, "refused": 0, "lost": 0, "unread": 0}
+TOLD = {"answered": 0, "unanswered": 0, "again": 0, "unreachable": 0}
 
 
 def made(tool):
@@ -53,7 +54,7 @@ class ToldApart(unittest.TestCase):
         for name, record in {
             "refused": {**BASE, **ORIGIN},
             "refused-stream": {**BASE, "messages": 4},
-            "refused-capture": {**BASE, **COUNTS},
+            "refused-capture": {**BASE, **COUNTS, **TOLD},
             "refused-message": {**BASE, "form": "hex"},
             "refused-input": {**BASE, "input": "hex", "why": None, "why_name": None, "form": None},
         }.items():
@@ -70,7 +71,7 @@ class ToldApart(unittest.TestCase):
     def test_members_of_a_later_version(self):
         import check_schema
 
-        self.assertEqual(check_schema.names_of({**BASE, **ORIGIN, "of": 3, "after": 5}), ["refused"])
+        self.assertEqual(check_schema.names_of({**BASE, **ORIGIN, "of": 3, "later": 5}), ["refused"])
 
 
 if __name__ == "__main__":

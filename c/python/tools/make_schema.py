@@ -65,6 +65,7 @@ SHAPES = {
     "file name": TEXT,
     "time": {"type": "string", "pattern": "^[0-9]{14}Z$"},
     "date": {"type": ["string", "null"], "pattern": f"^{DATE}Z$"},
+    "span": NUMBER,
     "instant": {"type": "string", "pattern": f"^{DATE}[.][0-9]{{9}}Z$"},
     "flow": named("flow"),
     "yes or no": TRUTH,
@@ -163,8 +164,17 @@ def records():
             name, made = name_of(kind, fields), record(kind, fields)
             assert by_name.setdefault(name, made) == made, f"two shapes are named {name}"
         tell_apart(list(by_name.values()))
+        for fields in members.TOLD.get(kind, []):
+            add_told(by_name[kind], fields)
         found.update(by_name)
     return found
+
+
+def add_told(made, fields):
+    """Adds what the origin of a record tells, if that is a packet."""
+    told = {name: or_null(SHAPES[value.removesuffix(members.OPTIONAL)]) for name, value in fields}
+    made["properties"] |= told
+    made["dependentRequired"] = {"packet": list(told), **{name: ["packet"] for name in told}}
 
 
 def add_where(name, made, in_captures):

@@ -1,5 +1,5 @@
 -- Directions of which one has a segment that is not listed to its end.
-use Rattle.std.proofs.Common.{◌≡◌, ℕ, Bool, true, false, List, [], ◌++◌, length, Option, Some, None, Box, Result, Ok, Err, IfOk, refl, sym, ◌∙◌, ap, subst, append_assoc, append-nil}
+use Rattle.std.proofs.Common.{◌≡◌, ℕ, Bool, true, false, List, [], ◌∷◌, ◌++◌, length, Option, Some, None, Box, Result, Ok, Err, IfOk, refl, sym, ◌∙◌, ap, subst, append_assoc, append-nil}
 use Rattle.std.specs.declared.alloc.Global.{Global}
 use Rattle.std.specs.BTreeMap.{insert_entry, is_at}
 use Rattle.std.specs.Prelude.{if◌then◌else◌, is_some}
@@ -12,7 +12,7 @@ use Rattle.krb_record.specs.declared.flow.Transport.TheVariants as transports
 use Rattle.krb_capture.specs.Captures.{Finding, over_tcp, with_each}
 use Rattle.krb_capture.specs.Directions.{Followed, HoldsMaps, IsKnown, Table, active_with, after_found, ended_with, flow_cmp, flow_of, in_flow, kept, nothing_found, passed_over, streams_with}
 use Rattle.krb_capture.specs.Flows.{origin_of}
-use Rattle.krb_capture.specs.Found.{Found, IsFullIf, Written, with_all}
+use Rattle.krb_capture.specs.Found.{Found, IsFullIf, Written, with_all, with_found}
 use Rattle.krb_capture.specs.Rests.{Follows, HoldsSome, RepresentsBut, Sends, TookSome}
 use Rattle.krb_capture.specs.Sending.{Sent, Represents, untaken_found}
 use Rattle.krb_capture.specs.Unlisted.{Unlisted}
@@ -104,6 +104,17 @@ follows-after d limit due rest room begun l0 l1 l2 e f = record {
   left = f.left;
   parts = over_tcp-append due room begun.found ∙ ap (λ z. over_tcp due room ++ z) f.parts ∙ sym (append_assoc (over_tcp due room) f.listed f.left);
   written = f.written ∙ ap (λ l. with_each f.listed l) e ∙ sym (with_each-append (over_tcp due room) f.listed l0);
+  holds = f.holds;
+  full = f.full;
+}
+
+-- after one finding
+pub follows-one : (d : Directions) (limit : ℕ) (due : Due) (table : Table) (rest : Option (Box Rest Global)) (first : Finding) (found : List Finding) (l0 l1 l2 : Written) → l1 ≡ with_found first.0 first.1 l0 → Follows d limit table due rest found l1 l2 → Follows d limit table due rest (first ∷ found) l0 l2
+follows-one d limit due table rest first found l0 l1 l2 e f = record {
+  listed = first ∷ f.listed;
+  left = f.left;
+  parts = ap (λ l. first ∷ l) f.parts;
+  written = f.written ∙ ap (λ l. with_each f.listed l) e;
   holds = f.holds;
   full = f.full;
 }

@@ -20,6 +20,8 @@ mod Sendings
 pub mod Tables
 pub mod Untaken
 mod Taken
+mod Segments
+mod Telling
 mod Whole
 mod Written
 pub mod Maps

@@ -48,7 +48,7 @@ header_parts octets found e =
     (λ announced e. checked_parts (length octets) all version announced found e) e) e) e
 
 -- the parts listed one after another
-pub parts_listed : (profile : Profile) (extent : Extent) (origin : CaptureOrigin) (before : ℕ) (octets parts first second : List ℕ) (header : Header) (n m : ℕ) (w0 w1 w2 w3 : Written) → n ≡ header.ap → m ≡ header.ap → parts ≡ drop 6 octets → first ≡ take n parts → second ≡ drop n parts → w1 ≡ with_found origin (Password header.version header.ap (length second)) w0 → w2 ≡ with_all origin (part_found profile extent (before + 6) first) w1 → w3 ≡ with_all origin (part_found profile extent (before + (6 + m)) second) w2 → w3 ≡ with_all origin (parts_found profile extent before octets (Ok header)) w0
+pub parts_listed : (profile : Profile) (extent : Extent) (origin : CaptureOrigin) (before : ℕ) (octets parts first second : List ℕ) (header : Header) (n m : ℕ) (w0 w1 w2 w3 : Written) → n ≡ header.ap → m ≡ header.ap → parts ≡ drop 6 octets → first ≡ take n parts → second ≡ drop n parts → w1 ≡ with_found origin (Password octets header.version header.ap (length second)) w0 → w2 ≡ with_all origin (part_found profile extent (before + 6) first) w1 → w3 ≡ with_all origin (part_found profile extent (before + (6 + m)) second) w2 → w3 ≡ with_all origin (parts_found profile extent before octets (Ok header)) w0
 parts_listed profile extent origin before octets parts first second header n m w0 w1 w2 w3 en em p f s a b c =
     let rest : second ≡ drop (6 + header.ap) octets = s ∙ ap₂ drop en p ∙ drop-drop header.ap 6 octets in
     let prefix : first ≡ take header.ap (drop 6 octets) = f ∙ ap₂ take en p in
@@ -58,5 +58,5 @@ parts_listed profile extent origin before octets parts first second header n m w
     ∙ ap₂ (λ l w. with_all origin (part_found profile extent (before + (6 + header.ap)) l) w) rest
     (b
     ∙ ap₂ (λ l w. with_all origin (part_found profile extent (before + 6) l) w) prefix
-    (a ∙ ap (λ n. with_found origin (Password header.version header.ap n) w0) size))
-    ∙ sym (with_all-append origin (part_found profile extent (before + 6) (take header.ap (drop 6 octets))) (part_found profile extent (before + (6 + header.ap)) (drop (6 + header.ap) octets)) (with_found origin (Password header.version header.ap (length octets - (6 + header.ap))) w0))
+    (a ∙ ap (λ n. with_found origin (Password octets header.version header.ap n) w0) size))
+    ∙ sym (with_all-append origin (part_found profile extent (before + 6) (take header.ap (drop 6 octets))) (part_found profile extent (before + (6 + header.ap)) (drop (6 + header.ap) octets)) (with_found origin (Password octets header.version header.ap (length octets - (6 + header.ap))) w0))

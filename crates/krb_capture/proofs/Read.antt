@@ -124,8 +124,8 @@ end_read service limit stream (Some end) =
 
 pub beginning_read : (how : Option Beginning) → AreRead (beginning_found how)
 beginning_read None = tt
-beginning_read (Some beginnings.Syn) = tt
-beginning_read (Some beginnings.Joined) = (refl, tt)
+beginning_read (Some beginnings.Syn) = (refl, tt)
+beginning_read (Some beginnings.Joined) = (refl, (refl, tt))
 
 -- and of octets that no message has nothing is left
 none_left : (unread : Option Octets) → but_unread (unread_found unread) ≡ []

@@ -14,7 +14,7 @@ use Rattle.krb_capture.specs.Sending.{Sent, Represents, last_found, sent_from, s
 use Rattle.krb_capture.specs.Recent.{Remembers, still_kept}
 use Rattle.krb_der.specs.Octets.{when}
 use Rattle.krb_source.specs.declared.unread_why.UnreadWhy.TheVariants as why
-use Rattle.krb_flow.specs.Unread.{if_any, nothing, untaken_after, untaken_of}
+use Rattle.krb_flow.specs.Unread.{if_any, nothing}
 use Rattle.krb_flow.specs.Window.{last}
 use Rattle.krb_flow.specs.declared.direction.State.{State}
 use Rattle.krb_flow.specs.declared.direction.State.TheVariants as states

@@ -1,5 +1,5 @@
 -- What is told of the octets of a segment that begins nothing where a direction ended.
-use Rattle.std.proofs.Common.{◌≡◌, ℕ, Bool, true, false, List, [], length, Option, Some, None, refl, ◌∙◌, ap}
+use Rattle.std.proofs.Common.{◌≡◌, ℕ, Bool, true, false, List, [], length, Some, None, refl, ◌∙◌, ap}
 use Rattle.std.specs.Prelude.{not, ◌&&◌, ◌||◌, is_some, nat_lt}
 use Rattle.std.proofs.lemmas.Bool.{true≢false}
 use Rattle.krb_der.specs.Octets.{when}

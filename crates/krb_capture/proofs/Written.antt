@@ -2,10 +2,10 @@
 use Rattle.std.proofs.Common.{◌≡◌, Result, Ok, Err, IfOk, OnOk, List, [], ◌∷◌, ◌++◌, refl, sym, ◌∙◌, ap, append-nil, append_assoc}
 use Rattle.krb_record.specs.declared.capture_origin.CaptureOrigin.{CaptureOrigin}
 use Rattle.krb_record.specs.declared.flow.Transport.TheVariants as transports
-use Rattle.krb_capture.specs.Captures.{Finding, counted_each, lines_of, over_tcp, over_udp, with_each}
+use Rattle.krb_capture.specs.Captures.{Finding, counted_each, happened_each, lines_of, over_tcp, over_udp, with_each}
 use Rattle.krb_capture.specs.Directions.{in_flow}
 use Rattle.krb_capture.specs.Flows.{origin_of}
-use Rattle.krb_capture.specs.Found.{Found, Written, found_line, with_all, with_found}
+use Rattle.krb_capture.specs.Found.{Found, Written, found_happened, found_text, with_all, with_found}
 use Rattle.krb_capture.specs.declared.flow.Due.{Due}
 use Rattle.krb_capture.specs.declared.flow.Flow.{Flow}
 use Rattle.krb_packet.specs.declared.contents.Datagram.{Datagram}
@@ -32,9 +32,13 @@ pub label-each : (xs : List Finding) (w : Written) → (with_each xs w).label �
 label-each [] w = refl
 label-each (x ∷ xs) w = label-each xs (with_found x.0 x.1 w)
 
-pub text-each : (xs : List Finding) (w : Written) → (with_each xs w).text ≡ w.text ++ lines_of w.label xs
+pub text-each : (xs : List Finding) (w : Written) → (with_each xs w).text ≡ w.text ++ lines_of w.label w.happened xs
 text-each [] w = sym (append-nil w.text)
-text-each (x ∷ xs) w = text-each xs (with_found x.0 x.1 w) ∙ append_assoc w.text (found_line w.label x.0 x.1) (lines_of w.label xs)
+text-each (x ∷ xs) w = text-each xs (with_found x.0 x.1 w) ∙ append_assoc w.text (found_text w.label x.0 x.1 w.happened) (lines_of w.label (found_happened x.0 x.1 w.happened) xs)
+
+pub happened-each : (xs : List Finding) (w : Written) → (with_each xs w).happened ≡ happened_each xs w.happened
+happened-each [] w = refl
+happened-each (x ∷ xs) w = happened-each xs (with_found x.0 x.1 w)
 
 pub counts-each : (xs : List Finding) (w : Written) → (with_each xs w).counts ≡ counted_each xs w.counts
 counts-each [] w = refl

@@ -5,6 +5,8 @@ use Rattle.krb_source.specs.declared.endpoint.Endpoint.{Endpoint}
 use Rattle.krb_packet.specs.declared.packet.Packet.{Packet}
 use Rattle.krb_record.specs.declared.capture_origin.CaptureOrigin.{CaptureOrigin}
 use Rattle.krb_record.specs.declared.flow.Transport.{Transport}
+use Rattle.krb_record.specs.declared.told.Told.TheVariants as told
+use Rattle.krb_exchange.specs.declared.sending.Moment.{Moment}
 use Rattle.krb_capture.specs.declared.flow.Due.{Due}
 use Rattle.krb_capture.specs.declared.flow.Flow.{Flow}
 use Rattle.krb_capture.specs.declared.flow.Service.{Service}
@@ -24,5 +26,8 @@ flow_between source target = record { source_port = source.port; target_port = t
 abbrev pub due_with : Packet → Due
 due_with packet = record { packet = packet.number; time = packet.time }
 
+abbrev pub moment_due : Due → Moment
+moment_due due = record { packet = due.packet; time = due.time }
+
 abbrev pub origin_of : Due → Transport → Endpoint → Endpoint → CaptureOrigin
-origin_of due transport from to = record { packet = due.packet; time = due.time; flow = record { transport = transport; source = from; target = to } }
+origin_of due transport from to = record { packet = due.packet; time = due.time; flow = record { transport = transport; source = from; target = to }; told = told.Nothing }

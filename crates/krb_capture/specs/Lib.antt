@@ -1,11 +1,16 @@
+pub mod Counts
 pub mod Flows
+pub mod Happened
+pub mod Boxed
 pub mod Found
+pub mod Ends
 pub mod Messages
 pub mod Passwords
 pub mod Datagrams
 pub mod Streams
 pub mod Taken
 pub mod Listed
+pub mod Told
 pub mod Passed
 pub mod Sending
 pub mod Recent

@@ -4,7 +4,6 @@ use Rattle.krb_der.specs.declared.profile.Profile.{Profile}
 use Rattle.krb_der.specs.declared.verdict.Refusal.{Refusal}
 use Rattle.krb_der.specs.declared.why.Why.TheVariants as why
 use Rattle.krb_msg.specs.Judgement.{judgement}
-use Rattle.krb_msg.specs.Views.{message_of_der}
 use Rattle.krb_judge.specs.Parses.{refused, refusal_of}
 use Rattle.krb_judge.specs.Paths.{message_path}
 use Rattle.krb_record.specs.declared.extent.Extent.{Extent}
@@ -24,7 +23,7 @@ refused_found profile extent before size octets refusal =
     Faulty (record { place = before + refusal.place; why = refusal.why }) (path_of profile size (take (refusal.place + 1) octets)) extent
 
 abbrev pub found_unless : Profile → Option Refusal → Extent → ℕ → List ℕ → Found
-found_unless profile None extent before octets = Whole (message_of_der octets)
+found_unless profile None extent before octets = Whole octets
 found_unless profile (Some refusal) extent before octets = refused_found profile extent before (length octets) octets refusal
 
 -- octets that are all there, after others of a frame or a datagram

@@ -59,7 +59,7 @@ part_found profile extent before (octet ∷ octets) = message_found profile exte
 abbrev pub parts_found : Profile → Extent → ℕ → List ℕ → Result Header Fault → List Found
 parts_found profile extent before octets (Err fault) = Faulty (record { place = before + place_of fault.field; why = fault.why }) (Some (path_of fault.field)) extent ∷ []
 parts_found profile extent before octets (Ok header) =
-    Password header.version header.ap (length octets - (6 + header.ap))
+    Password octets header.version header.ap (length octets - (6 + header.ap))
     ∷ (part_found profile extent (before + 6) (take header.ap (drop 6 octets)) ++ part_found profile extent (before + (6 + header.ap)) (drop (6 + header.ap) octets))
 
 -- octets that are all there, after others of a frame or a datagram

@@ -3,7 +3,8 @@ use Rattle.std.specs.Prelude.{ℕ, ◌≡◌, List, [], ◌++◌, Option, Some, 
 use Rattle.std.specs.declared.alloc.Global.{Global}
 use Rattle.krb_record.specs.declared.capture_origin.CaptureOrigin.{CaptureOrigin}
 use Rattle.krb_flow.specs.Window.{Keeps}
-use Rattle.krb_capture.specs.Captures.{Finding, Progress, Settings, Taken, counted_each, lines_of, over_tcp, with_each}
+use Rattle.krb_capture.specs.Captures.{Finding, Progress, Settings, Taken, counted_each, happened_each, happened_in, lines_of, over_tcp, with_each}
+use Rattle.krb_capture.specs.declared.happened.Happened.{Happened}
 use Rattle.krb_capture.specs.Directions.{HoldsMaps, HoldsTable, IsKnown, Table, in_flow, kept}
 use Rattle.krb_capture.specs.Found.{Found, IsFullIf, Written, with_all}
 use Rattle.krb_capture.specs.Sending.{Sent, end_if}
@@ -100,11 +101,12 @@ pub record HasFollowedBut (capture : Capture) (settings : Settings) (progress : 
   pub last : capture.last ≡ progress.last
   pub counts : counted_each left capture.listing.counts ≡ progress.counts
 
--- Of what is found, the first findings were listed, and the others are left. If anything is left the text has 64 KiB: so if it had none before, at least one finding was listed.
-pub record Lists (capture : Capture) (settings : Settings) (taken : Taken) (rest : Option (Box Rest Global)) (before after : List ℕ) : Type 0 where
+-- Of what is found, the first findings were listed, and what happened with them is told; the others are left. If anything is left the text has 64 KiB: so if it had none before, at least one finding was listed.
+pub record Lists (was : Option Happened) (capture : Capture) (settings : Settings) (taken : Taken) (rest : Option (Box Rest Global)) (before after : List ℕ) : Type 0 where
   pub listed : List Finding
   pub left : List Finding
   pub parts : taken.found ≡ listed ++ left
-  pub text : after ≡ before ++ lines_of settings.label listed
+  pub text : after ≡ before ++ lines_of settings.label was listed
+  pub happened : happened_in capture.happened ≡ happened_each listed was
   pub followed : HasFollowedBut capture settings taken.progress rest left
   pub full : IsFullIf rest after

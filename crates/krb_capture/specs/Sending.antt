@@ -11,7 +11,7 @@ use Rattle.krb_flow.specs.declared.direction.State.TheVariants as states
 use Rattle.krb_flow.specs.declared.stream.End.{End}
 use Rattle.krb_flow.specs.declared.unread.Unread.{Unread as Octets}
 use Rattle.krb_flow.specs.declared.unread.Untaken.{Untaken}
-use Rattle.krb_capture.specs.Found.{Found, Joined, Unread}
+use Rattle.krb_capture.specs.Found.{Found, Begun, Joined, Unread}
 use Rattle.krb_capture.specs.Streams.{end_found, found_with}
 use Rattle.krb_capture.specs.Taken.{Took, service_of}
 use Rattle.krb_capture.specs.declared.flow.Flow.{Flow}
@@ -38,11 +38,11 @@ abbrev pub end_if : Service → ℕ → List ℕ → Option End → List Found
 end_if service limit stream None = []
 end_if service limit stream (Some end) = end_found service limit stream end
 
--- data that no SYN comes before, or that come after the end
+-- with its SYN, or with data that no SYN comes before, or that come after the end
 abbrev pub beginning_found : Option Beginning → List Found
 beginning_found None = []
-beginning_found (Some beginnings.Syn) = []
-beginning_found (Some beginnings.Joined) = Joined ∷ []
+beginning_found (Some beginnings.Syn) = Begun ∷ []
+beginning_found (Some beginnings.Joined) = Begun ∷ Joined ∷ []
 
 -- octets that are not taken, and are no copies
 abbrev pub unread_found : Option Octets → List Found

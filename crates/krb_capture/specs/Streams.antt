@@ -7,7 +7,6 @@ use Rattle.krb_der.specs.declared.verdict.Refusal.{Refusal}
 use Rattle.krb_der.specs.declared.why.Why.{Why}
 use Rattle.krb_der.specs.declared.why.Why.TheVariants as why
 use Rattle.krb_msg.specs.Grammar.{messages}
-use Rattle.krb_msg.specs.Views.{message_of_der}
 use Rattle.krb_frame.specs.Decoding.{announced}
 use Rattle.krb_frame.specs.Frame.{length_fault}
 use Rattle.krb_frame.specs.GoingOn.{Entry, Contents, Fault, entries, entry_size}
@@ -60,7 +59,7 @@ is_unknown (Fault place reason prefix) = nat_lt place (length prefix) && nat_le 
 
 -- what is found in a frame that begins at an offset
 abbrev pub entry_found : Profile → ℕ → Entry → Found
-entry_found profile offset (Contents contents) = Whole (message_of_der contents)
+entry_found profile offset (Contents contents) = Whole contents
 entry_found profile offset (Fault place reason prefix) = Faulty (record { place = place; why = reason }) (frame_path profile prefix) (extent_at offset prefix)
 
 -- in frames, the first of which does

@@ -1,11 +1,12 @@
 //! Flows, and what they carry.
 
 ghost use Rattle.std.specs.Prelude.{◌≡◌};
-ghost use Rattle.krb_capture.specs.Flows.{due_with, flow_between, origin_of, service_of};
+ghost use Rattle.krb_capture.specs.Flows.{due_with, flow_between, moment_due, origin_of, service_of};
 
 use krb_der::Profile;
+use krb_exchange::Moment;
 use krb_packet::Packet;
-use krb_record::{CaptureOrigin, Transport};
+use krb_record::{CaptureOrigin, Told, Transport};
 use krb_source::{Endpoint, Timestamp};
 
 /// The port of changes of passwords (RFC 3244, 2).
@@ -85,6 +86,16 @@ impl Due {
         }
     }
 
+    /// Returns the packet and its time.
+    pub(crate) fn moment(self) -> Moment
+        ensures { result ≡ moment_due self }
+    {
+        Moment {
+            packet: self.packet,
+            time: self.time,
+        }
+    }
+
     /// Returns the origin of records of a flow over a transport.
     pub(crate) fn over(
         self,
@@ -102,6 +113,7 @@ impl Due {
                 source,
                 target,
             },
+            told: Told::Nothing,
         }
     }
 }

@@ -2,16 +2,16 @@
 
 ghost use Rattle.std.specs.Prelude.{◌≡◌, ◌++◌, IfOk, OnOk};
 ghost use Rattle.std.specs.Option.{option_copied};
-ghost use Rattle.krb_record.specs.Captures.{capture_end_record, capture_refused_record};
+ghost use Rattle.krb_record.specs.Captures.{capture_end_record, capture_refused_record, captured, password_record};
 ghost use Rattle.krb_record.specs.Labels.{line_of};
-ghost use Rattle.krb_text.specs.Messages.{PutsMessage};
-ghost use Rattle.krb_capture.specs.Found.{Faulty, Joined, Missing, Password, found_line};
+ghost use Rattle.krb_text.specs.Messages.{PutsMessage, message_record};
+ghost use Rattle.krb_capture.specs.Found.{Faulty, Joined, Missing, found_line};
 ghost use Rattle.krb_capture.specs.Found as found;
 
 use krb_der::{Memory, Profile, Refusal};
 use krb_file::FileWhy;
 use krb_flow::{Lost, Unread};
-use krb_record::{CaptureCounts, CaptureOrigin, Extent, Label, TextBuffer};
+use krb_record::{CaptureCounts, CaptureOrigin, Extent, Label, TextBuffer, ToldCounts};
 use krb_text::put_captured_message;
 use std::alloc::AllocError;
 
@@ -23,7 +23,7 @@ pub(crate) fn put_message(
     profile: Profile,
     octets: &[u8],
 ) -> Result<bool, Memory>
-    ensures { IfOk result (PutsMessage profile octets.now (λ message. found_line label.now origin.now (found.Whole message)) text.old text.new) }
+    ensures { IfOk result (PutsMessage profile octets.now (λ message. line_of label.now (captured label.now.form origin.now (message_record message))) text.old text.new) }
 {
     let size = text.size();
     label.begin(text)?;
@@ -104,7 +104,7 @@ pub(crate) fn put_password(
     ap: u16,
     rest: u64,
 ) -> Result<(), AllocError>
-    ensures { OnOk result (text.new ≡ text.old ++ found_line label.now origin.now (Password version ap rest)) }
+    ensures { OnOk result (text.new ≡ text.old ++ line_of label.now (captured label.now.form origin.now (password_record version ap rest))) }
 {
     label.begin(text)?;
     krb_record::put_password(text, label.form(), origin, version, ap, rest)?;
@@ -116,11 +116,12 @@ pub(crate) fn put_end(
     text: &mut TextBuffer,
     label: &Label,
     counts: &CaptureCounts,
+    told: &ToldCounts,
 ) -> Result<(), AllocError>
-    ensures { OnOk result (text.new ≡ text.old ++ line_of label.now (capture_end_record counts.now)) }
+    ensures { OnOk result (text.new ≡ text.old ++ line_of label.now (capture_end_record label.now.form counts.now told.now)) }
 {
     label.begin(text)?;
-    krb_record::put_capture_end(text, label.form(), counts)?;
+    krb_record::put_capture_end(text, label.form(), counts, told)?;
     label.end(text)
 }
 
@@ -129,14 +130,15 @@ pub(crate) fn put_file_refusal(
     text: &mut TextBuffer,
     label: &Label,
     counts: &CaptureCounts,
+    told: &ToldCounts,
     place: u64,
     why: FileWhy,
     path: Option<&str>,
     extent: Extent,
 ) -> Result<(), AllocError>
-    ensures { OnOk result (text.new ≡ text.old ++ line_of label.now (capture_refused_record label.now.form counts.now place why (option_copied path.entry) extent)) }
+    ensures { OnOk result (text.new ≡ text.old ++ line_of label.now (capture_refused_record label.now.form counts.now told.now place why (option_copied path.entry) extent)) }
 {
     label.begin(text)?;
-    krb_record::put_capture_refusal(text, label.form(), counts, place, why, path, extent)?;
+    krb_record::put_capture_refusal(text, label.form(), counts, told, place, why, path, extent)?;
     label.end(text)
 }

@@ -24,6 +24,7 @@ mod directions;
 mod ended;
 mod flow;
 mod frames;
+mod happened;
 mod labelled;
 mod listing;
 mod message;

@@ -2,12 +2,16 @@
 
 ghost use Rattle.std.specs.Prelude.{◌≡◌, Some, Ok, ◌+◌, ◌^◌, ◌<◌, ◌≤◌, length, OnOk};
 ghost use Rattle.krb_capture.specs.Found.{Faulty, with_all, with_found};
+ghost use Rattle.krb_capture.specs.Happened.{begins_ap_req};
 ghost use Rattle.krb_capture.specs.Passwords.{checked, header, number, part_found, parts_found, password_found, path_of, place_of};
 
 use crate::listing::Listing;
 use crate::message::list_message;
 use krb_der::{Memory, Profile, Refusal, Why};
 use krb_record::{CaptureOrigin, Extent};
+
+/// The first octet of an AP-REQ (RFC 4120, 5.5.1).
+const AP_REQ: u8 = 0x6E;
 
 /// How many octets precede the AP-REQ or AP-REP: the length, the version, and the length of that.
 const HEADER: usize = 6;
@@ -57,10 +61,10 @@ struct Fault {
 
 /// The header of a message that changes a password.
 #[derive(Clone, Copy)]
-struct Header {
-    version: u16,
+pub(crate) struct Header {
+    pub(crate) version: u16,
     /// How many octets the AP-REQ or AP-REP has, which may be left out.
-    ap: u16,
+    pub(crate) ap: u16,
 }
 
 /// Reads a field of the header.
@@ -102,6 +106,16 @@ fn read_header(octets: &[u8]) -> Result<Header, Fault>
     let version = number(Field::Version, octets)?;
     let ap = number(Field::ApLength, octets)?;
     checked(octets.len(), length, version, ap)
+}
+
+/// Returns whether what precedes the rest of a message begins as an AP-REQ does.
+pub(crate) fn begins_ap_req(ap: &[u8]) -> bool
+    ensures { result ≡ begins_ap_req ap.now }
+{
+    match ap {
+        [first, ..] => *first == AP_REQ,
+        [] => false,
+    }
 }
 
 /// Lists a part that follows `before` other octets, unless it is left out.
@@ -178,7 +192,7 @@ fn list_parts(
     let (_, parts) = octets.split_at(HEADER);
     let (ap, rest) = parts.split_at(usize::from(header.ap));
     let after_ap = HEADER as u32 + u32::from(header.ap);
-    listing.put_password(origin, header.version, header.ap, rest.len() as u64)?;
+    listing.put_password(origin, octets, ap, header, rest.len() as u64)?;
     list_part(profile, ap, before + HEADER as u32, extent, origin, listing)?;
     list_part(profile, rest, before + after_ap, extent, origin, listing)
 }

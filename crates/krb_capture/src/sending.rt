@@ -302,6 +302,7 @@ impl Sending {
             return Ok(());
         };
         self.frames = Frames::new(self.alloc, self.limit, self.service);
+        listing.put_begun(origin)?;
         match beginning {
             Beginning::Syn => Ok(()),
             Beginning::Joined => listing.put_joined(origin),

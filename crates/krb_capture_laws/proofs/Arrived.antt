@@ -1,5 +1,5 @@
 -- Four segments that are all of a stream: its SYN, its last octets with the FIN, its first ones, of which one is a copy, and the last ones again.
-use Rattle.std.proofs.Common.{ℕ, ◌<◌, inl, inr, Bool, true, false, List, [], ◌∷◌, length, refl, arith}
+use Rattle.std.proofs.Common.{ℕ, ◌<◌, inl, inr, Bool, true, false, not, List, [], ◌∷◌, length, refl, arith}
 use Rattle.std.proofs.lemmas.Bool.{cases_lt}
 use Rattle.krb_source.specs.declared.endpoint.Endpoint.{Endpoint}
 use Rattle.krb_flow.specs.declared.direction.Beginning.TheVariants.{Syn}
@@ -9,7 +9,7 @@ use Rattle.krb_flow.specs.Laws.{Piece, IsCaptured}
 module _ (from to : Endpoint) where
   -- octet 0 has the number 1
   abbrev piece : ℕ → Bool → Bool → List ℕ → ℕ → Piece
-  piece place syn fin octets sequence = (place, record { source = from; target = to; sequence = sequence; fin = fin; syn = syn; rst = false; payload = record { octets = octets; size = length octets } })
+  piece place syn fin octets sequence = (place, record { source = from; target = to; sequence = sequence; fin = fin; syn = syn; rst = false; ack = not syn; payload = record { octets = octets; size = length octets } })
 
   abbrev pieces : List Piece
   pieces = piece 0 true false [] 0 ∷ piece 2 false true (30 ∷ 40 ∷ []) 3 ∷ piece 0 false false (10 ∷ 20 ∷ 30 ∷ []) 1 ∷ piece 2 false true (30 ∷ 40 ∷ []) 3 ∷ []

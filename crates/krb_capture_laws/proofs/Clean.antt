@@ -1,5 +1,5 @@
 -- A capture that is clean: all of its records are clear, and so nothing of a direction or a datagram is hidden.
-use Rattle.std.proofs.Common.{◌≡◌, ℕ, ◌-◌, ◌≤◌, ◌==◌, Bool, true, false, ◌&&◌, Option, Some, None, List, [], ◌∷◌, length, map, cond, refl, sym, ap, ap₂, ◌∙◌, arith, eq-eqb, eqb-true}
+use Rattle.std.proofs.Common.{◌≡◌, ℕ, ◌≤◌, ◌==◌, Bool, true, false, ◌&&◌, Option, Some, None, List, [], ◌∷◌, length, map, cond, refl, sym, ap, ap₂, ◌∙◌, arith, eq-eqb, eqb-true}
 use Rattle.std.specs.Prelude.{if◌then◌else◌}
 use Rattle.std.specs.List.{AllByRecursion, filter, flat_map, list_all}
 use Rattle.std.proofs.lemmas.Bool.{and_parts}
@@ -23,7 +23,7 @@ use Rattle.krb_record.specs.declared.flow.Transport.TheVariants as transports
 use Rattle.krb_capture.specs.Captures.{Finding, Progress, Settings, all_counts, at_first, completed, contents_in, contents_taken, counted_each, datagram_taken, end_taken, is_clean, packet_taken, segment_taken, unread_taken, whole_taken, with_packet}
 use Rattle.krb_capture.specs.Datagrams.{all_found, by_service, datagram_found, extent_of, surplus_found}
 use Rattle.krb_capture.specs.Flows.{flow_between, service_of}
-use Rattle.krb_capture.specs.Found.{Found, Whole, Faulty, Joined, Missing, Password, Unread, and_more, counted}
+use Rattle.krb_capture.specs.Found.{Found, Whole, Faulty, Begun, Joined, Missing, Password, Unread, Sent, Failed, and_more, counted}
 use Rattle.krb_capture.specs.Messages.{cut_found, missing_unless, prefix_refusal}
 use Rattle.krb_capture.specs.WholeCaptures.{are_ends, carried, datagrams_between, found_after, found_between, segments_between, segments_in, capture_found, is_from}
 use Rattle.krb_capture.specs.declared.flow.Service.{Service}
@@ -57,11 +57,14 @@ parts_of counts clean =
     record { refused = others.0; lost = others.1; unread = first.1 }
 
 counted_clear : (one : Found) (counts : CaptureCounts) → IsCleanOf (counted one counts) → (is_clear one ≡ true) × IsCleanOf counts
-counted_clear (Whole message) counts clean = (refl, clean)
+counted_clear (Whole octets) counts clean = (refl, clean)
 counted_clear (Faulty refusal path extent) counts clean = absurd (never_none counts.refused (parts_of (counted (Faulty refusal path extent) counts) clean).refused)
+counted_clear Begun counts clean = (refl, clean)
 counted_clear Joined counts clean = (refl, clean)
 counted_clear (Missing place octets path) counts clean = absurd (never_none counts.lost (parts_of (counted (Missing place octets path) counts) clean).lost)
-counted_clear (Password version ap rest) counts clean = (refl, clean)
+counted_clear (Password octets version ap rest) counts clean = (refl, clean)
+counted_clear (Sent header) counts clean = (refl, clean)
+counted_clear (Failed error) counts clean = (refl, clean)
 counted_clear (Unread place octets why) counts clean = absurd (never_none counts.unread (parts_of (counted (Unread place octets why) counts) clean).unread)
 
 abbrev AllClear : List Finding → Type 0
@@ -92,6 +95,7 @@ module _ (settings : Settings) where
       by None clean = clean
       by (Some service) clean = clean
   whole_stays (contents.Fragment fragment) progress clean = clean
+  whole_stays (contents.Error error) progress clean = clean
   whole_stays contents.Other progress clean = clean
   whole_stays (contents.UnreadBetween ends) progress clean = by (service_of settings.profile settings.port ends.source ends.target) clean
     where
@@ -108,6 +112,7 @@ module _ (settings : Settings) where
       by (Some whole) after clean = whole_stays (contents_of_whole settings.port whole) after clean
   contents_stay (contents.Datagram datagram) progress clean = whole_stays (contents.Datagram datagram) progress clean
   contents_stay (contents.Segment segment) progress clean = whole_stays (contents.Segment segment) progress clean
+  contents_stay (contents.Error error) progress clean = whole_stays (contents.Error error) progress clean
   contents_stay contents.Other progress clean = whole_stays contents.Other progress clean
   contents_stay (contents.UnreadBetween ends) progress clean = whole_stays (contents.UnreadBetween ends) progress clean
   contents_stay contents.Unread progress clean = whole_stays contents.Unread progress clean

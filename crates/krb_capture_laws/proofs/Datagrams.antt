@@ -29,6 +29,7 @@ datagrams_in-append [] ys = refl
 datagrams_in-append (contents.Datagram datagram ∷ xs) ys = ap (λ l. datagram ∷ l) (datagrams_in-append xs ys)
 datagrams_in-append (contents.Segment segment ∷ xs) ys = datagrams_in-append xs ys
 datagrams_in-append (contents.Fragment fragment ∷ xs) ys = datagrams_in-append xs ys
+datagrams_in-append (contents.Error error ∷ xs) ys = datagrams_in-append xs ys
 datagrams_in-append (contents.Other ∷ xs) ys = datagrams_in-append xs ys
 datagrams_in-append (contents.UnreadBetween ends ∷ xs) ys = datagrams_in-append xs ys
 datagrams_in-append (contents.Unread ∷ xs) ys = datagrams_in-append xs ys
@@ -82,6 +83,7 @@ module _ (source target : Endpoint) where
         by None = refl
         by (Some other) = found_between-not_tcp progress.last (followed settings.limit progress.last.packet other segment progress.table).found
     whole-found (contents.Fragment fragment) progress = refl
+    whole-found (contents.Error error) progress = refl
     whole-found contents.Other progress = refl
     whole-found (contents.UnreadBetween ends) progress = by (service_of settings.profile settings.port ends.source ends.target)
       where
@@ -98,6 +100,7 @@ module _ (source target : Endpoint) where
         by (Some whole) after = whole-found (contents_of_whole settings.port whole) after
     contents-found (contents.Datagram datagram) progress = whole-found (contents.Datagram datagram) progress
     contents-found (contents.Segment segment) progress = whole-found (contents.Segment segment) progress
+    contents-found (contents.Error error) progress = refl
     contents-found contents.Other progress = refl
     contents-found (contents.UnreadBetween ends) progress = whole-found (contents.UnreadBetween ends) progress
     contents-found contents.Unread progress = refl

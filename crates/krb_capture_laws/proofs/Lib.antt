@@ -19,3 +19,6 @@ pub mod Untold
 pub mod Showing
 pub mod Clear
 pub mod Clean
+pub mod Telling
+pub mod Counting
+pub mod Ordered

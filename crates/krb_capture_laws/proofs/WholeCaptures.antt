@@ -47,6 +47,7 @@ segments_in-append [] ys = refl
 segments_in-append (contents.Segment segment ∷ xs) ys = ap (λ l. segment ∷ l) (segments_in-append xs ys)
 segments_in-append (contents.Datagram datagram ∷ xs) ys = segments_in-append xs ys
 segments_in-append (contents.Fragment fragment ∷ xs) ys = segments_in-append xs ys
+segments_in-append (contents.Error error ∷ xs) ys = segments_in-append xs ys
 segments_in-append (contents.Other ∷ xs) ys = segments_in-append xs ys
 segments_in-append (contents.UnreadBetween ends ∷ xs) ys = segments_in-append xs ys
 segments_in-append (contents.Unread ∷ xs) ys = segments_in-append xs ys
@@ -210,6 +211,7 @@ module _ (settings : Settings) (source target : Endpoint) (service : Service) (d
         by None = takes_none bound progress.last.packet own [] progress.table h later refl
         by (Some other) = takes_none bound progress.last.packet own (over_udp progress.last datagram (all_found other datagram)) progress.table h later (found_between-not_udp source target progress.last datagram (all_found other datagram))
     whole-takes (contents.Fragment fragment) ones = takes_none bound progress.last.packet own [] progress.table h later refl
+    whole-takes (contents.Error error) ones = takes_none bound progress.last.packet own [] progress.table h later refl
     whole-takes contents.Other ones = takes_none bound progress.last.packet own [] progress.table h later refl
     whole-takes (contents.UnreadBetween ends) ones = by (service_of settings.profile settings.port ends.source ends.target)
       where
@@ -230,6 +232,7 @@ module _ (settings : Settings) (source target : Endpoint) (service : Service) (d
         completed-takes stepped.0 (record progress { fragments = stepped.1 }) later h ones
     contents-takes (contents.Segment segment) progress later h ones = whole-takes bound progress own later h (contents.Segment segment) ones
     contents-takes (contents.Datagram datagram) progress later h ones = whole-takes bound progress own later h (contents.Datagram datagram) ones
+    contents-takes (contents.Error error) progress later h ones = whole-takes bound progress own later h (contents.Error error) ones
     contents-takes contents.Other progress later h ones = whole-takes bound progress own later h contents.Other ones
     contents-takes (contents.UnreadBetween ends) progress later h ones = whole-takes bound progress own later h (contents.UnreadBetween ends) ones
     contents-takes contents.Unread progress later h ones = whole-takes bound progress own later h contents.Unread ones
@@ -247,6 +250,7 @@ whole-fragments settings (contents.Datagram datagram) progress = by (service_of 
     by None = refl
     by (Some service) = refl
 whole-fragments settings (contents.Fragment fragment) progress = refl
+whole-fragments settings (contents.Error error) progress = refl
 whole-fragments settings contents.Other progress = refl
 whole-fragments settings (contents.UnreadBetween ends) progress = by (service_of settings.profile settings.port ends.source ends.target)
   where
@@ -263,6 +267,7 @@ contents-fragments settings (contents.Fragment fragment) progress = by (nested_s
     by (Some whole) after = whole-fragments settings (contents_of_whole settings.port whole) after
 contents-fragments settings (contents.Segment segment) progress = whole-fragments settings (contents.Segment segment) progress
 contents-fragments settings (contents.Datagram datagram) progress = whole-fragments settings (contents.Datagram datagram) progress
+contents-fragments settings (contents.Error error) progress = refl
 contents-fragments settings contents.Other progress = refl
 contents-fragments settings (contents.UnreadBetween ends) progress = whole-fragments settings (contents.UnreadBetween ends) progress
 contents-fragments settings contents.Unread progress = refl

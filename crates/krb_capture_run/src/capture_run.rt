@@ -1,10 +1,10 @@
 //! The run over a capture.
 
 ghost use Rattle.std.specs.Prelude.{◌≡◌, ℕ, List, Some, IfErr, IfOk};
-ghost use Rattle.krb_capture_run.specs.Captures.{capture_listing, refused_end};
+ghost use Rattle.krb_capture_run.specs.Captures.{IsCaptureRest, capture_listing, refused_end};
 ghost use Rattle.krb_run.specs.Faults.{IsRead, IsWrite};
 ghost use Rattle.krb_run.specs.Records.{ListsRecords};
-ghost use Rattle.krb_capture_run.specs.inner.CaptureRuns.{AddsCaptureEnd, AddsFileRefusal, IsCaptureLeft};
+ghost use Rattle.krb_capture_run.specs.inner.CaptureRuns.{AddsCaptureEnd, AddsFileRefusal, CaptureSource, IsCaptureLeft};
 
 use krb_capture::{Capture, Rest};
 use krb_der::Profile;
@@ -86,7 +86,9 @@ impl<R: Read> CaptureLines<'_, '_, R> {
 }
 
 impl<R: Read> RecordLines for CaptureLines<'_, '_, R> {
-    ghost IsLeft = { λ lines _ left. IsCaptureLeft lines.packets lines.capture lines.rest lines.label.now left };
+    ghost Source = { CaptureSource };
+
+    ghost IsLeft = { λ lines _ source left. IsCaptureLeft lines.packets lines.capture lines.rest lines.label.now source left };
 
     fn put_next(
         &mut self,
@@ -110,9 +112,10 @@ impl<R: Read> RecordLines for CaptureLines<'_, '_, R> {
     }
 }
 
-/// Lists the Kerberos messages of a capture, a pcap or a pcapng: writes the records of each packet, and at the end those of the end and the totals, or the refusal of the file. Frames
-/// of more than `limit` octets are refused, messages are judged by `profile`, and `port` is the one
-/// of KDCs. Reads and writes as [`list_records`] does.
+/// Lists the Kerberos messages of a capture, a pcap or a pcapng: writes the records of each packet,
+/// and at the end those of the end and the totals, or the refusal of the file. Frames of more than
+/// `limit` octets are refused, messages are judged by `profile`, and `port` is the one of KDCs.
+/// Reads and writes as [`list_records`] does.
 pub fn run_capture<R: Read, W: Write>(
     alloc: Global,
     label: &Label,
@@ -122,13 +125,13 @@ pub fn run_capture<R: Read, W: Write>(
     limit: Limit,
     port: u16,
 ) -> Result<RunEnd, RunFault>
-    ensures listed { (file : List ℕ) → R.remaining reader.old ≡ Some file → ListsRecords (capture_listing (record { label = label.now; profile = profile; limit = limit; port = port }) file) (W.contents writer.old) (W.contents writer.new) result }
+    ensures listed { (file : List ℕ) → R.remaining reader.old ≡ Some file → ListsRecords (capture_listing (record { label = label.now; profile = profile; limit = limit; port = port }) file) (IsCaptureRest (record { label = label.now; profile = profile; limit = limit; port = port }) file) (W.contents writer.old) (W.contents writer.new) result }
 {
     let watch = Watch::new();
     let watch = &watch;
     let reader = in_pieces(alloc, Watched { reader, watch })?;
     let packets = Packets::new(reader);
-    let capture = Capture::new(alloc, label, profile, limit, port);
+    let capture = Capture::new(alloc, label, profile, limit, port)?;
     let mut text = TextBuffer::new(alloc);
     let mut lines = CaptureLines {
         packets,

@@ -215,6 +215,9 @@ json_listed = record {
   adds = adds_entry;
   sized = λ profile lines frames written h. omega arith;
   begins = λ profile limit lines octets written first others e whole h. json-begins profile limit lines octets written first others e (whole refl) h;
+  all = λ lister octets written h w.
+      let whole = waits-whole json_lines lister octets written h w refl in
+      sym (ap (λ c. c.text) (decoded-whole lister octets written h.frames h.lines whole.0 (not_full lister.lines w.1)));
   asks = λ lister octets written h w.
       let whole = waits-whole json_lines lister octets written h w refl in
       record { accepted = whole.1; encrypted = whole_encrypted lister octets written h.frames h.lines whole.0 (not_full lister.lines w.1) };

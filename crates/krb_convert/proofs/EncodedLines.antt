@@ -3,9 +3,10 @@ use Rattle.std.proofs.Common.{◌≡◌, ℕ, ◌+◌, ◌<◌, ◌≤◌, Bool,
 use Rattle.std.specs.Option.{option_map}
 use Rattle.std.proofs.lemmas.Bool.Decides.{nat_tests}
 use Rattle.std.specs.Prelude.{◌&&◌, ◌==◌, nat_lt, not, is_some, IsSome, IfSome, Result, Err}
-use Rattle.krb_run.specs.Conversions.{Converted, after_text}
-use Rattle.krb_convert.specs.Encoding.{Ending, Faulty, LongLine, SecondMessage, most_of_line, written_as, message_and, ending_of, ending_after, IsNoFault}
-use Rattle.krb_run.specs.TextLines.{is_blank_line}
+use Rattle.krb_run.specs.Conversions.{Converted, Converts, FailsToConvert, after_text}
+use Rattle.krb_der.specs.declared.profile.Profile.{Profile}
+use Rattle.krb_convert.specs.Encoding.{Encodes, Ending, FailsToEncode, GoesOn as Goes, encoded, ended_encoded, Faulty, LongLine, SecondMessage, most_of_line, written_as, message_and, ending_of, ending_after, IsNoFault}
+use Rattle.krb_run.specs.TextLines.{is_blank_line, lines_of}
 use Rattle.krb_der.specs.Octets.{when}
 use Rattle.krb_json.specs.Lines as lines
 use Rattle.krb_json.specs.Reading.{AreSpelled, line_fault_of}
@@ -16,7 +17,10 @@ use Rattle.krb_convert.specs.declared.encode_run.EncodeEnd.{EncodeEnd}
 use Rattle.krb_convert.specs.declared.json_reader.EncodeRequest.{EncodeRequest}
 use Rattle.krb_convert.specs.declared.json_reader.JsonReader.{JsonReader}
 use Rattle.krb_convert.specs.inner.EncodedLines.{KeepsFault, TakesLine, encoded_from, json_reading, read_and, rest_by, rest_of}
-use Rattle.krb_run.specs.LineReaders.{Adds, EndsLine, Follows, GoesOn, HasLine}
+use Rattle.krb_run.specs.LineReaders.{Adds, EndsLine, Follows, GoesOn, HasLine, closed, line_rules}
+use Rattle.krb_run.specs.Streams.{FailsBy, ListsBy}
+use Rattle.krb_run.specs.declared.run.RunFault.{RunFault}
+use Rattle.krb_run.proofs.ConversionRuns.{Converts-listed, FailsToConvert-by}
 use Rattle.krb_run.proofs.SourceLineParts.{is_nothing, is_something}
 
 -- ---- a line
@@ -170,6 +174,14 @@ adds-last old new octets none line text request lines fault long = record {
         let all : length new.line.items ≡ length (before ++ octets) = ap length (line ∙ ap (λ l. l ++ octets) held) in
         omega (arith, long, all, length-append (before ++ octets) more)
 
+-- what no lines become
+pub nothing_after : (reader : JsonReader) → (rest_of reader []).text ≡ []
+nothing_after reader = none (option_map ending_of reader.fault)
+  where
+    none : (fault : Option Ending) → (rest_by fault reader.request (reader.lines + 1) reader.came []).text ≡ []
+    none None = refl
+    none (Some ending) = refl
+
 -- it has ended, and is counted
 pub ends-taken : (old between new : JsonReader) (is_read : Bool) → old.fault ≡ None → TakesLine old between is_read → new.text ≡ between.text → new.request ≡ between.request → new.came ≡ between.came → new.fault ≡ between.fault → new.lines ≡ between.lines + 1 → new.line.items ≡ [] → EndsLine json_reading old new is_read
 ends-taken old between new is_read none t text request came fault lines empty = record {
@@ -182,6 +194,7 @@ ends-taken old between new is_read none t text request came fault lines empty = 
       ∙ ap (λ l. encoded_from old.request (old.lines + 1) old.came (l ∷ more)) (sym held)
       ∙ t.step more
       ∙ (λ i. after_text t.added (rest_by (option_map ending_of (sym fault i)) (sym (request ∙ t.request) i) (sym (lines ∙ ap (λ n. n + 1) t.lines) i + 1) (sym came i) more));
+  none = nothing_after new;
   few = omega (arith, lines, t.lines);
   follows = follows new is_read empty (kept is_read t.fault);
 }
@@ -217,9 +230,24 @@ pub goes_on-start : (reader : JsonReader) → reader.fault ≡ None → reader.l
 goes_on-start reader none empty = waits reader none (empty_short reader empty)
 
 -- no text is added at the end
-pub rest-nothing : (reader : JsonReader) → reader.text.items ≡ reader.text.items ++ (rest_of reader []).text
-rest-nothing reader = sym (append-nil reader.text.items) ∙ ap (λ t. reader.text.items ++ t) (none (option_map ending_of reader.fault))
-  where
-    none : (fault : Option Ending) → [] ≡ (rest_by fault reader.request (reader.lines + 1) reader.came []).text
-    none None = refl
-    none (Some ending) = refl
+pub nothing_closes : (is_framed : Bool) (profile : Profile) (limit : ℕ) → (λ text. after_text (encoded is_framed profile limit text).text (record { text = []; end = (encoded is_framed profile limit text).end })) ≡ encoded is_framed profile limit
+nothing_closes is_framed profile limit = λ i text. record { text = append-nil (encoded is_framed profile limit text).text i; end = (encoded is_framed profile limit text).end }
+
+-- ---- a run
+module _ (request : EncodeRequest) (had left written_before written_after : Option (List ℕ)) where
+  abbrev convert : List ℕ → Converted Ending
+  convert text = closed json_reading request (encoded_from request 1 false (lines_of text))
+
+  -- that has ended
+  pub encodes-listed : (ended : EncodeEnd) → ListsBy (line_rules json_reading request) had left written_before written_after ended → Encodes request.is_framed request.profile request.limit had left written_before written_after ended
+  unfolding encoded ended_encoded
+  encodes-listed ended l =
+      subst (λ (convert : List ℕ → Converted Ending). Converts convert (Goes request.is_framed request.profile request.limit) had left written_before written_after (ending_of ended)) (nothing_closes request.is_framed request.profile request.limit)
+      (Converts-listed convert (ended_encoded request.is_framed request.profile request.limit) (Goes request.is_framed request.profile request.limit) ending_of had left written_before written_after ended l)
+
+  -- that has failed
+  pub encodes-failed : (failed : RunFault) → FailsBy (line_rules json_reading request) had left written_before written_after failed → FailsToEncode request.is_framed request.profile request.limit had left written_before written_after failed
+  unfolding encoded ended_encoded
+  encodes-failed failed f =
+      subst (λ (convert : List ℕ → Converted Ending). FailsToConvert (λ read. (convert read).text) (ended_encoded request.is_framed request.profile request.limit) had left written_before written_after failed) (nothing_closes request.is_framed request.profile request.limit)
+      (FailsToConvert-by convert (ended_encoded request.is_framed request.profile request.limit) (Goes request.is_framed request.profile request.limit) ending_of had left written_before written_after failed f)

@@ -1,4 +1,3 @@
 pub mod DecodedFrames
 pub mod EncodedLines
 pub mod WholeRuns
-pub mod Conversions

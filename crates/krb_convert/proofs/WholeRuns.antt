@@ -1,7 +1,7 @@
 -- A run on one message.
-use Rattle.std.proofs.Common.{◌≡◌, ℕ, ◌+◌, ◌-◌, ◌<◌, ◌≤◌, true, false, List, [], ◌∷◌, ◌++◌, length, take, drop, Option, Some, None, Result, Ok, Err, OnErr, refl, sym, ◌∙◌, ap, subst, arith, append-nil, length-append, length-take, length-drop, take-append-drop}
-use Rattle.std.proofs.KnownBytes.{Consumes-trans, Appends-nil}
-use Rattle.std.specs.Io.KnownBytes.{Consumes, Appends}
+use Rattle.std.proofs.Common.{◌≡◌, ℕ, ◌+◌, ◌-◌, ◌<◌, ◌≤◌, true, false, List, [], ◌∷◌, ◌++◌, length, take, drop, Option, Some, None, Result, Ok, Err, IfErr, refl, sym, ◌∙◌, ap, subst, arith, append-nil, length-append, length-take, length-drop, take-append-drop}
+use Rattle.std.proofs.KnownBytes.{Consumes-trans}
+use Rattle.std.specs.Io.KnownBytes.{Consumes, Appends, Keeps}
 use Rattle.std.specs.Prelude.{nat_lt}
 use Rattle.std.proofs.lemmas.Bool.Decides.{nat_tests}
 use Rattle.krb_der.specs.Octets.{when}
@@ -15,7 +15,10 @@ use Rattle.krb_record.specs.declared.form.Form.TheVariants as forms
 use Rattle.krb_run.specs.Runs.{StopsInPiece}
 use Rattle.krb_convert.specs.Decoding.{Refusing, message_decoded, decoded_whole, DecodesWhole, FailsToDecodeWhole}
 use Rattle.krb_run.specs.Records.{AppendsPrefix}
+use Rattle.krb_run.specs.Faults.{IsWrite}
 use Rattle.krb_run.specs.Files.{ReadsSome}
+use Rattle.krb_run.specs.declared.run.RunFault.{RunFault}
+use Rattle.krb_run.specs.declared.run.RunFault.TheVariants as fault
 use Rattle.krb_convert.specs.declared.whole_run.MessageLine.{MessageLine}
 use Rattle.krb_run.specs.Transfers.{ReturnsOctets}
 use Rattle.krb_convert.specs.inner.WholeRuns.{ReadsMost, converted_of}
@@ -74,21 +77,28 @@ DecodesWhole-made profile limit had left written_before written_after octets lin
   few = r.few;
 }
 
--- nothing was written
-pub whole-unwritten : {T E : Type 0} (r : Result T E) (profile : Profile) (limit : ℕ) (had left written : Option (List ℕ)) → ReadsSome had left → OnErr r (FailsToDecodeWhole profile limit had left written written)
-whole-unwritten (Ok x) profile limit had left written some = tt
-whole-unwritten (Err e) profile limit had left written some = record {
-  read = some.0;
-  text = (decoded_whole profile limit some.0).text;
-  taken = some.1;
-  is_text = refl;
-  added = record { prefix = []; rest = (decoded_whole profile limit some.0).text; added = Appends-nil written; whole = refl };
-}
+-- no write failed, and nothing was written
+keeps_written : (written : Option (List ℕ)) → Keeps written written
+keeps_written None = tt
+keeps_written (Some octets) = refl
+
+pub whole-unwritten : {T : Type 0} (r : Result T RunFault) (profile : Profile) (limit : ℕ) (had left written : Option (List ℕ)) → IfErr r (λ e. IsWrite e → ⊥) → ReadsSome had left → IfErr r (FailsToDecodeWhole profile limit had left written written)
+whole-unwritten (Ok x) profile limit had left written never some = tt
+whole-unwritten (Err (fault.Read e)) profile limit had left written never some = record { taken = some; kept = keeps_written written }
+whole-unwritten (Err (fault.Write e)) profile limit had left written never some = absurd (never tt)
+whole-unwritten (Err fault.Memory) profile limit had left written never some = record { taken = some; kept = keeps_written written }
+
+-- out of memory is no failed write, nor is a failed read
+pub no_write : {T : Type 0} (r : Result T RunFault) → IfErr r (λ e. e ≡ fault.Memory) → IfErr r (λ e. IsWrite e → ⊥)
+no_write (Ok x) memory = tt
+no_write (Err e) memory = λ is. subst IsWrite memory is
 
 -- a write failed
-pub whole-written : {T E : Type 0} (r : Result T E) (profile : Profile) (limit : ℕ) (had left written_before written_after : Option (List ℕ)) (octets : List ℕ) (line : MessageLine) → Consumes had left octets → AppendsPrefix written_before written_after line.text.items → converted_of line ≡ decoded_whole profile limit octets → OnErr r (FailsToDecodeWhole profile limit had left written_before written_after)
-whole-written (Ok x) profile limit had left written_before written_after octets line taken f e = tt
-whole-written (Err x) profile limit had left written_before written_after octets line taken f e = record {
+pub whole-written : {T : Type 0} (r : Result T RunFault) (profile : Profile) (limit : ℕ) (had left written_before written_after : Option (List ℕ)) (octets : List ℕ) (line : MessageLine) → IfErr r IsWrite → Consumes had left octets → AppendsPrefix written_before written_after line.text.items → converted_of line ≡ decoded_whole profile limit octets → IfErr r (FailsToDecodeWhole profile limit had left written_before written_after)
+whole-written (Ok x) profile limit had left written_before written_after octets line is taken f e = tt
+whole-written (Err (fault.Read x)) profile limit had left written_before written_after octets line is taken f e = absurd is
+whole-written (Err fault.Memory) profile limit had left written_before written_after octets line is taken f e = absurd is
+whole-written (Err (fault.Write x)) profile limit had left written_before written_after octets line is taken f e = record {
   read = octets;
   text = line.text.items;
   taken = taken;

@@ -5,6 +5,7 @@ use Rattle.krb_convert.specs.Decoding.{Decodes, DecodesWhole, FailsToDecode, Fai
 use Rattle.krb_convert.specs.Encoding.{Encodes}
 use Rattle.krb_convert.specs.declared.decode_run.DecodeEnd.{DecodeEnd}
 use Rattle.krb_convert.specs.declared.encode_run.EncodeEnd.{EncodeEnd}
+use Rattle.krb_run.specs.declared.run.RunFault.{RunFault}
 use Rattle.krb_words.specs.declared.words.Framing.{Framing}
 use Rattle.krb_words.specs.declared.words.Framing.TheVariants as framing
 
@@ -12,9 +13,9 @@ abbrev pub DecodesBy : Framing → Profile → (limit : ℕ) → (had left writt
 DecodesBy framing.Framed profile limit had left written_before written_after ended = Decodes profile limit had left written_before written_after ended
 DecodesBy framing.Unframed profile limit had left written_before written_after ended = DecodesWhole profile limit had left written_before written_after ended
 
-abbrev pub FailsToDecodeBy : Framing → Profile → (limit : ℕ) → (had left written_before written_after : Option (List ℕ)) → Type 0
-FailsToDecodeBy framing.Framed profile limit had left written_before written_after = FailsToDecode profile limit had left written_before written_after
-FailsToDecodeBy framing.Unframed profile limit had left written_before written_after = FailsToDecodeWhole profile limit had left written_before written_after
+abbrev pub FailsToDecodeBy : Framing → Profile → (limit : ℕ) → (had left written_before written_after : Option (List ℕ)) → RunFault → Type 0
+FailsToDecodeBy framing.Framed profile limit had left written_before written_after failed = FailsToDecode profile limit had left written_before written_after failed
+FailsToDecodeBy framing.Unframed profile limit had left written_before written_after failed = FailsToDecodeWhole profile limit had left written_before written_after failed
 
 abbrev pub is_framed : Framing → Bool
 is_framed framing.Framed = true

@@ -11,7 +11,11 @@ use Rattle.krb_msg.specs.Views.{message_of_der}
 use Rattle.krb_judge.specs.Parses.{refusal_of}
 use Rattle.krb_json.specs.Lines.{line_of}
 use Rattle.krb_json.specs.Unencrypted.{unencrypted_in}
-use Rattle.krb_run.specs.Conversions.{Converted, after_text, Converts, ConvertsInPart}
+use Rattle.krb_run.specs.Conversions.{Converted, after_text, Converts, FailsToConvert}
+use Rattle.krb_run.specs.Files.{WritesNothing}
+use Rattle.krb_run.specs.Runs.{WritesPrefix}
+use Rattle.krb_run.specs.declared.run.RunFault.{RunFault}
+use Rattle.krb_run.specs.declared.run.RunFault.TheVariants as fault
 use Rattle.krb_tool.specs.Listing.{IsNotRefused}
 use Rattle.krb_tool.specs.Paths.{found_path, refused_path}
 use Rattle.krb_convert.specs.declared.decode_run.DecodeEnd.{DecodeEnd}
@@ -76,13 +80,17 @@ pub record GoesOn (profile : Profile) (limit : ℕ) (stream : List ℕ) : Type 0
 abbrev pub Decodes : Profile → ℕ → (had left written_before written_after : Option (List ℕ)) → DecodeEnd → Type 0
 Decodes profile limit had left written_before written_after ended = Converts (decoded profile limit) (GoesOn profile limit) had left written_before written_after (ending_of ended)
 
-abbrev pub FailsToDecode : Profile → ℕ → (had left written_before written_after : Option (List ℕ)) → Type 0
-FailsToDecode profile limit had left written_before written_after = ConvertsInPart (decoded profile limit) had left written_before written_after
+-- If a read fails, the lines are written of all messages in what was read.
+abbrev pub FailsToDecode : Profile → ℕ → (had left written_before written_after : Option (List ℕ)) → RunFault → Type 0
+FailsToDecode profile limit had left written_before written_after failed = FailsToConvert (λ read. (decoded profile limit read).text) (λ read. (decoded profile limit read).text) had left written_before written_after failed
 
 -- all is read, or one octet more than a message may have
 pub record DecodesWhole (profile : Profile) (limit : ℕ) (had left written_before written_after : Option (List ℕ)) (ended : DecodeEnd) : Type 0 where
   pub converts : Converts (decoded_whole profile limit) (λ read. length read ≤ limit) had left written_before written_after (ending_of ended)
   pub few : length converts.read ≤ limit + 1
 
-abbrev pub FailsToDecodeWhole : Profile → ℕ → (had left written_before written_after : Option (List ℕ)) → Type 0
-FailsToDecodeWhole profile limit had left written_before written_after = ConvertsInPart (decoded_whole profile limit) had left written_before written_after
+-- If it fails by a write, a prefix of the line is written, and else nothing.
+abbrev pub FailsToDecodeWhole : Profile → ℕ → (had left written_before written_after : Option (List ℕ)) → RunFault → Type 0
+FailsToDecodeWhole profile limit had left written_before written_after (fault.Write error) = WritesPrefix (λ read text. text ≡ (decoded_whole profile limit read).text) had left written_before written_after
+FailsToDecodeWhole profile limit had left written_before written_after (fault.Read error) = WritesNothing had left written_before written_after
+FailsToDecodeWhole profile limit had left written_before written_after fault.Memory = WritesNothing had left written_before written_after

@@ -8,7 +8,8 @@ use Rattle.krb_msg.specs.declared.message.Message.{Message}
 use Rattle.krb_json.specs.Lines.{LineFault, line_spells}
 use Rattle.krb_json.specs.Reading.{line_fault_of}
 use Rattle.krb_run.specs.TextLines.{parts, lines_of, ended_of, last_of, is_blank_line}
-use Rattle.krb_run.specs.Conversions.{Converted, after_text, Converts, ConvertsInPart}
+use Rattle.krb_run.specs.Conversions.{Converted, after_text, Converts, FailsToConvert}
+use Rattle.krb_run.specs.declared.run.RunFault.{RunFault}
 use Rattle.krb_convert.specs.declared.encode_run.EncodeEnd.{EncodeEnd}
 use Rattle.krb_convert.specs.declared.encode_run.EncodeEnd.TheVariants as ends
 
@@ -61,6 +62,10 @@ encoded_lines is_framed profile limit number came (line ∷ lines) =
 unfoldable pub encoded : (is_framed : Bool) → Profile → (limit : ℕ) → (text : List ℕ) → Converted Ending
 encoded is_framed profile limit text = encoded_lines is_framed profile limit 1 false (lines_of text)
 
+-- the messages of the lines that end in a text
+unfoldable pub ended_encoded : (is_framed : Bool) → Profile → (limit : ℕ) → (text : List ℕ) → List ℕ
+ended_encoded is_framed profile limit text = (encoded_lines is_framed profile limit 1 false (ended_of (parts text))).text
+
 -- ---- what a run does
 abbrev pub IsNoFault : Ending → Type 0
 IsNoFault All = Unit {0}
@@ -76,5 +81,6 @@ GoesOn is_framed profile limit text = IsNoFault (encoded_lines is_framed profile
 abbrev pub Encodes : (is_framed : Bool) → Profile → ℕ → (had left written_before written_after : Option (List ℕ)) → EncodeEnd → Type 0
 Encodes is_framed profile limit had left written_before written_after ended = Converts (encoded is_framed profile limit) (GoesOn is_framed profile limit) had left written_before written_after (ending_of ended)
 
-abbrev pub FailsToEncode : (is_framed : Bool) → Profile → ℕ → (had left written_before written_after : Option (List ℕ)) → Type 0
-FailsToEncode is_framed profile limit had left written_before written_after = ConvertsInPart (encoded is_framed profile limit) had left written_before written_after
+-- If a read fails, the messages are written of the lines that end in what was read.
+abbrev pub FailsToEncode : (is_framed : Bool) → Profile → ℕ → (had left written_before written_after : Option (List ℕ)) → RunFault → Type 0
+FailsToEncode is_framed profile limit had left written_before written_after failed = FailsToConvert (λ read. (encoded is_framed profile limit read).text) (ended_encoded is_framed profile limit) had left written_before written_after failed

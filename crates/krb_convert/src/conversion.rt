@@ -1,6 +1,6 @@
 //! Messages to lines of JSON, and back, in frames or alone.
 
-ghost use Rattle.std.specs.Prelude.{IfOk, OnErr};
+ghost use Rattle.std.specs.Prelude.{IfErr, IfOk};
 ghost use Rattle.krb_convert.specs.Encoding.{FailsToEncode};
 ghost use Rattle.krb_convert.specs.Conversions.{DecodesBy, EncodesBy, FailsToDecodeBy, is_framed};
 
@@ -26,7 +26,7 @@ pub fn decode<R: Read, W: Write>(
     limit: Limit,
 ) -> Result<DecodeEnd, RunFault>
     ensures decoded { IfOk result (DecodesBy framing profile limit (R.remaining reader.old) (R.remaining reader.new) (W.contents writer.old) (W.contents writer.new)) }
-    ensures fault { OnErr result (FailsToDecodeBy framing profile limit (R.remaining reader.old) (R.remaining reader.new) (W.contents writer.old) (W.contents writer.new)) }
+    ensures fault { IfErr result (FailsToDecodeBy framing profile limit (R.remaining reader.old) (R.remaining reader.new) (W.contents writer.old) (W.contents writer.new)) }
 {
     match framing {
         Framing::Framed => run_decode(alloc, profile, reader, writer, limit),
@@ -46,7 +46,7 @@ pub fn encode<R: Read, W: Write>(
     limit: Limit,
 ) -> Result<EncodeEnd, RunFault>
     ensures encoded { IfOk result (EncodesBy framing profile limit (R.remaining reader.old) (R.remaining reader.new) (W.contents writer.old) (W.contents writer.new)) }
-    ensures fault { OnErr result (FailsToEncode (is_framed framing) profile limit (R.remaining reader.old) (R.remaining reader.new) (W.contents writer.old) (W.contents writer.new)) }
+    ensures fault { IfErr result (FailsToEncode (is_framed framing) profile limit (R.remaining reader.old) (R.remaining reader.new) (W.contents writer.old) (W.contents writer.new)) }
 {
     match framing {
         Framing::Framed => run_encode(alloc, profile, reader, writer, limit),

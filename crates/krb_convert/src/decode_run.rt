@@ -1,6 +1,6 @@
 //! Runs that write messages as lines of JSON.
 
-ghost use Rattle.std.specs.Prelude.{IfOk, OnErr};
+ghost use Rattle.std.specs.Prelude.{IfErr, IfOk};
 ghost use Rattle.krb_convert.specs.Decoding.{Decodes, FailsToDecode};
 
 use crate::json_lines::{DecodeRequest, JsonLister};
@@ -39,8 +39,8 @@ pub enum DecodeEnd {
 /// nothing after it is looked at. Frames of more than `limit` octets are refused. The reader is
 /// asked at most 2^40 times, for 64 KiB each, and the lines of what came are written before it is
 /// asked again. It is not asked again after an error, its end, or what ended the run. If a read
-/// fails or memory runs out, the lines of the messages before that are written, all or the first of
-/// them.
+/// fails, the lines of all messages that were read are written, and if memory runs out, the first
+/// octets of these.
 pub fn run_decode<R: Read, W: Write>(
     alloc: Global,
     profile: Profile,
@@ -49,7 +49,7 @@ pub fn run_decode<R: Read, W: Write>(
     limit: Limit,
 ) -> Result<DecodeEnd, RunFault>
     ensures decoded { IfOk result (Decodes profile limit (R.remaining reader.old) (R.remaining reader.new) (W.contents writer.old) (W.contents writer.new)) }
-    ensures fault { OnErr result (FailsToDecode profile limit (R.remaining reader.old) (R.remaining reader.new) (W.contents writer.old) (W.contents writer.new)) }
+    ensures fault { IfErr result (FailsToDecode profile limit (R.remaining reader.old) (R.remaining reader.new) (W.contents writer.old) (W.contents writer.new)) }
 {
     let mut counted = CountedReader::new(reader);
     let request = DecodeRequest { profile, limit };

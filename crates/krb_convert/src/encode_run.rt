@@ -1,6 +1,6 @@
 //! Runs that write the messages that lines of JSON spell.
 
-ghost use Rattle.std.specs.Prelude.{IfOk, OnErr, true, false};
+ghost use Rattle.std.specs.Prelude.{IfErr, IfOk, true, false};
 ghost use Rattle.krb_convert.specs.Encoding.{Encodes, FailsToEncode};
 
 use crate::json_reader::{EncodeRequest, JsonReader};
@@ -46,9 +46,9 @@ pub enum EncodeEnd {
 /// the run, and nothing after it is looked at. So does a line, even of blanks, that has more octets
 /// than 8 times `limit` and 65536, as soon as these came. The reader is asked at most 2^40 times, for 64 KiB
 /// each, and the frames of the lines that end in what came are written before it is asked again. It
-/// is not asked again after an error, its end or a fault. If a read fails or memory runs out, the
-/// frames of the lines before that are written, all or the first of them. Memory is allocated for a
-/// line, its JSON and its message.
+/// is not asked again after an error, its end or a fault. If a read fails, the frames of the lines
+/// that ended before that are written, and if memory runs out, the first octets of these. Memory is
+/// allocated for a line, its JSON and its message.
 pub fn run_encode<R: Read, W: Write>(
     alloc: Global,
     profile: Profile,
@@ -57,7 +57,7 @@ pub fn run_encode<R: Read, W: Write>(
     limit: Limit,
 ) -> Result<EncodeEnd, RunFault>
     ensures encoded { IfOk result (Encodes true profile limit (R.remaining reader.old) (R.remaining reader.new) (W.contents writer.old) (W.contents writer.new)) }
-    ensures fault { OnErr result (FailsToEncode true profile limit (R.remaining reader.old) (R.remaining reader.new) (W.contents writer.old) (W.contents writer.new)) }
+    ensures fault { IfErr result (FailsToEncode true profile limit (R.remaining reader.old) (R.remaining reader.new) (W.contents writer.old) (W.contents writer.new)) }
 {
     encode(alloc, profile, true, reader, writer, limit)
 }
@@ -73,7 +73,7 @@ pub fn run_encode_unframed<R: Read, W: Write>(
     limit: Limit,
 ) -> Result<EncodeEnd, RunFault>
     ensures encoded { IfOk result (Encodes false profile limit (R.remaining reader.old) (R.remaining reader.new) (W.contents writer.old) (W.contents writer.new)) }
-    ensures fault { OnErr result (FailsToEncode false profile limit (R.remaining reader.old) (R.remaining reader.new) (W.contents writer.old) (W.contents writer.new)) }
+    ensures fault { IfErr result (FailsToEncode false profile limit (R.remaining reader.old) (R.remaining reader.new) (W.contents writer.old) (W.contents writer.new)) }
 {
     encode(alloc, profile, false, reader, writer, limit)
 }
@@ -88,7 +88,7 @@ fn encode<R: Read, W: Write>(
     limit: Limit,
 ) -> Result<EncodeEnd, RunFault>
     ensures encoded { IfOk result (Encodes is_framed profile limit (R.remaining reader.old) (R.remaining reader.new) (W.contents writer.old) (W.contents writer.new)) }
-    ensures fault { OnErr result (FailsToEncode is_framed profile limit (R.remaining reader.old) (R.remaining reader.new) (W.contents writer.old) (W.contents writer.new)) }
+    ensures fault { IfErr result (FailsToEncode is_framed profile limit (R.remaining reader.old) (R.remaining reader.new) (W.contents writer.old) (W.contents writer.new)) }
 {
     let mut counted = CountedReader::new(reader);
     let request = EncodeRequest {

@@ -2,6 +2,7 @@
 //! the file of a KRB-CRED.
 
 ghost use Rattle.std.specs.Prelude.{◌≡◌, ◌<◌, ◌^◌, length, [], IfErr, IfOk, OnErr};
+ghost use Rattle.krb_run.specs.Faults.{IsWrite};
 ghost use Rattle.krb_json.specs.Unencrypted.{unencrypted_in};
 ghost use Rattle.krb_msg.specs.Views.{message_of_der};
 ghost use Rattle.krb_convert.specs.Decoding.{All, line_and, decoded_whole, DecodesWhole, FailsToDecodeWhole};
@@ -41,7 +42,7 @@ pub fn run_decode_unframed<R: Read, W: Write>(
     limit: Limit,
 ) -> Result<DecodeEnd, RunFault>
     ensures decoded { IfOk result (DecodesWhole profile limit (R.remaining reader.old) (R.remaining reader.new) (W.contents writer.old) (W.contents writer.new)) }
-    ensures fault { OnErr result (FailsToDecodeWhole profile limit (R.remaining reader.old) (R.remaining reader.new) (W.contents writer.old) (W.contents writer.new)) }
+    ensures fault { IfErr result (FailsToDecodeWhole profile limit (R.remaining reader.old) (R.remaining reader.new) (W.contents writer.old) (W.contents writer.new)) }
 {
     let mut counted = CountedReader::new(reader);
     decode_source(alloc, profile, &mut counted, writer, limit)
@@ -58,7 +59,7 @@ fn decode_source<R: Read, W: Write>(
     requires open { counted.old.state ≡ reader.Open }
     ensures same_reader { counted.new.reader.ghost_name ≡ counted.old.reader.ghost_name }
     ensures decoded { IfOk result (DecodesWhole profile limit (R.remaining counted.old.reader.now) (R.remaining counted.new.reader.now) (W.contents writer.old) (W.contents writer.new)) }
-    ensures fault { OnErr result (FailsToDecodeWhole profile limit (R.remaining counted.old.reader.now) (R.remaining counted.new.reader.now) (W.contents writer.old) (W.contents writer.new)) }
+    ensures fault { IfErr result (FailsToDecodeWhole profile limit (R.remaining counted.old.reader.now) (R.remaining counted.new.reader.now) (W.contents writer.old) (W.contents writer.new)) }
 {
     let octets = read_most(alloc, counted, limit.get() as usize + 1)?;
     let line = decode_message(alloc, profile, limit, octets.as_slice())?;
@@ -76,6 +77,7 @@ fn read_most<R: Read>(
     ensures same_reader { counted.new.reader.ghost_name ≡ counted.old.reader.ghost_name }
     ensures read { IfOk result (λ octets. ReadsMost (R.remaining counted.old.reader.now) (R.remaining counted.new.reader.now) most octets.items) }
     ensures taken { OnErr result (ReadsSome (R.remaining counted.old.reader.now) (R.remaining counted.new.reader.now)) }
+    ensures fault { IfErr result (λ e. IsWrite e → ⊥) }
 {
     let mut buffer = piece_buffer(alloc)?;
     let mut octets = Vec::new(alloc);

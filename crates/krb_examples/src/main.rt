@@ -303,7 +303,9 @@ fn put_capture(
 fn capture_records(alloc: Global, file: &[u8]) -> Result<Vec<u8>, FileFault> {
     let mut packets = Packets::new(file);
     let label = Label::none(Form::Lines);
-    let mut capture = Capture::new(alloc, &label, Profile::Lenient, Limit::DEFAULT, 88);
+    let Ok(mut capture) = Capture::new(alloc, &label, Profile::Lenient, Limit::DEFAULT, 88) else {
+        return Err(FileFault::Memory);
+    };
     let mut text = TextBuffer::new(alloc);
     let mut records = Vec::new(alloc);
     let clean = put_capture(alloc, &mut packets, &mut capture, &mut text, &mut records);

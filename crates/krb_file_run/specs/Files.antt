@@ -1,5 +1,5 @@
 -- The listings of keytabs and of credential caches.
-use Rattle.std.specs.Prelude.{ℕ, List, length, Option, Some, Result, Ok, Err}
+use Rattle.std.specs.Prelude.{ℕ, ◌≡◌, ◌⊎◌, List, drop, length, Option, Some, Result, Ok, Err}
 use Rattle.std.specs.List.{flat_map}
 use Rattle.krb_file.specs.Fields.{Source, Fault}
 use Rattle.krb_file.specs.Items.{Items}
@@ -30,6 +30,10 @@ last_of end_line label item count (Err fault) = fault_line label fault (file_pat
 abbrev pub items_listing : {A E : Type 0} → (A → List ℕ) → (ℕ → Result E Fault → List ℕ) → (ℕ → FileItem) → Items A (Result E Fault) → RecordListing
 items_listing line last item found = record { lines = flat_map line found.items; last = last (length found.items) found.end; end = end_of (item (length found.items)) found.end }
 
+-- what is left of them after the first `count` items
+abbrev pub items_left : {A E : Type 0} → (A → List ℕ) → (ℕ → Result E Fault → List ℕ) → (ℕ → FileItem) → Items A (Result E Fault) → (count : ℕ) → RecordListing
+items_left line last item found count = record { lines = flat_map line (drop count found.items); last = last (length found.items) found.end; end = end_of (item (length found.items)) found.end }
+
 abbrev pub keytab_last : Label → ℕ → Result (Stop × ℕ) Fault → List ℕ
 keytab_last label = last_of (λ count end. keytab_end_line label count end.0) label (λ count. items.Record count)
 
@@ -38,6 +42,10 @@ records_listing label = items_listing (λ r. record_line label r) (keytab_last l
 
 unfoldable pub keytab_listing : Label → List ℕ → RecordListing
 keytab_listing label file = records_listing label (keytab_records field_limit file)
+
+-- what is left of it after records
+abbrev pub IsKeytabRest : Label → (file : List ℕ) → RecordListing → Type 0
+IsKeytabRest label file left = (count : ℕ) × (left ≡ items_left (λ r. record_line label r) (keytab_last label) items.Record (keytab_records field_limit file) count)
 
 abbrev pub ccache_last : Label → ℕ → Result ℕ Fault → List ℕ
 ccache_last label = last_of (λ count size. cache_end_line label count) label (λ count. items.Credential count)
@@ -52,3 +60,7 @@ cache_listing label now (Ok start) found = after_line (cache_line label start.0.
 
 unfoldable pub ccache_listing : Label → Option ℕ → List ℕ → RecordListing
 ccache_listing label now file = cache_listing label now (file_start field_limit file) (credentials field_limit file)
+
+-- what is left of it: all, or what is left after the line of the cache and after credentials
+abbrev pub IsCcacheRest : Label → (now : Option ℕ) → (file : List ℕ) → RecordListing → Type 0
+IsCcacheRest label now file left = (left ≡ ccache_listing label now file) ⊎ ((count : ℕ) × (left ≡ items_left (λ c. credential_line label now c) (ccache_last label) items.Credential (credentials field_limit file) count))

@@ -4,8 +4,8 @@ ghost use Rattle.std.specs.Prelude.{◌≡◌, ℕ, List, Some};
 ghost use Rattle.krb_ccache.specs.Streaming.{Reads};
 ghost use Rattle.krb_record.specs.Labels.{no_label};
 ghost use Rattle.krb_run.specs.Records.{ListsRecords};
-ghost use Rattle.krb_file_run.specs.Files.{field_limit, keytab_listing, ccache_listing};
-ghost use Rattle.krb_file_run.specs.inner.RecordRuns.{AreRecordsLeft, AreCredentialsLeft};
+ghost use Rattle.krb_file_run.specs.Files.{IsCcacheRest, IsKeytabRest, field_limit, keytab_listing, ccache_listing};
+ghost use Rattle.krb_file_run.specs.inner.RecordRuns.{AreRecordsLeft, AreCredentialsLeft, CacheSource, KeytabSource};
 
 use crate::labelled::{put_cache, put_cache_end, put_credential, put_keytab_end, put_record};
 use krb_ccache::Credentials;
@@ -27,6 +27,8 @@ struct KeytabLines<'label, 'watch, R: Read> {
 }
 
 impl<R: Read> RecordLines for KeytabLines<'_, '_, R> {
+    ghost Source = { KeytabSource };
+
     ghost IsLeft = { λ lines. AreRecordsLeft lines.label.now lines.records.reader lines.records.state };
 
     fn put_next(
@@ -65,6 +67,8 @@ struct CredentialLines<'label, 'watch, R: Read> {
 }
 
 impl<R: Read + Drop> RecordLines for CredentialLines<'_, '_, R> {
+    ghost Source = { CacheSource };
+
     ghost IsLeft = { λ lines. AreCredentialsLeft lines.label.now lines.credentials.reader lines.credentials.start lines.credentials.state lines.now };
 
     fn put_next(
@@ -99,7 +103,7 @@ pub fn run_keytab<R: Read, W: Write>(
     reader: &mut R,
     writer: &mut W,
 ) -> Result<RunEnd, RunFault>
-    ensures listed { (file : List ℕ) → R.remaining reader.old ≡ Some file → ListsRecords (keytab_listing (no_label Form.Lines) file) (W.contents writer.old) (W.contents writer.new) result }
+    ensures listed { (file : List ℕ) → R.remaining reader.old ≡ Some file → ListsRecords (keytab_listing (no_label Form.Lines) file) (IsKeytabRest (no_label Form.Lines) file) (W.contents writer.old) (W.contents writer.new) result }
 {
     run_keytab_in(alloc, &Label::none(Form::Lines), reader, writer)
 }
@@ -115,7 +119,7 @@ pub fn run_keytab_in<R: Read, W: Write>(
     reader: &mut R,
     writer: &mut W,
 ) -> Result<RunEnd, RunFault>
-    ensures listed { (file : List ℕ) → R.remaining reader.old ≡ Some file → ListsRecords (keytab_listing label.now file) (W.contents writer.old) (W.contents writer.new) result }
+    ensures listed { (file : List ℕ) → R.remaining reader.old ≡ Some file → ListsRecords (keytab_listing label.now file) (IsKeytabRest label.now file) (W.contents writer.old) (W.contents writer.new) result }
 {
     let watch = Watch::new();
     let watch = &watch;
@@ -136,7 +140,7 @@ fn list_credentials<R: Read + Drop, W: Write>(
     lines: &mut CredentialLines<'_, '_, R>,
     writer: &mut W,
 ) -> Result<RunEnd, RunFault>
-    ensures listed { (file : List ℕ) → Reads field_limit lines.old.credentials.reader lines.old.credentials.start lines.old.credentials.state file 0 → ListsRecords (ccache_listing lines.old.label.now lines.old.now file) (W.contents writer.old) (W.contents writer.new) result }
+    ensures listed { (file : List ℕ) → Reads field_limit lines.old.credentials.reader lines.old.credentials.start lines.old.credentials.state file 0 → ListsRecords (ccache_listing lines.old.label.now lines.old.now file) (IsCcacheRest lines.old.label.now lines.old.now file) (W.contents writer.old) (W.contents writer.new) result }
 {
     let mut text = TextBuffer::new(alloc);
     let cache = &lines.credentials;
@@ -152,7 +156,7 @@ pub fn run_ccache<R: Read, W: Write>(
     writer: &mut W,
     now: Option<u32>,
 ) -> Result<RunEnd, RunFault>
-    ensures listed { (file : List ℕ) → R.remaining reader.old ≡ Some file → ListsRecords (ccache_listing (no_label Form.Lines) now file) (W.contents writer.old) (W.contents writer.new) result }
+    ensures listed { (file : List ℕ) → R.remaining reader.old ≡ Some file → ListsRecords (ccache_listing (no_label Form.Lines) now file) (IsCcacheRest (no_label Form.Lines) now file) (W.contents writer.old) (W.contents writer.new) result }
 {
     run_ccache_in(alloc, &Label::none(Form::Lines), reader, writer, now)
 }
@@ -168,7 +172,7 @@ pub fn run_ccache_in<R: Read, W: Write>(
     writer: &mut W,
     now: Option<u32>,
 ) -> Result<RunEnd, RunFault>
-    ensures listed { (file : List ℕ) → R.remaining reader.old ≡ Some file → ListsRecords (ccache_listing label.now now file) (W.contents writer.old) (W.contents writer.new) result }
+    ensures listed { (file : List ℕ) → R.remaining reader.old ≡ Some file → ListsRecords (ccache_listing label.now now file) (IsCcacheRest label.now now file) (W.contents writer.old) (W.contents writer.new) result }
 {
     let watch = Watch::new();
     let watch = &watch;

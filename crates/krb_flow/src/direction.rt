@@ -240,6 +240,9 @@ impl Direction {
     fn untaken(&self, segment: &Segment<'_>) -> Untaken
         ensures { result ≡ untaken_at self.now.state (kept_in self.now.window) segment.now }
     {
+        if segment.payload.octets().is_empty() {
+            return Untaken::none();
+        }
         let kept = self.window.as_slice();
         match &self.state {
             State::Fresh => Untaken::none(),

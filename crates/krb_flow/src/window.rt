@@ -47,6 +47,9 @@ impl Window {
         ensures most { self.new.most ≡ self.old.most }
         ensures octets { OnOk result (kept_in self.new ≡ last self.old.most (kept_in self.old ++ octets.now)) }
     {
+        if octets.is_empty() {
+            return Ok(());
+        }
         let octets = &octets[octets.len().saturating_sub(self.most)..];
         if self.octets.len().saturating_add(octets.len()) > 2 * MOST_KEPT {
             self.trim(alloc)?;

@@ -20,8 +20,8 @@ use Rattle.krb_source.specs.declared.layer.Layer.{Layer}
 use Rattle.krb_laws.specs.JsonLaws.{IsLine, MessagesAreJson, PartFits, PrintsJson}
 use Rattle.krb_laws.proofs.JsonInside.{error_inside, kdc_req_inside, padata_inside, tickets_inside}
 use Rattle.krb_laws.proofs.JsonNumbers.{cred, error, its_notes, its_encrypted, kdc_rep, kdc_req, of_ap_req, safe}
-use Rattle.krb_laws.proofs.JsonRecords.{ValuesFit, record_is_json}
-use Rattle.krb_laws.proofs.JsonShown.{AreCounted, FitsFrom, IsLast, IsOrigin, fields_fit, from_origin, no_last, no_origin}
+use Rattle.krb_laws.proofs.JsonRecords.{ValuesFit}
+use Rattle.krb_laws.proofs.JsonShown.{AreCounted, FitsFrom, IsLast, IsOrigin, fields_fit, from_origin, no_last, no_origin, record_is_json}
 use Rattle.krb_laws.proofs.JsonSizes.{IsBrief, brief, is_narrow}
 
 -- ---- where messages come from

@@ -8,14 +8,14 @@ use Rattle.json.specs.Strict.{keys, AreDistinct}
 use Rattle.krb_registry.specs.declared.registry.Registry.TheVariants as registries
 use Rattle.krb_record.specs.Forms.{closing, end_text, ending, fields_text, heading, inside_text, json_value, labelled, members, name_string, names_member, opening, opening_from, part_text, record_text}
 use Rattle.krb_record.specs.Text.{list_text}
-use Rattle.krb_record.specs.Values.{Value, Named, Numbers, ErrorCode, Status, Reason, NoReason, Field, Part, Printed}
+use Rattle.krb_record.specs.Values.{Value, Named, Numbers, ErrorCode, Status, Reason, NoReason, Called, Field, Part, Printed}
 use Rattle.krb_record.specs.declared.form.Form.TheVariants as form
 use Rattle.krb_laws.specs.Json.{field_members, inside_members, json_of, json_of_value, list_of, members_of, name_json, names_of_value, object_of, part_json}
-use Rattle.krb_laws.specs.JsonLaws.{FitsJson, IsJson, PartFits, ValueFits, are_different, inside_name, is_plain, member_names}
+use Rattle.krb_laws.specs.JsonLaws.{IsJson, PartFits, ValueFits, are_different, inside_name, is_plain, member_names}
 use Rattle.krb_laws.proofs.JsonNames.{AllOthers, distinct, distinct_cons, others as all_others}
 use Rattle.krb_laws.proofs.JsonPieces.{AreMembers, IsPlain, IsText, a_list, a_null, a_plain, an_object, as_text, deeper, document_is, no_more_members, one_more_member, printed_is}
 use Rattle.krb_laws.proofs.JsonStrings.{IsPlainOne, all-append, is_plain-plain}
-use Rattle.krb_laws.proofs.JsonValues.{a_name, every, printable, value_text}
+use Rattle.krb_laws.proofs.JsonValues.{a_name, every, or_no_name, printable, value_text}
 
 -- ---- the names of the numbers in a value, before other members
 suffixed : (name suffix value text : List ℕ) → 44 ∷ 34 ∷ (name ++ suffix ++ 34 ∷ 58 ∷ (value ++ text)) ≡ (44 ∷ 34 ∷ name) ++ (suffix ++ 34 ∷ 58 ∷ []) ++ value ++ text
@@ -33,6 +33,7 @@ module _ (levels : ℕ) (enough : 2 ≤ levels) (name : List ℕ) (plain : IsPla
   names_text rest (ErrorCode code) h k = one_named (codes "_name") refl (a_name registries.ErrorCodes code) k
   names_text rest (Status n) h k = one_named (codes "_name") refl (a_name registries.Statuses (pos n)) k
   names_text rest (Reason n reason) h k = one_named (codes "_name") refl (printable reason h.1) k
+  names_text rest (Called n called) h k = one_named (codes "_name") refl (or_no_name called h.1) k
   names_text {text} rest NoReason h k =
       subst (λ t. AreMembers (t ++ text) (members_of ((name ++ codes "_name", null) ∷ rest)) levels) (append_assoc (44 ∷ 34 ∷ name) (codes "_name\":") (codes "null")) (one_named (codes "_name") refl a_null k)
   names_text rest (Numbers registry ns) h k =
@@ -70,6 +71,7 @@ after_names P name rest h k all (Named registry n) = (h, all)
 after_names P name rest h k all (ErrorCode code) = (h, all)
 after_names P name rest h k all (Status n) = (h, all)
 after_names P name rest h k all (Reason n reason) = (h, all)
+after_names P name rest h k all (Called n called) = (h, all)
 after_names P name rest h k all NoReason = (h, all)
 after_names P name rest h k all (Numbers registry ns) = (k, all)
 after_names P name rest h k all value = all
@@ -80,6 +82,7 @@ distinct_names name rest h k apart (Named registry n) = distinct_cons (name ++ c
 distinct_names name rest h k apart (ErrorCode code) = distinct_cons (name ++ codes "_name") (keys (members_of rest)) h apart
 distinct_names name rest h k apart (Status n) = distinct_cons (name ++ codes "_name") (keys (members_of rest)) h apart
 distinct_names name rest h k apart (Reason n reason) = distinct_cons (name ++ codes "_name") (keys (members_of rest)) h apart
+distinct_names name rest h k apart (Called n called) = distinct_cons (name ++ codes "_name") (keys (members_of rest)) h apart
 distinct_names name rest h k apart NoReason = distinct_cons (name ++ codes "_name") (keys (members_of rest)) h apart
 distinct_names name rest h k apart (Numbers registry ns) = distinct_cons (name ++ codes "_names") (keys (members_of rest)) k apart
 distinct_names name rest h k apart value = apart
@@ -208,7 +211,17 @@ whole r =
     ∙ around r.kind (fields_text form.Json r.origin) (fields_text form.Json r.fields) (ending form.Json r.inside r.last)
     ∙ ap (λ t. t ++ fields_text form.Json r.fields ++ ending form.Json r.inside r.last) (sym (headed r.origin r.kind))
 
-record_text_is : (r : Printed) → FitsJson r → IsText (record_text form.Json r) (json_of r) 5
+-- a record that is an object by itself
+pub record FitsObject (r : Printed) : Type 0 where
+  pub kind : is_plain r.kind ≡ true
+  pub names : list_all (λ (f : Field). is_plain f.name) (r.origin ++ r.fields) ≡ true
+  pub apart : are_different (codes "kind" ∷ (flat_map (λ (f : Field). member_names f.name) (r.origin ++ r.fields) ++ (inside_name r.inside ++ flat_map (λ (f : Field). member_names f.name) r.last))) ≡ true
+  pub values : AllByRecursion (λ (f : Field). ValueFits f.value) (r.origin ++ r.fields)
+  pub inside : IfSome r.inside (AllByRecursion PartFits)
+  pub last_names : list_all (λ (f : Field). is_plain f.name) r.last ≡ true
+  pub last_values : AllByRecursion (λ (f : Field). ValueFits f.value) r.last
+
+record_text_is : (r : Printed) → FitsObject r → IsText (record_text form.Json r) (json_of r) 5
 unfolding json_of
 record_text_is r h =
     as_text
@@ -219,7 +232,7 @@ record_text_is r h =
     (its_end r.inside r.last h.inside (its_last r.last h.last_names h.last_values)) r.kind (r.origin ++ r.fields) h.kind h.names h.apart h.values)
     (whole r)
 
-pub record_is_json : (r : Printed) → FitsJson r → IsJson (record_text form.Json r) (json_of r)
-record_is_json r h =
+pub object_is_json : (r : Printed) → FitsObject r → IsJson (record_text form.Json r) (json_of r)
+object_is_json r h =
     let t : IsText (record_text form.Json r) (json_of r) 5 = record_text_is r h in
     record { document_is = document_is 5 (omega arith) t; printed = printed_is t; unique = t.unique }

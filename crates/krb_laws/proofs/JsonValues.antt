@@ -18,7 +18,7 @@ use Rattle.krb_registry.specs.declared.registry.Registry.TheVariants as registri
 use Rattle.krb_record.specs.Flows.{transport_name, endpoint_object, flow_object}
 use Rattle.krb_record.specs.Forms.{address_object, digest_object, flags_object, four_octets, json_string, json_value, name_string, octets_string, offset_object, or_null, principal_object, refused_object, encrypted_object, set_names, shown_octet, true_or_false}
 use Rattle.krb_record.specs.Text.{IsPrintable, hex, principal_text, list_text}
-use Rattle.krb_record.specs.Values.{Value, Absent, NoTicket, Number, Named, Numbers, ErrorCode, Status, Reason, NoReason, String, Quoted, FileName, Word, Hex, Flags, TicketFlags, Encrypted, Principal, Address, Digest, YesNo, Offset, RefusedTicket, Flow, Layers}
+use Rattle.krb_record.specs.Values.{Value, Absent, NoTicket, Number, Named, Numbers, ErrorCode, Status, Reason, NoReason, String, Quoted, FileName, Word, Hex, Flags, TicketFlags, Encrypted, Principal, Address, Digest, YesNo, Offset, RefusedTicket, Flow, Layers, Span, Called, Host}
 use Rattle.krb_record.specs.declared.flow.Transport.{Transport}
 use Rattle.krb_record.specs.declared.flow.Transport.TheVariants as transports
 use Rattle.krb_source.specs.Layers.{layer_name}
@@ -70,6 +70,10 @@ some_octets octets = a_string (flat_map shown_octet octets) (above_shown octets)
 
 pub printable : {levels : ℕ} (text : List ℕ) → IsPrintable text → IsText (json_string text) (string text) levels
 printable text h = a_string text (all-so (λ c. (32 ≤ c) × (c ≤ 126)) (λ c. 32 ≤ c) (λ c h. h.0) text h)
+
+pub or_no_name : {levels : ℕ} (name : Option (List ℕ)) → IfSome name IsPrintable → IsText (or_null json_string name) (if_known string name) levels
+or_no_name None h = a_null
+or_no_name (Some name) h = printable name h
 
 -- ---- objects
 some_flags : (registry : Registry) (bits : ℕ × List ℕ) → 8 * length bits.1 < 10 ^ 64 → IsText (flags_object registry bits) (flags_json registry bits) 2
@@ -218,4 +222,7 @@ value_text (YesNo holds) h = some_bool holds
 value_text (Offset seconds microseconds) h = more (some_offset seconds microseconds h.0 h.1)
 value_text (RefusedTicket r) h = some_refused r h
 value_text (Flow t source target) h = some_flow t source target h.0 h.1
+value_text (Span microseconds) h = a_signed microseconds h
+value_text (Called n name) h = a_number n h.0
+value_text (Host address) h = a_plain (ip_text address) (plain_address address h)
 value_text (Layers ls) h = more (some_layers ls)

@@ -14,7 +14,7 @@ use Rattle.krb_registry.specs.declared.registry.Registry.TheVariants as registri
 use Rattle.krb_record.specs.Flows.{transport_name}
 use Rattle.krb_record.specs.Forms.{four_octets, set_names, shown_octet}
 use Rattle.krb_record.specs.Text.{hex, principal_text}
-use Rattle.krb_record.specs.Values.{Value, Absent, NoTicket, Number, Named, Numbers, ErrorCode, Status, Reason, NoReason, String, Quoted, FileName, Word, Hex, Flags, TicketFlags, Encrypted, Principal, Address, Digest, YesNo, Offset, RefusedTicket, Flow, Layers, Field, Part, Printed}
+use Rattle.krb_record.specs.Values.{Value, Absent, NoTicket, Number, Named, Numbers, ErrorCode, Status, Reason, NoReason, String, Quoted, FileName, Word, Hex, Flags, TicketFlags, Encrypted, Principal, Address, Digest, YesNo, Offset, RefusedTicket, Flow, Layers, Span, Called, Host, Field, Part, Printed}
 use Rattle.krb_source.specs.Layers.{layer_name}
 
 -- ---- values of JSON
@@ -131,6 +131,9 @@ json_of_value (Offset seconds microseconds) = offset_json seconds microseconds
 json_of_value (RefusedTicket refusal) = refused_json refusal
 json_of_value (Flow transport source target) =
     object_of ((codes "over", string (transport_name transport)) ∷ (codes "source", endpoint_json source) ∷ (codes "target", endpoint_json target) ∷ [])
+json_of_value (Span microseconds) = number_of microseconds
+json_of_value (Called n name) = count_of n
+json_of_value (Host address) = string (ip_text address)
 json_of_value (Layers layers) = list_of (λ layer. string (layer_name layer)) layers
 
 -- the names of the numbers in the value of a field, in a member of their own
@@ -139,6 +142,7 @@ names_of_value name (Named registry n) = (name ++ codes "_name", name_json regis
 names_of_value name (ErrorCode code) = (name ++ codes "_name", name_json registries.ErrorCodes code) ∷ []
 names_of_value name (Status n) = (name ++ codes "_name", name_json registries.Statuses (pos n)) ∷ []
 names_of_value name (Reason n reason) = (name ++ codes "_name", string reason) ∷ []
+names_of_value name (Called n called) = (name ++ codes "_name", if_known string called) ∷ []
 names_of_value name NoReason = (name ++ codes "_name", null) ∷ []
 names_of_value name (Numbers registry ns) = (name ++ codes "_names", list_of (name_json registry) ns) ∷ []
 names_of_value name value = []

@@ -21,10 +21,11 @@ use Rattle.krb_msg.specs.Types.{ticket_value}
 use Rattle.krb_msg.specs.Views.{IsInProfile}
 use Rattle.krb_msg.specs.declared.message.Message.{Message}
 use Rattle.krb_msg.specs.declared.ticket.Ticket.{Ticket}
-use Rattle.krb_record.specs.Captures.{capture_refused_record, captured, count_fields, lost_record, password_record, unread_record}
+use Rattle.krb_record.specs.Captures.{capture_end_record, capture_refused_record, captured, lost_record, password_record, unanswered_record, unreachable_record, unread_record}
 use Rattle.krb_record.specs.Files.{file_record}
 use Rattle.krb_record.specs.Forms.{record_text}
 use Rattle.krb_record.specs.Inputs.{input_refused_record}
+use Rattle.krb_record.specs.Labels.{with_file_if}
 use Rattle.krb_record.specs.Laws.{OriginIsInRange}
 use Rattle.krb_record.specs.Origins.{message_origin}
 use Rattle.krb_text.specs.Messages.{message_record, ticket_record}
@@ -32,8 +33,16 @@ use Rattle.krb_record.specs.Refusals.{extent_in, file_refused_record, message_re
 use Rattle.krb_text.specs.StreamEnds.{end_record}
 use Rattle.krb_record.specs.Streams.{counted_end_record, refused_frame}
 use Rattle.krb_record.specs.Text.{IsPrintable}
-use Rattle.krb_record.specs.Values.{Value, Number, Named, Numbers, ErrorCode, Reason, Word, Flags, Encrypted, Principal, Address, Digest, Offset, RefusedTicket, Flow, Field, Part, Printed, printed, with_origin}
+use Rattle.krb_record.specs.Unreachables.{error_of}
+use Rattle.krb_record.specs.Values.{Value, Number, Named, Numbers, ErrorCode, Reason, Word, Flags, Encrypted, Principal, Address, Digest, Offset, RefusedTicket, Flow, Span, Called, Host, Field, Part, Printed, printed, with_origin}
 use Rattle.krb_record.specs.declared.capture.CaptureCounts.{CaptureCounts}
+use Rattle.krb_record.specs.declared.told.Answer.{Answer}
+use Rattle.krb_record.specs.declared.told.Request.{Request}
+use Rattle.krb_record.specs.declared.told.Told.{Told}
+use Rattle.krb_record.specs.declared.told.Told.TheVariants as tells
+use Rattle.krb_record.specs.declared.told.ToldCounts.{ToldCounts}
+use Rattle.krb_record.specs.declared.unreachable.How.{How}
+use Rattle.krb_record.specs.declared.unreachable.IcmpError.{IcmpError}
 use Rattle.krb_record.specs.declared.extent.Extent.{Extent}
 use Rattle.krb_record.specs.declared.form.Form.TheVariants as forms
 use Rattle.krb_record.specs.declared.input.InputFault.{InputFault}
@@ -81,6 +90,9 @@ ValueFits (Principal name_type components realm) = IsSmall name_type
 ValueFits (Address addr_type octets) = IsSmall addr_type
 ValueFits (Digest cksumtype size) = IsSmall cksumtype × (size < 10 ^ 64)
 ValueFits (Offset seconds microseconds) = IsSmall seconds × IsSmall microseconds
+ValueFits (Span microseconds) = IsSmall microseconds
+ValueFits (Called n name) = (n < 10 ^ 64) × IfSome name IsPrintable
+ValueFits (Host address) = MatchIp address IsIpv4Addr IsIpv6Addr
 ValueFits (RefusedTicket refusal) = refusal.place < 10 ^ 64
 ValueFits (Flow transport source target) = IsEndpoint source × IsEndpoint target
 ValueFits value = Unit {0}
@@ -97,19 +109,19 @@ abbrev pub inside_name : Option (List Part) → List (List ℕ)
 inside_name None = []
 inside_name (Some parts) = codes "inside" ∷ []
 
--- So it is of a record, and what is inside and what is last fit.
+-- So it is of a record, none of whose members may have the name of its file's, and what is inside and what is last fit.
 pub record FitsJson (r : Printed) : Type 0 where
   pub kind : is_plain r.kind ≡ true
   pub names : list_all (λ (f : Field). is_plain f.name) (r.origin ++ r.fields) ≡ true
-  pub apart : are_different (codes "kind" ∷ (flat_map (λ f. member_names f.name) (r.origin ++ r.fields) ++ (inside_name r.inside ++ flat_map (λ f. member_names f.name) r.last))) ≡ true
+  pub apart : are_different (codes "kind" ∷ (flat_map (λ f. member_names f.name) (r.origin ++ r.fields) ++ (inside_name r.inside ++ (flat_map (λ f. member_names f.name) r.last ++ member_names (codes "file"))))) ≡ true
   pub values : AllByRecursion (λ (f : Field). ValueFits f.value) (r.origin ++ r.fields)
   pub inside : IfSome r.inside (AllByRecursion PartFits)
   pub last_names : list_all (λ (f : Field). is_plain f.name) r.last ≡ true
   pub last_values : AllByRecursion (λ (f : Field). ValueFits f.value) r.last
 
--- the text of a record is its object
+-- the text of a record is its object, and so it is with the name of its file, whatever octets that has
 abbrev pub PrintsJson : Printed → Type 0
-PrintsJson r = IsJson (record_text forms.Json r) (json_of r)
+PrintsJson r = (file : Option (List ℕ)) → let labelled = with_file_if forms.Json file r in IsJson (record_text forms.Json labelled) (json_of labelled)
 
 -- The text of each record that fits is its object.
 abbrev pub RecordsAreJson : Type 0
@@ -147,12 +159,31 @@ pub record EndsAreJson : Type 0 where
   pub counted_stream : (messages refused : ℕ) → messages < 10 ^ 64 → refused < 10 ^ 64 → PrintsJson (counted_end_record messages refused)
   pub name : (name : List ℕ) → PrintsJson (file_record name)
 
+-- what is told of an exchange: numbers of packets, and spans of time
+pub record IsAnswer (answer : Answer) : Type 0 where
+  pub of : IfSome answer.of (λ n. n < 10 ^ 64)
+  pub after : IfSome answer.after (λ span. IsSmall span.microseconds)
+  pub waited : IfSome answer.waited (λ span. IsSmall span.microseconds)
+
+-- who could not be reached: an error has an address, and a type and a code of an octet each
+pub record IsError (error : IcmpError) : Type 0 where
+  pub by : MatchIp error.by IsIpv4Addr IsIpv6Addr
+  pub error_type : error.error_type < 2 ^ 8
+  pub code : error.code < 2 ^ 8
+
+abbrev pub IsTold : Told → Type 0
+IsTold tells.Nothing = Unit {0}
+IsTold (tells.Request again) = IfSome again (λ n. n < 10 ^ 64)
+IsTold (tells.Reply answer) = IsAnswer answer
+IsTold (tells.Either again answer) = IfSome again (λ n. n < 10 ^ 64) × IsAnswer answer
+
 -- the origin of a record of a capture: its numbers and addresses are as their types have them
 pub record IsFlowOrigin (origin : CaptureOrigin) : Type 0 where
   pub in_range : OriginIsInRange origin
   pub packet : origin.packet < 10 ^ 64
   pub source : origin.flow.source.port < 2 ^ 16
   pub target : origin.flow.target.port < 2 ^ 16
+  pub told : IsTold origin.told
 
 pub record AreCounts (counts : CaptureCounts) : Type 0 where
   pub packets : counts.packets < 10 ^ 64
@@ -161,13 +192,21 @@ pub record AreCounts (counts : CaptureCounts) : Type 0 where
   pub lost : counts.lost < 10 ^ 64
   pub unread : counts.unread < 10 ^ 64
 
+pub record AreToldCounts (told : ToldCounts) : Type 0 where
+  pub answered : told.answered < 10 ^ 64
+  pub unanswered : told.unanswered < 10 ^ 64
+  pub again : told.again < 10 ^ 64
+  pub unreachable : told.unreachable < 10 ^ 64
+
 -- of what is found in a capture, and of its end or its refusal
 pub record CapturesAreJson : Type 0 where
-  pub message : (origin : CaptureOrigin) (m : Message) → IsFlowOrigin origin → IsInProfile profiles.Lenient m → PrintsJson (captured origin (message_record m))
-  pub refusal : (origin : CaptureOrigin) (refusal : Refusal) (path : Option (List ℕ)) (extent : Extent) → IsFlowOrigin origin → refusal.place < 10 ^ 64 → IsExtent extent → PrintsJson (captured origin (refusal_record refusal (path_in forms.Json path ++ extent_in forms.Json extent)))
-  pub joined : (origin : CaptureOrigin) → IsFlowOrigin origin → PrintsJson (captured origin (printed (codes "joined") []))
-  pub lost : (origin : CaptureOrigin) (place octets : ℕ) (path : Option (List ℕ)) → IsFlowOrigin origin → place < 10 ^ 64 → octets < 10 ^ 64 → PrintsJson (captured origin (lost_record forms.Json place octets path))
-  pub unread : (origin : CaptureOrigin) (place : Option ℕ) (octets : ℕ) (reason : UnreadWhy) → IsFlowOrigin origin → IfSome place (λ n. n < 10 ^ 64) → octets < 10 ^ 64 → PrintsJson (captured origin (unread_record place octets reason))
-  pub password : (origin : CaptureOrigin) (version ap rest : ℕ) → IsFlowOrigin origin → version < 2 ^ 16 → ap < 2 ^ 16 → rest < 10 ^ 64 → PrintsJson (captured origin (password_record version ap rest))
-  pub end : (counts : CaptureCounts) → AreCounts counts → PrintsJson (printed (codes "end") (count_fields counts))
-  pub file : (counts : CaptureCounts) (place : ℕ) (reason : FileWhy) (path : Option (List ℕ)) (extent : Extent) → AreCounts counts → place < 10 ^ 64 → IsExtent extent → PrintsJson (capture_refused_record forms.Json counts place reason path extent)
+  pub message : (origin : CaptureOrigin) (m : Message) → IsFlowOrigin origin → IsInProfile profiles.Lenient m → PrintsJson (captured forms.Json origin (message_record m))
+  pub refusal : (origin : CaptureOrigin) (refusal : Refusal) (path : Option (List ℕ)) (extent : Extent) → IsFlowOrigin origin → refusal.place < 10 ^ 64 → IsExtent extent → PrintsJson (captured forms.Json origin (refusal_record refusal (path_in forms.Json path ++ extent_in forms.Json extent)))
+  pub joined : (origin : CaptureOrigin) → IsFlowOrigin origin → PrintsJson (captured forms.Json origin (printed (codes "joined") []))
+  pub lost : (origin : CaptureOrigin) (place octets : ℕ) (path : Option (List ℕ)) → IsFlowOrigin origin → place < 10 ^ 64 → octets < 10 ^ 64 → PrintsJson (captured forms.Json origin (lost_record forms.Json place octets path))
+  pub unread : (origin : CaptureOrigin) (place : Option ℕ) (octets : ℕ) (reason : UnreadWhy) → IsFlowOrigin origin → IfSome place (λ n. n < 10 ^ 64) → octets < 10 ^ 64 → PrintsJson (captured forms.Json origin (unread_record place octets reason))
+  pub password : (origin : CaptureOrigin) (version ap rest : ℕ) → IsFlowOrigin origin → version < 2 ^ 16 → ap < 2 ^ 16 → rest < 10 ^ 64 → PrintsJson (captured forms.Json origin (password_record version ap rest))
+  pub unanswered : (origin : CaptureOrigin) (request : Request) (answer : Answer) → IsFlowOrigin origin → origin.told ≡ tells.Nothing → IsAnswer answer → PrintsJson (captured forms.Json origin (unanswered_record request answer))
+  pub unreachable : (origin : CaptureOrigin) (how : How) (answer : Answer) → IsFlowOrigin origin → origin.told ≡ tells.Nothing → IfSome (error_of how) IsError → IsAnswer answer → PrintsJson (captured forms.Json origin (unreachable_record how answer))
+  pub end : (counts : CaptureCounts) (told : ToldCounts) → AreCounts counts → AreToldCounts told → PrintsJson (capture_end_record forms.Json counts told)
+  pub file : (counts : CaptureCounts) (told : ToldCounts) (place : ℕ) (reason : FileWhy) (path : Option (List ℕ)) (extent : Extent) → AreCounts counts → AreToldCounts told → place < 10 ^ 64 → IsExtent extent → PrintsJson (capture_refused_record forms.Json counts told place reason path extent)

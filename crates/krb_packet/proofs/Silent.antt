@@ -1,11 +1,12 @@
 -- What is passed over was so by a number that is listed: header by header, and then along the walk.
-use Rattle.std.proofs.Common.{◌≡◌, ℕ, suc, zero, ◌+◌, ◌*◌, ◌<◌, ◌≤◌, ◌⊎◌, ◌/◌, ◌%◌, ◌^◌, inl, inr, Bool, true, false, Option, Some, None, refl, ap, arith}
+use Rattle.std.proofs.Common.{◌≡◌, ℕ, suc, zero, ◌+◌, ◌*◌, ◌<◌, ◌≤◌, ◌⊎◌, ◌/◌, ◌%◌, ◌^◌, inl, inr, Bool, true, false, Option, Some, None, refl, sym, ◌∙◌, ap, subst, arith}
 use Rattle.std.specs.Prelude.{◌==◌, ◌||◌, ◌&&◌, bit_and, nat_le, nat_lt, IsSomeAnd, length}
 use Rattle.std.proofs.lemmas.Bool.{eqb-true, leb-true, leb-false, ltb-true}
 use Rattle.std.specs.declared.net.ip_addr.IpAddr.{IpAddr}
 use Rattle.std.specs.declared.net.ip_addr.IpAddr.TheVariants as ip
 use Rattle.krb_packet.specs.Contents.{addresses4, addresses6, after_headers, announced, authentication, bsd_loopback, cooked, cooked_type, datagram, datagram_or_tunnel, ends, ethernet, extensions, fragment, frame, in_either_order, ipv4, ipv6, is_followed, is_tag, logical_link, may_lead_on, of_family, of_fragment, of_other_protocol, of_protocol, of_type, of_type_or_length, onwards, openbsd_loopback, or_unread, or_unread_between, payload_between, payload_of, raw_ip, segment, snap, snap_type, step, tag, tcp, udp, walk}
 use Rattle.krb_packet.specs.Envelopes.{after_labels, gre, label, long_ppp, mirrored2, mirrored3, of_frame_kind, of_gre, of_ppp, pseudowire, session}
+use Rattle.krb_packet.specs.Icmp.{error, or_passed}
 use Rattle.krb_packet.specs.Passed.{is_passed_protocol, is_passed_type}
 use Rattle.krb_packet.specs.Payloads.{Captured, ◌>>=◌, field, number8, number16, number32, after, beyond}
 use Rattle.krb_packet.specs.Silence.{IsAccountedFor, IsBesideEsp, IsChannel, IsPassedCooked, IsPassedEthernet, IsPassedFamily, IsPassedFrame, IsPassedHeader, IsPassedIp, IsPassedLink, IsPassedOver, IsPassedPacket, IsPassedPayload, IsPassedProtocol, IsPassedSnap, IsPassedTunnel, IsPassedType, IsPassedTypeOrLength, NothingIsSilent, at_once, has_bridged, has_types, here, is_ip, is_snap, later, ppp_number, protocol4, protocol6, protocol_after, within}
@@ -14,6 +15,7 @@ use Rattle.krb_packet.specs.declared.contents.Contents.{Contents}
 use Rattle.krb_packet.specs.declared.contents.Contents.TheVariants as contents
 use Rattle.krb_packet.specs.declared.contents.Ends.{Ends}
 use Rattle.krb_packet.specs.declared.contents.Fragment.{Fragment}
+use Rattle.krb_packet.specs.declared.contents.IcmpError.{IcmpError}
 use Rattle.krb_packet.specs.declared.header.Addresses.{Addresses}
 use Rattle.krb_packet.specs.declared.header.Header.{Header}
 use Rattle.krb_packet.specs.declared.header.Header.TheVariants as headers
@@ -28,6 +30,7 @@ abbrev pub IsNoTunnel : ℕ → Ends → Type 0
 IsNoTunnel port between = (is_served port between ≡ true) ⊎ (is_tunnel between.target.port ≡ false)
 
 abbrev pub IsFine : ℕ → Type 0 → Contents → Type 0
+IsFine port P (contents.Error error) = Unit {0}
 IsFine port P contents.Other = P
 IsFine port P (contents.Datagram datagram) = IsNoTunnel port (record { source = datagram.source; target = datagram.target })
 IsFine port P (contents.Segment segment) = Unit {0}
@@ -47,6 +50,7 @@ Goes port P (Some (steps.Found read)) = IsFine port P read
 Goes port P (Some (steps.Next header packet)) = Unit {0}
 
 pub fine-anyhow : (port : ℕ) (P Q : Type 0) (read : Contents) → (P → Q) → IsFine port P read → IsFine port Q read
+fine-anyhow port P Q (contents.Error error) h p = tt
 fine-anyhow port P Q contents.Other h p = h p
 fine-anyhow port P Q (contents.Datagram datagram) h p = p
 fine-anyhow port P Q (contents.Segment segment) h p = p
@@ -160,6 +164,18 @@ gre-goes port packet =
 
 -- ---- protocols of IP
 
+-- ICMP and ICMPv6 are passed over, unless they are an error
+icmp_passed : (protocol : ℕ) → (protocol == 1 || protocol == 58) ≡ true → IsPassedProtocol protocol
+unfolding is_passed_protocol
+icmp_passed protocol e =
+    test_is (protocol == 1)
+    (λ one. subst IsPassedProtocol (sym (eqb-true protocol 1 one)) refl)
+    (λ other. subst IsPassedProtocol (sym (eqb-true protocol 58 (sym (ap (λ b. b || protocol == 58) other) ∙ e))) refl)
+
+icmp_fine : (port : ℕ) (P : Type 0) (error : Option IcmpError) → P → IsFine port P (or_passed error)
+icmp_fine port P None p = p
+icmp_fine port P (Some error) p = tt
+
 of_other_protocol-passed : (port : ℕ) (addresses : Addresses) (protocol : ℕ) (packet : Captured) → Goes port (IsPassedProtocol protocol) (of_other_protocol addresses protocol packet)
 unfolding of_other_protocol
 of_other_protocol-passed port addresses protocol packet =
@@ -167,7 +183,8 @@ of_other_protocol-passed port addresses protocol packet =
     test_is (protocol == 4) (λ e. rw e tt) (λ e. rw e (
     test_is (protocol == 41) (λ e. rw e tt) (λ e. rw e (
     test_is (protocol == 47) (λ e. rw e (never port _ (gre packet) (gre-goes port packet))) (λ e. rw e (
-    test_is (is_passed_protocol protocol) (λ e. rw e refl) (λ e. rw e tt)))))))))
+    test_is (protocol == 1 || protocol == 58) (λ e. rw e (icmp_fine port (IsPassedProtocol protocol) (error addresses.source protocol packet) (icmp_passed protocol e))) (λ e. rw e (
+    test_is (is_passed_protocol protocol) (λ e. rw e refl) (λ e. rw e tt)))))))))))
 
 of_protocol-goes : (port : ℕ) (addresses : Addresses) (protocol : ℕ) (packet : Captured) → Goes port ⊥ (of_protocol addresses protocol packet)
 unfolding of_protocol
@@ -503,6 +520,7 @@ frame-passed port (links.Other number) packet = tt
 -- ---- packets
 
 accounted : (port : ℕ) (link : LinkType) (packet : Captured) (read : Contents) → IsFine port (IsPassedPacket port link packet) read → IsAccountedFor port link packet read
+accounted port link packet (contents.Error error) p = tt
 accounted port link packet contents.Other p = p
 accounted port link packet (contents.Datagram datagram) p = p
 accounted port link packet (contents.Segment segment) p = p

@@ -6,6 +6,8 @@ use Rattle.std.specs.declared.net.ip_addr.IpAddr.{IpAddr}
 use Rattle.std.specs.declared.net.ip_addr.IpAddr.TheVariants as ip
 use Rattle.krb_der.specs.Octets.{when}
 use Rattle.krb_packet.specs.Envelopes.{gre, label, session}
+unfoldable pub use Rattle.krb_packet.specs.Headers.{addresses4, addresses6, endpoint, ends, extension, fragment_header, is_option_header, options, skip_headers}
+use Rattle.krb_packet.specs.Icmp.{icmp}
 use Rattle.krb_packet.specs.Passed.{is_passed_protocol, is_passed_type}
 use Rattle.krb_packet.specs.Payloads.{Captured, ◌>>=◌, field, number8, number16, number32, after, beyond, past, within}
 use Rattle.krb_packet.specs.Steps.{found, if_valid, next, passed}
@@ -22,9 +24,6 @@ use Rattle.krb_packet.specs.declared.header.Step.{Step}
 use Rattle.krb_packet.specs.declared.header.Step.TheVariants as steps
 use Rattle.krb_packet.specs.declared.packet.LinkType.{LinkType}
 use Rattle.krb_packet.specs.declared.packet.LinkType.TheVariants as links
-
-abbrev pub endpoint : IpAddr → ℕ → Endpoint
-endpoint address port = record { address = address; port = port }
 
 -- ---- UDP (RFC 768): the length counts the header of eight octets, too. Octets may follow it within the length of IP.
 
@@ -46,15 +45,9 @@ segment ends packet = do
   flags ← number8 13 packet
   options ← after 20 packet
   rest ← beyond (offset / 16 * 4) packet
-  if_valid (nat_le 5 (offset / 16)) (contents.Segment (record { source = ends.source; target = ends.target; sequence = sequence; fin = is_set 1 flags; syn = is_set 2 flags; rst = is_set 4 flags; payload = rest }))
+  if_valid (nat_le 5 (offset / 16)) (contents.Segment (record { source = ends.source; target = ends.target; sequence = sequence; fin = is_set 1 flags; syn = is_set 2 flags; rst = is_set 4 flags; ack = is_set 16 flags; payload = rest }))
 
 -- ---- The ports come first in both. Between others than one looks for, the rest of the header is of no interest.
-
-unfoldable pub ends : IpAddr → IpAddr → Captured → Option Ends
-ends from to packet = do
-  source ← number16 0 packet
-  target ← number16 2 packet
-  Some (record { source = endpoint from source; target = endpoint to target })
 
 abbrev pub or_unread_between : Ends → Option Contents → Contents
 or_unread_between between None = contents.UnreadBetween between
@@ -77,12 +70,6 @@ tcp addresses packet = do
   between ← ends addresses.source addresses.target packet
   Some (found (or_unread_between between (segment between packet)))
 
--- skips headers of some kinds, each of which has the kind of the next one; at most as many as the first number
-abbrev pub skip_headers : (ℕ → Captured → Bool) → (ℕ → Captured → Option (ℕ × Captured)) → ℕ → ℕ → Captured → Option (ℕ × Captured)
-skip_headers is_skipped pass zero kind packet = None
-skip_headers is_skipped pass (suc bound) kind packet =
-    when (is_skipped kind packet) (λ _. pass kind packet >>= λ next. skip_headers is_skipped pass bound next.0 next.1) (λ _. Some (kind, packet))
-
 -- ---- what follows IP, by its protocol. Each that is not named here or in Passed is unread: a packet may be in it.
 
 -- AH (RFC 4302, 2): its length counts words of four octets, less two, and it has three of them at least
@@ -103,8 +90,9 @@ of_other_protocol addresses protocol packet =
     when (protocol == 4) (λ _. next (headers.Type 0x0800) packet) (λ _.
     when (protocol == 41) (λ _. next (headers.Type 0x86DD) packet) (λ _.
     when (protocol == 47) (λ _. gre packet) (λ _.
+    when (protocol == 1 || protocol == 58) (λ _. Some (found (icmp addresses protocol packet))) (λ _.
     when (is_passed_protocol protocol) (λ _. passed) (λ _.
-    None)))))
+    None))))))
 
 -- UDP and TCP; all else is left to another step
 unfoldable pub of_protocol : Addresses → ℕ → Captured → Option Step
@@ -117,12 +105,6 @@ of_protocol addresses protocol packet =
 
 unfoldable pub announced : ℕ → Captured → Captured
 announced size packet = when (size == 0) (λ _. packet) (λ _. within size packet)
-
-abbrev pub addresses4 : List ℕ → List ℕ → Addresses
-addresses4 from to = record { source = ip.V4 (record { octets = from }); target = ip.V4 (record { octets = to }) }
-
-abbrev pub addresses6 : List ℕ → List ℕ → Addresses
-addresses6 from to = record { source = ip.V6 (record { segments = segments_of from }); target = ip.V6 (record { segments = segments_of to }) }
 
 -- a fragment of an IP datagram: what it has in common with the others, the protocol of what it begins with, its offset, and its octets
 abbrev pub fragment_of : Original → ℕ → ℕ → Bool → Captured → Contents
@@ -154,30 +136,12 @@ ipv4 packet = do
       (λ _. of_protocol (addresses4 source target) protocol valid)
       (λ _. of_fragment (is_followed protocol) protocol (fragment_of (original4 (addresses4 source target) identification protocol) protocol (flags % 2 ^ 13 * 8) (flags / 2 ^ 13 % 2 == 0) valid))
 
--- IPv6 (RFC 8200, 4.3, 4.4, 4.6): the length of an extension header counts groups of eight octets after the first
-unfoldable pub options : Captured → Option (ℕ × Captured)
-options packet = do
-  next ← number8 0 packet
-  size ← number8 1 packet
-  rest ← after (8 * size + 8) packet
-  Some (next, rest)
-
--- the fragment header (4.5), which is skipped in an atomic fragment (RFC 6946), which is a whole datagram: its offset is 0, and no more fragments follow
-unfoldable pub fragment_header : Captured → Option (ℕ × Captured)
-fragment_header packet = do
-  next ← number8 0 packet
-  rest ← after 8 packet
-  Some (next, rest)
-
 unfoldable pub is_whole : Captured → Bool
 is_whole packet = option_map_or (λ offset. offset / 8 == 0 && offset % 2 == 0) (number16 2 packet) false
 
 -- hop-by-hop options, routing, destination options, and the fragment header
 abbrev pub is_skipped : ℕ → Captured → Bool
-is_skipped kind packet = when (kind == 0 || (kind == 43 || kind == 60)) (λ _. true) (λ _. when (kind == 44) (λ _. is_whole packet) (λ _. false))
-
-unfoldable pub extension : ℕ → Captured → Option (ℕ × Captured)
-extension kind packet = when (kind == 44) (λ _. fragment_header packet) (λ _. options packet)
+is_skipped kind packet = when (is_option_header kind) (λ _. true) (λ _. when (kind == 44) (λ _. is_whole packet) (λ _. false))
 
 abbrev pub extensions : ℕ → ℕ → Captured → Option (ℕ × Captured)
 extensions = skip_headers is_skipped extension

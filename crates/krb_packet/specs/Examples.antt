@@ -112,7 +112,7 @@ whole octets = record { octets = octets; size = length octets }
 abbrev local : IpAddr
 local = ip.V4 (record { octets = 127 ∷ 0 ∷ 0 ∷ 1 ∷ [] })
 
-segment_is_carried : contents_of 88 links.Ethernet (whole syn) ≡ contents.Segment (record { source = record { address = local; port = 42700 }; target = record { address = local; port = 88 }; sequence = 4106491343; fin = false; syn = true; rst = false; payload = record { octets = []; size = 0 } })
+segment_is_carried : contents_of 88 links.Ethernet (whole syn) ≡ contents.Segment (record { source = record { address = local; port = 42700 }; target = record { address = local; port = 88 }; sequence = 4106491343; fin = false; syn = true; rst = false; ack = false; payload = record { octets = []; size = 0 } })
 unfolding frame ethernet of_type_or_length of_type number16 number8 number32 field after beyond within ipv4 announced of_protocol tcp ends segment
 segment_is_carried = refl
 

@@ -125,6 +125,7 @@ abbrev pub inner : Contents → Option Fragment
 inner (contents.Fragment fragment) = Some fragment
 inner (contents.Datagram datagram) = None
 inner (contents.Segment segment) = None
+inner (contents.Error error) = None
 inner contents.Other = None
 inner (contents.UnreadBetween ends) = None
 inner contents.Unread = None
@@ -146,6 +147,7 @@ abbrev pub unless_fragment : Contents → Contents
 unless_fragment (contents.Fragment fragment) = contents.Unread
 unless_fragment (contents.Datagram datagram) = contents.Datagram datagram
 unless_fragment (contents.Segment segment) = contents.Segment segment
+unless_fragment (contents.Error error) = contents.Error error
 unless_fragment contents.Other = contents.Other
 unless_fragment (contents.UnreadBetween ends) = contents.UnreadBetween ends
 unless_fragment contents.Unread = contents.Unread

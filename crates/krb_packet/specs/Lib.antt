@@ -3,6 +3,8 @@ pub mod Passed
 pub mod Steps
 pub mod Envelopes
 pub mod Tunnels
+pub mod Headers
+pub mod Icmp
 pub mod Contents
 pub mod Silence
 pub mod Parts

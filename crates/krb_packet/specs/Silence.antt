@@ -173,6 +173,7 @@ IsAccountedFor port link packet contents.Other = IsPassedPacket port link packet
 IsAccountedFor port link packet (contents.Datagram datagram) = (is_served port (record { source = datagram.source; target = datagram.target }) ≡ true) ⊎ (is_tunnel datagram.target.port ≡ false)
 IsAccountedFor port link packet (contents.Segment segment) = Unit {0}
 IsAccountedFor port link packet (contents.Fragment fragment) = Unit {0}
+IsAccountedFor port link packet (contents.Error error) = Unit {0}
 IsAccountedFor port link packet (contents.UnreadBetween ends) = Unit {0}
 IsAccountedFor port link packet contents.Unread = Unit {0}
 

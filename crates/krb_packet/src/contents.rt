@@ -41,6 +41,8 @@ pub struct Segment<'a> {
     pub syn: bool,
     /// The connection is reset.
     pub rst: bool,
+    /// Octets of the other direction are acknowledged.
+    pub ack: bool,
     /// Its octets.
     pub payload: Payload<'a>,
 }
@@ -74,6 +76,30 @@ pub struct Fragment<'a> {
     pub payload: Payload<'a>,
 }
 
+/// The protocol of a packet that an error quotes.
+#[derive(Clone, Copy, PartialEq, Eq, Debug)]
+pub enum QuotedProtocol {
+    /// UDP.
+    Udp,
+    /// TCP.
+    Tcp,
+}
+
+/// An error of ICMP (RFC 792) or, from an address of IPv6, of ICMPv6 (RFC 4443, 3).
+#[derive(Clone, Copy, PartialEq, Eq, Debug)]
+pub struct IcmpError {
+    /// Who sent it.
+    pub by: IpAddr,
+    /// Its type.
+    pub error_type: u8,
+    /// Its code.
+    pub code: u8,
+    /// The protocol of the packet that it quotes.
+    pub protocol: QuotedProtocol,
+    /// The ends of that packet.
+    pub ends: Ends,
+}
+
 /// What a packet carries.
 #[derive(Drop)]
 pub enum Contents<'a> {
@@ -83,6 +109,8 @@ pub enum Contents<'a> {
     Segment(Segment<'a>),
     /// A fragment of a datagram that may carry UDP or TCP, unless it is all of its datagram.
     Fragment(Fragment<'a>),
+    /// An error of ICMP that quotes a packet of UDP or TCP.
+    Error(IcmpError),
     /// What carries no packet of IP, or a fragment of it: it is passed over.
     Other,
     /// A header of UDP or TCP that is cut or wrong after its ports.

@@ -2,20 +2,25 @@
 
 ghost use Rattle.std.specs.Prelude.{◌≡◌};
 ghost use Rattle.krb_packet.specs.declared.contents.Contents.TheVariants as kinds;
-ghost use Rattle.krb_packet.specs.Contents.{after_headers, announced, authentication, extension, extensions, fragment, fragment_header, ipv4, ipv6, is_followed, is_skipped, is_whole, may_lead_on, of_fragment, of_other_protocol, of_protocol, options, payload_of};
+ghost use Rattle.krb_packet.specs.Contents.{addresses4, addresses6, after_headers, announced, authentication, extension, extensions, fragment, fragment_header, ipv4, ipv6, is_followed, is_option_header, is_skipped, is_whole, may_lead_on, of_fragment, of_other_protocol, of_protocol, options, payload_of};
 
 use crate::contents::{Contents, Fragment, Original};
 use crate::envelope::gre;
 use crate::header::{Addresses, Header, Step};
+use crate::icmp::icmp;
 use crate::passed::is_passed_protocol;
 use crate::payload::Payload;
 use crate::transport::{tcp, udp};
 use std::net::{IpAddr, Ipv4Addr, Ipv6Addr};
 
 /// The protocols.
-const TCP: u8 = 6;
+pub(crate) const TCP: u8 = 6;
 
-const UDP: u8 = 17;
+pub(crate) const UDP: u8 = 17;
+
+const ICMP: u8 = 1;
+
+const ICMPV6: u8 = 58;
 
 const AUTHENTICATION: u8 = 51;
 
@@ -38,7 +43,7 @@ const HOP_BY_HOP_OPTIONS: u8 = 0;
 
 const ROUTING: u8 = 43;
 
-const FRAGMENT: u8 = 44;
+pub(crate) const FRAGMENT: u8 = 44;
 
 const DESTINATION_OPTIONS: u8 = 60;
 
@@ -89,6 +94,7 @@ pub(crate) fn of_other_protocol<'a>(
         IPV4 => Some(Step::Next(Header::Type(IPV4_TYPE), packet)),
         IPV6 => Some(Step::Next(Header::Type(IPV6_TYPE), packet)),
         GRE => gre(packet),
+        ICMP | ICMPV6 => Some(Step::Found(icmp(addresses, protocol, &packet))),
         _ => {
             if is_passed_protocol(protocol) {
                 return Some(Step::Found(Contents::Other));
@@ -139,6 +145,28 @@ fn announced<'a>(size: u16, packet: Payload<'a>) -> Payload<'a>
     }
 }
 
+/// Returns two addresses of IPv4.
+#[inline(always)]
+pub(crate) fn addresses4(source: [u8; 4], target: [u8; 4]) -> Addresses
+    ensures { result ≡ addresses4 source target }
+{
+    Addresses {
+        source: IpAddr::V4(Ipv4Addr::from_octets(source)),
+        target: IpAddr::V4(Ipv4Addr::from_octets(target)),
+    }
+}
+
+/// Returns two addresses of IPv6.
+#[inline(always)]
+pub(crate) fn addresses6(source: [u8; 16], target: [u8; 16]) -> Addresses
+    ensures { result ≡ addresses6 source target }
+{
+    Addresses {
+        source: IpAddr::V6(Ipv6Addr::from_octets(source)),
+        target: IpAddr::V6(Ipv6Addr::from_octets(target)),
+    }
+}
+
 /// Returns what follows a header of IPv4.
 #[tactic(auto, unfolding(crate::specs::Contents::ipv4))]
 pub(crate) fn ipv4<'a>(packet: Payload<'a>) -> Option<Step<'a>>
@@ -157,10 +185,7 @@ pub(crate) fn ipv4<'a>(packet: Payload<'a>) -> Option<Step<'a>>
     if first / 16 != 4 || words < 5 {
         return None;
     }
-    let addresses = Addresses {
-        source: IpAddr::V4(Ipv4Addr::from_octets(source)),
-        target: IpAddr::V4(Ipv4Addr::from_octets(target)),
-    };
+    let addresses = addresses4(source, target);
     if flags % (1 << 14) == 0 {
         return of_protocol(addresses, protocol, payload);
     }
@@ -180,7 +205,7 @@ pub(crate) fn ipv4<'a>(packet: Payload<'a>) -> Option<Step<'a>>
 }
 
 /// Returns the kind of the header after one of options, and what it begins.
-#[tactic(auto, unfolding(crate::specs::Contents::options))]
+#[tactic(auto, unfolding(crate::specs::Headers::options))]
 fn options<'a>(packet: Payload<'a>) -> Option<(u8, Payload<'a>)>
     ensures { result ≡ options packet.entry }
 {
@@ -191,7 +216,7 @@ fn options<'a>(packet: Payload<'a>) -> Option<(u8, Payload<'a>)>
 }
 
 /// Returns the kind of the header after that of a fragment, and what it begins.
-#[tactic(auto, unfolding(crate::specs::Contents::fragment_header))]
+#[tactic(auto, unfolding(crate::specs::Headers::fragment_header))]
 fn fragment_header<'a>(packet: Payload<'a>) -> Option<(u8, Payload<'a>)>
     ensures { result ≡ fragment_header packet.entry }
 {
@@ -211,6 +236,13 @@ fn is_whole(packet: &Payload<'_>) -> bool
     }
 }
 
+/// Returns whether a header is one of options or of routing.
+pub(crate) fn is_option_header(kind: u8) -> bool
+    ensures { result ≡ is_option_header kind }
+{
+    matches!(kind, HOP_BY_HOP_OPTIONS | ROUTING | DESTINATION_OPTIONS)
+}
+
 /// Returns whether a header is an extension header that is passed.
 fn is_skipped(kind: u8, packet: &Payload<'_>) -> bool
     ensures { result ≡ is_skipped kind packet.now }
@@ -223,8 +255,8 @@ fn is_skipped(kind: u8, packet: &Payload<'_>) -> bool
 }
 
 /// Returns the kind of the header after an extension header, and what it begins.
-#[tactic(auto, unfolding(crate::specs::Contents::extension))]
-fn extension<'a>(kind: u8, packet: Payload<'a>) -> Option<(u8, Payload<'a>)>
+#[tactic(auto, unfolding(crate::specs::Headers::extension))]
+pub(crate) fn extension<'a>(kind: u8, packet: Payload<'a>) -> Option<(u8, Payload<'a>)>
     ensures { result ≡ extension kind packet.entry }
 {
     if kind == FRAGMENT {
@@ -303,10 +335,7 @@ pub(crate) fn ipv6<'a>(packet: Payload<'a>) -> Option<Step<'a>>
     if first / 16 != 6 {
         return None;
     }
-    let addresses = Addresses {
-        source: IpAddr::V6(Ipv6Addr::from_octets(source)),
-        target: IpAddr::V6(Ipv6Addr::from_octets(target)),
-    };
+    let addresses = addresses6(source, target);
     after_headers(addresses, kind, announced(size, rest))
 }
 

@@ -22,6 +22,7 @@ mod envelope;
 mod format;
 mod fragments;
 mod header;
+mod icmp;
 mod interface;
 mod internet;
 pub mod law;
@@ -37,7 +38,9 @@ mod tunnel;
 mod walk;
 
 pub use block::Section;
-pub use contents::{Contents, Datagram, Ends, Fragment, Original, Segment};
+pub use contents::{
+    Contents, Datagram, Ends, Fragment, IcmpError, Original, QuotedProtocol, Segment,
+};
 pub use format::Format;
 pub use fragments::{Fragments, Reassembled};
 pub use interface::{Clock, Interface};

@@ -20,6 +20,8 @@ const SYN: u8 = 2;
 
 const RST: u8 = 4;
 
+const ACK: u8 = 16;
+
 /// Returns the datagram between two ends that a packet carries, or `None` if the header is cut or
 /// wrong.
 #[tactic(auto, unfolding(crate::specs::Contents::datagram))]
@@ -65,14 +67,15 @@ fn segment<'a>(ends: &Ends, packet: &Payload<'a>) -> Option<Contents<'a>>
         fin: flags & FIN != 0,
         syn: flags & SYN != 0,
         rst: flags & RST != 0,
+        ack: flags & ACK != 0,
         payload,
     }))
 }
 
 /// Returns the ends by the ports with which the headers of UDP and TCP begin.
-#[tactic(auto, unfolding(crate::specs::Contents::ends))]
+#[tactic(auto, unfolding(crate::specs::Headers::ends))]
 #[inline(always)]
-fn ends(source: IpAddr, target: IpAddr, packet: &Payload<'_>) -> Option<Ends>
+pub(crate) fn ends(source: IpAddr, target: IpAddr, packet: &Payload<'_>) -> Option<Ends>
     ensures { result ≡ ends source target packet.now }
 {
     // With this field the other one was captured, too.

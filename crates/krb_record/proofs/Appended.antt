@@ -46,3 +46,13 @@ part_of_two old separator opening a b closing h₁ h₂ h₃ h₄ = rw (h₄, h�
 
 pub part_of_three : (old : List ℕ) {l₁ l₂ l₃ l₄ l₅ : List ℕ} (separator opening a b c closing : List ℕ) → l₁ ≡ old ++ separator ++ opening → l₂ ≡ l₁ ++ a → l₃ ≡ l₂ ++ b → l₄ ≡ l₃ ++ c → l₅ ≡ l₄ ++ closing → l₅ ≡ old ++ separator ++ (opening ++ (a ++ (b ++ (c ++ []))) ++ closing)
 part_of_three old separator opening a b c closing h₁ h₂ h₃ h₄ h₅ = rw (h₅, h₄, h₃, h₂, h₁) (simp (append_assoc, append-nil))
+
+-- four fields
+pub four_fields : (old : List ℕ) {l₁ l₂ l₃ l₄ : List ℕ} (a b c d : List ℕ) → l₁ ≡ old ++ a → l₂ ≡ l₁ ++ b → l₃ ≡ l₂ ++ c → l₄ ≡ l₃ ++ d → l₄ ≡ old ++ (a ++ (b ++ (c ++ (d ++ []))))
+four_fields old a b c d h₁ h₂ h₃ h₄ = rw (h₄, h₃, h₂, h₁) (simp (append_assoc, append-nil))
+
+-- the line of a record of three lists of fields
+pub line_of_lists : (old : List ℕ) {l₁ l₂ l₃ l₄ l₅ : List ℕ} (form : Form) (opening closing feed : List ℕ) (a b c : List Field) →
+    l₁ ≡ old ++ opening → l₂ ≡ l₁ ++ fields_text form a → l₃ ≡ l₂ ++ fields_text form b → l₄ ≡ l₃ ++ fields_text form c → l₅ ≡ l₄ ++ closing ++ feed →
+    l₅ ≡ old ++ (opening ++ fields_text form (a ++ (b ++ c)) ++ closing ++ feed)
+line_of_lists old form opening closing feed a b c h₁ h₂ h₃ h₄ h₅ = rw (h₅, h₄, h₃, h₂, h₁, fields_text_append form a (b ++ c), fields_text_append form b c) (simp append_assoc)

@@ -15,3 +15,4 @@ pub mod Reasons
 pub mod Records
 pub mod Labels
 pub mod Appended
+pub mod Unreachables

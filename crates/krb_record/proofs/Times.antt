@@ -55,7 +55,7 @@ second seconds h =
 pub moment : (seconds : ℕ) → seconds < 2 ^ 32 → Prints (moment_text seconds)
 moment seconds h = join (second seconds h) (word (codes "Z") refl)
 
-all-digits : (k n : ℕ) → IsPrintable (last_digits k n)
+pub all-digits : (k n : ℕ) → IsPrintable (last_digits k n)
 all-digits zero n = tt
 all-digits (suc k) n = ((omega arith, omega arith), all-digits k n)
 

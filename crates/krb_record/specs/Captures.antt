@@ -4,33 +4,77 @@ use Rattle.krb_der.specs.declared.verdict.Refusal.{Refusal}
 use Rattle.krb_source.specs.UnreadReasons.{unread_reason_name, unread_reason_number}
 use Rattle.krb_source.specs.declared.file_why.FileWhy.{FileWhy}
 use Rattle.krb_source.specs.declared.unread_why.UnreadWhy.{UnreadWhy}
+use Rattle.krb_source.specs.declared.timestamp.Timestamp.{Timestamp}
 use Rattle.krb_record.specs.declared.capture.CaptureCounts.{CaptureCounts}
+use Rattle.krb_record.specs.declared.told.Answer.{Answer}
+use Rattle.krb_record.specs.declared.told.Request.{Request}
+use Rattle.krb_record.specs.declared.told.Request.TheVariants as kinds
+use Rattle.krb_record.specs.declared.told.Span.{Span as Time}
+use Rattle.krb_record.specs.declared.told.Told.{Told}
+use Rattle.krb_record.specs.declared.told.Told.TheVariants as tells
+use Rattle.krb_record.specs.declared.told.ToldCounts.{ToldCounts}
 use Rattle.krb_record.specs.declared.extent.Extent.{Extent}
 use Rattle.krb_record.specs.declared.form.Form.{Form}
+use Rattle.krb_record.specs.declared.form.Form.TheVariants as forms
 use Rattle.krb_record.specs.declared.capture_origin.CaptureOrigin.{CaptureOrigin}
 use Rattle.krb_record.specs.Forms.{record_line}
+use Rattle.krb_record.specs.Unreachables.{code_name, error_of, how_name, type_name}
+use Rattle.krb_record.specs.declared.unreachable.How.{How}
+use Rattle.krb_record.specs.declared.unreachable.IcmpError.{IcmpError}
 use Rattle.krb_record.specs.Refusals.{extent_in, file_refused_record, path_in, refusal_record}
 use Rattle.krb_record.specs.Time.{microseconds, timestamp_text}
-use Rattle.krb_record.specs.Values.{Flow, Number, Reason, Word, Field, Printed, the, printed, with_last, with_origin, if_there}
+use Rattle.krb_record.specs.Values.{Value, Called, Flow, Host, Number, Reason, Span, Word, Field, Printed, the, printed, with_last, with_origin, if_there}
 
--- the packet, its time and the flow
-abbrev pub origin_fields : CaptureOrigin → List Field
-origin_fields origin =
+-- ---- what is told of an exchange
+-- of a request, the packet with which the same octets were sent first, if they were sent before
+abbrev pub again_fields : Option ℕ → List Field
+again_fields again = the (codes "again") (if_there (λ packet. Number (pos packet)) again) ∷ []
+
+-- of a reply, the packet of the request that it answers, if it answers one, and how long after that it came, and how long after the first sending of the same octets
+abbrev pub span_value : Option Time → Value
+span_value = if_there (λ span. Span span.microseconds)
+
+abbrev pub answer_fields : Answer → List Field
+answer_fields answer =
+    the (codes "of") (if_there (λ packet. Number (pos packet)) answer.of)
+    ∷ the (codes "after") (span_value answer.after)
+    ∷ the (codes "waited") (span_value answer.waited)
+    ∷ []
+
+-- a message that changes a password has both
+unfoldable pub told_fields : Told → List Field
+told_fields tells.Nothing = []
+told_fields (tells.Request again) = again_fields again
+told_fields (tells.Reply answer) = answer_fields answer
+told_fields (tells.Either again answer) = again_fields again ++ answer_fields answer
+
+-- lines with names have it after the flow
+unfoldable pub told_in : Form → Told → List Field
+told_in forms.Lines told = []
+told_in forms.NamedLines told = told_fields told
+told_in forms.Json told = []
+
+-- ---- the packet, its time and the flow
+abbrev pub origin_fields : Form → CaptureOrigin → List Field
+origin_fields form origin =
     the (codes "packet") (Number (pos origin.packet))
     ∷ the (codes "t") (if_there (λ time. Word (timestamp_text time.seconds time.nanoseconds)) origin.time)
     ∷ the (codes "flow") (Flow origin.flow.transport origin.flow.source origin.flow.target)
-    ∷ []
+    ∷ told_in form origin.told
 
--- the time as a number, which objects alone have, after all else
-abbrev pub time_fields : CaptureOrigin → List Field
-time_fields origin = the (codes "t_us") (if_there (λ time. Number (pos (microseconds time.seconds time.nanoseconds))) origin.time) ∷ []
+-- the time as a number, and what is told, which objects alone have after all else
+abbrev pub time_field : Option Timestamp → Field
+time_field time = the (codes "t_us") (if_there (λ time. Number (pos (microseconds time.seconds time.nanoseconds))) time)
+
+abbrev pub last_fields : CaptureOrigin → List Field
+last_fields origin = time_field origin.time ∷ told_fields origin.told
 
 -- a record of a capture
-abbrev pub captured : CaptureOrigin → Printed → Printed
-captured origin r = with_last (time_fields origin) (with_origin (origin_fields origin) r)
+abbrev pub captured : Form → CaptureOrigin → Printed → Printed
+captured form origin r = with_last (last_fields origin) (with_origin (origin_fields form origin) r)
 
 abbrev pub captured_line : Form → CaptureOrigin → Printed → List ℕ
-captured_line form origin r = record_line form (captured origin r)
+captured_line form origin r = record_line form (captured form origin r)
 
 abbrev pub captured_refused_line : Form → CaptureOrigin → Refusal → Option (List ℕ) → Extent → List ℕ
 captured_refused_line form origin refusal path extent = captured_line form origin (refusal_record refusal (path_in form path ++ extent_in form extent))
@@ -67,6 +111,37 @@ password_record version ap rest =
 abbrev pub password_line : Form → CaptureOrigin → ℕ → ℕ → ℕ → List ℕ
 password_line form origin version ap rest = captured_line form origin (password_record version ap rest)
 
+-- a request that no reply answered, told with a later packet
+abbrev pub request_name : Request → List ℕ
+request_name kinds.AsReq = codes "AS-REQ"
+request_name kinds.TgsReq = codes "TGS-REQ"
+request_name kinds.Kpasswd = codes "KPASSWD"
+
+abbrev pub unanswered_record : Request → Answer → Printed
+unanswered_record request answer = printed (codes "unanswered") (the (codes "request") (Word (request_name request)) ∷ answer_fields answer)
+
+abbrev pub unanswered_line : Form → CaptureOrigin → Request → Answer → List ℕ
+unanswered_line form origin request answer = captured_line form origin (unanswered_record request answer)
+
+-- somebody who could not be reached: how that is known, and of an ICMP error who sent it and its type and code; and the request or the SYN that it is about, if there is one
+abbrev pub error_type : IcmpError → Value
+error_type error = Called error.error_type (type_name error.version error.error_type)
+
+abbrev pub error_code : IcmpError → Value
+error_code error = Called error.code (code_name error.version error.error_type error.code)
+
+abbrev pub unreachable_record : How → Answer → Printed
+unreachable_record how answer =
+    printed (codes "unreachable")
+    (the (codes "how") (Word (how_name how))
+    ∷ the (codes "by") (if_there (λ error. Host error.by) (error_of how))
+    ∷ the (codes "type") (if_there error_type (error_of how))
+    ∷ the (codes "code") (if_there error_code (error_of how))
+    ∷ answer_fields answer)
+
+abbrev pub unreachable_line : Form → CaptureOrigin → How → Answer → List ℕ
+unreachable_line form origin how answer = captured_line form origin (unreachable_record how answer)
+
 -- ---- the last record
 abbrev pub count_fields : CaptureCounts → List Field
 count_fields counts =
@@ -77,16 +152,30 @@ count_fields counts =
     ∷ the (codes "unread") (Number (pos counts.unread))
     ∷ []
 
-abbrev pub capture_end_record : CaptureCounts → Printed
-capture_end_record counts = printed (codes "end") (count_fields counts)
+-- how many replies have the request that they answer, how many requests have none, how many were sent before, and how often somebody could not be reached: lines without names have nothing of it
+abbrev pub four_counts : ToldCounts → List Field
+four_counts told =
+    the (codes "answered") (Number (pos told.answered))
+    ∷ the (codes "unanswered") (Number (pos told.unanswered))
+    ∷ the (codes "again") (Number (pos told.again))
+    ∷ the (codes "unreachable") (Number (pos told.unreachable))
+    ∷ []
 
-abbrev pub capture_end_line : Form → CaptureCounts → List ℕ
-capture_end_line form counts = record_line form (capture_end_record counts)
+unfoldable pub told_counts : Form → ToldCounts → List Field
+told_counts forms.Lines told = []
+told_counts forms.NamedLines told = four_counts told
+told_counts forms.Json told = four_counts told
+
+abbrev pub capture_end_record : Form → CaptureCounts → ToldCounts → Printed
+capture_end_record form counts told = printed (codes "end") (count_fields counts ++ told_counts form told)
+
+abbrev pub capture_end_line : Form → CaptureCounts → ToldCounts → List ℕ
+capture_end_line form counts told = record_line form (capture_end_record form counts told)
 
 -- a refused file, and what was counted before the fault
-abbrev pub capture_refused_record : Form → CaptureCounts → ℕ → FileWhy → Option (List ℕ) → Extent → Printed
-capture_refused_record form counts place reason path extent =
-    printed (codes "refused") (count_fields counts ++ (file_refused_record form place reason path extent).fields)
+abbrev pub capture_refused_record : Form → CaptureCounts → ToldCounts → ℕ → FileWhy → Option (List ℕ) → Extent → Printed
+capture_refused_record form counts told place reason path extent =
+    printed (codes "refused") (count_fields counts ++ ((file_refused_record form place reason path extent).fields ++ told_counts form told))
 
-abbrev pub capture_refused_line : Form → CaptureCounts → ℕ → FileWhy → Option (List ℕ) → Extent → List ℕ
-capture_refused_line form counts place reason path extent = record_line form (capture_refused_record form counts place reason path extent)
+abbrev pub capture_refused_line : Form → CaptureCounts → ToldCounts → ℕ → FileWhy → Option (List ℕ) → Extent → List ℕ
+capture_refused_line form counts told place reason path extent = record_line form (capture_refused_record form counts told place reason path extent)

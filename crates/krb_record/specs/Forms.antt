@@ -1,8 +1,9 @@
 -- The three forms of records: lines, lines with the names of numbers, and JSON (RFC 8259), one object each.
-use Rattle.std.specs.Prelude.{ℕ, ℤ, pos, unsigned_abs, ◌+◌, ◌-◌, ◌*◌, ◌/◌, ◌%◌, ◌^◌, ◌==◌, ◌&&◌, nat_le, not, Bool, true, false, List, [], ◌∷◌, ◌++◌, length, map, Option, Some, None, codes, if◌then◌else◌}
+use Rattle.std.specs.Prelude.{ℕ, ℤ, pos, negsuc, unsigned_abs, ◌+◌, ◌-◌, ◌*◌, ◌/◌, ◌%◌, ◌^◌, ◌==◌, ◌&&◌, nat_le, not, Bool, true, false, List, [], ◌∷◌, ◌++◌, length, map, Option, Some, None, codes, if◌then◌else◌}
 use Rattle.std.specs.List.{filter, flat_map, list_all}
 use Rattle.std.specs.Int.RustNames.{bit_and}
 use Rattle.std.specs.Fmt.{decimal, signed_decimal}
+use Rattle.std.specs.Net.Text.{ip_text}
 use Rattle.krb_der.specs.Reasons.{reason_number, reason_name}
 use Rattle.krb_der.specs.declared.verdict.Refusal.{Refusal}
 use Rattle.krb_registry.specs.Rows.{rows, name_of}
@@ -15,8 +16,9 @@ use Rattle.krb_record.specs.FileNames.{name_text}
 use Rattle.krb_record.specs.Flows.{flow_text, flow_object}
 use Rattle.krb_record.specs.TicketFlags.{ticket_flags_text}
 use Rattle.krb_record.specs.Errors.{code_text}
+use Rattle.krb_record.specs.Time.{last_digits}
 use Rattle.krb_source.specs.Layers.{layer_name}
-use Rattle.krb_record.specs.Values.{Value, Absent, NoTicket, Number, Named, Numbers, ErrorCode, Status, Reason, NoReason, String, Quoted, FileName, Word, Hex, Flags, TicketFlags, Encrypted, Principal, Address, Digest, YesNo, Offset, RefusedTicket, Flow, Layers, Field, Part, Printed}
+use Rattle.krb_record.specs.Values.{Value, Absent, NoTicket, Number, Named, Numbers, ErrorCode, Status, Reason, NoReason, String, Quoted, FileName, Word, Hex, Flags, TicketFlags, Encrypted, Principal, Address, Digest, YesNo, Offset, RefusedTicket, Flow, Layers, Span, Called, Host, Field, Part, Printed}
 
 -- ---- flags by name; bit 0 is the highest of the first octet
 -- whether a bit is set; those after the last octet are not
@@ -77,6 +79,19 @@ abbrev pub refused_ticket_text : Bool → Refusal → List ℕ
 refused_ticket_text false refusal = codes "refused:" ++ decimal refusal.place ++ codes ":" ++ decimal (reason_number refusal.why)
 refused_ticket_text true refusal = codes "refused:" ++ decimal refusal.place ++ codes ":" ++ decimal (reason_number refusal.why) ++ codes ":" ++ reason_name refusal.why
 
+-- a number, and with names `:` and its name, or `-` if it has none
+abbrev pub called_text : Bool → ℕ → Option (List ℕ) → List ℕ
+called_text false number name = decimal number
+called_text true number name = decimal number ++ codes ":" ++ or_dash (λ name. name) name
+
+-- a span of time in seconds, a dot and six digits, after `-` if it is negative
+abbrev pub seconds_text : ℕ → List ℕ
+seconds_text microseconds = decimal (microseconds / 1000000) ++ codes "." ++ last_digits 6 microseconds
+
+unfoldable pub span_text : ℤ → List ℕ
+span_text (pos microseconds) = seconds_text microseconds
+span_text (negsuc less) = codes "-" ++ seconds_text (less + 1)
+
 -- what a line shows of a value, with names or without
 unfoldable pub value_text : Bool → Value → List ℕ
 value_text names Absent = codes "-"
@@ -106,6 +121,9 @@ value_text names (Offset seconds microseconds) = signed_decimal seconds ++ codes
 value_text names (RefusedTicket refusal) = refused_ticket_text names refusal
 value_text names (Flow transport source target) = flow_text transport source target
 value_text names (Layers layers) = joined [] (codes ",") layer_name layers
+value_text names (Span microseconds) = span_text microseconds
+value_text names (Called number name) = called_text names number name
+value_text names (Host address) = ip_text address
 
 -- ---- JSON
 -- a string of a text of 20 to 7E: `"` and `\` after a `\` (RFC 8259, section 7)
@@ -203,6 +221,9 @@ json_value (Offset seconds microseconds) = offset_object seconds microseconds
 json_value (RefusedTicket refusal) = refused_object refusal
 json_value (Flow transport source target) = flow_object transport source target
 json_value (Layers layers) = list_text (λ layer. json_string (layer_name layer)) layers
+json_value (Span microseconds) = signed_decimal microseconds
+json_value (Called number name) = decimal number
+json_value (Host address) = codes "\"" ++ ip_text address ++ codes "\""
 
 -- the member after a value that has names: `,"NAME_name":` and the name or null, or `,"NAME_names":` and those of a list; `begin` is `,"NAME`
 unfoldable pub names_member : List ℕ → Value → List ℕ
@@ -210,6 +231,7 @@ names_member begin (Named registry number) = begin ++ codes "_name\":" ++ name_s
 names_member begin (ErrorCode code) = begin ++ codes "_name\":" ++ name_string registries.ErrorCodes code
 names_member begin (Status number) = begin ++ codes "_name\":" ++ name_string registries.Statuses (pos number)
 names_member begin (Reason number name) = begin ++ codes "_name\":" ++ json_string name
+names_member begin (Called number name) = begin ++ codes "_name\":" ++ or_null json_string name
 names_member begin NoReason = begin ++ codes "_name\":null"
 names_member begin (Numbers registry numbers) = begin ++ codes "_names\":" ++ list_text (name_string registry) numbers
 names_member begin value = []

@@ -10,6 +10,10 @@ use Rattle.krb_der.specs.declared.verdict.Refusal.{Refusal}
 use Rattle.krb_der.specs.declared.why.Why.{Why}
 use Rattle.krb_source.specs.declared.spelling.Spelling.{Spelling}
 use Rattle.krb_record.specs.declared.capture.CaptureCounts.{CaptureCounts}
+use Rattle.krb_record.specs.declared.told.Answer.{Answer}
+use Rattle.krb_record.specs.declared.told.Request.{Request}
+use Rattle.krb_record.specs.declared.told.Told.TheVariants.{Nothing}
+use Rattle.krb_record.specs.declared.told.ToldCounts.{ToldCounts}
 use Rattle.krb_record.specs.declared.capture_origin.CaptureOrigin.{CaptureOrigin}
 use Rattle.krb_record.specs.declared.form.Form.{Form}
 use Rattle.krb_record.specs.declared.form.Form.TheVariants.{Lines, NamedLines}
@@ -20,7 +24,9 @@ use Rattle.krb_record.specs.declared.input.InputFault.{InputFault}
 use Rattle.krb_record.specs.Inputs.{input_refused_line}
 use Rattle.krb_record.specs.Refusals.{file_refused_line, message_refused_line, untold_message_refused_line}
 use Rattle.krb_record.specs.Streams.{counted_end_line, untold_refused_line}
-use Rattle.krb_record.specs.Captures.{capture_end_line, capture_refused_line, captured_refused_line, joined_line, lost_line, password_line}
+use Rattle.krb_record.specs.Captures.{capture_end_line, capture_refused_line, captured_line, captured_refused_line, joined_line, lost_line, password_line, unanswered_line, unreachable_line}
+use Rattle.krb_record.specs.Unreachables.{error_of}
+use Rattle.krb_record.specs.declared.unreachable.How.{How}
 use Rattle.krb_record.specs.Files.{file_line}
 use Rattle.krb_record.specs.Origins.{message_origin}
 use Rattle.krb_record.specs.Time.{civil_date, the_date}
@@ -95,13 +101,21 @@ LostIsOneLine = (form : Form) (origin : CaptureOrigin) (place octets : ℕ) (pat
 abbrev pub PasswordIsOneLine : Type 0
 PasswordIsOneLine = (form : Form) (origin : CaptureOrigin) (version ap rest : ℕ) → OriginIsInRange origin → IsOneLine (password_line form origin version ap rest)
 
+-- that of a request that no reply answered
+abbrev pub UnansweredIsOneLine : Type 0
+UnansweredIsOneLine = (form : Form) (origin : CaptureOrigin) (request : Request) (answer : Answer) → OriginIsInRange origin → IsOneLine (unanswered_line form origin request answer)
+
+-- that of somebody who could not be reached; the address of who said so is as its type has it
+abbrev pub UnreachableIsOneLine : Type 0
+UnreachableIsOneLine = (form : Form) (origin : CaptureOrigin) (how : How) (answer : Answer) → OriginIsInRange origin → IfSome (error_of how) (λ error. MatchIp error.by IsIpv4Addr IsIpv6Addr) → IsOneLine (unreachable_line form origin how answer)
+
 -- the last of a capture
 abbrev pub CaptureEndIsOneLine : Type 0
-CaptureEndIsOneLine = (form : Form) (counts : CaptureCounts) → IsOneLine (capture_end_line form counts)
+CaptureEndIsOneLine = (form : Form) (counts : CaptureCounts) (told : ToldCounts) → IsOneLine (capture_end_line form counts told)
 
 -- the last of a capture that is refused
 abbrev pub CaptureRefusalIsOneLine : Type 0
-CaptureRefusalIsOneLine = (form : Form) (counts : CaptureCounts) (place : ℕ) (reason : FileWhy) (path : Option (List ℕ)) (extent : Extent) → IfSome path AreOctets → IsOneLine (capture_refused_line form counts place reason path extent)
+CaptureRefusalIsOneLine = (form : Form) (counts : CaptureCounts) (told : ToldCounts) (place : ℕ) (reason : FileWhy) (path : Option (List ℕ)) (extent : Extent) → IfSome path AreOctets → IsOneLine (capture_refused_line form counts told place reason path extent)
 
 -- ---- what lines leave out
 -- one without names has nothing of what is inside
@@ -112,3 +126,9 @@ PlainLinesHaveNothingInside = (r : Printed) → record_line Lines r ≡ record_l
 pub record LinesHaveNothingLast : Type 0 where
   pub plain : (r : Printed) → record_line Lines r ≡ record_line Lines (record r { last = [] })
   pub named : (r : Printed) → record_line NamedLines r ≡ record_line NamedLines (record r { last = [] })
+
+-- one without names has nothing of what is told of an exchange
+pub record PlainLinesTellNothing : Type 0 where
+  pub record_is : (origin : CaptureOrigin) (r : Printed) → captured_line Lines origin r ≡ captured_line Lines (record origin { told = Nothing }) r
+  pub end : (counts : CaptureCounts) (told other : ToldCounts) → capture_end_line Lines counts told ≡ capture_end_line Lines counts other
+  pub file : (counts : CaptureCounts) (told other : ToldCounts) (place : ℕ) (reason : FileWhy) (path : Option (List ℕ)) (extent : Extent) → capture_refused_line Lines counts told place reason path extent ≡ capture_refused_line Lines counts other place reason path extent

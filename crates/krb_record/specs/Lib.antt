@@ -9,6 +9,7 @@ pub mod Forms
 pub mod Items
 pub mod Origins
 pub mod Refusals
+pub mod Unreachables
 pub mod Captures
 pub mod Inputs
 pub mod Files

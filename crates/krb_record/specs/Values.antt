@@ -1,12 +1,13 @@
 -- What is printed, before it is text: records. A record is a kind and fields, and maybe an origin, which is fields, too; a field is a name and a value. The record of a message may have parts, which are records inside of it.
 use Rattle.std.specs.Prelude.{ℕ, ℤ, pos, Bool, List, [], Option, Some, None, length}
+use Rattle.std.specs.declared.net.ip_addr.IpAddr.{IpAddr}
 use Rattle.krb_der.specs.declared.verdict.Refusal.{Refusal}
 use Rattle.krb_source.specs.declared.endpoint.Endpoint.{Endpoint}
 use Rattle.krb_registry.specs.declared.registry.Registry.{Registry}
 use Rattle.krb_record.specs.declared.flow.Transport.{Transport}
 use Rattle.krb_source.specs.declared.layer.Layer.{Layer}
 
--- A number has a name if its registry has one. Of what is encrypted, of a checksum and of a key, there is the number of octets and none of these. A flow comes from an address and a port, and goes to others.
+-- A number has a name if its registry has one. Of what is encrypted, of a checksum and of a key, there is the number of octets and none of these. A flow comes from an address and a port, and goes to others. A span of time is in microseconds. What is called so has a name of its own, if it has one.
 pub data Value : Type 0 where
   Absent : Value
   NoTicket : Value
@@ -33,6 +34,9 @@ pub data Value : Type 0 where
   RefusedTicket : (refusal : Refusal) → Value
   Flow : (transport : Transport) → (source : Endpoint) → (target : Endpoint) → Value
   Layers : (layers : List Layer) → Value
+  Span : (microseconds : ℤ) → Value
+  Called : (number : ℕ) → (name : Option (List ℕ)) → Value
+  Host : (address : IpAddr) → Value
 
 pub record Field : Type 0 where
   pub name : List ℕ

@@ -2,7 +2,7 @@
 
 ghost use Rattle.std.specs.Prelude.{◌≡◌, ◌++◌, OnOk};
 ghost use Rattle.std.specs.Option.{option_copied};
-ghost use Rattle.krb_record.specs.Captures.{capture_end_line, capture_refused_line, captured_refused_line, count_fields, joined_line, lost_line, password_line, unread_line};
+ghost use Rattle.krb_record.specs.Captures.{capture_end_line, capture_refused_line, captured_refused_line, count_fields, joined_line, lost_line, password_line, unanswered_line, unreachable_line, unread_line};
 ghost use Rattle.krb_record.specs.Forms.{fields_text};
 
 use crate::capture_origin::{CaptureOrigin, put_captured_end, put_captured_opening};
@@ -12,6 +12,8 @@ use crate::form::Form;
 use crate::put_field;
 use crate::refusal::{Reason, put_fault_fields, put_path};
 use crate::text_buffer::TextBuffer;
+use crate::told::{Answer, Request, ToldCounts, put_answer, put_told_counts};
+use crate::unreachable::How;
 use krb_der::Refusal;
 use krb_source::{FileWhy, UnreadWhy};
 use std::alloc::AllocError;
@@ -112,6 +114,44 @@ pub fn put_password(
     put_captured_end(text, form, origin)
 }
 
+/// Appends the line of a request that no reply answered: what it is, and how long it waited for one.
+#[tactic(auto, unfolding(crate::specs::Forms::record_text))]
+pub fn put_unanswered(
+    text: &mut TextBuffer,
+    form: Form,
+    origin: &CaptureOrigin,
+    request: Request,
+    answer: &Answer,
+) -> Result<(), AllocError>
+    ensures { OnOk result (text.new ≡ text.old ++ unanswered_line form origin.now request answer.now) }
+{
+    put_captured_opening(text, form, origin, "unanswered")?;
+    put_field!(text, form, "request": &request)?;
+    put_answer(text, form, answer)?;
+    put_captured_end(text, form, origin)
+}
+
+/// Appends the line of somebody who could not be reached: how that is known, and the request or the
+/// SYN that it is about.
+#[tactic(auto, unfolding(crate::specs::Forms::record_text))]
+pub fn put_unreachable(
+    text: &mut TextBuffer,
+    form: Form,
+    origin: &CaptureOrigin,
+    how: How,
+    answer: &Answer,
+) -> Result<(), AllocError>
+    ensures { OnOk result (text.new ≡ text.old ++ unreachable_line form origin.now how answer.now) }
+{
+    put_captured_opening(text, form, origin, "unreachable")?;
+    put_field!(text, form, "how": &how)?;
+    put_field!(text, form, "by": &how.by())?;
+    put_field!(text, form, "type": &how.kind())?;
+    put_field!(text, form, "code": &how.number())?;
+    put_answer(text, form, answer)?;
+    put_captured_end(text, form, origin)
+}
+
 /// What was counted in a capture.
 #[derive(Clone, Copy, PartialEq, Eq, Debug, Default)]
 pub struct CaptureCounts {
@@ -138,37 +178,42 @@ fn put_counts(text: &mut TextBuffer, form: Form, counts: &CaptureCounts) -> Resu
     put_field!(text, form, "unread": &counts.unread)
 }
 
-/// Appends the last line of a capture that is read to its end.
+/// Appends the last line of a capture that is read to its end. A line without names has nothing of
+/// what was told.
 #[tactic(auto, unfolding(crate::specs::Forms::record_text))]
 pub fn put_capture_end(
     text: &mut TextBuffer,
     form: Form,
     counts: &CaptureCounts,
+    told: &ToldCounts,
 ) -> Result<(), AllocError>
-    ensures { OnOk result (text.new ≡ text.old ++ capture_end_line form counts.now) }
+    ensures { OnOk result (text.new ≡ text.old ++ capture_end_line form counts.now told.now) }
 {
     put_opening(text, form, "end")?;
     put_counts(text, form, counts)?;
+    put_told_counts(text, form, told)?;
     put_end(text, form)
 }
 
 /// Appends the last line of a capture that is refused: what was counted before, the place of the
-/// field at fault, what is wrong with it, and, to a line only if numbers have their names, its path
-/// and where the part of the file begins that is refused.
+/// field at fault, what is wrong with it, and, to a line only if numbers have their names, its path,
+/// where the part of the file begins that is refused, and what was told.
 #[tactic(auto, unfolding(crate::specs::Forms::record_text))]
 pub fn put_capture_refusal(
     text: &mut TextBuffer,
     form: Form,
     counts: &CaptureCounts,
+    told: &ToldCounts,
     place: u64,
     why: FileWhy,
     path: Option<&str>,
     extent: Extent,
 ) -> Result<(), AllocError>
-    ensures { OnOk result (text.new ≡ text.old ++ capture_refused_line form counts.now place why (option_copied path.entry) extent) }
+    ensures { OnOk result (text.new ≡ text.old ++ capture_refused_line form counts.now told.now place why (option_copied path.entry) extent) }
 {
     put_opening(text, form, "refused")?;
     put_counts(text, form, counts)?;
     put_fault_fields(text, form, place, &Reason::of_file(why), path, extent)?;
+    put_told_counts(text, form, told)?;
     put_end(text, form)
 }

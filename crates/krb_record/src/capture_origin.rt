@@ -2,7 +2,7 @@
 
 ghost use Rattle.std.specs.Prelude.{◌≡◌, ◌++◌, OnOk};
 ghost use Rattle.std.specs.Option.{option_map};
-ghost use Rattle.krb_record.specs.Captures.{origin_fields, time_fields};
+ghost use Rattle.krb_record.specs.Captures.{last_fields, origin_fields};
 ghost use Rattle.krb_record.specs.Forms.{end_text, heading};
 ghost use Rattle.krb_record.specs.declared.form.Form.TheVariants as forms;
 ghost use Rattle.krb_record.specs.Text.{line_feed};
@@ -15,6 +15,7 @@ use crate::origin::{Origin, put_opening_from};
 use crate::put_field;
 use crate::text_buffer::TextBuffer;
 use crate::time::microseconds;
+use crate::told::{Told, put_told, put_told_in};
 use krb_source::Timestamp;
 use std::alloc::AllocError;
 
@@ -27,16 +28,20 @@ pub struct CaptureOrigin {
     pub time: Option<Timestamp>,
     /// The flow.
     pub flow: Flow,
+    /// What is told of the exchange of which the record is part. Lines without names have nothing
+    /// of it.
+    pub told: Told,
 }
 
-/// The packet, its time and the flow.
+/// The packet, its time and the flow, and what a line with names has after these.
 impl Origin for CaptureOrigin {
-    ghost fields = { λ origin. origin_fields origin };
+    ghost fields = { λ form origin. origin_fields form origin };
 
     fn put_fields(&self, text: &mut TextBuffer, form: Form) -> Result<(), AllocError> {
         put_field!(text, form, first "packet": &self.packet)?;
         put_field!(text, form, "t": &self.time)?;
-        put_field!(text, form, "flow": &self.flow)
+        put_field!(text, form, "flow": &self.flow)?;
+        put_told_in(text, form, &self.told)
     }
 }
 
@@ -48,7 +53,7 @@ pub fn put_captured_opening(
     origin: &CaptureOrigin,
     kind: &str,
 ) -> Result<(), AllocError>
-    ensures { OnOk result (text.new ≡ text.old ++ heading form (origin_fields origin.now) kind.now) }
+    ensures { OnOk result (text.new ≡ text.old ++ heading form (origin_fields form origin.now) kind.now) }
 {
     put_opening_from(text, form, origin, kind)
 }
@@ -63,19 +68,21 @@ fn optional_microseconds(time: Option<Timestamp>) -> Option<u64>
     }
 }
 
-/// Appends what follows the members of an object of a capture: its time as a number, and its end.
+/// Appends what follows the members of an object of a capture: its time as a number, what is told,
+/// and its end.
 fn put_captured_object_end(
     object: &mut TextBuffer,
     origin: &CaptureOrigin,
 ) -> Result<(), AllocError>
-    ensures { OnOk result (object.new ≡ object.old ++ end_text forms.Json (time_fields origin.now)) }
+    ensures { OnOk result (object.new ≡ object.old ++ end_text forms.Json (last_fields origin.now)) }
 {
     put_field!(object, Form::Json, "t_us": &optional_microseconds(origin.time))?;
+    put_told(object, Form::Json, &origin.told)?;
     put_closing(object, Form::Json)
 }
 
 /// Appends what ends a record of a capture, after its fields and what is inside of it: an object has
-/// the microseconds of its time there.
+/// the microseconds of its time there, and what is told.
 #[inline(always)]
 #[tactic(auto, unfolding(crate::specs::Forms::closing))]
 pub fn put_captured_closing(
@@ -83,7 +90,7 @@ pub fn put_captured_closing(
     form: Form,
     origin: &CaptureOrigin,
 ) -> Result<(), AllocError>
-    ensures { OnOk result (text.new ≡ text.old ++ end_text form (time_fields origin.now)) }
+    ensures { OnOk result (text.new ≡ text.old ++ end_text form (last_fields origin.now)) }
 {
     match form {
         Form::Lines | Form::NamedLines => Ok(()),
@@ -97,7 +104,7 @@ pub(crate) fn put_captured_end(
     form: Form,
     origin: &CaptureOrigin,
 ) -> Result<(), AllocError>
-    ensures { OnOk result (text.new ≡ text.old ++ end_text form (time_fields origin.now) ++ line_feed) }
+    ensures { OnOk result (text.new ≡ text.old ++ end_text form (last_fields origin.now) ++ line_feed) }
 {
     put_captured_closing(text, form, origin)?;
     text.push_str("\n")

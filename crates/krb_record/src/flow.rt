@@ -12,7 +12,7 @@ use std::alloc::AllocError;
 use std::net::IpAddr;
 
 /// The protocol that carries messages.
-#[derive(Clone, Copy, PartialEq, Eq, Debug)]
+#[derive(Clone, Copy, PartialEq, Eq, PartialOrd, Ord, Debug)]
 pub enum Transport {
     /// UDP (RFC 768).
     Udp,
@@ -33,7 +33,7 @@ impl Transport {
 }
 
 /// A flow: the protocol, and the two ends.
-#[derive(Clone, Copy)]
+#[derive(Clone, Copy, PartialEq, Eq, PartialOrd, Ord)]
 pub struct Flow {
     /// The protocol.
     pub transport: Transport,
@@ -58,7 +58,7 @@ fn put_dotted(text: &mut TextBuffer, octets: [u8; 4]) -> Result<(), AllocError>
 }
 
 /// Appends an address: one of IPv4 in decimal, one of IPv6 as RFC 5952 has it.
-fn put_address(text: &mut TextBuffer, address: IpAddr) -> Result<(), AllocError>
+pub(crate) fn put_address(text: &mut TextBuffer, address: IpAddr) -> Result<(), AllocError>
     ensures { OnOk result (text.new ≡ text.old ++ ip_text address) }
 {
     match address {

@@ -12,7 +12,8 @@
 //! ([`FlagBits`]), times ([`FileTime`]) and others. What is refused has a call for each source,
 //! [`put_message_refusal`] among them, which takes an [`Extent`]: where the octets lie that are
 //! refused. What is found in a capture beside messages has one for each kind, [`put_lost`] among
-//! them, which takes a [`CaptureOrigin`]. Nothing here knows messages, and nothing reads or writes a
+//! them, which takes a [`CaptureOrigin`]; what that tells of an exchange ([`Told`]) plain lines have
+//! not. Nothing here knows messages, and nothing reads or writes a
 //! file.
 #![tactic(auto)]
 
@@ -41,10 +42,12 @@ mod stream;
 mod text_buffer;
 mod ticket_flags;
 mod time;
+mod told;
+mod unreachable;
 
 pub use capture::{
     CaptureCounts, put_capture_end, put_capture_refusal, put_captured_refusal, put_joined,
-    put_lost, put_password, put_unread,
+    put_lost, put_password, put_unanswered, put_unreachable, put_unread,
 };
 pub use capture_origin::{CaptureOrigin, put_captured_closing, put_captured_opening};
 pub use error_code::ErrorCode;
@@ -74,3 +77,5 @@ pub use stream::{
 pub use text_buffer::TextBuffer;
 pub use ticket_flags::TicketFlags;
 pub use time::{FileTime, microseconds, put_time, time_text};
+pub use told::{Answer, Request, Span, Told, ToldCounts};
+pub use unreachable::{How, IcmpError, IcmpVersion};

@@ -104,7 +104,7 @@ impl<'a> Shown for Layers<'a> {
 
 /// The line, and what the message lies in.
 impl<'a> Origin for MessageOrigin<'a> {
-    ghost fields = { λ origin. message_origin origin.line origin.layers.now };
+    ghost fields = { λ _ origin. message_origin origin.line origin.layers.now };
 
     fn put_fields(&self, text: &mut TextBuffer, form: Form) -> Result<(), AllocError> {
         let layers = self.layers;

@@ -3,6 +3,7 @@
 ghost use Rattle.std.specs.Prelude.{◌≡◌, ◌++◌, List, OnOk};
 ghost use Rattle.krb_record.specs.Forms.{opening_from, origin_text};
 ghost use Rattle.krb_record.specs.Values.{Field};
+ghost use Rattle.krb_record.specs.declared.form.Form.{Form};
 
 use crate::field::put_opening;
 use crate::form::Form;
@@ -11,12 +12,12 @@ use std::alloc::AllocError;
 
 /// Where a record comes from.
 pub(crate) trait Origin {
-    /// The fields that say so.
-    ghost fields: { Self → List Field };
+    /// The fields that say so in a form.
+    ghost fields: { Form → Self → List Field };
 
     /// Appends these fields.
     fn put_fields(&self, text: &mut TextBuffer, form: Form) -> Result<(), AllocError>
-        ensures { OnOk result (text.new ≡ text.old ++ origin_text form (fields self.now)) };
+        ensures { OnOk result (text.new ≡ text.old ++ origin_text form (fields form self.now)) };
 }
 
 /// Appends what precedes the fields of a record of an origin that is not empty: in a line the
@@ -28,7 +29,7 @@ pub(crate) fn put_opening_from<O: Origin>(
     origin: &O,
     kind: &str,
 ) -> Result<(), AllocError>
-    ensures { OnOk result (text.new ≡ text.old ++ opening_from form (O.fields origin.now) kind.now) }
+    ensures { OnOk result (text.new ≡ text.old ++ opening_from form (O.fields form origin.now) kind.now) }
 {
     match form {
         Form::Lines | Form::NamedLines => {

@@ -1,9 +1,9 @@
 -- Runs that convert.
 use Rattle.std.proofs.Common.{◌≡◌, ℕ, List, ◌++◌, Option, Result, refl, sym, ◌∙◌, ap, subst, append_assoc}
 use Rattle.std.proofs.lemmas.Result.{IfErr-weaker}
-use Rattle.std.specs.Prelude.{IfErr, OnErr}
+use Rattle.std.specs.Prelude.{IfErr}
 use Rattle.std.specs.Io.KnownBytes.{Appends}
-use Rattle.krb_run.specs.Conversions.{Converted, after_text, Converts, ConvertsInPart}
+use Rattle.krb_run.specs.Conversions.{Converted, after_text, Converts, FailsToConvert}
 use Rattle.krb_run.specs.Runs.{WritesPrefix}
 use Rattle.krb_run.specs.ConversionRules.{IsBeginning, conversion_rules}
 use Rattle.krb_run.specs.Streams.{FailsBy, ListsBy}
@@ -14,9 +14,9 @@ use Rattle.krb_run.specs.declared.run.RunFault.TheVariants as fault
 pub after_text-both : {E : Type 0} (first second : List ℕ) (others : Converted E) → after_text first (after_text second others) ≡ after_text (first ++ second) others
 after_text-both first second others = ap (λ t. record { text = t; end = others.end }) (sym (append_assoc first second others.text))
 
-module _ {S E : Type 0} (convert : List ℕ → Converted S) (GoesOn : List ℕ → Type 0) (seen : E → S) (had left written_before written_after : Option (List ℕ)) where
+module _ {S E : Type 0} (convert : List ℕ → Converted S) (of_whole : List ℕ → List ℕ) (GoesOn : List ℕ → Type 0) (seen : E → S) (had left written_before written_after : Option (List ℕ)) where
   -- a run has ended
-  pub Converts-listed : (ended : E) → ListsBy (conversion_rules convert GoesOn seen) had left written_before written_after ended → Converts convert GoesOn had left written_before written_after (seen ended)
+  pub Converts-listed : (ended : E) → ListsBy (conversion_rules convert of_whole GoesOn seen) had left written_before written_after ended → Converts convert GoesOn had left written_before written_after (seen ended)
   Converts-listed ended l = record {
     read = l.read;
     taken = l.taken;
@@ -26,10 +26,11 @@ module _ {S E : Type 0} (convert : List ℕ → Converted S) (GoesOn : List ℕ 
     stops = l.listing.ends.stops;
   }
 
-  in_part : WritesPrefix (λ read text. IsBeginning text (convert read).text) had left written_before written_after → ConvertsInPart convert had left written_before written_after
+  -- a run has failed, and what was written begins what whole parts become
+  in_part : WritesPrefix (λ read text. IsBeginning text (of_whole read)) had left written_before written_after → WritesPrefix (λ read text. text ≡ of_whole read) had left written_before written_after
   in_part w = record {
     read = w.read;
-    text = (convert w.read).text;
+    text = of_whole w.read;
     taken = w.taken;
     is_text = refl;
     added = record {
@@ -40,11 +41,10 @@ module _ {S E : Type 0} (convert : List ℕ → Converted S) (GoesOn : List ℕ 
     };
   }
 
-  -- a run has failed
-  in_part-by : (failed : RunFault) → FailsBy (conversion_rules convert GoesOn seen) had left written_before written_after failed → ConvertsInPart convert had left written_before written_after
-  in_part-by (fault.Write error) w = w
-  in_part-by (fault.Read error) w = in_part w
-  in_part-by fault.Memory w = in_part w
+  pub FailsToConvert-by : (failed : RunFault) → FailsBy (conversion_rules convert of_whole GoesOn seen) had left written_before written_after failed → FailsToConvert (λ read. (convert read).text) of_whole had left written_before written_after failed
+  FailsToConvert-by (fault.Write error) w = w
+  FailsToConvert-by (fault.Read error) w = w
+  FailsToConvert-by fault.Memory w = in_part w
 
-  pub ConvertsInPart-failed : {T : Type 0} (r : Result T RunFault) → IfErr r (FailsBy (conversion_rules convert GoesOn seen) had left written_before written_after) → OnErr r (ConvertsInPart convert had left written_before written_after)
-  ConvertsInPart-failed r w = IfErr-weaker r _ _ in_part-by w
+  pub FailsToConvert-failed : {T : Type 0} (r : Result T RunFault) → IfErr r (FailsBy (conversion_rules convert of_whole GoesOn seen) had left written_before written_after) → IfErr r (FailsToConvert (λ read. (convert read).text) of_whole had left written_before written_after)
+  FailsToConvert-failed r w = IfErr-weaker r _ _ FailsToConvert-by w

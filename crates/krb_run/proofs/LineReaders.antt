@@ -7,12 +7,12 @@ use Rattle.krb_run.specs.Conversions.{Converted, after_text}
 use Rattle.krb_run.specs.TextLines.{parts, without_empty_last, ended_of, last_of, lines_of}
 use Rattle.krb_run.specs.Runs.{StopsInPiece}
 use Rattle.krb_run.specs.ConversionRules.{IsBeginning}
-use Rattle.krb_run.specs.LineReaders.{Adds, EndsLine, EndsText, GoesOn, HasLine, HasRead, IsRight, IsStoppedAfter, LineKind, MayFollow, line_rules, reader_kind}
+use Rattle.krb_run.specs.LineReaders.{Adds, EndsLine, EndsText, GoesOn, HasLine, HasRead, IsRight, IsStoppedAfter, LineKind, MayFollow, closed, line_rules, of_ended, reader_kind}
 use Rattle.krb_run.specs.Pieces.{Goes, IsFed, IsLastOf, TakesPiece, WaitsAfter, listing_of}
 use Rattle.krb_run.specs.Streams.{Begins, Feeds, Finishes, IsLast, IsNew, MayFinish, Taken, with_piece}
 use Rattle.krb_run.proofs.ConversionRuns.{after_text-both}
 use Rattle.krb_run.proofs.Pieces.{Feeds-made, Finishes-made, IsFed-used, IsNew-made}
-use Rattle.krb_run.proofs.SourceLineParts.{Begin, HasFirst, ended_of-last, ended_of-more, last_of-from, lines-empty, lines-from, lines-last, lines-more, nothing_before, parts_end, parts_grow}
+use Rattle.krb_run.proofs.SourceLineParts.{Begin, BeginsFirst, HasFirst, ended_of-begins, ended_of-last, ended_of-more, last_of-from, lines-empty, lines-from, lines-last, lines-more, nothing_before, parts_end, parts_grow}
 
 module _ {L : Type 0} (kind : LineKind L) where
   -- ---- octets of a line came
@@ -26,6 +26,10 @@ module _ {L : Type 0} (kind : LineKind L) where
     abbrev Came : Bool → Type 0
     Came goes_on = Adds kind old octets new goes_on
 
+    -- no line ended
+    same_so_far : {stream : List ℕ} → kind.request new ≡ kind.request old → kind.text new ≡ kind.text old → (written : List ℕ) (h : HasRead kind old stream written) → (kind.all (kind.request new) h.ended).text ≡ written ++ kind.text new
+    same_so_far request text written h = ap (λ q. (kind.all q h.ended).text) request ∙ h.so_far ∙ ap (λ t. written ++ t) (sym text)
+
     -- those of a line that has not ended, and may go on
     read-more : Came true → (stream written : List ℕ) → parts octets ≡ octets ∷ [] → HasRead kind old stream written → HasRead kind new (stream ++ octets) written
     read-more a stream written alone h = record {
@@ -33,6 +37,7 @@ module _ {L : Type 0} (kind : LineKind L) where
       last = h.last ++ octets;
       all = parts_grow stream h.ended h.last h.all octets alone;
       holds = a.holds h.last h.holds;
+      so_far = same_so_far a.request a.text written h;
       goes_on = λ lines may.
           ap (λ q. kind.all q (h.ended ++ lines)) a.request
           ∙ h.goes_on lines (less_follow (kind.IsShort (kind.request old)) h.last octets lines (subst (λ q. MayFollow (kind.IsShort q) (h.last ++ octets) lines) a.request may))
@@ -56,6 +61,7 @@ module _ {L : Type 0} (kind : LineKind L) where
       last = h.last ++ octets;
       all = parts_grow stream h.ended h.last h.all octets alone;
       holds = a.holds h.last h.holds;
+      so_far = same_so_far a.request a.text written h;
       goes_on = λ lines may.
           ap (λ q. kind.all q (h.ended ++ lines)) a.request
           ∙ too_long a g stream written h lines (subst (λ q. MayFollow (kind.IsShort q) (h.last ++ octets) lines) a.request may)
@@ -70,19 +76,26 @@ module _ {L : Type 0} (kind : LineKind L) where
   read-ended : (old full new : L) (goes_on : Bool) (stream written octets : List ℕ) → parts (octets ++ 10 ∷ []) ≡ octets ∷ [] ∷ [] → Adds kind old octets full true → EndsLine kind full new goes_on → HasRead kind old stream written → HasRead kind new (stream ++ (octets ++ 10 ∷ [])) written
   read-ended old full new goes_on stream written octets alone a e h =
       let last : List ℕ = h.last ++ octets in
+      let goes_on : (lines : List (List ℕ)) → kind.all (kind.request new) ((h.ended ++ last ∷ []) ++ lines) ≡ after_text (written ++ kind.text new) (kind.rest new lines) =
+      λ lines.
+      ap (kind.all (kind.request new)) (append_assoc h.ended (last ∷ []) lines)
+      ∙ ap (λ q. kind.all q (h.ended ++ last ∷ lines)) (e.request ∙ a.request)
+      ∙ h.goes_on (last ∷ lines) (record { rest = octets; parts = refl })
+      ∙ (λ i. after_text (written ++ sym a.text i) (sym (a.grows.rest (last ∷ lines)) i))
+      ∙ ap (after_text (written ++ kind.text full)) (e.rest last lines (a.holds h.last h.holds))
+      ∙ after_text-both (written ++ kind.text full) e.added (kind.rest new lines)
+      ∙ ap (λ t. after_text t (kind.rest new lines)) (append_assoc written (kind.text full) e.added ∙ ap (λ t. written ++ t) (sym e.text)) in
       record {
         ended = h.ended ++ (h.last ++ octets) ∷ [];
         last = [];
         all = parts_end stream h.ended h.last h.all octets alone;
         holds = e.holds;
-        goes_on = λ lines may.
-            ap (kind.all (kind.request new)) (append_assoc h.ended (last ∷ []) lines)
-            ∙ ap (λ q. kind.all q (h.ended ++ last ∷ lines)) (e.request ∙ a.request)
-            ∙ h.goes_on (last ∷ lines) (record { rest = octets; parts = refl })
-            ∙ (λ i. after_text (written ++ sym a.text i) (sym (a.grows.rest (last ∷ lines)) i))
-            ∙ ap (after_text (written ++ kind.text full)) (e.rest last lines (a.holds h.last h.holds))
-            ∙ after_text-both (written ++ kind.text full) e.added (kind.rest new lines)
-            ∙ ap (λ t. after_text t (kind.rest new lines)) (append_assoc written (kind.text full) e.added ∙ ap (λ t. written ++ t) (sym e.text));
+        so_far =
+            ap (λ ls. (kind.all (kind.request new) ls).text) (sym (append-nil (h.ended ++ last ∷ [])))
+            ∙ ap (λ (c : Converted kind.Seen). c.text) (goes_on [])
+            ∙ ap (λ t. (written ++ kind.text new) ++ t) e.none
+            ∙ append-nil (written ++ kind.text new);
+        goes_on = λ lines may. goes_on lines;
       }
 
   -- ---- a line of a piece ends
@@ -154,11 +167,24 @@ module _ {L : Type 0} (kind : LineKind L) where
     begins-lines : (text : List ℕ) (others : List (List ℕ)) → lines_of text ≡ h.ended ++ others → Begin h.last others → IsBeginning (written ++ kind.text reader) (kind.all (kind.request reader) (lines_of text)).text
     begins-lines text others l b = record {
       rest = (kind.rest reader others).text;
-      parts = ap (λ (c : Converted kind.Ending). c.text) (ap (kind.all (kind.request reader)) l ∙ h.goes_on others (may_begin (kind.IsShort (kind.request reader)) h.last others b));
+      parts = ap (λ (c : Converted kind.Seen). c.text) (ap (kind.all (kind.request reader)) l ∙ h.goes_on others (may_begin (kind.IsShort (kind.request reader)) h.last others b));
     }
 
-    begins-more : (more : List ℕ) → IsBeginning (written ++ kind.text reader) (kind.all (kind.request reader) (lines_of (stream ++ more))).text
-    begins-more more = let m = lines-more stream h.ended h.last h.all more in begins-lines (stream ++ more) m.0 m.1 m.2
+    -- it is what becomes of the lines that ended, and begins what becomes of those that end in any text that goes on
+    all-ended : written ++ kind.text reader ≡ of_ended kind (kind.request reader) stream
+    all-ended = sym (ap (λ ls. (kind.all (kind.request reader) ls).text) (ap ended_of h.all ∙ ended_of-last h.ended h.last) ∙ h.so_far)
+
+    begins-ended : (others : List (List ℕ)) → BeginsFirst h.last others → IsBeginning (written ++ kind.text reader) (kind.all (kind.request reader) (h.ended ++ others)).text
+    begins-ended [] b = record {
+      rest = [];
+      parts = ap (λ ls. (kind.all (kind.request reader) ls).text) (append-nil h.ended) ∙ h.so_far ∙ sym (append-nil (written ++ kind.text reader));
+    }
+    begins-ended (line ∷ lines) b = record { rest = (kind.rest reader (line ∷ lines)).text; parts = ap (λ (c : Converted kind.Seen). c.text) (h.goes_on (line ∷ lines) b) }
+
+    begins-more : (more : List ℕ) → IsBeginning (written ++ kind.text reader) (of_ended kind (kind.request reader) (stream ++ more))
+    begins-more more =
+        let m = ended_of-begins stream h.ended h.last h.all more in
+        subst (λ ls. IsBeginning (written ++ kind.text reader) (kind.all (kind.request reader) ls).text) (sym m.1) (begins-ended m.0 m.2)
 
     -- none of the lines that ended is at fault, and the last is not too long
     right-read : GoesOn kind reader → IsRight kind (kind.request reader) stream
@@ -167,7 +193,7 @@ module _ {L : Type 0} (kind : LineKind L) where
         let may : MayFollow (kind.IsShort (kind.request reader)) h.last [] = inr ([], subst (kind.IsShort (kind.request reader)) (sym (append-nil h.last)) short) in
         let ended : ended_of (parts stream) ≡ h.ended = ap ended_of h.all ∙ ended_of-last h.ended h.last in
         let read : kind.all (kind.request reader) (ended_of (parts stream)) ≡ after_text (written ++ kind.text reader) (kind.rest reader []) = ap (kind.all (kind.request reader)) (ended ∙ sym (append-nil h.ended)) ∙ h.goes_on [] may in (
-          subst (λ (c : Converted kind.Ending). kind.IsNoFault c.end) (sym read) g.1,
+          subst (λ (c : Converted kind.Seen). kind.IsNoFault c.end) (sym read) g.1,
           subst (kind.IsShort (kind.request reader)) (sym (ap last_of h.all ∙ last_of-from h.ended h.last [])) short,
         )
 
@@ -175,10 +201,12 @@ module _ {L : Type 0} (kind : LineKind L) where
   begins-waiting reader taken w =
       let h : HasRead kind reader taken.octets taken.written = w.listed in
       let now : IsBeginning (taken.written ++ kind.text reader) (kind.all (kind.request reader) (lines_of taken.octets)).text = begins-lines reader taken.octets taken.written h taken.octets (without_empty_last (h.last ∷ [])) (ap without_empty_last h.all ∙ lines-from h.ended h.last []) (begin_alone h.last) in
+      let closing : List ℕ = (kind.close (kind.request reader) (kind.all (kind.request reader) (lines_of taken.octets)).end).text in
       record {
         lines = begins-more reader taken.octets taken.written h;
-        rest = now.rest;
-        listing = sym now.parts;
+        all = all-ended reader taken.octets taken.written h;
+        rest = now.rest ++ closing;
+        listing = sym (append_assoc (taken.written ++ kind.text reader) now.rest closing) ∙ ap (λ t. t ++ closing) (sym now.parts);
       }
 
   -- ---- after a line that is at fault
@@ -201,9 +229,9 @@ module _ {L : Type 0} (kind : LineKind L) where
         let m = ended_of-more s.stream s.read.ended s.read.last s.read.all s.others in
         let now : IsRight kind (kind.request reader) (s.stream ++ s.others) = subst (IsRight kind (kind.request reader)) s.parts_of right in
         let may : MayFollow (kind.IsShort (kind.request reader)) s.read.last m.0 = m.2 (kind.IsShort (kind.request reader)) now.1 in
-        s.stopped.fault (subst (λ (c : Converted kind.Ending). kind.IsNoFault c.end) (ap (kind.all (kind.request reader)) m.1 ∙ stopped-all m.0 may) now.0)
+        s.stopped.fault (subst (λ (c : Converted kind.Seen). kind.IsNoFault c.end) (ap (kind.all (kind.request reader)) m.1 ∙ stopped-all m.0 may) now.0)
 
-  stops-fault : (old new : L) (piece : List ℕ) (taken : Taken) → length piece ≤ 65536 → WaitsAfter (reader_kind kind) old taken → TakesPiece (reader_kind kind) old piece new false → IsStoppedAfter kind new (with_piece taken piece) × IsBeginning (taken.written ++ kind.text new) (kind.all (kind.request new) (lines_of (taken.octets ++ piece))).text
+  stops-fault : (old new : L) (piece : List ℕ) (taken : Taken) → length piece ≤ 65536 → WaitsAfter (reader_kind kind) old taken → TakesPiece (reader_kind kind) old piece new false → IsStoppedAfter kind new (with_piece taken piece) × IsBeginning (taken.written ++ kind.text new) (of_ended kind (kind.request new) (taken.octets ++ piece))
   stops-fault old new piece taken short w f =
       let used : List ℕ = take f.used piece in
       let h : HasRead kind new (taken.octets ++ used) taken.written = f.listed taken.octets taken.written w.listed in
@@ -216,16 +244,23 @@ module _ {L : Type 0} (kind : LineKind L) where
           stopped = f.goes;
           stops = record { prefix = taken.octets; piece = piece; parts = refl; goes_on = subst (λ q. IsRight kind q taken.octets) (sym f.same) (right-read old taken.octets taken.written w.listed w.waits); short = short };
         },
-        subst (λ o. IsBeginning (taken.written ++ kind.text new) (kind.all (kind.request new) (lines_of o)).text) (sym all) (begins-more new (taken.octets ++ used) taken.written h (drop f.used piece)),
+        subst (λ o. IsBeginning (taken.written ++ kind.text new) (of_ended kind (kind.request new) o)) (sym all) (begins-more new (taken.octets ++ used) taken.written h (drop f.used piece)),
       )
 
   -- ---- a reader of a text
   -- nothing came yet
-  pub is_new : (reader : L) (request : kind.Request) → kind.request reader ≡ request → kind.Holds reader [] → ((lines : List (List ℕ)) → kind.all (kind.request reader) lines ≡ after_text (kind.text reader) (kind.rest reader lines)) → GoesOn kind reader → kind.count reader ≡ 0 → IsNew (line_rules kind request) request (listing_of (reader_kind kind) reader)
-  is_new reader request e holds all g none =
-      IsNew-made (reader_kind kind) begins-waiting e
+  pub is_new : (reader : L) (request : kind.Request) → kind.request reader ≡ request → kind.text reader ≡ [] → kind.Holds reader [] → (kind.rest reader []).text ≡ [] → ((lines : List (List ℕ)) → kind.all (kind.request reader) lines ≡ after_text (kind.text reader) (kind.rest reader lines)) → GoesOn kind reader → kind.count reader ≡ 0 → IsNew (line_rules kind request) request (listing_of (reader_kind kind) reader)
+  is_new reader request e empty holds nothing all g none =
+      IsNew-made (reader_kind kind) begins-waiting e empty
       (record {
-        listed = record { ended = []; last = []; all = refl; holds = holds; goes_on = λ lines may. all lines };
+        listed = record {
+          ended = [];
+          last = [];
+          all = refl;
+          holds = holds;
+          so_far = ap (λ (c : Converted kind.Seen). c.text) (all []) ∙ ap (λ t. kind.text reader ++ t) nothing ∙ append-nil (kind.text reader);
+          goes_on = λ lines may. all lines;
+        };
         waits = g;
         few = omega (arith, none);
         short = omega arith;
@@ -238,7 +273,7 @@ module _ {L : Type 0} (kind : LineKind L) where
   -- ---- the end
   -- there is no line that has not ended
   pub ends-none : (reader : L) → HasLine kind reader false → EndsText kind reader reader
-  ends-none reader none = record { all = by }
+  ends-none reader none = record { request = refl; all = by }
     where
       by : (taken : Taken) (left : Option (List ℕ)) → IsLastOf (reader_kind kind) reader taken left → kind.all (kind.request reader) (lines_of taken.octets) ≡ after_text (taken.written ++ kind.text reader) (kind.rest reader [])
       by taken left (inl (w, a)) =
@@ -252,7 +287,7 @@ module _ {L : Type 0} (kind : LineKind L) where
 
   -- it ends
   pub ends-line : (old new : L) (goes_on : Bool) → HasLine kind old true → EndsLine kind old new goes_on → EndsText kind old new
-  ends-line old new goes_on some e = record { all = by }
+  ends-line old new goes_on some e = record { request = e.request; all = by }
     where
       by : (taken : Taken) (left : Option (List ℕ)) → IsLastOf (reader_kind kind) old taken left → kind.all (kind.request old) (lines_of taken.octets) ≡ after_text (taken.written ++ kind.text new) (kind.rest new [])
       by taken left (inl (w, a)) =
@@ -286,13 +321,19 @@ module _ {L : Type 0} (kind : LineKind L) where
   over reader taken left (inr s) = (λ right. absurd (stopped-wrong reader taken s right), s.stops)
 
   -- the text of the end was added
-  pub finishes : (old between new : L) (ended : kind.End) → EndsText kind old between → kind.text new ≡ kind.text between ++ (kind.rest between []).text → kind.ending_of ended ≡ (kind.rest between []).end → Finishes (line_rules kind) (listing_of (reader_kind kind) old) (listing_of (reader_kind kind) new) ended
-  finishes old between new ended e text is =
+  pub finishes : (old between new : L) (ended : kind.End) → EndsText kind old between → (kind.rest between []).text ≡ [] → kind.text new ≡ kind.text between ++ (kind.close (kind.request between) (kind.rest between []).end).text → kind.ending_of ended ≡ (kind.close (kind.request between) (kind.rest between []).end).end → Finishes (line_rules kind) (listing_of (reader_kind kind) old) (listing_of (reader_kind kind) new) ended
+  finishes old between new ended e nothing text is =
       Finishes-made (reader_kind kind) old new ended
       (λ taken left last.
       let all : kind.all (kind.request old) (lines_of taken.octets) ≡ after_text (taken.written ++ kind.text between) (kind.rest between []) = e.all taken left last in
       let o = over old taken left last in
+      let so_far : List ℕ = taken.written ++ kind.text between in
+      let closing : List ℕ = (kind.close (kind.request old) (kind.rest between []).end).text in
       record {
-        listing = ap (λ t. taken.written ++ t) text ∙ sym (append_assoc taken.written (kind.text between) (kind.rest between []).text) ∙ sym (ap (λ (c : Converted kind.Ending). c.text) all);
-        ends = record { ended_so = is ∙ sym (ap (λ (c : Converted kind.Ending). c.end) all); all_read = o.0; stops = o.1 };
+        listing =
+            ap (λ t. taken.written ++ t) (text ∙ ap (λ q. kind.text between ++ (kind.close q (kind.rest between []).end).text) e.request)
+            ∙ sym (append_assoc taken.written (kind.text between) closing)
+            ∙ ap (λ t. t ++ closing) (sym (ap (λ t. so_far ++ t) nothing ∙ append-nil so_far))
+            ∙ sym (ap (λ (c : Converted kind.Seen). (closed kind (kind.request old) c).text) all);
+        ends = record { ended_so = is ∙ ap (λ q. (kind.close q (kind.rest between []).end).end) e.request ∙ sym (ap (λ (c : Converted kind.Seen). (closed kind (kind.request old) c).end) all); all_read = o.0; stops = o.1 };
       })

@@ -88,10 +88,10 @@ module _ {L Q E : Type 0} (kind : Kind L Q E) where
   -- ---- a lister of a stream
   module _ (begins : (lister : L) (taken : Taken) → WaitsAfter kind lister taken → Begins (kind.rules (kind.request lister)) taken (kind.text lister)) where
     -- nothing came yet
-    pub IsNew-made : {lister : L} {request : Q} → kind.request lister ≡ request → WaitsAfter kind lister (record { pieces = 0; octets = []; written = [] }) → IsNew (kind.rules request) request (listing_of kind lister)
-    IsNew-made {lister = lister} {request = request} e w =
+    pub IsNew-made : {lister : L} {request : Q} → kind.request lister ≡ request → kind.text lister ≡ [] → WaitsAfter kind lister (record { pieces = 0; octets = []; written = [] }) → IsNew (kind.rules request) request (listing_of kind lister)
+    IsNew-made {lister = lister} {request = request} e none w =
         let start : Taken = record { pieces = 0; octets = []; written = [] } in
-        record { waits = record { waits = (e, w); begins = subst (λ r. Begins (kind.rules r) start (kind.text lister)) e (begins lister start w) } }
+        record { waits = record { waits = (e, w); begins = subst (λ r. Begins (kind.rules r) start (kind.text lister)) e (begins lister start w) }; none = none }
 
     waits_on : {old new : L} {piece : List ℕ} (taken : Taken) → length piece ≤ 65536 → WaitsAfter kind old taken → TakesPiece kind old piece new true → WaitsAfter kind new (with_piece taken piece)
     waits_on {new = new} {piece = piece} taken short w f =

@@ -11,7 +11,7 @@ use Rattle.krb_run.specs.declared.run.RunEnd.{RunEnd}
 use Rattle.krb_run.specs.declared.run.RunFault.{RunFault}
 use Rattle.krb_run.specs.declared.run.RunFault.TheVariants as fault
 use Rattle.krb_run.specs.Faults.{IsFaultAt, IsRead, IsWrite}
-use Rattle.krb_run.specs.Records.{AddsLine, AddsRefusal, IsRefusal, RecordListing, text_of, after_line, AppendsPrefix, ListsRecords}
+use Rattle.krb_run.specs.Records.{AddsLine, AddsRefusal, IsRefusal, RecordListing, text_of, after_line, AppendsPrefix, ListsFirst, ListsRecords}
 use Rattle.krb_run.specs.inner.RecordRuns.{Moves, WritesBefore}
 
 -- ---- what a run has written
@@ -63,8 +63,8 @@ module _ (IsLeft : RecordListing → Type 0) (all : RecordListing) (written_befo
       ∙ append_assoc listed.written text (listed.left).last
       ∙ ap (λ (t : List ℕ). listed.written ++ t) (sym adds.0)
 
-  pub Listed-ended : (IsLeftAfter : RecordListing → Type 0) (new : List ℕ) (ended : RunEnd) (after : Option (List ℕ)) → AddsLine IsLeftAfter listed.left text new (Ok (Some ended)) → Appends written_after after new → ListsRecords all written_before after (Ok ended)
-  Listed-ended IsLeftAfter new ended after adds added = (
+  pub Listed-ended : (IsLeftAfter WasLeft : RecordListing → Type 0) (new : List ℕ) (ended : RunEnd) (after : Option (List ℕ)) → AddsLine IsLeftAfter listed.left text new (Ok (Some ended)) → Appends written_after after new → ListsRecords all WasLeft written_before after (Ok ended)
+  Listed-ended IsLeftAfter WasLeft new ended after adds added = (
     subst (Appends written_before after) (sym (whole IsLeftAfter new ended adds)) (Appends-trans written_before written_after after listed.written new listed.added added),
     adds.2 ∙ ap (λ (l : RecordListing). l.end) (sym listed.parts),
   )
@@ -100,55 +100,64 @@ module _ (IsLeft : RecordListing → Type 0) (all : RecordListing) (written_befo
     whole = ap (λ (l : RecordListing). l.lines) listed.parts ∙ append_assoc listed.written text (listed.left).lines;
   }
 
-  -- a fault, and if it is of a read the text was written before it
-  Listed-written : (after : Option (List ℕ)) → Appends written_after after text → AppendsPrefix written_before after all.lines
-  Listed-written after added = record {
-    prefix = listed.written ++ text;
-    rest = (listed.left).lines;
+  -- the text was written before the read that failed
+  Listed-written : (WasLeft : RecordListing → Type 0) (after : Option (List ℕ)) → WasLeft listed.left → Appends written_after after text → ListsFirst all WasLeft written_before after
+  Listed-written WasLeft after was added = record {
+    lines = listed.written ++ text;
+    left = listed.left;
     added = Appends-trans written_before written_after after listed.written text listed.added added;
-    whole = ap (λ (l : RecordListing). l.lines) listed.parts;
+    parts = listed.parts;
+    is_left = was;
   }
 
-  pub Listed-before : (e : RunFault) (after : Option (List ℕ)) (kept new : List ℕ) (result : Result RunEnd RunFault) → (IsRead e → kept ≡ text) → WritesBefore e written_after after kept new result → ListsRecords all written_before after result
-  Listed-before (fault.Read e) after kept new (Ok ended) same w = absurd w
-  Listed-before (fault.Read e) after kept new (Err (fault.Read last)) same w = Listed-written after (subst (Appends written_after after) (same tt) w.0)
-  Listed-before (fault.Read e) after kept new (Err (fault.Write last)) same w = write-fails after (subst (AppendsPrefix written_after after) (same tt) w)
-  Listed-before (fault.Read e) after kept new (Err fault.Memory) same w = absurd w
-  Listed-before (fault.Write e) after kept new (Ok ended) same w = absurd w
-  Listed-before (fault.Write e) after kept new (Err last) same w = absurd w
-  Listed-before fault.Memory after kept new (Ok ended) same w = absurd w
-  Listed-before fault.Memory after kept new (Err last) same w =
-      subst (λ (f : RunFault). ListsRecords all written_before after (Err f)) (sym w.0) (subst (λ (a : Option (List ℕ)). AppendsPrefix written_before a all.lines) (sym w.1) Listed-stops)
+  -- a fault, and if it is of a read the text was written before it
+  pub Listed-before : (WasLeft : RecordListing → Type 0) (e : RunFault) (after : Option (List ℕ)) (kept : List ℕ) (result : Result RunEnd RunFault) → (IsRead e → WasLeft listed.left) → (IsRead e → kept ≡ text) → WritesBefore e written_after after kept result → ListsRecords all WasLeft written_before after result
+  Listed-before WasLeft (fault.Read e) after kept (Ok ended) was same w = absurd w
+  Listed-before WasLeft (fault.Read e) after kept (Err (fault.Read last)) was same w = Listed-written WasLeft after (was tt) (subst (Appends written_after after) (same tt) w)
+  Listed-before WasLeft (fault.Read e) after kept (Err (fault.Write last)) was same w = write-fails after (subst (AppendsPrefix written_after after) (same tt) w)
+  Listed-before WasLeft (fault.Read e) after kept (Err fault.Memory) was same w = absurd w
+  Listed-before WasLeft (fault.Write e) after kept (Ok ended) was same w = absurd w
+  Listed-before WasLeft (fault.Write e) after kept (Err last) was same w = absurd w
+  Listed-before WasLeft fault.Memory after kept (Ok ended) was same w = absurd w
+  Listed-before WasLeft fault.Memory after kept (Err last) was same w =
+      subst (λ (f : RunFault). ListsRecords all WasLeft written_before after (Err f)) (sym w.0) (subst (λ (a : Option (List ℕ)). AppendsPrefix written_before a all.lines) (sym w.1) Listed-stops)
 
 -- a write failed
-pub write-fault : (all : RecordListing) (written_before after : Option (List ℕ)) (e : RunFault) → IsWrite e → AppendsPrefix written_before after (text_of all) → ListsRecords all written_before after (Err e)
-write-fault all written_before after (fault.Write e) is prefix = prefix
-write-fault all written_before after (fault.Read e) is prefix = absurd is
-write-fault all written_before after fault.Memory is prefix = absurd is
+pub write-fault : (all : RecordListing) (WasLeft : RecordListing → Type 0) (written_before after : Option (List ℕ)) (e : RunFault) → IsWrite e → AppendsPrefix written_before after (text_of all) → ListsRecords all WasLeft written_before after (Err e)
+write-fault all WasLeft written_before after (fault.Write e) is prefix = prefix
+write-fault all WasLeft written_before after (fault.Read e) is prefix = absurd is
+write-fault all WasLeft written_before after fault.Memory is prefix = absurd is
+
+-- less may be said of what is left
+pub ListsRecords-weaker : (all : RecordListing) (IsLeft WasLeft : RecordListing → Type 0) (written_before written_after : Option (List ℕ)) (result : Result RunEnd RunFault) → ((left : RecordListing) → IsLeft left → WasLeft left) → ListsRecords all IsLeft written_before written_after result → ListsRecords all WasLeft written_before written_after result
+ListsRecords-weaker all IsLeft WasLeft written_before written_after (Ok ended) weaker l = l
+ListsRecords-weaker all IsLeft WasLeft written_before written_after (Err (fault.Read e)) weaker l = record { lines = l.lines; left = l.left; added = l.added; parts = l.parts; is_left = weaker l.left l.is_left }
+ListsRecords-weaker all IsLeft WasLeft written_before written_after (Err (fault.Write e)) weaker l = l
+ListsRecords-weaker all IsLeft WasLeft written_before written_after (Err fault.Memory) weaker l = l
 
 -- What is written before a fault changes it only to that of a write.
-unread : (e : RunFault) (written_before written_after : Option (List ℕ)) (old new : List ℕ) (result : Result RunEnd RunFault) → IsRead e → WritesBefore e written_before written_after old new result → IfErr result (λ f. IsRead f ⊎ IsWrite f)
-unread (fault.Read e) written_before written_after old new (Ok ended) is w = tt
-unread (fault.Read e) written_before written_after old new (Err (fault.Read last)) is w = inl tt
-unread (fault.Read e) written_before written_after old new (Err (fault.Write last)) is w = inr tt
-unread (fault.Read e) written_before written_after old new (Err fault.Memory) is w = absurd w
-unread (fault.Write e) written_before written_after old new result is w = absurd is
-unread fault.Memory written_before written_after old new result is w = absurd is
+unread : (e : RunFault) (written_before written_after : Option (List ℕ)) (text : List ℕ) (result : Result RunEnd RunFault) → IsRead e → WritesBefore e written_before written_after text result → IfErr result (λ f. IsRead f ⊎ IsWrite f)
+unread (fault.Read e) written_before written_after text (Ok ended) is w = tt
+unread (fault.Read e) written_before written_after text (Err (fault.Read last)) is w = inl tt
+unread (fault.Read e) written_before written_after text (Err (fault.Write last)) is w = inr tt
+unread (fault.Read e) written_before written_after text (Err fault.Memory) is w = absurd w
+unread (fault.Write e) written_before written_after text result is w = absurd is
+unread fault.Memory written_before written_after text result is w = absurd is
 
-no_memory : (e : RunFault) (written_before written_after : Option (List ℕ)) (old new : List ℕ) (result : Result RunEnd RunFault) → e ≡ fault.Memory → WritesBefore e written_before written_after old new result → IfErr result (λ f. (f ≡ fault.Memory) ⊎ IsWrite f)
-no_memory (fault.Read e) written_before written_after old new result is w = absurd (subst IsRead is tt)
-no_memory (fault.Write e) written_before written_after old new result is w = absurd (subst IsWrite is tt)
-no_memory fault.Memory written_before written_after old new (Ok ended) is w = tt
-no_memory fault.Memory written_before written_after old new (Err last) is w = inl w.0
+no_memory : (e : RunFault) (written_before written_after : Option (List ℕ)) (text : List ℕ) (result : Result RunEnd RunFault) → e ≡ fault.Memory → WritesBefore e written_before written_after text result → IfErr result (λ f. (f ≡ fault.Memory) ⊎ IsWrite f)
+no_memory (fault.Read e) written_before written_after text result is w = absurd (subst IsRead is tt)
+no_memory (fault.Write e) written_before written_after text result is w = absurd (subst IsWrite is tt)
+no_memory fault.Memory written_before written_after text (Ok ended) is w = tt
+no_memory fault.Memory written_before written_after text (Err last) is w = inl w.0
 
-pub fault_stays : (cause : FileFault) (e : RunFault) (written_before written_after : Option (List ℕ)) (old new : List ℕ) (result : Result RunEnd RunFault) → IsFaultAt cause e → WritesBefore e written_before written_after old new result → IfErr result (λ f. IsFaultAt cause f ⊎ IsWrite f)
+pub fault_stays : (cause : FileFault) (e : RunFault) (written_before written_after : Option (List ℕ)) (text : List ℕ) (result : Result RunEnd RunFault) → IsFaultAt cause e → WritesBefore e written_before written_after text result → IfErr result (λ f. IsFaultAt cause f ⊎ IsWrite f)
 fault_stays faults.Read = unread
 fault_stays (faults.Refused refusal) = no_memory
 fault_stays faults.Memory = no_memory
 
 -- memory ran out before anything was written
-pub none_written : (all : RecordListing) (written_before : Option (List ℕ)) (e : RunFault) → e ≡ fault.Memory → ListsRecords all written_before written_before (Err e)
-none_written all written_before e is = subst (λ (f : RunFault). ListsRecords all written_before written_before (Err f)) (sym is) (record { prefix = []; rest = all.lines; added = Appends-nil written_before; whole = refl })
+pub none_written : (all : RecordListing) (WasLeft : RecordListing → Type 0) (written_before : Option (List ℕ)) (e : RunFault) → e ≡ fault.Memory → ListsRecords all WasLeft written_before written_before (Err e)
+none_written all WasLeft written_before e is = subst (λ (f : RunFault). ListsRecords all WasLeft written_before written_before (Err f)) (sym is) (record { prefix = []; rest = all.lines; added = Appends-nil written_before; whole = refl })
 
 -- a file of which nothing but its refusal is listed
 pub refusal_is : (label : Label) (fault : FileFault) (listing : RecordListing) (text : List ℕ) (ended : RunEnd) → IsRefusal label fault listing → AddsRefusal items.File label fault [] text ended → (text ≡ text_of listing) × (ended ≡ listing.end)

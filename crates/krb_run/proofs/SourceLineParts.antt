@@ -117,6 +117,15 @@ follow_ended : (IsShort : List ℕ → Type 0) (last next : List ℕ) (others : 
 follow_ended IsShort last next [] b short = inr (b.rest, subst IsShort b.parts short)
 follow_ended IsShort last next (first ∷ others) b short = b
 
+-- the first of them, if there is one, begins with octets
+abbrev pub BeginsFirst : List ℕ → List (List ℕ) → Type 0
+BeginsFirst last [] = Unit {0}
+BeginsFirst last (line ∷ lines) = IsBeginning last line
+
+first_ended : (last next : List ℕ) (others : List (List ℕ)) → IsBeginning last next → BeginsFirst last (ended_of (next ∷ others))
+first_ended last next [] b = tt
+first_ended last next (first ∷ others) b = b
+
 -- ---- a text whose lines have ended, but for the last
 module _ (text : List ℕ) (ended : List (List ℕ)) (last : List ℕ) (all : parts text ≡ ended ++ last ∷ []) where
   parts_more : (more : List ℕ) → parts (text ++ more) ≡ ended ++ onto_last last (parts more)
@@ -143,6 +152,9 @@ module _ (text : List ℕ) (ended : List (List ℕ)) (last : List ℕ) (all : pa
         ap ended_of m.is ∙ ended_of-from ended m.next m.others,
         λ IsShort short. follow_ended IsShort last m.next m.others m.begins (subst IsShort (ap last_of m.is ∙ last_of-from ended m.next m.others) short),
       )
+
+  pub ended_of-begins : (more : List ℕ) → (others : List (List ℕ)) × (ended_of (parts (text ++ more)) ≡ ended ++ others) × BeginsFirst last others
+  ended_of-begins more = let m = has_more more in (ended_of (m.next ∷ m.others), ap ended_of m.is ∙ ended_of-from ended m.next m.others, first_ended last m.next m.others m.begins)
 
   -- more octets of the line came
   pub parts_grow : (more : List ℕ) → parts more ≡ more ∷ [] → parts (text ++ more) ≡ ended ++ (last ++ more) ∷ []

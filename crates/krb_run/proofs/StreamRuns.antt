@@ -92,13 +92,18 @@ module _ {Q E : Type 0} (rules : Q → Rules E) (left left' : Option (List ℕ))
   FailsToRead-fed (Err e) is = subst (FailsToRead rules left asks old left') (sym is) (λ request had written_before written_after r.
       lines_prefix (rules request) had left' written_before written_after (r.come.octets ++ piece) r.come.written old.text (Consumes-trans had left left' r.come.octets piece r.taken given.taken) r.added (r.waits.begins.lines piece))
 
--- a read failed
-pub FailsToRead-counted : {T Q E : Type 0} (r : Result T RunFault) (rules : Q → Rules E) (left left' : Option (List ℕ)) (asks : ℕ) (lister : Listing Q) → IfErr r IsRead → Keeps left left' → IfErr r (FailsToRead rules left asks lister left')
-FailsToRead-counted (Ok x) rules left left' asks lister is kept = tt
-FailsToRead-counted (Err (fault.Read e)) rules left left' asks lister is kept = λ request had written_before written_after r.
-    lines_prefix (rules request) had left' written_before written_after (r.come.octets ++ []) r.come.written lister.text (subst (Consumes had left') (sym (append-nil r.come.octets)) (Consumes-kept had left left' r.come.octets r.taken kept)) r.added (r.waits.begins.lines [])
-FailsToRead-counted (Err (fault.Write e)) rules left left' asks lister is kept = absurd is
-FailsToRead-counted (Err fault.Memory) rules left left' asks lister is kept = absurd is
+-- a read failed, and all lines were written
+pub FailsToRead-counted : {T Q E : Type 0} (r : Result T RunFault) (rules : Q → Rules E) (left left' : Option (List ℕ)) (asks : ℕ) (lister : Listing Q) → IfErr r IsRead → Keeps left left' → lister.text ≡ [] → IfErr r (FailsToRead rules left asks lister left')
+FailsToRead-counted (Ok x) rules left left' asks lister is kept none = tt
+FailsToRead-counted (Err (fault.Read e)) rules left left' asks lister is kept none = λ request had written_before written_after r. record {
+  read = r.come.octets;
+  text = r.come.written;
+  taken = Consumes-kept had left left' r.come.octets r.taken kept;
+  is_text = subst ((rules request).AreAllLines r.come.octets) (ap (λ t. r.come.written ++ t) none ∙ append-nil r.come.written) r.waits.begins.all;
+  added = r.added;
+}
+FailsToRead-counted (Err (fault.Write e)) rules left left' asks lister is kept none = absurd is
+FailsToRead-counted (Err fault.Memory) rules left left' asks lister is kept none = absurd is
 
 -- ---- the lines of pieces are written
 module _ {Q E : Type 0} {rules : Rules E} {request : Q} {had left written_before written_after : Option (List ℕ)} {asks : ℕ} {lister : Listing Q} where
@@ -126,6 +131,7 @@ module _ {Q E : Type 0} {rules : Rules E} {request : Q} {had left written_before
           waits = o.waits request r.come r.waits.waits;
           begins = record {
             lines = λ more. subst (rules.AreLines (r.come.octets ++ more)) same (r.waits.begins.lines more);
+            all = subst (rules.AreAllLines r.come.octets) same r.waits.begins.all;
             rest = r.waits.begins.rest;
             listing = subst (λ t. rules.IsListing r.come.octets (t ++ r.waits.begins.rest)) same r.waits.begins.listing;
           };

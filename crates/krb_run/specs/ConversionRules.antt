@@ -15,9 +15,11 @@ pub record EndsConversion {S : Type 0} (convert : List ℕ → Converted S) (Goe
   pub all_read : GoesOn octets → IsAtEnd left
   pub stops : StopsInPiece GoesOn octets
 
-abbrev pub conversion_rules : {S E : Type 0} → (List ℕ → Converted S) → (GoesOn : List ℕ → Type 0) → (E → S) → Rules E
-conversion_rules convert GoesOn seen = record {
+-- with what the whole parts of octets become
+abbrev pub conversion_rules : {S E : Type 0} → (List ℕ → Converted S) → (of_whole : List ℕ → List ℕ) → (GoesOn : List ℕ → Type 0) → (E → S) → Rules E
+conversion_rules convert of_whole GoesOn seen = record {
   IsListing = λ octets text. text ≡ (convert octets).text;
-  AreLines = λ octets text. IsBeginning text (convert octets).text;
+  AreLines = λ octets text. IsBeginning text (of_whole octets);
+  AreAllLines = λ octets text. text ≡ of_whole octets;
   Ends = λ octets text listing left ended. EndsConversion convert GoesOn octets left (seen ended);
 }

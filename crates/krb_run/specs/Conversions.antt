@@ -1,7 +1,9 @@
 -- What a run that writes one text of what it reads, messages as lines or lines as messages, does to its reader and its writer.
 use Rattle.std.specs.Prelude.{ℕ, ◌≡◌, List, ◌++◌, Option}
 use Rattle.std.specs.Io.KnownBytes.{Consumes, Appends, IsAtEnd}
-use Rattle.krb_run.specs.Runs.{StopsInPiece, WritesPrefix}
+use Rattle.krb_run.specs.Runs.{StopsInPiece, WritesPrefix, WritesText}
+use Rattle.krb_run.specs.declared.run.RunFault.{RunFault}
+use Rattle.krb_run.specs.declared.run.RunFault.TheVariants as fault
 
 -- what octets become: a text, and how it ends
 pub record Converted (E : Type 0) : Type 0 where
@@ -21,6 +23,8 @@ pub record Converts {E : Type 0} (convert : List ℕ → Converted E) (GoesOn : 
   pub all_read : GoesOn read → IsAtEnd left
   pub stops : StopsInPiece GoesOn read
 
--- A run that failed appended a prefix of what the octets become that it read.
-abbrev pub ConvertsInPart : {E : Type 0} → (List ℕ → Converted E) → Option (List ℕ) → Option (List ℕ) → Option (List ℕ) → Option (List ℕ) → Type 0
-ConvertsInPart convert had left written_before written_after = WritesPrefix (λ read text. text ≡ (convert read).text) had left written_before written_after
+-- If a run fails by a write, a prefix of what the octets become that it read is written. If a read fails, it is what their whole parts become, all of that; and if memory runs out, a prefix of that.
+abbrev pub FailsToConvert : (all of_whole : List ℕ → List ℕ) → (had left written_before written_after : Option (List ℕ)) → RunFault → Type 0
+FailsToConvert all of_whole had left written_before written_after (fault.Write error) = WritesPrefix (λ read text. text ≡ all read) had left written_before written_after
+FailsToConvert all of_whole had left written_before written_after (fault.Read error) = WritesText (λ read text. text ≡ of_whole read) had left written_before written_after
+FailsToConvert all of_whole had left written_before written_after fault.Memory = WritesPrefix (λ read text. text ≡ of_whole read) had left written_before written_after

@@ -14,10 +14,13 @@ pub record LineKind (L : Type 0) : Type 1 where
   pub End : Type 0
   pub Ending : Type 0
   pub ending_of : End → Ending
-  pub IsNoFault : Ending → Type 0
-  -- what lines become, all of a text and those after the ones that ended
-  pub all : Request → List (List ℕ) → Converted Ending
-  pub rest : L → List (List ℕ) → Converted Ending
+  -- what is seen of lines, and what lines become: all of a text, and those after the ones that ended
+  pub Seen : Type 0
+  pub IsNoFault : Seen → Type 0
+  pub all : Request → List (List ℕ) → Converted Seen
+  pub rest : L → List (List ℕ) → Converted Seen
+  -- what is written at the end, and how a run ends that has seen this
+  pub close : Request → Seen → Converted Ending
   pub request : L → Request
   pub text : L → List ℕ
   -- how many octets, or how much else, are counted
@@ -35,7 +38,7 @@ GoesOn kind reader = kind.IsOpen reader × kind.IsNoFault (kind.rest reader []).
 
 -- no line more is read, after one that is at fault
 pub record IsStopped {L : Type 0} (kind : LineKind L) (reader : L) : Type 0 where
-  pub end : kind.Ending
+  pub end : kind.Seen
   pub rest : (lines : List (List ℕ)) → kind.rest reader lines ≡ record { text = []; end = end }
   pub fault : kind.IsNoFault end → ⊥
 
@@ -73,6 +76,8 @@ pub record EndsLine {L : Type 0} (kind : LineKind L) (old new : L) (goes_on : Bo
   pub request : kind.request new ≡ kind.request old
   pub holds : kind.Holds new []
   pub rest : (line : List ℕ) (lines : List (List ℕ)) → kind.Holds old line → kind.rest old (line ∷ lines) ≡ after_text added (kind.rest new lines)
+  -- nothing is written after the last line but what is written at the end
+  pub none : (kind.rest new []).text ≡ []
   pub few : kind.count new ≤ kind.count old + 1
   pub follows : Follows kind new goes_on
 
@@ -93,6 +98,7 @@ pub record HasRead {L : Type 0} (kind : LineKind L) (reader : L) (stream written
   pub last : List ℕ
   pub all : parts stream ≡ ended ++ last ∷ []
   pub holds : kind.Holds reader last
+  pub so_far : (kind.all (kind.request reader) ended).text ≡ written ++ kind.text reader
   pub goes_on : (lines : List (List ℕ)) → MayFollow (kind.IsShort (kind.request reader)) last lines → kind.all (kind.request reader) (ended ++ lines) ≡ after_text (written ++ kind.text reader) (kind.rest reader lines)
 
 -- a text whose lines that end are not at fault, and whose last one is not too long
@@ -108,8 +114,16 @@ pub record IsStoppedAfter {L : Type 0} (kind : LineKind L) (reader : L) (taken :
   pub stopped : IsStopped kind reader
   pub stops : StopsInPiece (IsRight kind (kind.request reader)) taken.octets
 
+-- what the lines of a text become, and then what is written at the end
+abbrev pub closed : {L : Type 0} → (kind : LineKind L) → kind.Request → Converted kind.Seen → Converted kind.Ending
+closed kind request lines = after_text lines.text (kind.close request lines.end)
+
+-- what the lines become that end in a text
+abbrev pub of_ended : {L : Type 0} → (kind : LineKind L) → kind.Request → (text : List ℕ) → List ℕ
+of_ended kind request text = (kind.all request (ended_of (parts text))).text
+
 abbrev pub line_rules : {L : Type 0} → (kind : LineKind L) → kind.Request → Rules kind.End
-line_rules kind request = conversion_rules (λ text. kind.all request (lines_of text)) (IsRight kind request) kind.ending_of
+line_rules kind request = conversion_rules (λ text. closed kind request (kind.all request (lines_of text))) (of_ended kind request) (IsRight kind request) kind.ending_of
 
 abbrev pub reader_kind : {L : Type 0} → (kind : LineKind L) → Kind L kind.Request kind.End
 reader_kind kind = record {
@@ -125,4 +139,5 @@ reader_kind kind = record {
 
 -- the last line has ended, if there is one
 pub record EndsText {L : Type 0} (kind : LineKind L) (old new : L) : Type 0 where
+  pub request : kind.request new ≡ kind.request old
   pub all : (taken : Taken) (left : Option (List ℕ)) → IsLastOf (reader_kind kind) old taken left → kind.all (kind.request old) (lines_of taken.octets) ≡ after_text (taken.written ++ kind.text new) (kind.rest new [])

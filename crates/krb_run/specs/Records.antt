@@ -1,5 +1,5 @@
 -- The listing of a file record by record, and what a run on it does to its writer.
-use Rattle.std.specs.Prelude.{ℕ, zero, suc, ◌≡◌, List, [], ◌++◌, Option, Some, None, Result, Ok, Err}
+use Rattle.std.specs.Prelude.{ℕ, zero, suc, ◌^◌, ◌≡◌, ◌⊎◌, List, [], ◌++◌, Option, Some, None, Result, Ok, Err}
 use Rattle.std.specs.Io.KnownBytes.{Appends}
 use Rattle.krb_file.specs.Fields.{Fault}
 use Rattle.krb_file.specs.declared.fault.FileFault.{FileFault}
@@ -51,12 +51,27 @@ pub record AppendsPrefix (written_before written_after : Option (List ℕ)) (tex
   pub added : Appends written_before written_after prefix
   pub whole : text ≡ prefix ++ rest
 
--- What a run on records appends to what is written: the listing; a prefix of it if a write fails; and a prefix of the lines of records if a read fails or memory runs out.
-abbrev pub ListsRecords : RecordListing → Option (List ℕ) → Option (List ℕ) → Result RunEnd RunFault → Type 0
-ListsRecords listing written_before written_after (Ok ended) = Appends written_before written_after (text_of listing) × (ended ≡ listing.end)
-ListsRecords listing written_before written_after (Err (fault.Write error)) = AppendsPrefix written_before written_after (text_of listing)
-ListsRecords listing written_before written_after (Err (fault.Read error)) = AppendsPrefix written_before written_after listing.lines
-ListsRecords listing written_before written_after (Err fault.Memory) = AppendsPrefix written_before written_after listing.lines
+-- The lines of the first records of a listing were appended to what is written, each whole, and this is left of it.
+pub record ListsFirst (listing : RecordListing) (IsLeft : RecordListing → Type 0) (written_before written_after : Option (List ℕ)) : Type 0 where
+  pub lines : List ℕ
+  pub left : RecordListing
+  pub added : Appends written_before written_after lines
+  pub parts : listing ≡ after_line lines left
+  pub is_left : IsLeft left
+
+-- What a run on records appends to what is written: the listing; a prefix of it if a write fails; a prefix of the lines of records if memory runs out; and if a read fails, the lines of the first records, up to where this may be left of the listing.
+abbrev pub ListsRecords : (listing : RecordListing) → (IsLeft : RecordListing → Type 0) → Option (List ℕ) → Option (List ℕ) → Result RunEnd RunFault → Type 0
+ListsRecords listing IsLeft written_before written_after (Ok ended) = Appends written_before written_after (text_of listing) × (ended ≡ listing.end)
+ListsRecords listing IsLeft written_before written_after (Err (fault.Write error)) = AppendsPrefix written_before written_after (text_of listing)
+ListsRecords listing IsLeft written_before written_after (Err (fault.Read error)) = ListsFirst listing IsLeft written_before written_after
+ListsRecords listing IsLeft written_before written_after (Err fault.Memory) = AppendsPrefix written_before written_after listing.lines
+
+-- This was left of a source to a lister of records when a read failed, or when it was not asked for more, after 2^40 records.
+pub record WasLeft {L S : Type 0} (IsLeft : L → ℕ → S → RecordListing → Type 0) (Fails : L → L → Type 0) (source : S) (now : L) (left : RecordListing) : Type 0 where
+  pub lines : L
+  pub count : ℕ
+  pub is_left : IsLeft lines count source left
+  pub failed : Fails lines now ⊎ ((now ≡ lines) × (count ≡ 2 ^ 40))
 
 -- What is added to a text if this is left to be listed: a line, after which others are left, or the last line, if it alone is left.
 abbrev pub AddsLine : (RecordListing → Type 0) → RecordListing → List ℕ → List ℕ → Result (Option RunEnd) RunFault → Type 0

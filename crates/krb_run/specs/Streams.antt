@@ -3,12 +3,13 @@ use Rattle.std.specs.Prelude.{ℕ, ◌+◌, ◌^◌, ◌≡◌, ◌≤◌, ◌�
 use Rattle.std.specs.Io.KnownBytes.{Consumes, Appends, IsAtEnd}
 use Rattle.krb_run.specs.declared.run.RunFault.{RunFault}
 use Rattle.krb_run.specs.declared.run.RunFault.TheVariants as fault
-use Rattle.krb_run.specs.Runs.{WritesPrefix}
+use Rattle.krb_run.specs.Runs.{WritesPrefix, WritesText}
 
--- What is written of octets: their listing, or its first lines. And how a run ends that wrote the listing, with what its reader has left.
+-- What is written of octets: their listing; its first lines; or the lines of all that is whole in the octets, without those of their end. And how a run ends that wrote the listing, with what its reader has left.
 pub record Rules (E : Type 0) : Type 1 where
   pub IsListing : List ℕ → List ℕ → Type 0
   pub AreLines : List ℕ → List ℕ → Type 0
+  pub AreAllLines : List ℕ → List ℕ → Type 0
   pub Ends : (octets text : List ℕ) → IsListing octets text → Option (List ℕ) → E → Type 0
 
 -- what came so far: how many pieces, their octets, and the lines that were written
@@ -32,9 +33,10 @@ pub record Listing (Q : Type 0) : Type 1 where
   pub Stops : Q → Taken → Type 0
 
 -- ---- what a lister does
--- The lines so far are first lines, whatever comes next, and the listing of the octets begins with them.
+-- The lines so far are first lines, whatever comes next. They are those of all that is whole in the octets, whose listing begins with them.
 pub record Begins {E : Type 0} (rules : Rules E) (taken : Taken) (text : List ℕ) : Type 0 where
   pub lines : (more : List ℕ) → rules.AreLines (taken.octets ++ more) (taken.written ++ text)
+  pub all : rules.AreAllLines taken.octets (taken.written ++ text)
   pub rest : List ℕ
   pub listing : rules.IsListing taken.octets ((taken.written ++ text) ++ rest)
 
@@ -56,6 +58,7 @@ GoesOn false rules request taken lister = Stops rules request taken lister
 -- nothing came yet
 pub record IsNew {Q E : Type 0} (rules : Rules E) (request : Q) (lister : Listing Q) : Type 0 where
   pub waits : Waits rules request (record { pieces = 0; octets = []; written = [] }) lister
+  pub none : lister.text ≡ []
 
 -- it waits for a piece, after at most 2^40 others
 pub record AcceptsPiece {Q : Type 0} (lister : Listing Q) : Type 0 where
@@ -95,10 +98,10 @@ abbrev pub Finishes : {Q E : Type 0} → (Q → Rules E) → Listing Q → Listi
 Finishes {Q} rules old new ended = (request : Q) (taken : Taken) (left : Option (List ℕ)) → IsLast old request taken left → EndsListing (rules request) taken.octets (taken.written ++ new.text) left ended
 
 -- ---- what a run does
--- If a run fails by a write, a prefix of the listing of what was read is written, and else a prefix of its first lines.
+-- If a run fails by a write, a prefix of the listing of what was read is written. If a read fails, the lines are written of all that is whole in what was read; and if memory runs out, a prefix of the first lines.
 abbrev pub FailsBy : {E : Type 0} → Rules E → Option (List ℕ) → Option (List ℕ) → Option (List ℕ) → Option (List ℕ) → RunFault → Type 0
 FailsBy rules had left written_before written_after (fault.Write error) = WritesPrefix rules.IsListing had left written_before written_after
-FailsBy rules had left written_before written_after (fault.Read error) = WritesPrefix rules.AreLines had left written_before written_after
+FailsBy rules had left written_before written_after (fault.Read error) = WritesText rules.AreAllLines had left written_before written_after
 FailsBy rules had left written_before written_after fault.Memory = WritesPrefix rules.AreLines had left written_before written_after
 
 -- So far a run read octets from its reader by a number of reads, and wrote the first of their lines. The other lines are in its lister, which waits for a piece.

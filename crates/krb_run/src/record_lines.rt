@@ -6,7 +6,7 @@ ghost use Rattle.std.specs.Io.KnownBytes.{Appends};
 ghost use Rattle.std.specs.Option.{option_map};
 ghost use Rattle.krb_run.specs.Extents.{fault_line};
 ghost use Rattle.krb_run.specs.Faults.{IsFaultAt, IsRead, IsWrite};
-ghost use Rattle.krb_run.specs.Records.{AddsLine, AddsRefusal, AppendsPrefix, IsRefusal, ListsRecords, RecordListing, after_line, refused_in};
+ghost use Rattle.krb_run.specs.Records.{AddsLine, AddsRefusal, AppendsPrefix, IsRefusal, ListsRecords, RecordListing, WasLeft, after_line, refused_in};
 ghost use Rattle.krb_run.specs.inner.RecordRuns.{Moves, WritesBefore};
 
 use crate::extent::extent_of;
@@ -85,8 +85,14 @@ pub fn in_pieces<R: Read + Drop>(alloc: Global, reader: R) -> Result<BufReader<R
 
 /// A file that is listed a line for each record.
 pub trait RecordLines {
-    /// What is left to be listed after a number of records.
-    ghost IsLeft: { Self → ℕ → RecordListing → Type 0 };
+    /// What is listed, and how.
+    ghost Source: { Type 0 };
+
+    /// What is left to be listed of a source after a number of records.
+    ghost IsLeft: { Self → ℕ → Source → RecordListing → Type 0 };
+
+    /// What becomes of it when a read fails.
+    ghost Fails: { Self → Self → Type 0 } = { λ _ _. Unit {0} };
 
     /// Appends the line of the record after the first `count`, and returns none. If there is no
     /// record it appends the last line, and returns how the run ends.
@@ -96,9 +102,10 @@ pub trait RecordLines {
         count: u64,
         text: &mut TextBuffer,
     ) -> Result<Option<RunEnd>, RunFault>
-        ensures line { (left : RecordListing) → IsLeft self.old count left → AddsLine (IsLeft self.new (suc count)) left text.old text.new result }
+        ensures line { (source : Source) (left : RecordListing) → IsLeft self.old count source left → AddsLine (IsLeft self.new (suc count) source) left text.old text.new result }
         ensures fault { IfErr result (λ e. IsWrite e → ⊥) }
-        ensures kept { IfErr result (λ e. IsRead e → text.new ≡ text.old) };
+        ensures kept { IfErr result (λ e. IsRead e → text.new ≡ text.old) }
+        ensures failed { IfErr result (λ e. IsRead e → Fails self.old self.new) };
 }
 
 /// Appends the line of a refused file, with the path of the field at fault.
@@ -190,7 +197,7 @@ fn write_before<W: Write>(
     fault: RunFault,
 ) -> Result<RunEnd, RunFault>
     requires { IsWrite fault → ⊥ }
-    ensures { WritesBefore fault (W.contents writer.old) (W.contents writer.new) text.old text.new result }
+    ensures { WritesBefore fault (W.contents writer.old) (W.contents writer.new) text.old result }
 {
     if let RunFault::Read(_) = fault {
         write_text(writer, text)?;
@@ -199,7 +206,8 @@ fn write_before<W: Write>(
 }
 
 /// Lists a file after a text that is not written yet. Lines are written before the next record is
-/// read, but those of a fast file are kept until they have 64 KiB, or a read fails.
+/// read, but those of a fast file are kept until they have 64 KiB, or a read fails. Then the text is
+/// written, and after it the lines of all records that were read.
 pub fn list_records<L: RecordLines, W: Write>(
     alloc: Global,
     lines: &mut L,
@@ -207,8 +215,7 @@ pub fn list_records<L: RecordLines, W: Write>(
     watch: &Watch,
     writer: &mut W,
 ) -> Result<RunEnd, RunFault>
-    ensures listed { (left : RecordListing) → L.IsLeft lines.old 0 left → ListsRecords (after_line text.old left) (W.contents writer.old) (W.contents writer.new) result }
-    ensures none_kept { IfErr result (λ e. IsRead e → text.new ≡ []) }
+    ensures listed { (source : L.Source) (left : RecordListing) → L.IsLeft lines.old 0 source left → ListsRecords (after_line text.old left) (WasLeft L.IsLeft L.Fails source lines.new) (W.contents writer.old) (W.contents writer.new) result }
 {
     'records: for count in 0..MOST_ASKS {
         let is_due = text.octets().len() >= PIECE_OCTETS || !watch.is_fast.get();
@@ -225,7 +232,8 @@ pub fn list_records<L: RecordLines, W: Write>(
     write_before(writer, text, RunFault::Read(too_many_reads()))
 }
 
-/// Lists the refusal of a file and nothing else, if this fault is a refusal.
+/// Lists the refusal of a file and nothing else, if this fault is a refusal. If a read failed nothing
+/// is written.
 pub fn list_refusal<W: Write>(
     alloc: Global,
     label: &Label,
@@ -233,7 +241,7 @@ pub fn list_refusal<W: Write>(
     watch: &Watch,
     writer: &mut W,
 ) -> Result<RunEnd, RunFault>
-    ensures listed { (listing : RecordListing) → IsRefusal label.now fault listing → ListsRecords listing (W.contents writer.old) (W.contents writer.new) result }
+    ensures listed { (listing : RecordListing) → IsRefusal label.now fault listing → ListsRecords listing (λ left. left ≡ listing) (W.contents writer.old) (W.contents writer.new) result }
     ensures fault { IfErr result (λ e. IsFaultAt fault e ⊎ IsWrite e) }
 {
     let mut text = TextBuffer::new(alloc);

@@ -1,6 +1,6 @@
 //! Runs over streams, which are listed as their octets come.
 
-ghost use Rattle.std.specs.Prelude.{◌≡◌, ◌+◌, ◌^◌, ◌≤◌, length, IsTrue, IfErr, IfOk, OnOk};
+ghost use Rattle.std.specs.Prelude.{◌≡◌, ◌+◌, ◌^◌, ◌≤◌, [], length, IsTrue, IfErr, IfOk, OnOk};
 ghost use Rattle.krb_run.specs.declared.transfer.ReaderState.TheVariants as reader;
 ghost use Rattle.krb_run.specs.Streams.{Rules, Listing, IsNew, AcceptsPiece, Feeds, Clears, MayFinish, Finishes, ListsBy, FailsBy, Reads, FailsToRead};
 
@@ -51,14 +51,15 @@ pub trait ListStream: Drop {
         ensures fault { IfErr result (λ e. e ≡ RunFault.Memory) };
 }
 
-/// Reads the next piece of a stream and feeds it to a lister. Returns whether the stream goes on,
-/// which it does not after its end.
+/// Reads the next piece of a stream and feeds it to a lister, whose lines are written. Returns whether
+/// the stream goes on, which it does not after its end.
 fn feed_next<L: ListStream, R: Read>(
     lister: &mut L,
     counted: &mut CountedReader<'_, R>,
     buffer: &mut [u8],
 ) -> Result<bool, RunFault>
     requires waits { AcceptsPiece (L.listing lister.old) }
+    requires none { (L.listing lister.old).text ≡ [] }
     requires open { counted.old.state ≡ reader.Open }
     requires size { length buffer.old ≡ 65536 }
     ensures same_reader { counted.new.reader.ghost_name ≡ counted.old.reader.ghost_name }
@@ -77,8 +78,9 @@ fn feed_next<L: ListStream, R: Read>(
 /// Lists a stream from its first octet, by a new lister, and returns how the run ended. The reader is
 /// asked at most 2^40 times, for 64 KiB each, and the lines of what came are written before it is
 /// asked again; it is not asked again after an error, its end, or the piece at which the stream stops.
-/// If a read fails or memory runs out, the lines that were written are those of the first pieces, and
-/// if a write fails, the first octets of the listing.
+/// If a read fails, the lines that were written are those of all that is whole in what came, and none
+/// of its end. If memory runs out they are the first octets of lines, and if a write fails, of the
+/// listing.
 pub fn list_all<L: ListStream, R: Read, W: Write>(
     alloc: Global,
     request: L::Request,

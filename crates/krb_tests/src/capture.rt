@@ -83,7 +83,7 @@ fn put_records(
 fn put_listing(alloc: Global, octets: &[u8], text: &mut TextBuffer) -> Result<bool, Fail> {
     let mut packets = Packets::new(octets);
     let label = Label::none(Form::Lines);
-    let mut capture = Capture::new(alloc, &label, Profile::Lenient, Limit::DEFAULT, 88);
+    let mut capture = Capture::new(alloc, &label, Profile::Lenient, Limit::DEFAULT, 88)?;
     let clean = put_records(alloc, &mut packets, &mut capture, text);
     drop(capture);
     drop(packets);
@@ -124,7 +124,7 @@ const TOO_MUCH: usize = FULL + 2 * 108;
 /// Returns how many octets of text each step over the packet leaves.
 fn step_sizes(alloc: Global, packet: &Packet, text: &mut TextBuffer) -> Result<Vec<usize>, Memory> {
     let label = Label::none(Form::Lines);
-    let mut capture = Capture::new(alloc, &label, Profile::Lenient, Limit::DEFAULT, 88);
+    let mut capture = Capture::new(alloc, &label, Profile::Lenient, Limit::DEFAULT, 88)?;
     let mut sizes = Vec::new(alloc);
     let mut rest = capture.take(packet, text)?;
     for _ in 0..8 {

@@ -37,6 +37,7 @@ fn segment(sent: &Sent) -> Segment<'static> {
         fin: sent.1 == Flag::Fin,
         syn: sent.1 == Flag::Syn,
         rst: sent.1 == Flag::Rst,
+        ack: false,
         payload: Payload::new(sent.2.as_bytes(), sent.3),
     }
 }

@@ -20,6 +20,8 @@ mod error_data;
 #[cfg(test)]
 mod examples;
 #[cfg(test)]
+mod exchange;
+#[cfg(test)]
 mod fakes;
 #[cfg(test)]
 mod flow;

@@ -54,7 +54,7 @@ const ROWS: [Row; 5] = [
     Row(
         Source::Capture,
         PACKETS,
-        "packet=2 t=2000-01-01T00:00:02.000005000Z flow=tcp/127.0.0.1:40000>127.0.0.1:88 AP-REP enc=18:aes256-cts-hmac-sha1-96:-:4 notes=[]\npacket=2 t=2000-01-01T00:00:02.000005000Z flow=tcp/127.0.0.1:40000>127.0.0.1:88 refused place=5 why=6 Indefinite in=AP-REP at=35 length=2\npacket=3 t=2000-01-01T00:00:03.000005000Z flow=tcp/127.0.0.1:40000>127.0.0.1:88 AP-REP enc=18:aes256-cts-hmac-sha1-96:-:4 notes=[]\npacket=3 t=2000-01-01T00:00:03.000005000Z flow=tcp/127.0.0.1:40000>127.0.0.1:88 refused place=3 why=2 TooLong in=- at=76 length=1195725856\npacket=5 t=2000-01-01T00:00:05.000005000Z flow=udp/127.0.0.1:40000>127.0.0.1:88 refused place=1 why=6 Indefinite in=AP-REP at=0 length=2\nend packets=5 messages=2 refused=3 lost=0 unread=0\n",
+        "packet=2 t=2000-01-01T00:00:02.000005000Z flow=tcp/127.0.0.1:40000>127.0.0.1:88 AP-REP enc=18:aes256-cts-hmac-sha1-96:-:4 notes=[]\npacket=2 t=2000-01-01T00:00:02.000005000Z flow=tcp/127.0.0.1:40000>127.0.0.1:88 of=- after=- waited=- refused place=5 why=6 Indefinite in=AP-REP at=35 length=2\npacket=3 t=2000-01-01T00:00:03.000005000Z flow=tcp/127.0.0.1:40000>127.0.0.1:88 AP-REP enc=18:aes256-cts-hmac-sha1-96:-:4 notes=[]\npacket=3 t=2000-01-01T00:00:03.000005000Z flow=tcp/127.0.0.1:40000>127.0.0.1:88 of=- after=- waited=- refused place=3 why=2 TooLong in=- at=76 length=1195725856\npacket=5 t=2000-01-01T00:00:05.000005000Z flow=udp/127.0.0.1:40000>127.0.0.1:88 of=- after=- waited=- refused place=1 why=6 Indefinite in=AP-REP at=0 length=2\nend packets=5 messages=2 refused=3 lost=0 unread=0 answered=0 unanswered=0 again=0 unreachable=0\n",
     ),
 ];
 

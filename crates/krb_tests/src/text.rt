@@ -6,10 +6,12 @@ use krb_file::FileWhy;
 use krb_input::{Layer, Spelling};
 use krb_judge::read_ticket_in;
 use krb_record::{
-    CaptureCounts, CaptureOrigin, Extent, Flow, Form, InputFault, MessageOrigin, TextBuffer,
-    Transport, put_capture_end, put_capture_refusal, put_captured_refusal, put_counted_stream_end,
-    put_file, put_file_refusal, put_input_refusal, put_joined, put_lost, put_message_refusal,
-    put_password, put_stream_refusal, put_untold_message_refusal, put_untold_stream_refusal,
+    Answer, CaptureCounts, CaptureOrigin, Extent, Flow, Form, How, IcmpError, IcmpVersion,
+    InputFault, MessageOrigin, Request, Span, TextBuffer, Told, ToldCounts, Transport,
+    put_capture_end, put_capture_refusal, put_captured_refusal, put_counted_stream_end, put_file,
+    put_file_refusal, put_input_refusal, put_joined, put_lost, put_message_refusal, put_password,
+    put_stream_refusal, put_unanswered, put_unreachable, put_untold_message_refusal,
+    put_untold_stream_refusal,
 };
 use krb_source::{Endpoint, Timestamp};
 use krb_text::{put_message_from, put_ticket};
@@ -162,6 +164,27 @@ fn shows_messages_of_an_origin(rt: HostRuntime) -> Result<(), Fail> {
     Ok(())
 }
 
+/// Returns an answer whose clock stepped back.
+fn late() -> Answer {
+    Answer {
+        of: Some(4),
+        after: Some(Span {
+            microseconds: -2500001,
+        }),
+        waited: None,
+    }
+}
+
+/// Returns an error of a host that nobody listens at a port of.
+fn error() -> IcmpError {
+    IcmpError {
+        version: IcmpVersion::V4,
+        by: IpAddr::V4(Ipv4Addr::LOCALHOST),
+        error_type: 3,
+        code: 8,
+    }
+}
+
 /// Returns a flow over IPv4, and a packet without a time.
 fn sent() -> CaptureOrigin {
     CaptureOrigin {
@@ -178,6 +201,7 @@ fn sent() -> CaptureOrigin {
                 port: 0,
             },
         },
+        told: Told::Request(Some(7)),
     }
 }
 
@@ -200,14 +224,15 @@ fn answered() -> CaptureOrigin {
                 port: 9,
             },
         },
+        told: Told::Either(None, late()),
     }
 }
 
 /// What is printed of a capture.
 const CAPTURES: [&str; 3] = [
-    "packet=18446744073709551615 t=- flow=tcp/127.0.0.1:65535>255.255.255.255:0 joined\npacket=18446744073709551615 t=- flow=tcp/127.0.0.1:65535>255.255.255.255:0 refused place=9 why=16 Truncated\npacket=1 t=2026-11-25T10:56:01.000001090Z flow=udp/[::1]:88>[2001:db8::1:0:0:1]:9 lost place=78 octets=114\npacket=1 t=2026-11-25T10:56:01.000001090Z flow=udp/[::1]:88>[2001:db8::1:0:0:1]:9 KPASSWD version=65408 ap=509 rest=135\nend packets=1 messages=2 refused=3 lost=4 unread=5\nrefused packets=1 messages=2 refused=3 lost=4 unread=5 place=0 why=1 Magic\n",
-    "packet=18446744073709551615 t=- flow=tcp/127.0.0.1:65535>255.255.255.255:0 joined\npacket=18446744073709551615 t=- flow=tcp/127.0.0.1:65535>255.255.255.255:0 refused place=9 why=16 Truncated in=AP-REP.pvno at=3 length=9\npacket=1 t=2026-11-25T10:56:01.000001090Z flow=udp/[::1]:88>[2001:db8::1:0:0:1]:9 lost place=78 octets=114 in=-\npacket=1 t=2026-11-25T10:56:01.000001090Z flow=udp/[::1]:88>[2001:db8::1:0:0:1]:9 KPASSWD version=65408 ap=509 rest=135\nend packets=1 messages=2 refused=3 lost=4 unread=5\nrefused packets=1 messages=2 refused=3 lost=4 unread=5 place=0 why=1 Magic in=magic at=0 length=-\n",
-    "{\"kind\":\"joined\",\"packet\":18446744073709551615,\"t\":null,\"flow\":{\"over\":\"tcp\",\"source\":{\"address\":\"127.0.0.1\",\"port\":65535},\"target\":{\"address\":\"255.255.255.255\",\"port\":0}},\"t_us\":null}\n{\"kind\":\"refused\",\"packet\":18446744073709551615,\"t\":null,\"flow\":{\"over\":\"tcp\",\"source\":{\"address\":\"127.0.0.1\",\"port\":65535},\"target\":{\"address\":\"255.255.255.255\",\"port\":0}},\"place\":9,\"why\":16,\"why_name\":\"Truncated\",\"in\":\"AP-REP.pvno\",\"at\":3,\"length\":9,\"t_us\":null}\n{\"kind\":\"lost\",\"packet\":1,\"t\":\"2026-11-25T10:56:01.000001090Z\",\"flow\":{\"over\":\"udp\",\"source\":{\"address\":\"::1\",\"port\":88},\"target\":{\"address\":\"2001:db8::1:0:0:1\",\"port\":9}},\"place\":78,\"octets\":114,\"in\":null,\"t_us\":1795604161000001}\n{\"kind\":\"KPASSWD\",\"packet\":1,\"t\":\"2026-11-25T10:56:01.000001090Z\",\"flow\":{\"over\":\"udp\",\"source\":{\"address\":\"::1\",\"port\":88},\"target\":{\"address\":\"2001:db8::1:0:0:1\",\"port\":9}},\"version\":65408,\"ap\":509,\"rest\":135,\"t_us\":1795604161000001}\n{\"kind\":\"end\",\"packets\":1,\"messages\":2,\"refused\":3,\"lost\":4,\"unread\":5}\n{\"kind\":\"refused\",\"packets\":1,\"messages\":2,\"refused\":3,\"lost\":4,\"unread\":5,\"place\":0,\"why\":1,\"why_name\":\"Magic\",\"in\":\"magic\",\"at\":0,\"length\":null}\n",
+    "packet=18446744073709551615 t=- flow=tcp/127.0.0.1:65535>255.255.255.255:0 joined\npacket=18446744073709551615 t=- flow=tcp/127.0.0.1:65535>255.255.255.255:0 refused place=9 why=16 Truncated\npacket=1 t=2026-11-25T10:56:01.000001090Z flow=udp/[::1]:88>[2001:db8::1:0:0:1]:9 lost place=78 octets=114\npacket=1 t=2026-11-25T10:56:01.000001090Z flow=udp/[::1]:88>[2001:db8::1:0:0:1]:9 KPASSWD version=65408 ap=509 rest=135\npacket=18446744073709551615 t=- flow=tcp/127.0.0.1:65535>255.255.255.255:0 unanswered request=TGS-REQ of=4 after=-2.500001 waited=-\npacket=1 t=2026-11-25T10:56:01.000001090Z flow=udp/[::1]:88>[2001:db8::1:0:0:1]:9 unreachable how=icmp by=127.0.0.1 type=3 code=8 of=4 after=-2.500001 waited=-\nend packets=1 messages=2 refused=3 lost=4 unread=5\nrefused packets=1 messages=2 refused=3 lost=4 unread=5 place=0 why=1 Magic\n",
+    "packet=18446744073709551615 t=- flow=tcp/127.0.0.1:65535>255.255.255.255:0 again=7 joined\npacket=18446744073709551615 t=- flow=tcp/127.0.0.1:65535>255.255.255.255:0 again=7 refused place=9 why=16 Truncated in=AP-REP.pvno at=3 length=9\npacket=1 t=2026-11-25T10:56:01.000001090Z flow=udp/[::1]:88>[2001:db8::1:0:0:1]:9 again=- of=4 after=-2.500001 waited=- lost place=78 octets=114 in=-\npacket=1 t=2026-11-25T10:56:01.000001090Z flow=udp/[::1]:88>[2001:db8::1:0:0:1]:9 again=- of=4 after=-2.500001 waited=- KPASSWD version=65408 ap=509 rest=135\npacket=18446744073709551615 t=- flow=tcp/127.0.0.1:65535>255.255.255.255:0 again=7 unanswered request=TGS-REQ of=4 after=-2.500001 waited=-\npacket=1 t=2026-11-25T10:56:01.000001090Z flow=udp/[::1]:88>[2001:db8::1:0:0:1]:9 again=- of=4 after=-2.500001 waited=- unreachable how=icmp by=127.0.0.1 type=3:destination-unreachable code=8:- of=4 after=-2.500001 waited=-\nend packets=1 messages=2 refused=3 lost=4 unread=5 answered=6 unanswered=7 again=8 unreachable=9\nrefused packets=1 messages=2 refused=3 lost=4 unread=5 place=0 why=1 Magic in=magic at=0 length=- answered=6 unanswered=7 again=8 unreachable=9\n",
+    "{\"kind\":\"joined\",\"packet\":18446744073709551615,\"t\":null,\"flow\":{\"over\":\"tcp\",\"source\":{\"address\":\"127.0.0.1\",\"port\":65535},\"target\":{\"address\":\"255.255.255.255\",\"port\":0}},\"t_us\":null,\"again\":7}\n{\"kind\":\"refused\",\"packet\":18446744073709551615,\"t\":null,\"flow\":{\"over\":\"tcp\",\"source\":{\"address\":\"127.0.0.1\",\"port\":65535},\"target\":{\"address\":\"255.255.255.255\",\"port\":0}},\"place\":9,\"why\":16,\"why_name\":\"Truncated\",\"in\":\"AP-REP.pvno\",\"at\":3,\"length\":9,\"t_us\":null,\"again\":7}\n{\"kind\":\"lost\",\"packet\":1,\"t\":\"2026-11-25T10:56:01.000001090Z\",\"flow\":{\"over\":\"udp\",\"source\":{\"address\":\"::1\",\"port\":88},\"target\":{\"address\":\"2001:db8::1:0:0:1\",\"port\":9}},\"place\":78,\"octets\":114,\"in\":null,\"t_us\":1795604161000001,\"again\":null,\"of\":4,\"after\":-2500001,\"waited\":null}\n{\"kind\":\"KPASSWD\",\"packet\":1,\"t\":\"2026-11-25T10:56:01.000001090Z\",\"flow\":{\"over\":\"udp\",\"source\":{\"address\":\"::1\",\"port\":88},\"target\":{\"address\":\"2001:db8::1:0:0:1\",\"port\":9}},\"version\":65408,\"ap\":509,\"rest\":135,\"t_us\":1795604161000001,\"again\":null,\"of\":4,\"after\":-2500001,\"waited\":null}\n{\"kind\":\"unanswered\",\"packet\":18446744073709551615,\"t\":null,\"flow\":{\"over\":\"tcp\",\"source\":{\"address\":\"127.0.0.1\",\"port\":65535},\"target\":{\"address\":\"255.255.255.255\",\"port\":0}},\"request\":\"TGS-REQ\",\"of\":4,\"after\":-2500001,\"waited\":null,\"t_us\":null,\"again\":7}\n{\"kind\":\"unreachable\",\"packet\":1,\"t\":\"2026-11-25T10:56:01.000001090Z\",\"flow\":{\"over\":\"udp\",\"source\":{\"address\":\"::1\",\"port\":88},\"target\":{\"address\":\"2001:db8::1:0:0:1\",\"port\":9}},\"how\":\"icmp\",\"by\":\"127.0.0.1\",\"type\":3,\"type_name\":\"destination-unreachable\",\"code\":8,\"code_name\":null,\"of\":4,\"after\":-2500001,\"waited\":null,\"t_us\":1795604161000001,\"again\":null,\"of\":4,\"after\":-2500001,\"waited\":null}\n{\"kind\":\"end\",\"packets\":1,\"messages\":2,\"refused\":3,\"lost\":4,\"unread\":5,\"answered\":6,\"unanswered\":7,\"again\":8,\"unreachable\":9}\n{\"kind\":\"refused\",\"packets\":1,\"messages\":2,\"refused\":3,\"lost\":4,\"unread\":5,\"place\":0,\"why\":1,\"why_name\":\"Magic\",\"in\":\"magic\",\"at\":0,\"length\":null,\"answered\":6,\"unanswered\":7,\"again\":8,\"unreachable\":9}\n",
 ];
 
 #[test]
@@ -220,17 +245,26 @@ fn shows_captures(rt: HostRuntime) -> Result<(), Fail> {
         lost: 4,
         unread: 5,
     };
+    let told = ToldCounts {
+        answered: 6,
+        unanswered: 7,
+        again: 8,
+        unreachable: 9,
+    };
     for (form, expected) in FORMS.into_iter().zip(CAPTURES) {
         let mut text = TextBuffer::new(rt.alloc());
         put_joined(&mut text, form, &sent)?;
         put_captured_refusal(&mut text, form, &sent, REFUSAL, Some("AP-REP.pvno"), FRAME)?;
         put_lost(&mut text, form, &answered, 78, 114, None)?;
         put_password(&mut text, form, &answered, 65408, 509, 135)?;
-        put_capture_end(&mut text, form, &counts)?;
+        put_unanswered(&mut text, form, &sent, Request::TgsReq, &late())?;
+        put_unreachable(&mut text, form, &answered, How::Error(error()), &late())?;
+        put_capture_end(&mut text, form, &counts, &told)?;
         put_capture_refusal(
             &mut text,
             form,
             &counts,
+            &told,
             0,
             FileWhy::Magic,
             Some("magic"),

@@ -23,7 +23,7 @@ use Rattle.krb_text.specs.inner.Records.{heading_last, heading_origin, is_kept, 
 use Rattle.krb_text.proofs.Records.{message_fields, message_inside, message_kind}
 
 -- ---- the text
-pub text_of_parts : (form : Form) (from : Heading) (m : Message) (old : List ℕ) {l₁ l₂ l₃ l₄ l₅ : List ℕ} → l₁ ≡ old ++ heading form (heading_origin from) (kind_name (kind_of m)) → l₂ ≡ l₁ ++ fields_text form (fields_of m) → l₃ ≡ l₂ ++ field form (codes "notes") (notes (notes_of m)) → l₄ ≡ l₃ ++ parts_text form (inside_of m) → l₅ ≡ l₄ ++ end_text form (heading_last from) → l₅ ≡ old ++ text_after form from m
+pub text_of_parts : (form : Form) (from : Heading) (m : Message) (old : List ℕ) {l₁ l₂ l₃ l₄ l₅ : List ℕ} → l₁ ≡ old ++ heading form (heading_origin form from) (kind_name (kind_of m)) → l₂ ≡ l₁ ++ fields_text form (fields_of m) → l₃ ≡ l₂ ++ field form (codes "notes") (notes (notes_of m)) → l₄ ≡ l₃ ++ parts_text form (inside_of m) → l₅ ≡ l₄ ++ end_text form (heading_last from) → l₅ ≡ old ++ text_after form from m
 unfolding record_text
 text_of_parts form from m old h₁ h₂ h₃ h₄ h₅ = rw (h₅, h₄, h₃, h₂, h₁, message_kind m, message_fields form m, message_inside m) (simp append_assoc)
 

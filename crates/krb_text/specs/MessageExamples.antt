@@ -10,8 +10,10 @@ use Rattle.krb_msg.specs.Views.{message_of_der}
 use Rattle.krb_registry.specs.Rows.{rows, name_in, name_of}
 use Rattle.krb_record.specs.declared.capture_origin.CaptureOrigin.{CaptureOrigin}
 use Rattle.krb_record.specs.declared.flow.Transport.TheVariants as transports
+use Rattle.krb_record.specs.declared.told.Told.TheVariants as told
 use Rattle.krb_record.specs.declared.form.Form.{Form}
 use Rattle.krb_record.specs.declared.form.Form.TheVariants.{Lines, NamedLines, Json}
+use Rattle.krb_record.specs.Captures.{told_fields, told_in}
 use Rattle.krb_record.specs.Errors.{code_name, code_suffix, code_text}
 use Rattle.krb_record.specs.Forms.{closing, inside_text, json_value, labelled, members, named_flags_text, names_member, opening, opening_from, part_text, record_text, set_names, unnamed, value_text}
 use Rattle.krb_text.specs.Inside.{type_of_number}
@@ -197,16 +199,16 @@ abbrev local : IpAddr
 local = ip.V4 (record { octets = 127 ∷ 0 ∷ 0 ∷ 1 ∷ [] })
 
 abbrev answer : CaptureOrigin
-answer = record { packet = 10; time = Some (record { seconds = 1795604170; nanoseconds = 71545000 }); flow = record { transport = transports.Tcp; source = record { address = local; port = 464 }; target = record { address = local; port = 60806 } } }
+answer = record { packet = 10; time = Some (record { seconds = 1795604170; nanoseconds = 71545000 }); flow = record { transport = transports.Tcp; source = record { address = local; port = 464 }; target = record { address = local; port = 60806 } }; told = told.Nothing }
 
 -- with other octets in place of those of the cipher
 abbrev answered : Message
 answered = message_of_der (hex (codes "6F8189 308186 A003020105 A10302010F A27A3078 A003020112 A271046F") ++ replicate 111 0)
 
 captured_message : captured_message_line NamedLines answer answered ≡ codes "packet=10 t=2026-11-25T10:56:10.071545000Z flow=tcp/127.0.0.1:464>127.0.0.1:60806 AP-REP enc=18:aes256-cts-hmac-sha1-96:-:111 notes=[]\n"
-unfolding digits civil_date date_from date_in_year two_digits date_text clock_text timestamp_text record_text opening_from opening closing labelled value_text message_record rows name_in name_of
+unfolding digits civil_date date_from date_in_year two_digits date_text clock_text timestamp_text record_text opening_from opening closing labelled value_text message_record rows name_in name_of told_in told_fields
 captured_message = refl
 
 captured_message_object : captured_message_line Json answer answered ≡ codes "{\"kind\":\"AP-REP\",\"packet\":10,\"t\":\"2026-11-25T10:56:10.071545000Z\",\"flow\":{\"over\":\"tcp\",\"source\":{\"address\":\"127.0.0.1\",\"port\":464},\"target\":{\"address\":\"127.0.0.1\",\"port\":60806}},\"enc\":{\"etype\":18,\"etype_name\":\"aes256-cts-hmac-sha1-96\",\"kvno\":null,\"size\":111},\"notes\":[],\"notes_names\":[],\"t_us\":1795604170071545}\n"
-unfolding digits civil_date date_from date_in_year two_digits date_text clock_text timestamp_text record_text opening_from opening closing labelled members json_value names_member message_record rows name_in name_of
+unfolding digits civil_date date_from date_in_year two_digits date_text clock_text timestamp_text record_text opening_from opening closing labelled members json_value names_member message_record rows name_in name_of told_in told_fields
 captured_message_object = refl

@@ -66,7 +66,7 @@ fn put_heading(
     from: Heading<'_>,
     kind: &str,
 ) -> Result<(), AllocError>
-    ensures { OnOk result (text.new ≡ text.old ++ heading form (heading_origin from.entry) kind.now) }
+    ensures { OnOk result (text.new ≡ text.old ++ heading form (heading_origin form from.entry) kind.now) }
 {
     match from {
         Heading::Alone => put_opening(text, form, kind),

@@ -1,10 +1,11 @@
 -- What a value shows is printable in each form, if its octets are octets and its words are printable; and so is a record of such values.
-use Rattle.std.proofs.Common.{◌≡◌, ℕ, ℤ, pos, negsuc, unsigned_abs, ◌+◌, ◌-◌, ◌^◌, ◌<◌, ◌≤◌, ◌==◌, ◌&&◌, nat_le, not, Bool, true, false, cond, Option, Some, None, List, [], ◌∷◌, ◌++◌, length, map, refl, arith, codes, if◌then◌else◌}
+use Rattle.std.proofs.Common.{◌≡◌, ℕ, ℤ, pos, negsuc, unsigned_abs, ◌+◌, ◌-◌, ◌/◌, ◌^◌, ◌<◌, ◌≤◌, ◌==◌, ◌&&◌, nat_le, not, Bool, true, false, cond, Option, Some, None, List, [], ◌∷◌, ◌++◌, length, map, refl, arith, codes, if◌then◌else◌}
 use Rattle.std.proofs.lemmas.Bool.{and_parts}
 use Rattle.std.proofs.lemmas.Bool.Decides.{nat_tests}
 use Rattle.std.proofs.lemmas.Nat.{and_le_r}
 use Rattle.std.specs.List.{AllByRecursion, filter, flat_map, list_all}
 use Rattle.std.specs.Fmt.{signed_decimal}
+use Rattle.std.specs.Net.Addr.{IsIpv4Addr, IsIpv6Addr, MatchIp}
 use Rattle.krb_der.specs.Octets.{AreOctets}
 use Rattle.krb_der.specs.Reasons.{reason_number, reason_name}
 use Rattle.krb_der.specs.declared.verdict.Refusal.{Refusal}
@@ -18,15 +19,16 @@ use Rattle.krb_record.specs.declared.form.Form.{Form}
 use Rattle.krb_record.specs.declared.form.Form.TheVariants as form
 use Rattle.krb_record.specs.Errors.{code_name, code_suffix, code_text}
 use Rattle.krb_record.specs.FileNames.{is_plain_in_name, name_octet, name_text}
-use Rattle.krb_record.specs.Forms.{four_octets, plus_text, unnamed, unnamed_from, named_in, is_set, set_names, named_flags_text, number_text, status_text, flags_text, refused_ticket_text, value_text, json_character, json_string, shown_octet, octets_string, or_null, name_string, flags_object, encrypted_object, principal_object, address_object, digest_object, offset_object, refused_object, true_or_false, json_value, names_member, members, labelled, field, opening, closing, fields_text, origin_text, opening_from, heading, part_text, inside_text, parts_text, in_object as in_object_alone, last_text, ending, record_text}
+use Rattle.krb_record.specs.Forms.{four_octets, called_text, plus_text, unnamed, unnamed_from, named_in, is_set, set_names, named_flags_text, number_text, status_text, flags_text, refused_ticket_text, seconds_text, span_text, value_text, json_character, json_string, shown_octet, octets_string, or_null, name_string, flags_object, encrypted_object, principal_object, address_object, digest_object, offset_object, refused_object, true_or_false, json_value, names_member, members, labelled, field, opening, closing, fields_text, origin_text, opening_from, heading, part_text, inside_text, parts_text, in_object as in_object_alone, last_text, ending, record_text}
 use Rattle.krb_record.specs.Text.{AllAreOctets, IsPrintable, principal_text, two_hex, yes_or_no}
 use Rattle.krb_record.specs.TicketFlags.{flag_name, set_flags, names_text, other_flags, eight_hex, others_text, ticket_flags_text}
-use Rattle.krb_record.specs.Values.{Value, Absent, NoTicket, Number, Named, Numbers, ErrorCode, Status, Reason, NoReason, String, Quoted, FileName, Word, Hex, Flags, TicketFlags, Encrypted, Principal, Address, Digest, YesNo, Offset, RefusedTicket, Flow, Layers, Field, Part, Printed}
+use Rattle.krb_record.specs.Values.{Value, Absent, NoTicket, Number, Named, Numbers, ErrorCode, Status, Reason, NoReason, String, Quoted, FileName, Word, Hex, Flags, TicketFlags, Encrypted, Principal, Address, Digest, YesNo, Offset, RefusedTicket, Flow, Layers, Span, Called, Host, Field, Part, Printed}
 use Rattle.krb_record.specs.inner.Flags.{names_set}
 use Rattle.krb_source.specs.Layers.{layer_name}
 use Rattle.krb_source.specs.declared.layer.Layer.{Layer}
 use Rattle.krb_source.specs.declared.layer.Layer.TheVariants as layers
 use Rattle.krb_text_laws.proofs.Flows as flow
+use Rattle.krb_record.proofs.Times.{all-digits}
 use Rattle.krb_record.proofs.Printable.{Prints, is_printable, word, join}
 use Rattle.krb_text_laws.proofs.Printable.{either, flat, number, signed, escaped, in_hex, optional, always, all_joined, every, listed, list, principal}
 use Rattle.krb_record.proofs.Reasons as reasons
@@ -71,7 +73,7 @@ or_no_number (Some n) = signed n
 plain_prints : (octet : ℕ) → is_plain_in_rows octet ≡ true → (32 ≤ octet) × (octet ≤ 126)
 plain_prints octet e = let h = plain_octet octet e in (omega (arith, h.least), h.greatest)
 
-plain_name : (name : List ℕ) → list_all is_plain_in_rows name ≡ true → IsPrintable name
+pub plain_name : (name : List ℕ) → list_all is_plain_in_rows name ≡ true → IsPrintable name
 plain_name name e = each_octet (λ c. (32 ≤ c) × (c ≤ 126)) plain_prints name e
 
 name_found : (registry : Registry) (n : ℤ) (found : Option (List ℕ)) → name_of registry n ≡ found → IfPresent IsPrintable found
@@ -84,6 +86,10 @@ its_name registry n = name_found registry n (name_of registry n) refl
 numbered : (names : Bool) (registry : Registry) (n : ℤ) → Prints (number_text names registry n)
 numbered false registry n = signed n
 numbered true registry n = join (join (signed n) (word (codes ":") refl)) (optional (λ name. name) IsPrintable (λ name h. record { all = h }) (name_of registry n) (its_name registry n))
+
+called : (names : Bool) (n : ℕ) (name : Option (List ℕ)) → IfPresent IsPrintable name → Prints (called_text names n name)
+called false n name h = number n
+called true n name h = join (join (number n) (word (codes ":") refl)) (optional (λ name. name) IsPrintable (λ name h. record { all = h }) name h)
 
 name_in_string : (registry : Registry) (n : ℤ) → Prints (name_string registry n)
 name_in_string registry n = nullable json_string IsPrintable string (name_of registry n) (its_name registry n)
@@ -227,6 +233,14 @@ offset_in_object : (seconds microseconds : ℤ) → Prints (offset_object second
 offset_in_object seconds microseconds =
     join (join (join (join (word (codes "{\"seconds\":") refl) (signed seconds)) (word (codes ",\"microseconds\":") refl)) (signed microseconds)) (word (codes "}") refl)
 
+in_seconds : (microseconds : ℕ) → Prints (seconds_text microseconds)
+in_seconds microseconds = join (join (number (microseconds / 1000000)) (word (codes ".") refl)) (record { all = all-digits 6 microseconds })
+
+span : (microseconds : ℤ) → Prints (span_text microseconds)
+unfolding span_text
+span (pos microseconds) = in_seconds microseconds
+span (negsuc less) = join (word (codes "-") refl) (in_seconds (less + 1))
+
 yes_or : (holds : Bool) → Prints (yes_or_no holds)
 yes_or true = word (codes "yes") refl
 yes_or false = word (codes "no") refl
@@ -258,6 +272,8 @@ IsShown (TicketFlags flags) = flags < 2 ^ 32
 IsShown (Principal name_type components realm) = AllAreOctets components × AreOctets realm
 IsShown (Address addr_type octets) = AreOctets octets
 IsShown (Flow transport source target) = flow.IsFlowInRange source target
+IsShown (Called number name) = IfPresent IsPrintable name
+IsShown (Host address) = MatchIp address IsIpv4Addr IsIpv6Addr
 IsShown value = Unit {0}
 
 in_line : (names : Bool) (value : Value) → IsShown value → Prints (value_text names value)
@@ -289,6 +305,9 @@ in_line names (YesNo holds) h = yes_or holds
 in_line names (Offset seconds microseconds) h = join (join (signed seconds) (word (codes ":") refl)) (signed microseconds)
 in_line names (RefusedTicket r) h = refused_ticket names r
 in_line names (Flow transport source target) h = flow.in_line transport source target h
+in_line names (Span microseconds) h = span microseconds
+in_line names (Called n name) h = called names n name h
+in_line names (Host address) h = flow.address address h
 in_line names (Layers ls) h = all_joined [] (codes ",") layer_name (λ l. Unit {0}) (word [] refl) (word (codes ",") refl) (λ l h. layer l) ls (every ls)
 
 in_object : (value : Value) → IsShown value → Prints (json_value value)
@@ -317,6 +336,9 @@ in_object (YesNo holds) h = true_or holds
 in_object (Offset seconds microseconds) h = offset_in_object seconds microseconds
 in_object (RefusedTicket r) h = refused_in_object r
 in_object (Flow transport source target) h = flow.in_object transport source target h
+in_object (Span microseconds) h = signed microseconds
+in_object (Called n name) h = number n
+in_object (Host address) h = join (join (word (codes "\"") refl) (flow.address address h)) (word (codes "\"") refl)
 in_object (Layers ls) h = list (λ l. json_string (layer_name l)) layer_in_string ls
 
 after_value : (begin : List ℕ) (value : Value) → Prints begin → IsShown value → Prints (names_member begin value)
@@ -325,6 +347,7 @@ after_value begin (Named registry n) before h = join (join before (word (codes "
 after_value begin (ErrorCode code) before h = join (join before (word (codes "_name\":") refl)) (name_in_string registries.ErrorCodes code)
 after_value begin (Status number) before h = join (join before (word (codes "_name\":") refl)) (name_in_string registries.Statuses (pos number))
 after_value begin (Reason n name) before h = join (join before (word (codes "_name\":") refl)) (string name h)
+after_value begin (Called n name) before h = join (join before (word (codes "_name\":") refl)) (nullable json_string IsPrintable string name h)
 after_value begin NoReason before h = join before (word (codes "_name\":null") refl)
 after_value begin (Numbers registry ns) before h = join (join before (word (codes "_names\":") refl)) (list (name_string registry) (name_in_string registry) ns)
 after_value begin value before h = word [] refl

@@ -36,7 +36,7 @@ all_hex_or_colon (c ∷ cs) h = (hex_or_colon c h.0, all_hex_or_colon cs h.1)
 in_groups : (segments : List ℕ) → ((k : ℕ) → get_or segments k 0 < 2 ^ 16) → Prints (hex_groups_text segments)
 in_groups segments h = record { all = all_hex_or_colon _ (recursion_from_All IsHexOrColon _ (All-hex_groups_text segments h)) }
 
-address : (a : IpAddr) → MatchIp a IsIpv4Addr IsIpv6Addr → Prints (ip_text a)
+pub address : (a : IpAddr) → MatchIp a IsIpv4Addr IsIpv6Addr → Prints (ip_text a)
 unfolding ipv6_text
 address (addresses.V4 a) h = in_decimal (ipv4_octets a)
 address (addresses.V6 a) h = either _ (join (word (codes "::ffff:") refl) (in_decimal (octets_of (drop 6 (ipv6_segments a))))) (in_groups (ipv6_segments a) h.1)

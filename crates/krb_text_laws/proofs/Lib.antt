@@ -2,6 +2,7 @@ pub mod Tuples
 pub mod Escapes
 pub mod Printable
 pub mod Flows
+pub mod Unreachables
 pub mod EachForm
 pub mod EndOneLine
 pub mod ErrorNumbers

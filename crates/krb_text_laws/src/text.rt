@@ -4,7 +4,7 @@ ghost use Rattle.krb_source.specs.declared.unread_why.UnreadWhy.{UnreadWhy};
 ghost use Rattle.krb_record.specs.Captures.{unread_line};
 ghost use Rattle.krb_record.specs.declared.capture_origin.CaptureOrigin.{CaptureOrigin};
 ghost use Rattle.krb_record.specs.declared.form.Form.{Form};
-ghost use Rattle.krb_record.specs.Laws.{CaptureEndIsOneLine, CaptureRefusalIsOneLine, CapturedRefusalIsOneLine, CountedStreamEndIsOneLine, DatesAreTheCalendars, EscapeIsGraphic, FileNameIsOneLine, FileRefusalIsOneLine, InputRefusalIsOneLine, IsOneLine, JoinedIsOneLine, LinesHaveNothingLast, LostIsOneLine, MessageRefusalIsOneLine, OriginIsInRange, PasswordIsOneLine, PlainLinesHaveNothingInside, PrincipalTextIsInjective, UntoldMessageRefusalIsOneLine, UntoldStreamRefusalIsOneLine};
+ghost use Rattle.krb_record.specs.Laws.{CaptureEndIsOneLine, CaptureRefusalIsOneLine, CapturedRefusalIsOneLine, CountedStreamEndIsOneLine, DatesAreTheCalendars, EscapeIsGraphic, FileNameIsOneLine, FileRefusalIsOneLine, InputRefusalIsOneLine, IsOneLine, JoinedIsOneLine, LinesHaveNothingLast, LostIsOneLine, MessageRefusalIsOneLine, OriginIsInRange, PasswordIsOneLine, PlainLinesHaveNothingInside, PlainLinesTellNothing, PrincipalTextIsInjective, UnansweredIsOneLine, UnreachableIsOneLine, UntoldMessageRefusalIsOneLine, UntoldStreamRefusalIsOneLine};
 ghost use Rattle.krb_text.specs.Laws.{CapturedMessageIsOneLine, CiphersAreNotInCaptures, CiphersAreNotInLines, CiphersAreNotInLinesFrom, CiphersAreNotInRecords, CiphersAreNotInTickets, MessageFromIsOneLine, MessageIsOneLine, StreamEndIsOneLine, TicketIsOneLine};
 
 /// Different components or realms have different texts.
@@ -47,6 +47,8 @@ pub fn capture_is_one_line_each()
     ensures lost { LostIsOneLine }
     ensures unread { (form : Form) (origin : CaptureOrigin) (place : Option ℕ) (octets : ℕ) (reason : UnreadWhy) → OriginIsInRange origin → IsOneLine (unread_line form origin place octets reason) }
     ensures password { PasswordIsOneLine }
+    ensures unanswered { UnansweredIsOneLine }
+    ensures unreachable { UnreachableIsOneLine }
     ensures end { CaptureEndIsOneLine }
     ensures file { CaptureRefusalIsOneLine }
 {}
@@ -59,6 +61,11 @@ pub fn dates_are_the_calendars()
 /// A line without the names of numbers is that of the record without what is inside of it.
 pub fn plain_lines_have_nothing_inside()
     ensures { PlainLinesHaveNothingInside }
+{}
+
+/// A line without names is that of a record whose origin tells nothing, whatever was counted of that.
+pub fn plain_lines_tell_nothing()
+    ensures { PlainLinesTellNothing }
 {}
 
 /// A line is that of the record without what objects have last.

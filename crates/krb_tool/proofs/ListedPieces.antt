@@ -17,10 +17,10 @@ use Rattle.krb_frame.specs.GoingOn.{Entry, Fault, GoesOn, Skipping, after_conten
 use Rattle.krb_frame.specs.declared.decoder.Status.TheVariants as status
 use Rattle.krb_frame.proofs.DecoderFrames.{more-nothing}
 use Rattle.krb_frame.proofs.Deliveries.{all_both, entries_size-append}
-use Rattle.krb_frame.proofs.Ends.{refused_end, refused_more}
+use Rattle.krb_frame.proofs.Ends.{none_found, refused_end, refused_more}
 use Rattle.krb_frame.proofs.GoingOn.{entries-refused}
 use Rattle.krb_frame.proofs.Skips.{entries-waiting, entries-last}
-use Rattle.krb_tool.specs.GoingOn.{EndsUnknown}
+use Rattle.krb_tool.specs.GoingOn.{EndsUnknown, IsCut as IsCutEntry}
 use Rattle.krb_tool.specs.Listing.{IsNotRefused}
 use Rattle.krb_tool.specs.Starts.{IsStart}
 use Rattle.krb_tool.specs.inner.Listers.{Adds, AreListed, Ends, FrameLister, HasListed, IsDecoded, IsDone, IsRefused, LinesKind, current_end, last_frames, last_of, lister_kind}
@@ -40,6 +40,9 @@ more_not_refused contents Boundary e = tt
 more_not_refused contents (Within present) e = tt
 more_not_refused [] (Refused place reason) e = absurd cc
 more_not_refused (first ∷ others) (Refused place reason) e = absurd cc
+
+not_both : status.Ready ≡ status.More → ⊥
+not_both e = cc
 
 -- then the frame at the end is cut, if there is one
 waiting_last : (end : End) (octets : List ℕ) → IsNotRefused end → last_entry end octets ≡ last_frames (finish_at end) octets
@@ -68,11 +71,21 @@ module _ {S Q E : Type 0} (kind : LinesKind S Q E) where
     not_refused : IsNotRefused (current_end lister)
     not_refused = more_not_refused (found (messages lister.decoder.current.profile) lister.decoder.current).contents (current_end lister) w.0
 
-    entries_read : entries_of lister octets ≡ h.frames ++ last_entry (current_end lister) lister.decoder.current.octets
+    pub entries_read : entries_of lister octets ≡ h.frames ++ last_entry (current_end lister) lister.decoder.current.octets
     entries_read = entries-waiting (messages lister.decoder.current.profile) lister.decoder octets h.frames h.goes_on w.0
 
     all_read : entries_of lister octets ≡ h.frames ++ last_of lister
     all_read = entries_read ∙ ap (λ l. h.frames ++ l) (waiting_last (current_end lister) lister.decoder.current.octets not_refused)
+
+    -- no frame is after them but one that is cut
+    pub waits-cut : IsCutEntry lister.decoder.current.profile lister.decoder.current.limit (last_entry (current_end lister) lister.decoder.current.octets)
+    unfolding found
+    waits-cut = record {
+      octets = lister.decoder.current.octets;
+      none = none_found (found (messages lister.decoder.current.profile) lister.decoder.current).contents (current_end lister) (λ ready. not_both (sym ready ∙ w.0));
+      accepted = not_refused;
+      is = refl;
+    }
 
     -- the length of the last frame is known, if the lister goes on after refusals
     pub waits-known : kind.keeps_going lister.lines ≡ true → EndsUnknown (entries_of lister octets) → ⊥
@@ -216,6 +229,7 @@ module _ {S Q E : Type 0} (kind : LinesKind S Q E) where
         let more-listed = l.listing lister taken (done-waiting lister taken w) w.waits.1 in
         record {
           lines = λ more. l.begins lister.decoder.current.profile lister.decoder.current.limit lister.lines (taken.octets ++ more) taken.written w.listed.frames (entries_of lister (lister.decoder.current.octets ++ drop lister.decoder.skipped more)) (w.listed.goes_on.goes_on more) w.listed.whole w.listed.lines;
+          all = l.all lister taken.octets taken.written w.listed w.waits;
           rest = more-listed.0;
           listing = more-listed.1;
         }
@@ -333,10 +347,10 @@ module _ {S Q E : Type 0} (kind : LinesKind S Q E) where
 
     -- ---- a lister of a stream
     -- nothing came yet
-    pub is_new : (lister : FrameLister S) (request : Q) (profile : Profile) (limit : ℕ) → IsStart profile limit lister.decoder → kind.request lister.lines profile limit ≡ request → kind.HasLines profile lister.lines [] [] → (kind.IsFull lister.lines → ⊥) → kind.count lister.lines ≡ 0 → IsNew (kind.rules request) request (listing_of (lister_kind kind) lister)
-    is_new lister request profile limit s e lines room none =
+    pub is_new : (lister : FrameLister S) (request : Q) (profile : Profile) (limit : ℕ) → IsStart profile limit lister.decoder → kind.request lister.lines profile limit ≡ request → kind.text lister.lines ≡ [] → kind.HasLines profile lister.lines [] [] → (kind.IsFull lister.lines → ⊥) → kind.count lister.lines ≡ 0 → IsNew (kind.rules request) request (listing_of (lister_kind kind) lister)
+    is_new lister request profile limit s e empty lines room none =
         let d : Decoding = lister.decoder.current in
-        IsNew-made (lister_kind kind) begins-waiting (ap₂ (kind.request lister.lines) s.same_profile s.same_limit ∙ e)
+        IsNew-made (lister_kind kind) begins-waiting (ap₂ (kind.request lister.lines) s.same_profile s.same_limit ∙ e) empty
         (record {
           listed = record {
             frames = [];

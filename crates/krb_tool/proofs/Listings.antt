@@ -17,7 +17,7 @@ use Rattle.krb_msg.specs.declared.message.Message.{Message}
 use Rattle.krb_frame.specs.Decoding.{finish_at, finish_of}
 use Rattle.krb_frame.specs.Decoded.{frames_size}
 use Rattle.krb_frame.specs.Deliveries.{IsMessage, contents_in}
-use Rattle.krb_frame.specs.GoingOn.{Entry, after_contents, entries, entries_size, entry_size}
+use Rattle.krb_frame.specs.GoingOn.{Entry, after_contents, entries, entries_size, entry_size, last_entry}
 use Rattle.krb_record.specs.Labels.{Label}
 use Rattle.krb_tool.specs.GoingOn.{Listed, Whole, Faulty, entry_of, messages_in, octets_in, refused_in, lines_after, IsCountedListing, counted_run_end, is_refused_at_once, refused_end, refused_line, EndsUnknown, ListsStream, FailsStream}
 use Rattle.krb_tool.specs.Listing.{end_line, message_line, refused_after, run_end, AllIsRead, IsListing, IsNotRefused}
@@ -31,7 +31,7 @@ use Rattle.krb_tool.specs.inner.Listers.{Adds, AreListed, FrameLister, HasListed
 use Rattle.krb_tool.specs.inner.StreamLines.{AddsEnd, AddsRefused, AsksAfter, HasLines, ListsEntry, PutsClosing, at_once_with, closing, last_listed, listed_last, rules_of, stream_lines}
 use Rattle.krb_run.specs.Streams.{EndsListing, FailsBy, ListsBy, Taken}
 use Rattle.krb_tool.proofs.FirstRefusals.{SameEnd, frames-begin}
-use Rattle.krb_tool.proofs.ListedPieces.{IsOver, SameLast, done-first, waits-known, waits-whole}
+use Rattle.krb_tool.proofs.ListedPieces.{IsOver, SameLast, done-first, entries_read, waits-cut, waits-known, waits-whole}
 
 -- ---- lists of frames
 messages_in-append : (xs ys : List Listed) → messages_in (xs ++ ys) ≡ messages_in xs + messages_in ys
@@ -173,6 +173,33 @@ are-lines false label profile limit octets text listed others e whole t =
     let w : AreWhole label profile 0 0 listed = are_whole label profile 0 0 listed (whole refl) in
     let begin = frames-begin (messages profile) limit octets (map entry_of listed) others e (whole refl) in
     record { found = w.found; others = begin.0; in_frames = begin.1 ∙ ap (λ l. l ++ begin.0) w.contents; lines = t ∙ w.lines }
+
+-- and those of all whole frames
+all-lines : (going : Bool) (lister : FrameLister StreamLines) (octets written : List ℕ) → HasListed stream_lines lister octets written → (lister_kind stream_lines).IsWaiting lister → lister.lines.request.keep_going ≡ going → (rules_of going lister.lines.request.label.now lister.decoder.current.profile lister.decoder.current.limit).AreAllLines octets (written ++ lister.lines.text)
+all-lines true lister octets written h w kept =
+    let cut : List Entry = last_entry (current_end lister) lister.decoder.current.octets in
+    record {
+      lines = record {
+        found = h.lines.listed;
+        others = last_entry (current_end lister) lister.decoder.current.octets;
+        in_frames = entries_read stream_lines lister octets written h w ∙ ap (λ l. l ++ cut) (sym h.lines.are);
+        lines = h.lines.text;
+      };
+      all = waits-cut stream_lines lister octets written h w;
+    }
+all-lines false lister octets written h w stops =
+    let label : Label = lister.lines.request.label.now in
+    let whole : AreWhole label lister.decoder.current.profile 0 0 h.lines.listed = are_whole label lister.decoder.current.profile 0 0 h.lines.listed (subst (AllByRecursion IsMessage) (sym h.lines.are) (h.whole stops)) in
+    let first = waits-whole stream_lines lister octets written h w stops in
+    record {
+      lines = record {
+        found = whole.found;
+        others = [];
+        in_frames = first.0 ∙ ap contents_in (sym h.lines.are) ∙ whole.contents ∙ sym (append-nil (map message_der whole.found));
+        lines = h.lines.text ∙ whole.lines;
+      };
+      all = refl;
+    }
 
 asks-after : (going : Bool) (lister : FrameLister StreamLines) (octets written : List ℕ) (h : HasListed stream_lines lister octets written) → (lister_kind stream_lines).IsWaiting lister → lister.lines.request.keep_going ≡ going → AsksAfter going lister.decoder.current.profile lister.decoder.current.limit octets
 asks-after true lister octets written h w kept = waits-known stream_lines lister octets written h w kept
@@ -426,6 +453,7 @@ stream_listed = record {
       (e ∙ ap (λ l. l ++ others) (sym h.are))
       (λ stops. subst (AllByRecursion IsMessage) (sym h.are) (whole stops))
       h.text;
+  all = λ lister octets written h w. all-lines lister.lines.request.keep_going lister octets written h w refl;
   asks = λ lister octets written h w. asks-after lister.lines.request.keep_going lister octets written h w refl;
   listing = λ lister taken d room. listing-done lister taken d;
 }

@@ -84,7 +84,7 @@ passed-step : (request : LinesRequest) (seen : Seen) (line : List ℕ) (more : L
 passed-step request seen line more e =
     ap (λ b. when b (λ _. records_from request (with_line seen (length line)) more) (λ _. put_and request seen line more (listing_with request.label.now (input_listing (next_line request.label.now request.profile seen) line)))) e
   where
-    put_and : LinesRequest → Seen → List ℕ → List (List ℕ) → FileListing → Converted RunEnd
+    put_and : LinesRequest → Seen → List ℕ → List (List ℕ) → FileListing → Converted Seen
     put_and request seen line more listing = after_text listing.text (records_from request (with_record listing.end (with_line seen (length line))) more)
 
 -- one that has a record
@@ -148,6 +148,7 @@ ends-put old between new c p text request line size seen =
           p.step whole more held.kept
           ∙ ap (λ s. after_text p.added (records_from old.request s more)) (ap (with_line between.seen) (sym held.size ∙ sym p.size) ∙ sym seen)
           ∙ ap (λ q. after_text p.added (records_from q new.seen more)) (sym (request ∙ p.request));
+      none = refl;
       few = omega (arith, octets, size);
       follows = (record { lines = omega (arith, lines, octets, c.lines); records = omega (arith, lines, few, c.records) }, tt, λ line held. tt);
     }

@@ -7,7 +7,8 @@ use Rattle.krb_der.specs.declared.why.Why.TheVariants.{HighBit}
 use Rattle.krb_msg.specs.declared.message.Message.{Message}
 use Rattle.krb_msg.specs.Grammar.{messages}
 use Rattle.krb_msg.specs.Views.{message_der}
-use Rattle.krb_frame.specs.GoingOn.{Entry, Contents, Fault, entries, entry_size}
+use Rattle.krb_msg.specs.Stream.{frames}
+use Rattle.krb_frame.specs.GoingOn.{Entry, Contents, Fault, entries, entry_size, last_entry}
 use Rattle.krb_record.specs.Labels.{Label, line_of}
 use Rattle.krb_tool.specs.Paths.{frame_extent, frame_path}
 use Rattle.krb_record.specs.Streams.{refused_record, counted_end_record}
@@ -16,8 +17,8 @@ use Rattle.krb_run.specs.declared.run.RunEnd.{RunEnd}
 use Rattle.krb_run.specs.declared.run.RunEnd.TheVariants as run
 use Rattle.krb_run.specs.declared.run.RunFault.{RunFault}
 use Rattle.krb_run.specs.declared.run.RunFault.TheVariants as fault
-use Rattle.krb_tool.specs.Listing.{Fails, Lists, message_line}
-use Rattle.krb_run.specs.Runs.{StopsInPiece, WritesPrefix}
+use Rattle.krb_tool.specs.Listing.{Fails, IsNotRefused, Lists, message_line}
+use Rattle.krb_run.specs.Runs.{StopsInPiece, WritesPrefix, WritesText}
 
 -- what is listed of a frame: its message, or what it is refused for, with its octets up to the refused one
 pub data Listed : Type 0 where
@@ -104,10 +105,22 @@ pub record AreCountedLines (label : Label) (profile : Profile) (limit : ℕ) (st
   pub in_frames : entries (messages profile) limit stream ≡ map entry_of found ++ others
   pub lines : text ≡ lines_after label profile 0 0 found
 
--- If a run fails by a write, a prefix of the listing of what was read is written. If a read fails or memory runs out, it is a prefix of the lines of its frames, and no last line.
+-- these are no frame, or one that is cut: what these octets begin, none of which is refused
+pub record IsCut (profile : Profile) (limit : ℕ) (entries : List Entry) : Type 0 where
+  pub octets : List ℕ
+  pub none : (frames (messages profile) limit octets).contents ≡ []
+  pub accepted : IsNotRefused (frames (messages profile) limit octets).end
+  pub is : entries ≡ last_entry (frames (messages profile) limit octets).end octets
+
+-- And it is those of all frames but one that is cut.
+pub record AreAllCountedLines (label : Label) (profile : Profile) (limit : ℕ) (stream text : List ℕ) : Type 0 where
+  pub lines : AreCountedLines label profile limit stream text
+  pub all : IsCut profile limit lines.others
+
+-- If a run fails by a write, a prefix of the listing of what was read is written. If a read fails, the lines are written of all frames in what was read, but of one that is cut, and no last line; and if memory runs out, a prefix of lines of frames.
 abbrev pub FailsAll : Label → Profile → ℕ → Option (List ℕ) → Option (List ℕ) → Option (List ℕ) → Option (List ℕ) → RunFault → Type 0
 FailsAll label profile limit had left written_before written_after (fault.Write error) = WritesPrefix (IsCountedListing label profile limit) had left written_before written_after
-FailsAll label profile limit had left written_before written_after (fault.Read error) = WritesPrefix (AreCountedLines label profile limit) had left written_before written_after
+FailsAll label profile limit had left written_before written_after (fault.Read error) = WritesText (AreAllCountedLines label profile limit) had left written_before written_after
 FailsAll label profile limit had left written_before written_after fault.Memory = WritesPrefix (AreCountedLines label profile limit) had left written_before written_after
 
 -- what a run does that goes on after refusals if it is asked to

@@ -1,5 +1,5 @@
 -- The listing of a stream, and what a run does to its reader and its writer.
-use Rattle.std.specs.Prelude.{ℕ, zero, suc, ◌≡◌, List, ◌++◌, length, map, Option}
+use Rattle.std.specs.Prelude.{ℕ, zero, suc, ◌≡◌, List, [], ◌++◌, length, map, Option}
 use Rattle.std.specs.List.{flat_map}
 use Rattle.std.specs.Io.KnownBytes.{Consumes, Appends, IsAtEnd}
 use Rattle.krb_der.specs.declared.profile.Profile.{Profile}
@@ -16,7 +16,7 @@ use Rattle.krb_run.specs.declared.run.RunEnd.{RunEnd}
 use Rattle.krb_run.specs.declared.run.RunEnd.TheVariants as run
 use Rattle.krb_run.specs.declared.run.RunFault.{RunFault}
 use Rattle.krb_run.specs.declared.run.RunFault.TheVariants as fault
-use Rattle.krb_run.specs.Runs.{StopsInPiece, WritesPrefix}
+use Rattle.krb_run.specs.Runs.{StopsInPiece, WritesPrefix, WritesText}
 
 -- the end of a stream by a profile, with frames of at most n octets
 abbrev pub end_of : Profile → ℕ → List ℕ → End
@@ -76,8 +76,13 @@ pub record AreLines (label : Label) (profile : Profile) (limit : ℕ) (stream te
   pub in_frames : (frames (messages profile) limit stream).contents ≡ map message_der found ++ others
   pub lines : text ≡ flat_map (message_line label) found
 
--- If a run fails by a write, a prefix of the listing of what was read is written. If a read fails or memory runs out, it is a prefix of the lines of messages, and no last line.
+-- And it is those of all messages whose DER fill a frame.
+pub record AreAllLines (label : Label) (profile : Profile) (limit : ℕ) (stream text : List ℕ) : Type 0 where
+  pub lines : AreLines label profile limit stream text
+  pub all : lines.others ≡ []
+
+-- If a run fails by a write, a prefix of the listing of what was read is written. If a read fails, the lines are written of all messages in what was read, and no last line; and if memory runs out, a prefix of lines of messages.
 abbrev pub Fails : Label → Profile → ℕ → Option (List ℕ) → Option (List ℕ) → Option (List ℕ) → Option (List ℕ) → RunFault → Type 0
 Fails label profile limit had left written_before written_after (fault.Write error) = WritesPrefix (IsListing label profile limit) had left written_before written_after
-Fails label profile limit had left written_before written_after (fault.Read error) = WritesPrefix (AreLines label profile limit) had left written_before written_after
+Fails label profile limit had left written_before written_after (fault.Read error) = WritesText (AreAllLines label profile limit) had left written_before written_after
 Fails label profile limit had left written_before written_after fault.Memory = WritesPrefix (AreLines label profile limit) had left written_before written_after

@@ -1,6 +1,6 @@
 //! A run over messages that the lines of a text spell, one in each line.
 
-ghost use Rattle.std.specs.Prelude.{◌≡◌, ◌+◌, ◌<◌, ◌^◌, IfOk, IfErr, OnOk, OnErr};
+ghost use Rattle.std.specs.Prelude.{◌≡◌, ◌+◌, ◌<◌, ◌^◌, IfOk, IfErr, OnOk};
 ghost use Rattle.krb_tool.specs.MessageLines.{ListsLines, FailsLines, is_passed, with_refused};
 ghost use Rattle.krb_run.specs.declared.run.RunFault.TheVariants as fault;
 ghost use Rattle.krb_run.specs.LineReaders.{line_rules, reader_kind};
@@ -181,8 +181,9 @@ impl<'a> ListStream for LineLister<'a> {
 /// feed, and the rest if it is not empty; a line of spaces, tabs and CR alone is passed over, and
 /// one of more than 16777216 octets is `refused length`. The reader is asked at most 2^40 times, for
 /// 64 KiB each, and the records of the lines that end in what came are written before it is asked
-/// again. If a read fails or memory runs out, the records of the lines before that are written, all
-/// or the first of them, and no last one. Memory is allocated for the greatest line alone.
+/// again. If a read fails, the records of the lines that ended before that are written, and no last
+/// one; if memory runs out, the first octets of these. Memory is allocated for the greatest line
+/// alone.
 pub fn run_lines_in<R: Read, W: Write>(
     alloc: Global,
     label: &Label,
@@ -191,7 +192,7 @@ pub fn run_lines_in<R: Read, W: Write>(
     writer: &mut W,
 ) -> Result<RunEnd, RunFault>
     ensures listed { IfOk result (ListsLines label.now profile (R.remaining reader.old) (R.remaining reader.new) (W.contents writer.old) (W.contents writer.new)) }
-    ensures fault { OnErr result (FailsLines label.now profile (R.remaining reader.old) (R.remaining reader.new) (W.contents writer.old) (W.contents writer.new)) }
+    ensures fault { IfErr result (FailsLines label.now profile (R.remaining reader.old) (R.remaining reader.new) (W.contents writer.old) (W.contents writer.new)) }
 {
     let mut counted = CountedReader::new(reader);
     let request = LinesRequest { label, profile };

@@ -43,8 +43,8 @@ pub fn run_stream<R: Read, W: Write>(
 /// since its length is not known. Frames of more than `limit` octets are refused. The reader is
 /// asked at most 2^40 times, for 64 KiB each, and the lines of what came are written before it is
 /// asked again. It is not asked again after an error, its end or the refusal that ends the run. If
-/// a read fails or memory runs out, the lines of the frames before that are written, all or the
-/// first of them, and no last line.
+/// a read fails, the lines of all whole frames that were read are written, and no last line; if
+/// memory runs out, the first octets of these.
 pub fn run_stream_in<R: Read, W: Write>(
     alloc: Global,
     label: &Label,

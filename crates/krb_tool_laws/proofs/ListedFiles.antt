@@ -40,22 +40,25 @@ use Rattle.krb_list.specs.Laws.{CacheEndIsOneLine, CacheIsOneLine, CredentialIsO
 use Rattle.krb_laws.specs.JsonFiles.{FilesAreJson, IsRecord}
 use Rattle.krb_laws.specs.JsonLaws.{PrintsJson}
 use Rattle.krb_laws.proofs.JsonStrings.{all-append}
-use Rattle.krb_record.specs.Labels.{no_label}
+use Rattle.krb_record.specs.Forms.{record_line as line_alone}
+use Rattle.krb_record.specs.Labels.{Label, line_of}
 use Rattle.krb_record.specs.Laws.{FileRefusalIsOneLine, IsOneLine}
+use Rattle.krb_record.specs.Refusals.{file_refused_record}
 use Rattle.krb_record.specs.Text.{AllAreOctets, IsPrintable, line_feed}
-use Rattle.krb_record.specs.declared.form.Form.{Form}
+use Rattle.krb_record.specs.Values.{Printed}
 use Rattle.krb_run.specs.Extents.{extent_of, fault_line}
 use Rattle.krb_run.specs.Paths.{file_path}
 use Rattle.krb_run.specs.Records.{RecordListing, end_of, refused_in, text_of}
 use Rattle.krb_run.specs.declared.run.RunEnd.TheVariants as run
 use Rattle.krb_file_run.specs.Files.{cache_listing, ccache_last, ccache_listing, credentials_listing, field_limit, keytab_last, keytab_listing, records_listing}
 use Rattle.krb_file_run.specs.Lines.{cache_line, credential_line, record_line}
-use Rattle.krb_tool_laws.specs.Listings.{AreLinesBut, AreLinesOf, ArePrintedLines, AreRead}
+use Rattle.krb_tool_laws.specs.Listings.{AreLinesBut, AreLinesOf, ArePrintedLines, AreRead, IsNamed}
+use Rattle.krb_tool_laws.proofs.Labelled.{labelled_line}
 use Rattle.krb_tool_laws.proofs.Lines.{a_line as a_line_of, and_lines as and_lines_of, each_line as each_line_of, no_lines as no_lines_of}
 use Rattle.krb_tool_laws.proofs.PathOctets.{index_octets, octets_of}
 
 -- ---- lines
-and_lines : (one other : List ℕ) → ArePrintedLines one → ArePrintedLines other → ArePrintedLines (one ++ other)
+pub and_lines : (one other : List ℕ) → ArePrintedLines one → ArePrintedLines other → ArePrintedLines (one ++ other)
 and_lines one other a b = (
   a.0 ++ b.0,
   all-append IsPrintable a.0 b.0 a.1 b.1,
@@ -64,6 +67,9 @@ and_lines one other a b = (
 
 a_line : (line : List ℕ) → IsOneLine line → ArePrintedLines line
 a_line line one = (one.0 ∷ [], (one.1, tt), one.2 ∙ sym (append-nil (one.0 ++ line_feed)))
+
+pub printed_line : (label : Label) → IsNamed label → (r : Printed) → IsOneLine (line_alone label.form r) → ArePrintedLines (line_of label r)
+printed_line label named r one = a_line (line_of label r) (labelled_line label r named one)
 
 each_line : {A : Type 0} (P : A → Type 0) (line : A → List ℕ) → ((a : A) → P a → IsOneLine (line a)) → (values : List A) → AllByRecursion P values → ArePrintedLines (flat_map line values)
 each_line P line one [] are = ([], tt, refl)
@@ -105,13 +111,13 @@ item_octets places.File name = tt
 item_octets (places.Record index) name = record_octets index name
 item_octets (places.Credential index) name = with_point (codes "credential") index (octets_of (codes "credential") refl)
 
-path_octets : (item : FileItem) (field : Option FileField) → IfSome (file_path item field) AreOctets
+pub path_octets : (item : FileItem) (field : Option FileField) → IfSome (file_path item field) AreOctets
 unfolding file_path
 path_octets item None = tt
 path_octets item (Some field) = AreOctets-append (item_text item field.name) (field_text field) (item_octets item field.name) (in_part_octets field.part (name_text field.name) (name_octets field.name))
 
-refusal_line : FileRefusalIsOneLine → (form : Form) (fault : Fault) (item : FileItem) → ArePrintedLines (fault_line (no_label form) fault (file_path item fault.field))
-refusal_line refused form fault item = a_line (fault_line (no_label form) fault (file_path item fault.field)) (refused form fault.place fault.why (file_path item fault.field) (extent_of fault) (path_octets item fault.field))
+refusal_line : FileRefusalIsOneLine → (label : Label) (named : IsNamed label) (fault : Fault) (item : FileItem) → ArePrintedLines (fault_line label fault (file_path item fault.field))
+refusal_line refused label named fault item = printed_line label named (file_refused_record label.form fault.place fault.why (file_path item fault.field) (extent_of fault)) (refused label.form fault.place fault.why (file_path item fault.field) (extent_of fault) (path_octets item fault.field))
 
 -- ---- names
 counted_octets : (w : Width) (values : List (List ℕ)) → AllByRecursion (IsCounted w) values → AllAreOctets values
@@ -127,16 +133,16 @@ records_are : (found : List Record) (octets : List ℕ) → RecordsSpell found o
 records_are [] octets spelled = tt
 records_are (r ∷ found) octets spelled = (record_is r spelled.0 spelled.3, records_are found spelled.1 spelled.4)
 
-module _ (refused : FileRefusalIsOneLine) (record_one : RecordIsOneLine) (end_one : KeytabEndIsOneLine) (form : Form) where
-  keytab_end_line_is : (count : ℕ) (end : Result (Stop × ℕ) Fault) → ArePrintedLines (keytab_last (no_label form) count end)
-  keytab_end_line_is count (Ok end) = a_line (keytab_last (no_label form) count (Ok end)) (end_one form count end.0)
-  keytab_end_line_is count (Err fault) = refusal_line refused form fault (places.Record count)
+module _ (refused : FileRefusalIsOneLine) (record_one : RecordIsOneLine) (end_one : KeytabEndIsOneLine) (label : Label) (named : IsNamed label) where
+  keytab_end_line_is : (count : ℕ) (end : Result (Stop × ℕ) Fault) → ArePrintedLines (keytab_last label count end)
+  keytab_end_line_is count (Ok end) = printed_line label named (keytab_end count end.0) (end_one label.form count end.0)
+  keytab_end_line_is count (Err fault) = refusal_line refused label named fault (places.Record count)
 
-  found_lines : (found : Records) → AllByRecursion RecordIsOfOctets found.items → ArePrintedLines (text_of (records_listing (no_label form) found))
+  found_lines : (found : Records) → AllByRecursion RecordIsOfOctets found.items → ArePrintedLines (text_of (records_listing label found))
   found_lines found are =
-      and_lines (flat_map (record_line (no_label form)) found.items) (keytab_last (no_label form) (length found.items) found.end) (each_line RecordIsOfOctets (record_line (no_label form)) (λ r is. record_one form r is) found.items are) (keytab_end_line_is (length found.items) found.end)
+      and_lines (flat_map (record_line label) found.items) (keytab_last label (length found.items) found.end) (each_line RecordIsOfOctets (record_line label) (λ r is. labelled_line label (printed_record r) named (record_one label.form r is)) found.items are) (keytab_end_line_is (length found.items) found.end)
 
-  pub keytab_printed : RecordsAreSpelled → (file : List ℕ) → AreOctets file → ArePrintedLines (text_of (keytab_listing (no_label form) file))
+  pub keytab_printed : RecordsAreSpelled → (file : List ℕ) → AreOctets file → ArePrintedLines (text_of (keytab_listing label file))
   unfolding keytab_listing
   keytab_printed spelled file are = found_lines (keytab_records field_limit file) (by (spelled field_limit file are))
     where
@@ -177,24 +183,24 @@ contents_are start found octets (inl (version, spelled)) = record { owner = prin
 contents_are start found octets (inr (version, v, spelled, same)) =
     subst (λ (c : Ccache). AreOfOctets c.principal c.credentials) same (record { owner = principal_is v.principal spelled.fits.principal; each = credentials3_are v.credentials spelled.fits.credentials })
 
-module _ (refused : FileRefusalIsOneLine) (cache_one : CacheIsOneLine) (credential_one : CredentialIsOneLine) (end_one : CacheEndIsOneLine) (form : Form) (now : Option ℕ) where
-  cache_end_line_is : (count : ℕ) (end : Result ℕ Fault) → ArePrintedLines (ccache_last (no_label form) count end)
-  cache_end_line_is count (Ok size) = a_line (ccache_last (no_label form) count (Ok size)) (end_one form count)
-  cache_end_line_is count (Err fault) = refusal_line refused form fault (places.Credential count)
+module _ (refused : FileRefusalIsOneLine) (cache_one : CacheIsOneLine) (credential_one : CredentialIsOneLine) (end_one : CacheEndIsOneLine) (label : Label) (named : IsNamed label) (now : Option ℕ) where
+  cache_end_line_is : (count : ℕ) (end : Result ℕ Fault) → ArePrintedLines (ccache_last label count end)
+  cache_end_line_is count (Ok size) = printed_line label named (cache_end count) (end_one label.form count)
+  cache_end_line_is count (Err fault) = refusal_line refused label named fault (places.Credential count)
 
-  credential_lines : (found : CacheItems Credential) → AllByRecursion CredentialIsOfOctets found.items → ArePrintedLines (text_of (credentials_listing (no_label form) now found))
+  credential_lines : (found : CacheItems Credential) → AllByRecursion CredentialIsOfOctets found.items → ArePrintedLines (text_of (credentials_listing label now found))
   credential_lines found are =
-      and_lines (flat_map (credential_line (no_label form) now) found.items) (ccache_last (no_label form) (length found.items) found.end) (each_line CredentialIsOfOctets (credential_line (no_label form) now) (λ c is. credential_one form now c is) found.items are) (cache_end_line_is (length found.items) found.end)
+      and_lines (flat_map (credential_line label now) found.items) (ccache_last label (length found.items) found.end) (each_line CredentialIsOfOctets (credential_line label now) (λ c is. labelled_line label (credential_record label.form now c) named (credential_one label.form now c is)) found.items are) (cache_end_line_is (length found.items) found.end)
 
-  started : (r : Result (Start × Source) Fault) (found : CacheItems Credential) → ((start : Start) (after : Source) → r ≡ Ok (start, after) → AreOfOctets start.principal found.items) → ArePrintedLines (text_of (cache_listing (no_label form) now r found))
-  started (Err fault) found are = refusal_line refused form fault places.File
+  started : (r : Result (Start × Source) Fault) (found : CacheItems Credential) → ((start : Start) (after : Source) → r ≡ Ok (start, after) → AreOfOctets start.principal found.items) → ArePrintedLines (text_of (cache_listing label now r found))
+  started (Err fault) found are = refusal_line refused label named fault places.File
   started (Ok (start, after)) found are =
       let is = are start after refl in
-      let line : List ℕ = cache_line (no_label form) start.header start.principal in
-      let others : RecordListing = credentials_listing (no_label form) now found in
-      subst ArePrintedLines (sym (append_assoc line others.lines others.last)) (and_lines line (text_of others) (a_line line (cache_one form start.header start.principal is.owner)) (credential_lines found is.each))
+      let line : List ℕ = cache_line label start.header start.principal in
+      let others : RecordListing = credentials_listing label now found in
+      subst ArePrintedLines (sym (append_assoc line others.lines others.last)) (and_lines line (text_of others) (printed_line label named (cache_record start.header start.principal) (cache_one label.form start.header start.principal is.owner)) (credential_lines found is.each))
 
-  pub cache_printed : CredentialsAreSpelled → (file : List ℕ) → AreOctets file → ArePrintedLines (text_of (ccache_listing (no_label form) now file))
+  pub cache_printed : CredentialsAreSpelled → (file : List ℕ) → AreOctets file → ArePrintedLines (text_of (ccache_listing label now file))
   unfolding ccache_listing
   cache_printed spelled file are =
       started (file_start field_limit file) (credentials field_limit file) (λ start after e. let all = spelled field_limit file start after are e in contents_are start (credentials field_limit file).items _ all.1.spelled)
@@ -255,19 +261,19 @@ few_in_cache limit file =
     few_of_start limit (length file) (file_start limit file) (λ start t e. Moved-shorter (source_of file) t ((Steps-start (3 ∷ 4 ∷ [])).moves (limited limit) (source_of file) start t e))
 
 -- ---- keytabs
-module _ (json : FilesAreJson) (record_one : RecordIsOneLine) (end_one : KeytabEndIsOneLine) (form : Form) where
-  fit_lines : (found : List Record) → AllByRecursion (λ r. RecordIsOfOctets r × IsRecord r) found → AreLinesOf form (flat_map (record_line (no_label form)) found)
-  fit_lines found are = each_line_of form (λ r. RecordIsOfOctets r × IsRecord r) (record_line (no_label form)) (λ r is. a_line_of form (printed_record r) (record_one form r is.0) (λ _. json.of_record r is.1)) found are
+module _ (json : FilesAreJson) (record_one : RecordIsOneLine) (end_one : KeytabEndIsOneLine) (label : Label) (named : IsNamed label) where
+  fit_lines : (found : List Record) → AllByRecursion (λ r. RecordIsOfOctets r × IsRecord r) found → AreLinesOf label.form (flat_map (record_line label) found)
+  fit_lines found are = each_line_of label.form (λ r. RecordIsOfOctets r × IsRecord r) (record_line label) (λ r is. a_line_of label named (printed_record r) (record_one label.form r is.0) (λ _. json.of_record r is.1)) found are
 
-  fit_end : (count : ℕ) (end : Result (Stop × ℕ) Fault) → count < 10 ^ 64 → end_of (places.Record count) end ≡ run.Clean → AreLinesOf form (keytab_last (no_label form) count end)
-  fit_end count (Ok end) few clean = a_line_of form (keytab_end count end.0) (end_one form count end.0) (λ _. json.end_of_keytab count end.0 few)
+  fit_end : (count : ℕ) (end : Result (Stop × ℕ) Fault) → count < 10 ^ 64 → end_of (places.Record count) end ≡ run.Clean → AreLinesOf label.form (keytab_last label count end)
+  fit_end count (Ok end) few clean = a_line_of label named (keytab_end count end.0) (end_one label.form count end.0) (λ _. json.end_of_keytab count end.0 few)
   fit_end count (Err fault) few clean = absurd (never_clean (places.Record count) clean)
 
-  pub keytab_lines_of : RecordsAreSpelled → (file : List ℕ) → AreRead file → AreLinesBut form (keytab_listing (no_label form) file)
+  pub keytab_lines_of : RecordsAreSpelled → (file : List ℕ) → AreRead file → AreLinesBut label.form (keytab_listing label file)
   unfolding keytab_listing
   keytab_lines_of spelled file are = record {
     records = lines;
-    whole = λ clean. and_lines_of form (flat_map (record_line (no_label form)) found.items) (keytab_last (no_label form) (length found.items) found.end) lines (fit_end (length found.items) found.end (omega (arith, few_in_keytab field_limit file, are.1)) clean);
+    whole = λ clean. and_lines_of label.form (flat_map (record_line label) found.items) (keytab_last label (length found.items) found.end) lines (fit_end (length found.items) found.end (omega (arith, few_in_keytab field_limit file, are.1)) clean);
   }
     where
       found : Records
@@ -277,7 +283,7 @@ module _ (json : FilesAreJson) (record_one : RecordIsOneLine) (end_one : KeytabE
       by (inl none) = subst (AllByRecursion (λ r. RecordIsOfOctets r × IsRecord r)) (sym none) tt
       by (inr some) = records_fit found.items some.1.spelled.0 some.1.spelled.1
 
-      lines : AreLinesOf form (flat_map (record_line (no_label form)) found.items)
+      lines : AreLinesOf label.form (flat_map (record_line label) found.items)
       lines = fit_lines found.items (by (spelled field_limit file are.0))
 
 -- ---- caches
@@ -301,29 +307,29 @@ contents_fit start found octets (inr (version, v, spelled, same)) =
       each = subst (λ (c : Ccache). AllByRecursion CredentialFits c.credentials) same (all3 v.credentials spelled.fits.credentials);
     }
 
-module _ (json : FilesAreJson) (cache_one : CacheIsOneLine) (credential_one : CredentialIsOneLine) (end_one : CacheEndIsOneLine) (form : Form) (now : Option ℕ) where
-  fit_credentials : (found : List Credential) → AllByRecursion CredentialFits found → AreLinesOf form (flat_map (credential_line (no_label form) now) found)
+module _ (json : FilesAreJson) (cache_one : CacheIsOneLine) (credential_one : CredentialIsOneLine) (end_one : CacheEndIsOneLine) (label : Label) (named : IsNamed label) (now : Option ℕ) where
+  fit_credentials : (found : List Credential) → AllByRecursion CredentialFits found → AreLinesOf label.form (flat_map (credential_line label now) found)
   fit_credentials found fit =
-      each_line_of form CredentialFits (credential_line (no_label form) now)
-      (λ c fits. a_line_of form (credential_record form now c) (credential_one form now c (credential_is c fits)) (λ is. subst (λ f. PrintsJson (credential_record f now c)) (sym is) (json.credential now c fits))) found fit
+      each_line_of label.form CredentialFits (credential_line label now)
+      (λ c fits. a_line_of label named (credential_record label.form now c) (credential_one label.form now c (credential_is c fits)) (λ is. subst (λ f. PrintsJson (credential_record f now c)) (sym is) (json.credential now c fits))) found fit
 
-  fit_cache_end : (count : ℕ) (end : Result ℕ Fault) → count < 10 ^ 64 → end_of (places.Credential count) end ≡ run.Clean → AreLinesOf form (ccache_last (no_label form) count end)
-  fit_cache_end count (Ok size) few clean = a_line_of form (cache_end count) (end_one form count) (λ _. json.end_of_cache count few)
+  fit_cache_end : (count : ℕ) (end : Result ℕ Fault) → count < 10 ^ 64 → end_of (places.Credential count) end ≡ run.Clean → AreLinesOf label.form (ccache_last label count end)
+  fit_cache_end count (Ok size) few clean = a_line_of label named (cache_end count) (end_one label.form count) (λ _. json.end_of_cache count few)
   fit_cache_end count (Err fault) few clean = absurd cc
 
-  started_lines : (r : Result (Start × Source) Fault) (found : CacheItems Credential) → length found.items < 10 ^ 64 → ((start : Start) (after : Source) → r ≡ Ok (start, after) → Fit start found.items) → AreLinesBut form (cache_listing (no_label form) now r found)
-  started_lines (Err fault) found few fit = record { records = no_lines_of form; whole = λ clean. absurd cc }
+  started_lines : (r : Result (Start × Source) Fault) (found : CacheItems Credential) → length found.items < 10 ^ 64 → ((start : Start) (after : Source) → r ≡ Ok (start, after) → Fit start found.items) → AreLinesBut label.form (cache_listing label now r found)
+  started_lines (Err fault) found few fit = record { records = no_lines_of label.form; whole = λ clean. absurd cc }
   started_lines (Ok (start, after)) found few fit =
       let its = fit start after refl in
-      let line : List ℕ = cache_line (no_label form) start.header start.principal in
-      let first = a_line_of form (cache_record start.header start.principal) (cache_one form start.header start.principal (principal_is start.principal its.principal)) (λ _. json.cache start.header start.principal its.header its.principal) in
-      let lines = and_lines_of form line (flat_map (credential_line (no_label form) now) found.items) first (fit_credentials found.items its.each) in
+      let line : List ℕ = cache_line label start.header start.principal in
+      let first = a_line_of label named (cache_record start.header start.principal) (cache_one label.form start.header start.principal (principal_is start.principal its.principal)) (λ _. json.cache start.header start.principal its.header its.principal) in
+      let lines = and_lines_of label.form line (flat_map (credential_line label now) found.items) first (fit_credentials found.items its.each) in
       record {
         records = lines;
-        whole = λ clean. and_lines_of form (line ++ flat_map (credential_line (no_label form) now) found.items) (ccache_last (no_label form) (length found.items) found.end) lines (fit_cache_end (length found.items) found.end few clean);
+        whole = λ clean. and_lines_of label.form (line ++ flat_map (credential_line label now) found.items) (ccache_last label (length found.items) found.end) lines (fit_cache_end (length found.items) found.end few clean);
       }
 
-  pub cache_lines_of : CredentialsAreSpelled → (file : List ℕ) → AreRead file → AreLinesBut form (ccache_listing (no_label form) now file)
+  pub cache_lines_of : CredentialsAreSpelled → (file : List ℕ) → AreRead file → AreLinesBut label.form (ccache_listing label now file)
   unfolding ccache_listing
   cache_lines_of spelled file are =
       started_lines (file_start field_limit file) (credentials field_limit file) (omega (arith, few_in_cache field_limit file, are.1))

@@ -24,9 +24,8 @@ use Rattle.krb_frame.specs.GoingOn.{Contents, Entry, Fault, after_contents, entr
 use Rattle.krb_frame.specs.Laws.{RefusalsAreInside}
 use Rattle.krb_laws.specs.JsonLaws.{EndsAreJson, IsEnd, IsExtent, MessagesAreJson, PrintsJson}
 use Rattle.krb_laws.proofs.JsonStrings.{all-append}
-use Rattle.krb_record.specs.Labels.{no_label}
+use Rattle.krb_record.specs.Labels.{Label}
 use Rattle.krb_record.specs.Streams.{counted_end_record, refused_record}
-use Rattle.krb_record.specs.declared.form.Form.{Form}
 use Rattle.krb_text.specs.Laws.{MessageIsOneLine, StreamEndIsOneLine}
 use Rattle.krb_record.specs.Laws.{CountedStreamEndIsOneLine}
 use Rattle.krb_text.specs.Messages.{message_line as its_own_line, message_record}
@@ -34,7 +33,7 @@ use Rattle.krb_text.specs.StreamEnds.{end_record}
 use Rattle.krb_tool.specs.GoingOn.{AreCountedLines, Faulty, IsCountedListing, Listed, Whole, counted_end_line, entry_of, lines_after, refused_line, messages_in, refused_in}
 use Rattle.krb_tool.specs.Listing.{AreLines, IsListing, end_line, end_of, message_line}
 use Rattle.krb_tool.specs.Paths.{end_extent, end_path, frame_extent, frame_path, last_octets}
-use Rattle.krb_tool_laws.specs.Listings.{AreLinesOf, AreRead, StreamsAreLines}
+use Rattle.krb_tool_laws.specs.Listings.{AreLinesOf, AreRead, IsNamed, StreamsAreLines}
 use Rattle.krb_tool_laws.proofs.Lines.{a_line, and_lines, each_line, no_lines}
 use Rattle.krb_tool_laws.proofs.PathOctets.{frame_octets}
 
@@ -107,7 +106,7 @@ module _ (inside : RefusalsAreInside) (profile : Profile) (limit : ℕ) where
 
 -- ---- contents of frames
 -- those of a frame are octets and a message
-abbrev IsGood : Profile → (limit : ℕ) → List ℕ → Type 0
+abbrev pub IsGood : Profile → (limit : ℕ) → List ℕ → Type 0
 IsGood profile limit contents = AreOctets contents × IsMessage (messages profile) limit contents
 
 both_are : (xs ys : List ℕ) → AreOctets (xs ++ ys) → AreOctets xs × AreOctets ys
@@ -134,11 +133,11 @@ module _ (profile : Profile) (limit : ℕ) where
   few_contents [] = omega arith
   few_contents (first ∷ contents) = omega (arith, size-first first contents, few_contents contents)
 
-  record Parsed (stream : List ℕ) : Type 0 where
-    good : AllByRecursion (IsGood profile limit) (frames (messages profile) limit stream).contents
-    size : frames_size (frames (messages profile) limit stream).contents ≤ length stream
+  pub record Parsed (stream : List ℕ) : Type 0 where
+    pub good : AllByRecursion (IsGood profile limit) (frames (messages profile) limit stream).contents
+    pub size : frames_size (frames (messages profile) limit stream).contents ≤ length stream
 
-  parsed : (stream : List ℕ) → AreOctets stream → Parsed stream
+  pub parsed : (stream : List ℕ) → AreOctets stream → Parsed stream
   parsed stream are =
       let p : IsParse (messages profile) limit stream (frames (messages profile) limit stream) = frames-parse (messages profile) limit stream are in
       let contents : List (List ℕ) = (frames (messages profile) limit stream).contents in
@@ -162,23 +161,23 @@ in_lenient : StrictIsNarrower → (profile : Profile) (m : Message) → IsInProf
 in_lenient narrower profiles.Lenient m is = is
 in_lenient narrower profiles.Strict m is = ((narrower m).0 is).0
 
-module _ (p : Premises) (form : Form) (profile : Profile) (limit : ℕ) where
+module _ (p : Premises) (label : Label) (named : IsNamed label) (profile : Profile) (limit : ℕ) where
   in_profile : (m : Message) → IsGood profile limit (message_der m) → IsInProfile profiles.Lenient m
   in_profile m good =
       let found : AreMessage profile (length (message_der m)) (message_der m) = whole_is_message profile (length (message_der m)) (message_der m) good.1.short good.0 (omega arith) (ap verdict_of good.1.whole) in
       let same : found.message ≡ m = (p.prefix_free found.message m [] [] (ap (λ d. d ++ []) found.form)).0 in
       in_lenient p.narrower profile m (subst (IsInProfile profile) same found.in_profile)
 
-  its_line : (m : Message) → IsGood profile limit (message_der m) → AreLinesOf form (message_line (no_label form) m)
+  its_line : (m : Message) → IsGood profile limit (message_der m) → AreLinesOf label.form (message_line label m)
   unfolding message_line its_own_line
-  its_line m good = a_line form (message_record m) (p.message_line_is form m (in_profile m good)) (λ json. p.messages_json.message m (in_profile m good))
+  its_line m good = a_line label named (message_record m) (p.message_line_is label.form m (in_profile m good)) (λ json. p.messages_json.message m (in_profile m good))
 
   good_messages : (found : List Message) → AllByRecursion (IsGood profile limit) (map message_der found) → AllByRecursion (λ m. IsGood profile limit (message_der m)) found
   good_messages [] are = tt
   good_messages (m ∷ found) are = (are.0, good_messages found are.1)
 
-  message_lines : (found : List Message) → AllByRecursion (IsGood profile limit) (map message_der found) → AreLinesOf form (flat_map (message_line (no_label form)) found)
-  message_lines found are = each_line form (λ m. IsGood profile limit (message_der m)) (message_line (no_label form)) its_line found (good_messages found are)
+  message_lines : (found : List Message) → AllByRecursion (IsGood profile limit) (map message_der found) → AreLinesOf label.form (flat_map (message_line label) found)
+  message_lines found are = each_line label.form (λ m. IsGood profile limit (message_der m)) (message_line label) its_line found (good_messages found are)
 
   -- ---- the line of the end
   last_are : (end : End) (octets : List ℕ) → AreOctets octets → AreOctets (last_octets end octets)
@@ -186,35 +185,35 @@ module _ (p : Premises) (form : Form) (profile : Profile) (limit : ℕ) where
   last_are (Within present) octets are = are
   last_are (Refused place reason) octets are = AreOctets-take (place + 1) octets are
 
-  its_end : (stream : List ℕ) (count : ℕ) → AreRead stream → count < 10 ^ 64 → AreLinesOf form (end_line (no_label form) count (end_of profile limit stream) (end_path profile limit stream) (end_extent profile limit stream))
+  its_end : (stream : List ℕ) (count : ℕ) → AreRead stream → count < 10 ^ 64 → AreLinesOf label.form (end_line label count (end_of profile limit stream) (end_path profile limit stream) (end_extent profile limit stream))
   its_end stream count are small =
       let found : Frames = frames (messages profile) limit stream in
       let after : List ℕ = after_contents found stream in
       let octets = last_are found.end after (AreOctets-drop (frames_size found.contents) stream are.0) in
       let extent = extent_small (frames_size found.contents) (last_octets found.end after) (omega (arith, (parsed profile limit stream are.0).size, are.1)) octets in
-      a_line form (end_record form count found.end (end_path profile limit stream) (end_extent profile limit stream)) (p.end_line_is form count found.end (end_path profile limit stream) (end_extent profile limit stream) (frame_octets profile (last_octets found.end after)))
+      a_line label named (end_record label.form count found.end (end_path profile limit stream) (end_extent profile limit stream)) (p.end_line_is label.form count found.end (end_path profile limit stream) (end_extent profile limit stream) (frame_octets profile (last_octets found.end after)))
       (λ json. subst (λ f. PrintsJson (end_record f count found.end (end_path profile limit stream) (end_extent profile limit stream))) (sym json) (p.ends_json.stream count found.end (end_path profile limit stream) (end_extent profile limit stream) small (end_small p.inside profile limit stream found.end are.1 refl) extent))
 
   as_many : (found : List Message) → length (map message_der found) ≡ length found
   as_many [] = refl
   as_many (m ∷ found) = ap suc (as_many found)
 
-  pub listed : (stream text : List ℕ) → AreRead stream → IsListing (no_label form) profile limit stream text → AreLinesOf form text
+  pub listed : (stream text : List ℕ) → AreRead stream → IsListing label profile limit stream text → AreLinesOf label.form text
   listed stream text are l =
       let parts = parsed profile limit stream are.0 in
       let contents : List (List ℕ) = (frames (messages profile) limit stream).contents in
       let few : length l.found < 10 ^ 64 = omega (arith, as_many l.found, ap length l.in_frames, few_contents profile limit contents, parts.size, are.1) in
-      subst (AreLinesOf form) (sym l.lines)
-      (and_lines form (flat_map (message_line (no_label form)) l.found) _ (message_lines l.found (subst (AllByRecursion (IsGood profile limit)) (sym l.in_frames) parts.good)) (its_end stream (length l.found) are few))
+      subst (AreLinesOf label.form) (sym l.lines)
+      (and_lines label.form (flat_map (message_line label) l.found) _ (message_lines l.found (subst (AllByRecursion (IsGood profile limit)) (sym l.in_frames) parts.good)) (its_end stream (length l.found) are few))
 
   first_good : (one other : List (List ℕ)) → AllByRecursion (IsGood profile limit) (one ++ other) → AllByRecursion (IsGood profile limit) one
   first_good [] other are = tt
   first_good (c ∷ one) other are = (are.0, first_good one other are.1)
 
-  pub listed_in_part : (stream text : List ℕ) → AreRead stream → AreLines (no_label form) profile limit stream text → AreLinesOf form text
+  pub listed_in_part : (stream text : List ℕ) → AreRead stream → AreLines label profile limit stream text → AreLinesOf label.form text
   listed_in_part stream text are l =
       let parts = parsed profile limit stream are.0 in
-      subst (AreLinesOf form) (sym l.lines) (message_lines l.found (first_good (map message_der l.found) l.others (subst (AllByRecursion (IsGood profile limit)) l.in_frames parts.good)))
+      subst (AreLinesOf label.form) (sym l.lines) (message_lines l.found (first_good (map message_der l.found) l.others (subst (AllByRecursion (IsGood profile limit)) l.in_frames parts.good)))
 
 -- ---- a stream that goes on after refusals
 module _ (inside : RefusalsAreInside) (profile : Profile) (limit : ℕ) where
@@ -301,27 +300,27 @@ as_many_entries : (found : List Listed) → length (map entry_of found) ≡ leng
 as_many_entries [] = refl
 as_many_entries (l ∷ found) = ap suc (as_many_entries found)
 
-module _ (p : Premises) (form : Form) (profile : Profile) (limit : ℕ) where
-  frame_line : (count offset place : ℕ) (reason : Why) (prefix : List ℕ) → count < 10 ^ 64 → offset < 10 ^ 64 → place < 10 ^ 64 → AreOctets prefix → AreLinesOf form (refused_line (no_label form) count place reason (frame_path profile prefix) (frame_extent offset prefix))
+module _ (p : Premises) (label : Label) (named : IsNamed label) (profile : Profile) (limit : ℕ) where
+  frame_line : (count offset place : ℕ) (reason : Why) (prefix : List ℕ) → count < 10 ^ 64 → offset < 10 ^ 64 → place < 10 ^ 64 → AreOctets prefix → AreLinesOf label.form (refused_line label count place reason (frame_path profile prefix) (frame_extent offset prefix))
   frame_line count offset place reason prefix count_small offset_small place_small are =
       let extent = extent_small offset prefix offset_small are in
-      a_line form (refused_record form count place reason (frame_path profile prefix) (frame_extent offset prefix)) (p.end_line_is form count (Refused place reason) (frame_path profile prefix) (frame_extent offset prefix) (frame_octets profile prefix))
+      a_line label named (refused_record label.form count place reason (frame_path profile prefix) (frame_extent offset prefix)) (p.end_line_is label.form count (Refused place reason) (frame_path profile prefix) (frame_extent offset prefix) (frame_octets profile prefix))
       (λ json. subst (λ f. PrintsJson (refused_record f count place reason (frame_path profile prefix) (frame_extent offset prefix))) (sym json) (p.ends_json.stream count (Refused place reason) (frame_path profile prefix) (frame_extent offset prefix) count_small place_small extent))
 
-  counted_lines : (found : List Listed) (count offset : ℕ) → AllByRecursion (IsGoodEntry p.inside profile limit) (map entry_of found) → count + length found < 10 ^ 64 → offset + 2 ^ 33 * length found < 10 ^ 64 → AreLinesOf form (lines_after (no_label form) profile count offset found)
-  counted_lines [] count offset are few fewer = no_lines form
+  counted_lines : (found : List Listed) (count offset : ℕ) → AllByRecursion (IsGoodEntry p.inside profile limit) (map entry_of found) → count + length found < 10 ^ 64 → offset + 2 ^ 33 * length found < 10 ^ 64 → AreLinesOf label.form (lines_after label profile count offset found)
+  counted_lines [] count offset are few fewer = no_lines label.form
   counted_lines (Whole m ∷ found) count offset are few fewer =
       let short : length (message_der m) < 2 ^ 31 = are.0.1.short in
-      and_lines form (message_line (no_label form) m) (lines_after (no_label form) profile (count + 1) (offset + (4 + length (message_der m))) found) (its_line p form profile limit m are.0)
+      and_lines label.form (message_line label m) (lines_after label profile (count + 1) (offset + (4 + length (message_der m))) found) (its_line p label named profile limit m are.0)
       (counted_lines found (count + 1) (offset + (4 + length (message_der m))) are.1 (omega (arith, few)) (omega (arith, fewer, short)))
   counted_lines (Faulty place reason prefix ∷ found) count offset are few fewer =
       let size = four_small prefix are.0.0 in
-      and_lines form (refused_line (no_label form) count place reason (frame_path profile prefix) (frame_extent offset prefix)) (lines_after (no_label form) profile count (offset + (4 + number (take 4 prefix))) found)
+      and_lines label.form (refused_line label count place reason (frame_path profile prefix) (frame_extent offset prefix)) (lines_after label profile count (offset + (4 + number (take 4 prefix))) found)
       (frame_line count offset place reason prefix (omega (arith, few)) (omega (arith, fewer)) are.0.1 are.0.0)
       (counted_lines found count (offset + (4 + number (take 4 prefix))) are.1 (omega (arith, few)) (omega (arith, fewer, size)))
 
-  count_line : (messages refused : ℕ) → messages < 10 ^ 64 → refused < 10 ^ 64 → AreLinesOf form (counted_end_line (no_label form) messages refused)
-  count_line messages refused m r = a_line form (counted_end_record messages refused) (p.counted_line_is form messages refused) (λ json. p.ends_json.counted_stream messages refused m r)
+  count_line : (messages refused : ℕ) → messages < 10 ^ 64 → refused < 10 ^ 64 → AreLinesOf label.form (counted_end_line label messages refused)
+  count_line messages refused m r = a_line label named (counted_end_record messages refused) (p.counted_line_is label.form messages refused) (λ json. p.ends_json.counted_stream messages refused m r)
 
   few_found : (stream : List ℕ) (found : List Listed) (others : List Entry) → AreRead stream → entries (messages profile) limit stream ≡ map entry_of found ++ others → length found < 2 ^ 129
   unfolding entries
@@ -332,24 +331,24 @@ module _ (p : Premises) (form : Form) (profile : Profile) (limit : ℕ) where
   first_entries [] other are = tt
   first_entries (e ∷ one) other are = (are.0, first_entries one other are.1)
 
-  pub counted_in_part : (stream text : List ℕ) → AreRead stream → AreCountedLines (no_label form) profile limit stream text → AreLinesOf form text
+  pub counted_in_part : (stream text : List ℕ) → AreRead stream → AreCountedLines label profile limit stream text → AreLinesOf label.form text
   unfolding entries
   counted_in_part stream text are l =
       let few = few_found stream l.found l.others are l.in_frames in
       let good = subst (AllByRecursion (IsGoodEntry p.inside profile limit)) l.in_frames (good_entries p.inside profile limit (length stream) stream are.0 are.1) in
-      subst (AreLinesOf form) (sym l.lines) (counted_lines l.found 0 0 (first_entries (map entry_of l.found) l.others good) (omega (arith, few)) (omega (arith, few)))
+      subst (AreLinesOf label.form) (sym l.lines) (counted_lines l.found 0 0 (first_entries (map entry_of l.found) l.others good) (omega (arith, few)) (omega (arith, few)))
 
-  pub counted : (stream text : List ℕ) → AreRead stream → IsCountedListing (no_label form) profile limit stream text → AreLinesOf form text
+  pub counted : (stream text : List ℕ) → AreRead stream → IsCountedListing label profile limit stream text → AreLinesOf label.form text
   counted stream text are l =
       let few = few_found stream l.found [] are (sym l.in_frames ∙ sym (append-nil (map entry_of l.found))) in
-      let lines = counted_in_part stream (lines_after (no_label form) profile 0 0 l.found) are (record { found = l.found; others = []; in_frames = sym l.in_frames ∙ sym (append-nil (map entry_of l.found)); lines = refl }) in
-      subst (AreLinesOf form) (sym l.lines)
-      (and_lines form (lines_after (no_label form) profile 0 0 l.found) (counted_end_line (no_label form) (messages_in l.found) (refused_in l.found)) lines (count_line (messages_in l.found) (refused_in l.found) (omega (arith, few, few_messages l.found)) (omega (arith, few, few_refused l.found))))
+      let lines = counted_in_part stream (lines_after label profile 0 0 l.found) are (record { found = l.found; others = []; in_frames = sym l.in_frames ∙ sym (append-nil (map entry_of l.found)); lines = refl }) in
+      subst (AreLinesOf label.form) (sym l.lines)
+      (and_lines label.form (lines_after label profile 0 0 l.found) (counted_end_line label (messages_in l.found) (refused_in l.found)) lines (count_line (messages_in l.found) (refused_in l.found) (omega (arith, few, few_messages l.found)) (omega (arith, few, few_refused l.found))))
 
 pub streams_are_lines : Premises → StreamsAreLines
 streams_are_lines p = record {
-  whole = listed p;
-  part = listed_in_part p;
-  counted = counted p;
-  counted_part = counted_in_part p;
+  whole = λ label profile limit stream text named. listed p label named profile limit stream text;
+  part = λ label profile limit stream text named. listed_in_part p label named profile limit stream text;
+  counted = λ label profile limit stream text named. counted p label named profile limit stream text;
+  counted_part = λ label profile limit stream text named. counted_in_part p label named profile limit stream text;
 }

@@ -51,7 +51,7 @@ field_octets : (path : List ℕ) (of : Names) (index : ℕ) → AreOctets path �
 field_octets path of index are =
     AreOctets-append (path ++ codes ".") (field_at of index).name (AreOctets-append path (codes ".") are (octets_of (codes ".") refl)) (named_octets (fields_of of) index (table_octets of))
 
-element_octets : (path : List ℕ) (index : ℕ) → AreOctets path → AreOctets (element_path path index)
+pub element_octets : (path : List ℕ) (index : ℕ) → AreOctets path → AreOctets (element_path path index)
 element_octets path index are =
     AreOctets-append ((path ++ codes "[") ++ decimal index) (codes "]") (AreOctets-append (path ++ codes "[") (decimal index) (AreOctets-append path (codes "[") are (octets_of (codes "[") refl)) (index_octets index)) (octets_of (codes "]") refl)
 

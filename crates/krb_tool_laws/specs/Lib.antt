@@ -1,2 +1,3 @@
+pub mod Exchanges
 pub mod Holes
 pub mod Listings

@@ -1,12 +1,14 @@
 -- The laws of whole listings: that each line of them is one, whatever octets were read. Each is the contract of a function of the module `listings`.
-use Rattle.std.specs.Prelude.{ℕ, ◌≡◌, ◌<◌, ◌^◌, List, ◌++◌, length, Option}
+use Rattle.std.specs.Prelude.{ℕ, ◌≡◌, ◌<◌, ◌^◌, List, ◌++◌, length, Option, IfSome}
 use Rattle.std.specs.List.{AllByRecursion, flat_map}
 use Rattle.json.specs.Json.{Json}
+use Rattle.krb_capture.specs.Captures.{Settings}
+use Rattle.krb_capture_run.specs.Captures.{capture_listing}
 use Rattle.krb_der.specs.Octets.{AreOctets}
 use Rattle.krb_der.specs.declared.profile.Profile.{Profile}
 use Rattle.krb_file_run.specs.Files.{ccache_listing, keytab_listing}
 use Rattle.krb_laws.specs.JsonLaws.{IsJson}
-use Rattle.krb_record.specs.Labels.{no_label}
+use Rattle.krb_record.specs.Labels.{Label}
 use Rattle.krb_record.specs.Text.{IsPrintable, line_feed}
 use Rattle.krb_record.specs.declared.form.Form.{Form}
 use Rattle.krb_record.specs.declared.form.Form.TheVariants as forms
@@ -14,6 +16,8 @@ use Rattle.krb_run.specs.Records.{RecordListing, text_of}
 use Rattle.krb_run.specs.declared.run.RunEnd.TheVariants as run
 use Rattle.krb_tool.specs.GoingOn.{AreCountedLines, IsCountedListing}
 use Rattle.krb_tool.specs.Listing.{AreLines, IsListing}
+use Rattle.krb_tool.specs.MessageLines.{lines_listed}
+use Rattle.krb_tool.specs.Messages.{message_listing, octets_listing}
 
 -- A line in a form, without its line feed: blanks and graphic characters of ASCII, and in the form Json the JSON text (RFC 8259) of one value, in which no object has a name twice.
 pub record IsLineOf (form : Form) (line : List ℕ) : Type 0 where
@@ -24,16 +28,26 @@ pub record IsLineOf (form : Form) (line : List ℕ) : Type 0 where
 abbrev pub AreLinesOf : Form → List ℕ → Type 0
 AreLinesOf form text = (lines : List (List ℕ)) × AllByRecursion (IsLineOf form) lines × (text ≡ flat_map (λ line. line ++ line_feed) lines)
 
+-- the name of a file is octets
+abbrev pub IsNamed : Label → Type 0
+IsNamed label = IfSome label.file AreOctets
+
 -- octets that a reader may have, fewer than 2^64
 abbrev pub AreRead : List ℕ → Type 0
 AreRead octets = AreOctets octets × (length octets < 2 ^ 64)
 
 -- the listing of a stream, with which a run ends, and the part of it that is written before a read that fails; and those of a stream that goes on after refusals
 pub record StreamsAreLines : Type 0 where
-  pub whole : (form : Form) (profile : Profile) (limit : ℕ) (stream text : List ℕ) → AreRead stream → IsListing (no_label form) profile limit stream text → AreLinesOf form text
-  pub part : (form : Form) (profile : Profile) (limit : ℕ) (stream text : List ℕ) → AreRead stream → AreLines (no_label form) profile limit stream text → AreLinesOf form text
-  pub counted : (form : Form) (profile : Profile) (limit : ℕ) (stream text : List ℕ) → AreRead stream → IsCountedListing (no_label form) profile limit stream text → AreLinesOf form text
-  pub counted_part : (form : Form) (profile : Profile) (limit : ℕ) (stream text : List ℕ) → AreRead stream → AreCountedLines (no_label form) profile limit stream text → AreLinesOf form text
+  pub whole : (label : Label) (profile : Profile) (limit : ℕ) (stream text : List ℕ) → IsNamed label → AreRead stream → IsListing label profile limit stream text → AreLinesOf label.form text
+  pub part : (label : Label) (profile : Profile) (limit : ℕ) (stream text : List ℕ) → IsNamed label → AreRead stream → AreLines label profile limit stream text → AreLinesOf label.form text
+  pub counted : (label : Label) (profile : Profile) (limit : ℕ) (stream text : List ℕ) → IsNamed label → AreRead stream → IsCountedListing label profile limit stream text → AreLinesOf label.form text
+  pub counted_part : (label : Label) (profile : Profile) (limit : ℕ) (stream text : List ℕ) → IsNamed label → AreRead stream → AreCountedLines label profile limit stream text → AreLinesOf label.form text
+
+-- the listing of one message, which octets are or an input spells, and that of messages that the lines of a text spell
+pub record MessagesAreLines : Type 0 where
+  pub of_octets : (form : Form) (profile : Profile) (octets : List ℕ) → AreRead octets → AreLinesOf form (octets_listing form profile octets).text
+  pub of_input : (label : Label) (profile : Profile) (input : List ℕ) → IsNamed label → AreRead input → AreLinesOf label.form (message_listing label profile input).text
+  pub of_lines : (label : Label) (profile : Profile) (text : List ℕ) → IsNamed label → AreRead text → AreLinesOf label.form (lines_listed label profile text).text
 
 -- ---- files
 -- A text is lines of printable ASCII, each with a line feed after it.
@@ -42,10 +56,10 @@ ArePrintedLines text = (lines : List (List ℕ)) × AllByRecursion IsPrintable l
 
 -- the listing of a keytab, and of a cache
 abbrev pub KeytabsArePrinted : Type 0
-KeytabsArePrinted = (form : Form) (file : List ℕ) → AreOctets file → ArePrintedLines (text_of (keytab_listing (no_label form) file))
+KeytabsArePrinted = (label : Label) (file : List ℕ) → IsNamed label → AreOctets file → ArePrintedLines (text_of (keytab_listing label file))
 
 abbrev pub CachesArePrinted : Type 0
-CachesArePrinted = (form : Form) (now : Option ℕ) (file : List ℕ) → AreOctets file → ArePrintedLines (text_of (ccache_listing (no_label form) now file))
+CachesArePrinted = (label : Label) (now : Option ℕ) (file : List ℕ) → IsNamed label → AreOctets file → ArePrintedLines (text_of (ccache_listing label now file))
 
 -- The listing of a file is lines in its form, but for the line of a refusal: the lines of its records, and all of it if nothing is refused.
 pub record AreLinesBut (form : Form) (listing : RecordListing) : Type 0 where
@@ -53,7 +67,12 @@ pub record AreLinesBut (form : Form) (listing : RecordListing) : Type 0 where
   pub whole : listing.end ≡ run.Clean → AreLinesOf form (text_of listing)
 
 abbrev pub KeytabsAreLines : Type 0
-KeytabsAreLines = (form : Form) (file : List ℕ) → AreRead file → AreLinesBut form (keytab_listing (no_label form) file)
+KeytabsAreLines = (label : Label) (file : List ℕ) → IsNamed label → AreRead file → AreLinesBut label.form (keytab_listing label file)
 
 abbrev pub CachesAreLines : Type 0
-CachesAreLines = (form : Form) (now : Option ℕ) (file : List ℕ) → AreRead file → AreLinesBut form (ccache_listing (no_label form) now file)
+CachesAreLines = (label : Label) (now : Option ℕ) (file : List ℕ) → IsNamed label → AreRead file → AreLinesBut label.form (ccache_listing label now file)
+
+-- ---- captures
+-- the listing of a capture
+abbrev pub CapturesArePrinted : Type 0
+CapturesArePrinted = (settings : Settings) (file : List ℕ) → IsNamed settings.label → AreOctets file → ArePrintedLines (text_of (capture_listing settings file))

@@ -1,18 +1,22 @@
 //! Laws of whole listings. Each is the contract of a function that does nothing.
 
-ghost use Rattle.krb_tool_laws.specs.Listings.{CachesAreLines, CachesArePrinted, KeytabsAreLines, KeytabsArePrinted, StreamsAreLines};
+ghost use Rattle.krb_tool_laws.specs.Listings.{CachesAreLines, CachesArePrinted, CapturesArePrinted, KeytabsAreLines, KeytabsArePrinted, MessagesAreLines, StreamsAreLines};
 
 use krb_file_laws::ccache::credentials_are_spelled;
 use krb_file_laws::keytab::records_are_spelled;
 use krb_frame::law::refusals_are_inside;
+use krb_judge::law::refusals_are_inside as slices_are_refused_inside;
 use krb_laws::objects::{ends_are_json, files_are_json, messages_are_json};
-use krb_msg::law::{der_is_prefix_free, strict_is_narrower};
+use krb_msg::law::{
+    der_is_prefix_free, message_of_der_is_message, strict_is_narrower, value_of_der_is_value,
+};
 use krb_text_laws::list::{ccache_is_one_line_each, keytab_is_one_line_each};
-use krb_text_laws::text::{end_is_one_line, message_is_one_line};
+use krb_text_laws::text::{capture_is_one_line_each, end_is_one_line, message_is_one_line};
 
-/// Whatever octets were read, fewer than 2^64, each line of the listing of a stream is one line of
-/// printable ASCII, and in the form Json one JSON text in which no object has a name twice; so is
-/// each line that is written before a read fails, and also if the run goes on after refusals.
+/// Whatever octets were read, fewer than 2^64, and whatever octets name their file, each line of the
+/// listing of a stream is one line of printable ASCII, and in the form Json one JSON text in which no
+/// object has a name twice; so is each line that is written before a read fails, and also if the run
+/// goes on after refusals.
 pub fn streams_are_lines()
     ensures { StreamsAreLines }
 {
@@ -25,8 +29,22 @@ pub fn streams_are_lines()
     ends_are_json();
 }
 
-/// Whatever octets a file has, each line of its listing as a keytab or as a cache is one line of
-/// printable ASCII, in each form.
+/// So is the line of one message, or of why there is none, whatever an input spells and that is opened
+/// to; and so is each line of the listing of messages that the lines of a text spell.
+pub fn messages_are_lines()
+    ensures { MessagesAreLines }
+{
+    message_of_der_is_message();
+    value_of_der_is_value();
+    slices_are_refused_inside();
+    message_is_one_line();
+    end_is_one_line();
+    messages_are_json();
+    ends_are_json();
+}
+
+/// Whatever octets a file has, and whatever octets name it, each line of its listing as a keytab or
+/// as a cache is one line of printable ASCII, in each form.
 pub fn files_are_printed()
     ensures keytab { KeytabsArePrinted }
     ensures ccache { CachesArePrinted }
@@ -50,4 +68,14 @@ pub fn files_are_lines()
     keytab_is_one_line_each();
     ccache_is_one_line_each();
     files_are_json();
+}
+
+/// Whatever octets a capture has, and whatever octets name its file, each line of its listing is one
+/// line of printable ASCII, in each form: the records of what is found in its packets, those that are
+/// told, and the last one, also if the file is refused.
+pub fn captures_are_printed()
+    ensures { CapturesArePrinted }
+{
+    message_of_der_is_message();
+    capture_is_one_line_each();
 }

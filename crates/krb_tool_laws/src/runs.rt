@@ -1,8 +1,9 @@
 //! Laws of listings and of conversions. Each is the contract of a function that does nothing.
-ghost use Rattle.krb_capture_run.specs.Laws.{CapturesAreListed};
+ghost use Rattle.krb_capture_run.specs.Laws.{CapturesAreListed, PlainCapturesAreUntold};
 ghost use Rattle.krb_file_run.specs.Laws.{KeysAreNotListed, SessionKeysAreNotListed, UpgradeIsListedAlike};
 ghost use Rattle.krb_convert.specs.Laws.{DecodedComesBack, DecodedIsLines, EncodedIsMessages, UnencryptedIsNotDecoded};
 ghost use Rattle.krb_tool.specs.Laws.{RefusalsAreAtOffsets};
+ghost use Rattle.krb_tool_laws.specs.Exchanges.{CapturesNameNoLaterPacket};
 ghost use Rattle.krb_tool_laws.specs.Holes.{HolesAreNotListed};
 
 use krb_file_laws::ccache::{session_keys_change_nothing_else, upgrade_holds_the_same};
@@ -50,9 +51,19 @@ pub fn keys_are_not_listed()
 }
 
 /// The listing of a capture is the records of what is found in its packets, of which the laws of
-/// `krb_capture_laws` speak, in order, and then the last line.
+/// `krb_capture_laws` speak, in order, with what is told of that, and then the last line.
 pub fn captures_are_listed()
     ensures { CapturesAreListed }
+{}
+
+/// Lines without names have nothing of what happened in a capture.
+pub fn plain_captures_are_untold()
+    ensures { PlainCapturesAreUntold }
+{}
+
+/// In the listing of a capture no packet is named that comes after that of the record.
+pub fn captures_name_no_later_packet()
+    ensures { CapturesNameNoLaterPacket }
 {}
 
 /// The first octet with which a stream is refused is the one at the offset of its last frame and the

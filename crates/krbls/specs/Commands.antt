@@ -1,16 +1,16 @@
 -- What is done with a source by a command: the run of its command, with the label of the source and by the profile, the limit and the numbers of the command.
-use Rattle.std.specs.Prelude.{ℕ, ◌≡◌, List, [], ◌∷◌, Option, Some, IfOk, IfErr, OnErr}
+use Rattle.std.specs.Prelude.{ℕ, ◌≡◌, ◌⊎◌, List, [], ◌∷◌, Option, Some, IfOk, IfErr}
 use Rattle.std.specs.Option.{option_and_then}
 use Rattle.krb_input.specs.Hints.{hint_for}
 use Rattle.krb_input.specs.Sources.{command_for}
 use Rattle.krb_input.specs.declared.hint.Hint.{Hint}
 use Rattle.krb_record.specs.Labels.{Label}
-use Rattle.krb_capture_run.specs.Captures.{capture_listing}
+use Rattle.krb_capture_run.specs.Captures.{IsCaptureRest, capture_listing}
 use Rattle.krb_convert.specs.Conversions.{DecodesBy, EncodesBy, FailsToDecodeBy, is_framed}
 use Rattle.krb_convert.specs.Ends.{decode_end_line, encode_end_line}
 use Rattle.krb_convert.specs.Encoding.{FailsToEncode}
 use Rattle.krb_run.specs.Records.{ListsRecords}
-use Rattle.krb_file_run.specs.Files.{ccache_listing, keytab_listing}
+use Rattle.krb_file_run.specs.Files.{IsCcacheRest, IsKeytabRest, ccache_listing, keytab_listing}
 use Rattle.krb_run.specs.Files.{FailsFile, ListsFile}
 use Rattle.krb_tool.specs.GoingOn.{FailsAll, ListsAll}
 use Rattle.krb_tool.specs.Listing.{Fails, Lists}
@@ -19,6 +19,8 @@ use Rattle.krb_tool.specs.Messages.{IsMessageListing}
 use Rattle.krb_run.specs.Sources.{Run}
 use Rattle.krb_run.specs.declared.run.RunEnd.{RunEnd}
 use Rattle.krb_run.specs.declared.run.RunEnd.TheVariants as run
+use Rattle.krb_run.specs.declared.run.RunFault.{RunFault}
+use Rattle.krb_run.specs.declared.run.RunFault.TheVariants as fault
 use Rattle.krb_words.specs.Tasks.{kind_used, listing_for}
 use Rattle.krb_words.specs.declared.words.AfterRefusal.TheVariants as after
 use Rattle.krb_words.specs.declared.words.Inputs.TheVariants as inputs
@@ -35,6 +37,10 @@ pub record Turns {E : Type 0} (TurnsTo : E → Type 0) (line : E → List ℕ) (
   pub end : E
   pub turned : TurnsTo end
   pub told : TellsEnd IsTold (line end) ended
+
+-- It failed, or memory ran out for the line of its end.
+abbrev pub FailsToTurn : {E : Type 0} → (TurnsTo : E → Type 0) → (Fails : RunFault → Type 0) → RunFault → Type 0
+FailsToTurn {E} TurnsTo Fails failed = Fails failed ⊎ ((failed ≡ fault.Memory) × (end : E) × TurnsTo end)
 
 -- ---- the command of a source
 -- the command that a source has by its first octets, if there is no command
@@ -55,19 +61,19 @@ Does IsTold label now (commands.Stream limit profile after.GoesOn) had left writ
 Does IsTold label now (commands.Message profile inputs.Whole) had left written_before written_after outcome =
     IfOk outcome (ListsFile (IsMessageListing label profile) had left written_before written_after) × IfErr outcome (FailsFile (IsMessageListing label profile) had left written_before written_after)
 Does IsTold label now (commands.Message profile inputs.EachLine) had left written_before written_after outcome =
-    IfOk outcome (ListsLines label profile had left written_before written_after) × OnErr outcome (FailsLines label profile had left written_before written_after)
+    IfOk outcome (ListsLines label profile had left written_before written_after) × IfErr outcome (FailsLines label profile had left written_before written_after)
 Does IsTold label now commands.Keytab had left written_before written_after outcome =
-    (file : List ℕ) → had ≡ Some file → ListsRecords (keytab_listing label file) written_before written_after outcome
+    (file : List ℕ) → had ≡ Some file → ListsRecords (keytab_listing label file) (IsKeytabRest label file) written_before written_after outcome
 Does IsTold label now (commands.Ccache when) had left written_before written_after outcome =
-    (file : List ℕ) → had ≡ Some file → ListsRecords (ccache_listing label now file) written_before written_after outcome
+    (file : List ℕ) → had ≡ Some file → ListsRecords (ccache_listing label now file) (IsCcacheRest label now file) written_before written_after outcome
 Does IsTold label now (commands.Capture limit profile port) had left written_before written_after outcome =
-    (file : List ℕ) → had ≡ Some file → ListsRecords (capture_listing (record { label = label; profile = profile; limit = limit; port = port }) file) written_before written_after outcome
+    (file : List ℕ) → had ≡ Some file → let settings = record { label = label; profile = profile; limit = limit; port = port } in ListsRecords (capture_listing settings file) (IsCaptureRest settings file) written_before written_after outcome
 Does IsTold label now (commands.Decode limit profile how) had left written_before written_after outcome =
     IfOk outcome (Turns (DecodesBy how profile limit had left written_before written_after) (decode_end_line how) IsTold)
-    × OnErr outcome (FailsToDecodeBy how profile limit had left written_before written_after)
+    × IfErr outcome (FailsToTurn (DecodesBy how profile limit had left written_before written_after) (FailsToDecodeBy how profile limit had left written_before written_after))
 Does IsTold label now (commands.Encode limit profile how) had left written_before written_after outcome =
     IfOk outcome (Turns (EncodesBy how profile limit had left written_before written_after) encode_end_line IsTold)
-    × OnErr outcome (FailsToEncode (is_framed how) profile limit had left written_before written_after)
+    × IfErr outcome (FailsToTurn (EncodesBy how profile limit had left written_before written_after) (FailsToEncode (is_framed how) profile limit had left written_before written_after))
 Does IsTold label now (commands.List when) had left written_before written_after outcome = written_after ≡ written_before
 Does IsTold label now (commands.Help text) had left written_before written_after outcome = written_after ≡ written_before
 Does IsTold label now (commands.Version text) had left written_before written_after outcome = written_after ≡ written_before

@@ -1,13 +1,13 @@
 //! The runs over sources.
 
-ghost use Rattle.std.specs.Prelude.{◌≡◌, IfOk, OnErr, OnOk, string_bytes};
+ghost use Rattle.std.specs.Prelude.{◌≡◌, IfErr, IfOk, OnOk, string_bytes};
 ghost use Rattle.krb_run.specs.Begun.{begun_remaining, first_of};
 ghost use Rattle.krb_convert.specs.Encoding.{FailsToEncode};
 ghost use Rattle.krb_words.specs.Shell.{shell_word};
 ghost use Rattle.krb_words.specs.Tasks.{kind_used};
 ghost use Rattle.krb_convert.specs.Conversions.{DecodesBy, EncodesBy, FailsToDecodeBy, is_framed};
 ghost use Rattle.krb_convert.specs.Ends.{decode_end_line, encode_end_line};
-ghost use Rattle.krbls.specs.Commands.{Does, TellsEnd, Turns, chosen, hint_by};
+ghost use Rattle.krbls.specs.Commands.{Does, FailsToTurn, TellsEnd, Turns, chosen, hint_by};
 ghost use Rattle.krbls.specs.Program.{DoesFrom, IsFaultReported, IsHinted, IsTold, ListsBy, name_of, other_named};
 
 use krb_capture_run::run_capture;
@@ -84,7 +84,7 @@ impl<H: Host> Lister<'_, H> {
         limit: Limit,
     ) -> Result<RunEnd, RunFault>
         ensures turned { IfOk result (Turns (DecodesBy framing profile limit (R.remaining reader.old) (R.remaining reader.new) (W.contents writer.old) (W.contents writer.new)) (decode_end_line framing) ((H.around self.now.host.now).IsEndTold source.now)) }
-        ensures fault { OnErr result (FailsToDecodeBy framing profile limit (R.remaining reader.old) (R.remaining reader.new) (W.contents writer.old) (W.contents writer.new)) }
+        ensures fault { IfErr result (FailsToTurn (DecodesBy framing profile limit (R.remaining reader.old) (R.remaining reader.new) (W.contents writer.old) (W.contents writer.new)) (FailsToDecodeBy framing profile limit (R.remaining reader.old) (R.remaining reader.new) (W.contents writer.old) (W.contents writer.new))) }
     {
         let end = decode(self.alloc, framing, profile, reader, writer, limit)?;
         let mut line = TextBuffer::new(self.alloc);
@@ -103,7 +103,7 @@ impl<H: Host> Lister<'_, H> {
         limit: Limit,
     ) -> Result<RunEnd, RunFault>
         ensures turned { IfOk result (Turns (EncodesBy framing profile limit (R.remaining reader.old) (R.remaining reader.new) (W.contents writer.old) (W.contents writer.new)) encode_end_line ((H.around self.now.host.now).IsEndTold source.now)) }
-        ensures fault { OnErr result (FailsToEncode (is_framed framing) profile limit (R.remaining reader.old) (R.remaining reader.new) (W.contents writer.old) (W.contents writer.new)) }
+        ensures fault { IfErr result (FailsToTurn (EncodesBy framing profile limit (R.remaining reader.old) (R.remaining reader.new) (W.contents writer.old) (W.contents writer.new)) (FailsToEncode (is_framed framing) profile limit (R.remaining reader.old) (R.remaining reader.new) (W.contents writer.old) (W.contents writer.new))) }
     {
         let end = encode(self.alloc, framing, profile, reader, writer, limit)?;
         let mut line = TextBuffer::new(self.alloc);

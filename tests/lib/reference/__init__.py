@@ -10,7 +10,8 @@ consist of, with the names of numbers in `registries`, and `records` their forms
 `inputs` has what an input of a message spells, with `dumps` and `spellings`, and `tokens` the layers round a message.
 
 `captures` has the records of captures: `capture_files` has their packets, `datagrams` and `fragments` what is in these for
-UDP and TCP, `directions` the streams of TCP, and `kpasswd` the messages that change passwords.
+UDP and TCP, `directions` the streams of TCP, `kpasswd` the messages that change passwords, and `happened` what is told of
+requests and replies.
 
 `listing` has the lines of a listing, and the status of the program; `runs` has whole command lines, with their sources, `hints`
 what is said of a source of another kind, and the command that its first octets say.
@@ -52,6 +53,12 @@ def shown(record, words):
     return form(record)
 
 
+def lines_of(records, words):
+    """The records that a listing has in a form, each in that form: lines without names leave out what is told."""
+    has_told = "--names" in words or "--json" in words
+    return [shown(record, words) for record in records if has_told or not record.is_told]
+
+
 def taken_number(words, name):
     """The number after an option, both of which are removed from the words; none if it is not there."""
     if f"--{name}" not in words:
@@ -77,7 +84,7 @@ def records(command, octets, now=None):
 def listing(command, octets, now=None):
     """The lines that a command prints of octets, as `stream --limit 300 --json` does, and its status."""
     found, status = records(command, octets, now)
-    return [shown(record, command.split()) for record in found], status
+    return lines_of(found, command.split()), status
 
 
 def converted(command, octets):

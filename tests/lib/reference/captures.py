@@ -3,18 +3,19 @@
 from functools import partial
 
 from .capture_files import packets
-from .datagrams import Internet, Segment, Unread, carried, may_be_tunnel
-from .directions import Directions, lost, unread
+from .datagrams import Failure, Internet, Segment, Unread, carried, may_be_tunnel
+from .directions import BEGUN, Directions, lost, unread
 from .fields import FIELDS
 from .files import FILE_REASONS
 from .fragments import Fragments
 from .frames import LIMIT, Frames
 from .grammar import MESSAGES
+from .happened import Happened
 from .judging import Ended, Refused
 from .kpasswd import change_password
 from .messages import record_or_refusal
 from .records import Record, refused
-from .values import flow, instant, microseconds, number
+from .values import flow, instant, microseconds, number, told
 
 PORT = 88
 CHANGE_PASSWORD_PORT = 464
@@ -36,6 +37,7 @@ class Capture:
         self.counts = dict.fromkeys(("packets", "messages", "refused", "lost", "unread"), 0)
         self.fragments = Fragments()
         self.directions = Directions(lambda of_flow: Frames(self.reading(of_flow), limit))
+        self.happened = Happened()
         # The packet that came last.
         self.packet = None
 
@@ -61,8 +63,13 @@ class Capture:
             return
         if found is None or self.reading(found.flow) is None:
             return
-        due = self.directions.take(found) if isinstance(found, Segment) else self.datagram(found)
-        yield from self.records(due)
+        if isinstance(found, Failure):
+            yield from self.told_records(self.happened.failure(found, packet))
+        elif isinstance(found, Segment):
+            yield from self.told_records(self.happened.segment(found, packet))
+            yield from self.records(self.directions.take(found))
+        else:
+            yield from self.records(self.datagram(found))
 
     def whole(self, found):
         """The datagram of UDP or segment of TCP that is whole with what a packet carries, or None."""
@@ -84,20 +91,36 @@ class Capture:
     def records(self, due):
         """The records of what is found in flows, with the packet that is the last one."""
         for of_flow, found in due:
+            if found is BEGUN:
+                yield from self.told_records(self.happened.begun(of_flow, self.packet))
+                continue
             record = refused(found) if isinstance(found, Refused) else found
             kind = "messages" if record.kind in FIELDS else record.kind
             if kind in self.counts:
                 self.counts[kind] += 1
-            before = {
-                "packet": number(self.packet.number),
-                "t": instant(self.packet.time),
-                "flow": flow(of_flow),
-            }
-            yield record._replace(before=before, fields={**record.fields, "t_us": microseconds(self.packet.time)})
+            tells, after = self.happened.of_found(of_flow, found, self.packet)
+            yield self.with_origin(of_flow, record, tells)
+            yield from self.told_records(after)
+
+    def with_origin(self, of_flow, record, tells):
+        """A record with the packet that is the last one, its time, a flow, and what is told of it."""
+        before = {
+            "packet": number(self.packet.number),
+            "t": instant(self.packet.time),
+            "flow": flow(of_flow),
+        }
+        fields = {**record.fields, "t_us": microseconds(self.packet.time)}
+        return record._replace(before=before, fields=fields, told=tells)
+
+    def told_records(self, due):
+        """Records that are told: lines without names have none."""
+        for of_flow, record in due:
+            yield self.with_origin(of_flow, record, {})._replace(is_told=True)
 
     def end(self):
         """The records of the end of the file, or of its fault."""
         yield from self.records(self.directions.end_all())
+        yield from self.told_records(self.happened.end(self.packet))
 
     def totals(self):
         """The counts, and among what is unread the fragments no whole datagram came of."""
@@ -106,6 +129,12 @@ class Capture:
 
 def shown(totals):
     return {name: number(total) for name, total in totals.items()}
+
+
+def with_counts(last, happened):
+    """The last record, with the counts that are told."""
+    told_counts = {name: told(value) for name, value in shown(happened.counts).items()}
+    return last._replace(fields={**last.fields, **told_counts})
 
 
 def capture(octets, limit=LIMIT, port=PORT, messages=MESSAGES):
@@ -117,8 +146,9 @@ def capture(octets, limit=LIMIT, port=PORT, messages=MESSAGES):
             records.extend(followed.take(packet))
     except Refused as refusal:
         records.extend(followed.end())
-        return [*records, refused(refusal, shown(followed.totals()), FILE_REASONS)], 1
+        last = refused(refusal, shown(followed.totals()), FILE_REASONS)
+        return [*records, with_counts(last, followed.happened)], 1
     records.extend(followed.end())
     totals = followed.totals()
     is_clean = not any(totals[name] for name in ("refused", "lost", "unread"))
-    return [*records, Record("end", shown(totals))], 0 if is_clean else 1
+    return [*records, with_counts(Record("end", shown(totals)), followed.happened)], 0 if is_clean else 1

@@ -25,6 +25,7 @@ class Protocol:
     """Numbers of protocols, and of the headers that IPv6 has before one."""
 
     HOP_BY_HOP = 0
+    ICMP = 1
     IPV4 = 4
     TCP = 6
     UDP = 17
@@ -33,6 +34,7 @@ class Protocol:
     FRAGMENT = 44
     GRE = 47
     AUTHENTICATION = 51
+    ICMPV6 = 58
     DESTINATION = 60
 
 
@@ -156,6 +158,7 @@ class Segment(NamedTuple):
     syn: bool
     fin: bool
     rst: bool
+    ack: bool
 
     def first(self):
         """The sequence number of its first octet; that of a SYN is the one before."""
@@ -351,6 +354,8 @@ def by_protocol(datagram):
             return Onward(ipv6, datagram.held)
         case Protocol.GRE:
             return gre(datagram.held)
+        case Protocol.ICMP | Protocol.ICMPV6:
+            return icmp(datagram)
     if datagram.protocol in HARMLESS_PROTOCOLS:
         return None
     raise Unread
@@ -497,7 +502,7 @@ LINKS = {
 
 
 def carried(packet, is_ours):
-    """What a packet carries: a datagram of UDP, a segment of TCP, a fragment, or None for what is passed over."""
+    """What a packet carries: a datagram of UDP, a segment of TCP, a fragment, an error of ICMP, or None for what is passed over."""
     if packet.link not in LINKS:
         raise Unread
     return walked(Onward(LINKS[packet.link], Held(packet.octets, packet.size)), is_ours)
@@ -542,4 +547,66 @@ def tcp(flow, held):
         syn=control & 0x02 != 0,
         fin=control & 0x01 != 0,
         rst=control & 0x04 != 0,
+        ack=control & 0x10 != 0,
     )
+
+
+class Failure(NamedTuple):
+    """An error of ICMP (RFC 792) or of ICMPv6 (RFC 4443, 3), about a packet of a flow."""
+
+    flow: Flow
+    # Who sent it.
+    by: bytes
+    kind: int
+    code: int
+
+
+# The types of errors, by how many octets an address has: of ICMP and of ICMPv6.
+ERRORS = {4: (Protocol.ICMP, (3, 11, 12)), 16: (Protocol.ICMPV6, (1, 2, 3, 4))}
+
+
+def icmp(datagram):
+    """The error that an IP datagram of ICMP is, or None."""
+    protocol, kinds = ERRORS[len(datagram.source)]
+    try:
+        kind, code = datagram.held.header(8)[:2]
+        if datagram.protocol != protocol or kind not in kinds:
+            return None
+        return Failure(quoted(datagram.held.after(8)), datagram.source, kind, code)
+    except Unread:
+        return None
+
+
+def quoted(held):
+    """The flow of the packet of UDP or TCP that is quoted, by its header of IP and the ports."""
+    if held.header(1)[0] >> 4 == 4:
+        header = held.header(20)
+        size, source, target, protocol = 4 * (header[0] & 0x0F), header[12:16], header[16:20], header[9]
+        is_later = number(header, 6, 2) & 0x1FFF != 0
+        if size < 20 or is_later:
+            raise Unread
+        held.header(size)
+        held = held.after(size)
+    elif held.header(1)[0] >> 4 == 6:
+        header = held.header(40)
+        source, target, protocol = header[8:24], header[24:40], header[6]
+        protocol, held = after_quoted_headers(protocol, held.after(40))
+    else:
+        raise Unread
+    over = {Protocol.UDP: "udp", Protocol.TCP: "tcp"}.get(protocol)
+    ports = held.header(4)
+    if over is None:
+        raise Unread
+    return Flow(over, Endpoint(source, number(ports, 0, 2)), Endpoint(target, number(ports, 2, 2)))
+
+
+def after_quoted_headers(protocol, held):
+    """What follows the headers that are passed in IPv6, but for one of a later fragment."""
+    while protocol in PASSED:
+        header = held.header(8)
+        if protocol == Protocol.FRAGMENT and number(header, 2, 2) & 0xFFF8 != 0:
+            raise Unread
+        size = 8 if protocol == Protocol.FRAGMENT else 8 * (header[1] + 1)
+        held.header(size)
+        protocol, held = header[0], held.after(size)
+    return protocol, held

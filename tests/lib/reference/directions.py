@@ -31,6 +31,10 @@ def unread(place, octets, why):
         yield Record("unread", shown)
 
 
+# That a direction begins.
+BEGUN = Record("begun", {})
+
+
 class Direction:
     """What one end of a connection sends."""
 
@@ -204,6 +208,7 @@ class Directions:
             del self.kept[gone]
         self.kept.pop(flow, None)
         self.kept[flow] = Direction(segment.first(), self.frames(flow))
+        yield flow, BEGUN
 
     def end(self, flow):
         """Ends the direction of a flow, if it is open."""

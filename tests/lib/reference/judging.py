@@ -15,24 +15,30 @@ REASONS = (
 class Refused(Exception):
     """An octet at fault, why, and the path of the field that it is in, if one is known.
 
-    It is in what begins at a place of the source, `at`, and has a length, if one is told.
+    It is in what begins at a place of the source, `at`, and has a length, if one is told; and maybe in a part of a message
+    that is itself none that is judged.
     """
 
-    def __init__(self, place, why, path=None, at=0, length=None):
-        super().__init__(place, why, path, at, length)
+    def __init__(self, place, why, path=None, at=0, length=None, is_part=False):
+        super().__init__(place, why, path, at, length, is_part)
         self.place = place
         self.why = why
         self.path = path
         self.at = at
         self.length = length
+        self.is_part = is_part
 
     def moved(self, octets):
         """The same refusal with this number of octets before it."""
-        return Refused(self.place + octets, self.why, self.path, self.at, self.length)
+        return Refused(self.place + octets, self.why, self.path, self.at, self.length, self.is_part)
 
     def within(self, at, length):
         """The same refusal, in what begins at a place and has a length."""
-        return Refused(self.place, self.why, self.path, at, length)
+        return Refused(self.place, self.why, self.path, at, length, self.is_part)
+
+    def in_part(self):
+        """The same refusal, of a part."""
+        return Refused(self.place, self.why, self.path, self.at, self.length, True)
 
 
 class Ended(Exception):

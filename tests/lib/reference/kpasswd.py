@@ -26,7 +26,12 @@ def change_password(octets, n, messages=MESSAGES):
         return [refusal]
     rest = HEADER + ap_size
     shown = {"version": number(version), "ap": number(ap_size), "rest": number(n - rest)}
-    return [Record("KPASSWD", shown), *part(octets[HEADER:rest], HEADER, messages), *part(octets[rest:], rest, messages)]
+    ap = octets[HEADER:rest]
+    return [
+        Record("KPASSWD", shown, octets=octets, ap=ap),
+        *part(ap, HEADER, messages),
+        *part(octets[rest:], rest, messages),
+    ]
 
 
 def header(fields, n):
@@ -44,4 +49,4 @@ def part(octets, place, messages):
     if not octets:
         return []
     found = record_or_refusal(octets, len(octets), messages)
-    return [found.moved(place) if isinstance(found, Refused) else found]
+    return [found.moved(place).in_part() if isinstance(found, Refused) else found._replace(is_part=True)]

@@ -54,7 +54,7 @@ def record_or_refusal(octets, n, messages=MESSAGES):
     if n == 0:
         return Refused(0, "Empty")
     try:
-        return message_record(*judge(octets, n, messages))
+        return message_record(*judge(octets, n, messages))._replace(octets=octets)
     except Refused as refusal:
         return refusal
 

@@ -13,10 +13,18 @@ class Record(NamedTuple):
     fields: dict
     # Those before the kind in a line, and between the kind and the others in an object.
     before: dict = {}
+    # What is told of it in its origin: after those before the kind in a line with names, and after all else in an object.
+    told: dict = {}
+    # The octets of a message; those of the AP-REQ or AP-REP of one that changes a password; whether it is a part of such a one.
+    octets: bytes = b""
+    ap: bytes = b""
+    is_part: bool = False
+    # Whether lines without names have none of it.
+    is_told: bool = False
 
     def named_at_end(self, name):
-        """The record with the name of its source after all else."""
-        return self._replace(fields={**self.fields, "file": file_name(name)})
+        """The record with the name of its source after all else in an object."""
+        return self._replace(told={**self.told, "file": file_name(name)})
 
 
 def file(name):
@@ -71,7 +79,7 @@ def line_of(record, text_of):
     def texts(fields):
         return [field_text(name, text_of(value)) for name, value in fields.items() if text_of(value) is not None]
 
-    return " ".join([*texts(record.before), record.kind, *texts(record.fields)])
+    return " ".join([*texts(record.before), *texts(record.told), record.kind, *texts(record.fields)])
 
 
 def line(record):
@@ -85,7 +93,7 @@ def named_line(record):
 def members(record):
     """The members of a record's object, in order."""
     found = {"kind": record.kind}
-    for name, value in {**record.before, **record.fields}.items():
+    for name, value in {**record.before, **record.fields, **record.told}.items():
         found[name] = value.member
         if value.second_member is not None:
             ending, names = value.second_member

@@ -4,7 +4,7 @@ import calendar
 import re
 from typing import NamedTuple
 
-from . import RECORDS, file, records, shown
+from . import RECORDS, file, lines_of, records, shown
 from .hints import command_for, hint
 from .values import file_name
 
@@ -232,8 +232,8 @@ class Listing:
             return
         used = command_for(octets) if self.command == "list" else self.command
         found, status = records(" ".join([used, *self.options]), octets, self.now)
-        for record in found:
-            self.lines.append(f"{shown(self.with_name(record, name), self.forms)}\n")
+        named = [self.with_name(record, name) for record in found]
+        self.lines += [f"{line}\n" for line in lines_of(named, self.forms)]
         self.status = max(self.status, status)
         said = hint(octets, used, self.command, shell_word(name))
         if found[0].kind == "refused" and said is not None:

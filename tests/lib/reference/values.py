@@ -116,10 +116,14 @@ def instant(nanoseconds):
     return word(f"{time.strftime('%Y-%m-%dT%H:%M:%S', time.gmtime(seconds))}.{fraction:09}Z")
 
 
+def whole_microseconds(nanoseconds):
+    """The same instant as a whole number of microseconds, or None."""
+    return None if instant(nanoseconds) == ABSENT else nanoseconds // 1000
+
+
 def microseconds(nanoseconds):
-    """The same instant as a whole number of microseconds, which objects alone have."""
-    is_known = instant(nanoseconds) != ABSENT
-    return Value(None, None, nanoseconds // 1000 if is_known else None)
+    """The same, which objects alone have."""
+    return Value(None, None, whole_microseconds(nanoseconds))
 
 
 def ip_address(octets):
@@ -155,6 +159,11 @@ def with_name(value, registry):
 def named(value, registry):
     """A number that has a name if its registry has one."""
     return Value(str(value), with_name(value, registry), value, ("_name", registry.get(value)))
+
+
+def called(value, name):
+    """A number that has a name of its own, if it has one."""
+    return Value(str(value), f"{value}:{name or '-'}", value, ("_name", name))
 
 
 def error_code(value):
@@ -266,6 +275,12 @@ def checksum(value):
 
 def offset(seconds, microseconds):
     return plain(f"{seconds}:{microseconds}", {"seconds": seconds, "microseconds": microseconds})
+
+
+def span(microseconds):
+    """A time that passed: seconds with six digits, and in an object the microseconds."""
+    seconds, fraction = divmod(abs(microseconds), 10**6)
+    return plain(f"{'-' * (microseconds < 0)}{seconds}.{fraction:06}", microseconds)
 
 
 def layers(names):

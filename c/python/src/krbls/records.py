@@ -13,7 +13,7 @@ __all__ = [  # fmt: skip
     "Offset", "PaEncTimestamp", "PaEncryptedChallenge", "PaEtypeInfo", "PaEtypeInfo2", "PaForUser", "PaFxFast",
     "PaPacOptions", "PaPacRequest", "PaPwSalt", "PaTgsReq", "Principal", "Record", "Refusal", "Refused",
     "RefusedCapture", "RefusedInput", "RefusedMessage", "RefusedStream", "RefusedTicket", "StreamRecord", "TgsRep",
-    "TgsReq", "Ticket", "TicketInside", "TypedData", "Unread",
+    "TgsReq", "Ticket", "TicketInside", "TypedData", "Unanswered", "Unreachable", "Unread",
 ]
 
 
@@ -187,6 +187,7 @@ _AsReq = TypedDict(
 
 class AsReq(_AsReq, _Where, total=False):
     padata_names: List[Optional[str]]
+    again: Optional[int]
 
 
 _TgsReq = TypedDict(
@@ -216,6 +217,7 @@ _TgsReq = TypedDict(
 
 class TgsReq(_TgsReq, _Where, total=False):
     padata_names: List[Optional[str]]
+    again: Optional[int]
 
 
 class _AsRep(TypedDict):
@@ -232,6 +234,9 @@ class _AsRep(TypedDict):
 
 class AsRep(_AsRep, _Where, total=False):
     padata_names: List[Optional[str]]
+    of: Optional[int]
+    after: Optional[int]
+    waited: Optional[int]
 
 
 class _TgsRep(TypedDict):
@@ -248,6 +253,9 @@ class _TgsRep(TypedDict):
 
 class TgsRep(_TgsRep, _Where, total=False):
     padata_names: List[Optional[str]]
+    of: Optional[int]
+    after: Optional[int]
+    waited: Optional[int]
 
 
 class _ApReq(TypedDict):
@@ -342,6 +350,9 @@ class _KrbError(TypedDict):
 
 class KrbError(_KrbError, _Where, total=False):
     methods_names: List[Optional[str]]
+    of: Optional[int]
+    after: Optional[int]
+    waited: Optional[int]
 
 
 class _EndStream(TypedDict):
@@ -389,6 +400,10 @@ class _EndCapture(TypedDict):
     refused: int
     lost: int
     unread: int
+    answered: int
+    unanswered: int
+    again: int
+    unreachable: int
 
 
 class EndCapture(_EndCapture, total=False):
@@ -468,7 +483,9 @@ _Refused = TypedDict(
 
 
 class Refused(_Refused, _Where, total=False):
-    pass
+    of: Optional[int]
+    after: Optional[int]
+    waited: Optional[int]
 
 
 _RefusedCapture = TypedDict(
@@ -486,6 +503,10 @@ _RefusedCapture = TypedDict(
         "in": Optional[str],
         "at": int,
         "length": Optional[int],
+        "answered": int,
+        "unanswered": int,
+        "again": int,
+        "unreachable": int,
     },
 )
 
@@ -606,7 +627,10 @@ class _Kpasswd(TypedDict):
 
 
 class Kpasswd(_Kpasswd, _Where, total=False):
-    pass
+    again: Optional[int]
+    of: Optional[int]
+    after: Optional[int]
+    waited: Optional[int]
 
 
 class _Joined(TypedDict):
@@ -629,7 +653,9 @@ _Lost = TypedDict(
 
 
 class Lost(_Lost, _Where, total=False):
-    pass
+    of: Optional[int]
+    after: Optional[int]
+    waited: Optional[int]
 
 
 class _Unread(TypedDict):
@@ -642,6 +668,34 @@ class _Unread(TypedDict):
 
 class Unread(_Unread, _Where, total=False):
     pass
+
+
+class _Unanswered(TypedDict):
+    kind: Literal["unanswered"]
+    request: str
+    of: Optional[int]
+    after: Optional[int]
+    waited: Optional[int]
+
+
+class Unanswered(_Unanswered, _Where, total=False):
+    pass
+
+
+class _Unreachable(TypedDict):
+    kind: Literal["unreachable"]
+    how: str
+    by: Optional[str]
+    type: Optional[int]
+    code: Optional[int]
+    of: Optional[int]
+    after: Optional[int]
+    waited: Optional[int]
+
+
+class Unreachable(_Unreachable, _Where, total=False):
+    type_name: Optional[str]
+    code_name: Optional[str]
 
 
 class _File(TypedDict):
@@ -705,10 +759,10 @@ CcacheRecord = Union[
 CaptureRecord = Union[
     MessageRecord,
     Refused,
-    Kpasswd,
     Joined,
-    Lost,
     Unread,
+    Unanswered,
+    Unreachable,
 ]
 EndRecord = Union[
     EndStream,
@@ -744,5 +798,7 @@ Record = Union[
     Joined,
     Lost,
     Unread,
+    Unanswered,
+    Unreachable,
     File,
 ]

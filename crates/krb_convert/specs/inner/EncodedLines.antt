@@ -52,9 +52,11 @@ json_reading = record {
   End = EncodeEnd;
   Ending = Ending;
   ending_of = ending_of;
+  Seen = Ending;
   IsNoFault = IsNoFault;
   all = λ request lines. encoded_from request 1 false lines;
   rest = rest_of;
+  close = λ request ending. record { text = []; end = ending };
   request = λ reader. reader.request;
   text = λ reader. reader.text.items;
   count = λ reader. reader.lines;

@@ -74,7 +74,7 @@ pub record HasLines (profile : Profile) (lines : JsonLines) (frames : List Entry
 
 abbrev pub json_lines : LinesKind JsonLines DecodeRequest DecodeEnd
 json_lines = record {
-  rules = λ request. conversion_rules (decoded request.profile request.limit) (GoesOn request.profile request.limit) ending_of;
+  rules = λ request. conversion_rules (decoded request.profile request.limit) (λ octets. (decoded request.profile request.limit octets).text) (GoesOn request.profile request.limit) ending_of;
   request = λ lines profile limit. record { profile = profile; limit = limit };
   keeps_going = λ lines. false;
   text = λ lines. lines.text.items;

@@ -1,7 +1,7 @@
 //! The calls that allocate, and what each has to return.
 
 use super::Outcome;
-use super::captures::{CUT, FRAGMENTS, OUT_OF_ORDER, goes_on, lists, puts_together};
+use super::captures::{ANSWERED, CUT, FRAGMENTS, OUT_OF_ORDER, goes_on, lists, puts_together};
 use super::conversions::Conversion;
 use super::decoders::{fed_twice, reserved_answers, reserved_feeds, reserves, stepped_over};
 use super::lines::lists_lines;
@@ -96,7 +96,7 @@ pub(super) enum Call {
 }
 
 /// Each call with its name, and with what it has to return.
-pub(super) const CALLS: [(&str, Call); 63] = [
+pub(super) const CALLS: [(&str, Call); 64] = [
     ("feed", Call::Feed(1)),
     ("feed", Call::Feed(7)),
     ("feed", Call::Feed(100)),
@@ -272,7 +272,15 @@ pub(super) const CALLS: [(&str, Call); 63] = [
         Call::Capture(
             Form::Json,
             FRAGMENTS,
-            "{\"kind\":\"AP-REP\",\"packet\":4,\"t\":\"2000-01-01T00:00:04.000005000Z\",\"flow\":{\"over\":\"udp\",\"source\":{\"address\":\"127.0.0.1\",\"port\":40000},\"target\":{\"address\":\"127.0.0.1\",\"port\":88}},\"enc\":{\"etype\":18,\"etype_name\":\"aes256-cts-hmac-sha1-96\",\"kvno\":null,\"size\":4},\"notes\":[],\"notes_names\":[],\"t_us\":946684804000005}\n{\"kind\":\"end\",\"packets\":8,\"messages\":1,\"refused\":0,\"lost\":0,\"unread\":4}\n",
+            "{\"kind\":\"AP-REP\",\"packet\":4,\"t\":\"2000-01-01T00:00:04.000005000Z\",\"flow\":{\"over\":\"udp\",\"source\":{\"address\":\"127.0.0.1\",\"port\":40000},\"target\":{\"address\":\"127.0.0.1\",\"port\":88}},\"enc\":{\"etype\":18,\"etype_name\":\"aes256-cts-hmac-sha1-96\",\"kvno\":null,\"size\":4},\"notes\":[],\"notes_names\":[],\"t_us\":946684804000005}\n{\"kind\":\"end\",\"packets\":8,\"messages\":1,\"refused\":0,\"lost\":0,\"unread\":4,\"answered\":0,\"unanswered\":0,\"again\":0,\"unreachable\":0}\n",
+        ),
+    ),
+    (
+        "next_packet, Capture::take and Capture::finish",
+        Call::Capture(
+            Form::NamedLines,
+            ANSWERED,
+            "packet=5 t=2026-11-18T11:06:40.255000000Z flow=tcp/10.0.0.1:40001>10.0.0.8:88 again=- AS-REQ realm=A client=a@A server=krbtgt/A@A options=32:00000000:- from=- till=20261130070000Z rtime=- nonce=1 etypes=[18:aes256-cts-hmac-sha1-96] padata=- addresses=- authdata=- tickets=- notes=[] inside=0\npacket=10 t=2026-11-18T11:06:40.260000000Z flow=tcp/10.0.0.1:40001>10.0.0.8:88 unanswered request=AS-REQ of=5 after=0.005000 waited=0.005000\nend packets=10 messages=1 refused=0 lost=0 unread=0 answered=0 unanswered=1 again=0 unreachable=0\n",
         ),
     ),
     (
@@ -280,7 +288,7 @@ pub(super) const CALLS: [(&str, Call); 63] = [
         Call::Capture(
             Form::NamedLines,
             CUT,
-            "packet=1 t=2000-01-01T00:00:01.000005000Z flow=udp/127.0.0.1:40000>127.0.0.1:88 AP-REP enc=18:aes256-cts-hmac-sha1-96:-:4 notes=[]\nrefused packets=1 messages=1 refused=0 lost=0 unread=0 place=115 why=3 Truncated in=packet at=115 length=-\n",
+            "packet=1 t=2000-01-01T00:00:01.000005000Z flow=udp/127.0.0.1:40000>127.0.0.1:88 AP-REP enc=18:aes256-cts-hmac-sha1-96:-:4 notes=[]\nrefused packets=1 messages=1 refused=0 lost=0 unread=0 place=115 why=3 Truncated in=packet at=115 length=- answered=0 unanswered=0 again=0 unreachable=0\n",
         ),
     ),
     ("Fragments::take", Call::Fragments),

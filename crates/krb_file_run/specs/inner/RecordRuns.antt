@@ -1,6 +1,5 @@
 -- What the parts of a run on the records of a file promise each other.
-use Rattle.std.specs.Prelude.{ℕ, Bool, ◌≡◌, List, length, drop, Option, Result}
-use Rattle.std.specs.List.{flat_map}
+use Rattle.std.specs.Prelude.{ℕ, Bool, ◌≡◌, List, Option, Result}
 use Rattle.krb_file.specs.FieldReaders.{Cursor}
 use Rattle.krb_file.specs.declared.progress.Progress.{Progress}
 use Rattle.krb_file.specs.Fields.{Fault}
@@ -14,22 +13,30 @@ use Rattle.krb_ccache.specs.declared.reading.Start.{Start}
 use Rattle.krb_ccache.specs.Streaming.{Reads as ReadsCredentials, credentials}
 use Rattle.krb_record.specs.Labels.{Label}
 use Rattle.krb_file_run.specs.Lines.{record_line, credential_line}
-use Rattle.krb_run.specs.Records.{RecordListing, end_of}
-use Rattle.krb_file_run.specs.Files.{field_limit, keytab_last, ccache_last}
-
--- what is left after `count` items
-abbrev pub left_of : {A E : Type 0} → (A → List ℕ) → (ℕ → Result E Fault → List ℕ) → (ℕ → FileItem) → Items A (Result E Fault) → ℕ → RecordListing
-left_of line last item all count = record { lines = flat_map line (drop count all.items); last = last (length all.items) all.end; end = end_of (item (length all.items)) all.end }
+use Rattle.krb_run.specs.Records.{RecordListing}
+use Rattle.krb_file_run.specs.Files.{field_limit, items_left, keytab_last, ccache_last}
 
 -- A reader returned the first `count` items of a file, and this is left of its listing.
-pub record AreLeft {A E : Type 0} (line : A → List ℕ) (last : ℕ → Result E Fault → List ℕ) (item : ℕ → FileItem) (all : List ℕ → Items A (Result E Fault)) (Reads : List ℕ → ℕ → Type 0) (count : ℕ) (left : RecordListing) : Type 0 where
-  pub file : List ℕ
+pub record AreLeft {A E : Type 0} (Same : Type 0) (line : A → List ℕ) (last : ℕ → Result E Fault → List ℕ) (item : ℕ → FileItem) (all : List ℕ → Items A (Result E Fault)) (Reads : List ℕ → ℕ → Type 0) (count : ℕ) (file : List ℕ) (left : RecordListing) : Type 0 where
+  pub same : Same
   pub reads : Reads file count
-  pub is : left ≡ left_of line last item (all file) count
+  pub is : left ≡ items_left line last item (all file) count
 
-abbrev pub AreRecordsLeft : Label → Cursor → Progress Bool Stop → ℕ → RecordListing → Type 0
-AreRecordsLeft label cursor state = AreLeft (λ r. record_line label r) (keytab_last label) items.Record (keytab_records field_limit) (λ file count. ReadsRecords field_limit cursor state file count)
+-- a keytab, and the label of its records
+pub record KeytabSource : Type 0 where
+  pub label : Label
+  pub file : List ℕ
 
--- the same of credentials, at a time if there is one
-abbrev pub AreCredentialsLeft : Label → Cursor → Start → Progress (Unit {0}) (Unit {0}) → Option ℕ → ℕ → RecordListing → Type 0
-AreCredentialsLeft label cursor start state now = AreLeft (λ c. credential_line label now c) (ccache_last label) items.Credential (credentials field_limit) (λ file count. ReadsCredentials field_limit cursor start state file count)
+abbrev pub AreRecordsLeft : Label → Cursor → Progress Bool Stop → (count : ℕ) → KeytabSource → RecordListing → Type 0
+AreRecordsLeft label cursor state count source =
+    AreLeft (label ≡ source.label) (λ r. record_line label r) (keytab_last label) items.Record (keytab_records field_limit) (λ file count. ReadsRecords field_limit cursor state file count) count source.file
+
+-- a cache, the label of its records, and a time if there is one
+pub record CacheSource : Type 0 where
+  pub label : Label
+  pub now : Option ℕ
+  pub file : List ℕ
+
+abbrev pub AreCredentialsLeft : Label → Cursor → Start → Progress (Unit {0}) (Unit {0}) → Option ℕ → (count : ℕ) → CacheSource → RecordListing → Type 0
+AreCredentialsLeft label cursor start state now count source =
+    AreLeft ((label ≡ source.label) × (now ≡ source.now)) (λ c. credential_line label now c) (ccache_last label) items.Credential (credentials field_limit) (λ file count. ReadsCredentials field_limit cursor start state file count) count source.file

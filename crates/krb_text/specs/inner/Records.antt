@@ -12,7 +12,7 @@ use Rattle.krb_msg.specs.declared.notes.Notes.{Notes}
 use Rattle.krb_record.specs.declared.form.Form.{Form}
 use Rattle.krb_text.specs.declared.record.Heading.{Heading}
 use Rattle.krb_text.specs.declared.record.Heading.TheVariants as headings
-use Rattle.krb_record.specs.Captures.{origin_fields, time_fields}
+use Rattle.krb_record.specs.Captures.{last_fields, origin_fields}
 use Rattle.krb_record.specs.Forms.{record_text}
 use Rattle.krb_record.specs.Text.{line_feed}
 use Rattle.krb_text.specs.Inside.{inside_of}
@@ -27,19 +27,19 @@ pub record IsRecordedAs (kind : Kind) (IsValid : Type 0) (fields : List Field) (
   pub same_fields : fields_of (message_of_view view) ≡ fields
   pub same_inside : inside_of (message_of_view view) ≡ inside
 
-abbrev pub heading_origin : Heading → List Field
-heading_origin headings.Alone = []
-heading_origin (headings.Captured origin) = origin_fields origin.now
-heading_origin (headings.From origin) = message_origin origin.now.line origin.now.layers.now
+abbrev pub heading_origin : Form → Heading → List Field
+heading_origin form headings.Alone = []
+heading_origin form (headings.Captured origin) = origin_fields form origin.now
+heading_origin form (headings.From origin) = message_origin origin.now.line origin.now.layers.now
 
 abbrev pub heading_last : Heading → List Field
 heading_last headings.Alone = []
-heading_last (headings.Captured origin) = time_fields origin.now
+heading_last (headings.Captured origin) = last_fields origin.now
 heading_last (headings.From origin) = []
 
 -- the record of a message from its origin, without its line feed, and with it
 abbrev pub text_after : Form → Heading → Message → List ℕ
-text_after form from m = record_text form (with_last (heading_last from) (with_origin (heading_origin from) (message_record m)))
+text_after form from m = record_text form (with_last (heading_last from) (with_origin (heading_origin form from) (message_record m)))
 
 abbrev pub line_after : Form → Heading → Message → List ℕ
 line_after form from m = text_after form from m ++ line_feed

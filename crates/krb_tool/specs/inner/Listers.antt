@@ -129,7 +129,9 @@ pub record AreListed {S Q E : Type 0} (kind : LinesKind S Q E) : Type 0 where
   pub sized : (profile : Profile) (lines : S) (frames : List Entry) (written : List ℕ) → kind.HasLines profile lines frames written → kind.size lines ≤ entries_size frames
   -- the lines are those of first frames
   pub begins : (profile : Profile) (limit : ℕ) (lines : S) (octets written : List ℕ) (frames others : List Entry) → entries (grammar profile) limit octets ≡ frames ++ others → (kind.keeps_going lines ≡ false → AllByRecursion IsMessage frames) → kind.HasLines profile lines frames written → (kind.rules (kind.request lines profile limit)).AreLines octets (written ++ kind.text lines)
-  -- while more octets are needed
+  -- while more octets are needed they are those of all whole frames
+  pub all : (lister : FrameLister S) (octets written : List ℕ) → HasListed kind lister octets written → (lister_kind kind).IsWaiting lister → (kind.rules (kind.request lister.lines lister.decoder.current.profile lister.decoder.current.limit)).AreAllLines octets (written ++ kind.text lister.lines)
+  -- and others may be read
   pub asks : (lister : FrameLister S) (octets written : List ℕ) → HasListed kind lister octets written → (lister_kind kind).IsWaiting lister → kind.AsksAfter (kind.request lister.lines lister.decoder.current.profile lister.decoder.current.limit) octets
   -- and at the end, the lines begin the listing
   pub listing : (lister : FrameLister S) (taken : Taken) → IsDone kind lister taken → (kind.IsFull lister.lines → ⊥) → (rest : List ℕ) × (kind.rules (kind.request lister.lines lister.decoder.current.profile lister.decoder.current.limit)).IsListing taken.octets ((taken.written ++ kind.text lister.lines) ++ rest)

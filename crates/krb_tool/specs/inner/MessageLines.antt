@@ -1,7 +1,7 @@
 -- What a lister of lines does with a text.
 use Rattle.std.specs.Prelude.{ℕ, ◌≡◌, ◌+◌, ◌≤◌, List, ◌∷◌, ◌++◌, length, take}
 use Rattle.krb_run.specs.Conversions.{Converted, after_text}
-use Rattle.krb_tool.specs.MessageLines.{none_seen, records_of, with_line}
+use Rattle.krb_tool.specs.MessageLines.{end_of, none_seen, records_of, with_line}
 use Rattle.krb_tool.specs.declared.lines_run.LineLister.{LineLister}
 use Rattle.krb_tool.specs.declared.lines_run.LinesRequest.{LinesRequest}
 use Rattle.krb_tool.specs.declared.lines_run.Seen.{Seen}
@@ -12,7 +12,7 @@ use Rattle.krb_run.specs.LineReaders.{LineKind}
 abbrev pub kept_octets : ℕ
 kept_octets = 16777217
 
-abbrev pub records_from : LinesRequest → Seen → List (List ℕ) → Converted RunEnd
+abbrev pub records_from : LinesRequest → Seen → List (List ℕ) → Converted Seen
 records_from request seen lines = records_of request.label.now request.profile seen lines
 
 -- The record of the line was added and counted, if it has one.
@@ -44,9 +44,11 @@ message_lines = record {
   End = RunEnd;
   Ending = RunEnd;
   ending_of = λ end. end;
-  IsNoFault = λ end. Unit {0};
+  Seen = Seen;
+  IsNoFault = λ seen. Unit {0};
   all = λ request lines. records_from request none_seen lines;
   rest = λ lister lines. records_from lister.request lister.seen lines;
+  close = λ request seen. end_of request.label.now seen;
   request = λ lister. lister.request;
   text = λ lister. lister.text;
   count = λ lister. lister.seen.octets + lister.size;

@@ -9,9 +9,9 @@ use Rattle.krb_frame.specs.GoingOn.{Entry, entries, entry_size}
 use Rattle.krb_record.specs.Labels.{Label, line_of}
 use Rattle.krb_record.specs.Streams.{stream_end_record}
 use Rattle.krb_tool.specs.Paths.{frame_extent, frame_path}
-use Rattle.krb_tool.specs.Listing.{end_of, run_end, IsListing, AllIsRead, AreLines, IsNotRefused}
+use Rattle.krb_tool.specs.Listing.{end_of, run_end, IsListing, AllIsRead, AreAllLines, AreLines, IsNotRefused}
 use Rattle.krb_run.specs.Runs.{StopsInPiece}
-use Rattle.krb_tool.specs.GoingOn.{Listed, Faulty, counted_end_line, entry_of, is_refused_at_once, messages_in, refused_in, refused_line, lines_after, IsCountedListing, AreCountedLines, EndsUnknown, counted_run_end, octets_in}
+use Rattle.krb_tool.specs.GoingOn.{Listed, Faulty, counted_end_line, entry_of, is_refused_at_once, messages_in, refused_in, refused_line, lines_after, IsCountedListing, AreAllCountedLines, AreCountedLines, EndsUnknown, counted_run_end, octets_in}
 use Rattle.krb_tool.specs.inner.Listers.{FrameLister, IsDecoded, LinesKind}
 use Rattle.krb_run.specs.Streams.{Rules}
 use Rattle.krb_tool.specs.declared.listing.StreamLines.{StreamLines}
@@ -100,11 +100,13 @@ abbrev pub rules_of : (keep_going : Bool) → Label → Profile → (limit : ℕ
 rules_of true label profile limit = record {
   IsListing = IsCountedListing label profile limit;
   AreLines = AreCountedLines label profile limit;
+  AreAllLines = AreAllCountedLines label profile limit;
   Ends = λ octets text listing left ended. EndsAfter profile limit octets listing.found left ended;
 }
 rules_of false label profile limit = record {
   IsListing = IsListing label profile limit;
   AreLines = AreLines label profile limit;
+  AreAllLines = AreAllLines label profile limit;
   Ends = λ octets text listing left ended. EndsAt profile limit octets (length listing.found) left ended;
 }
 

@@ -1,4 +1,4 @@
-use Rattle.std.proofs.Common.{◌≡◌, refl, ◌++◌, List, ℕ, true, false, length, take, ap, sym, subst, ◌∙◌, arith, length-append}
+use Rattle.std.proofs.Common.{◌≡◌, refl, ◌++◌, List, ℕ, length, take, ap, sym, subst, ◌∙◌, arith, length-append}
 use Rattle.std.proofs.lemmas.List.{take_at}
 use Rattle.std.specs.Str.{IsUtf8}
 use Rattle.krb_msg.specs.Views.{message_of_der}
@@ -31,4 +31,4 @@ pub returns : goal.returns
 returns c =
     let found = subst (PutsMessage c.args.profile c.args.octets.now (captured_message_line c.form.result c.args.origin.now) c.begin.new.text c.put_captured_message.new.text) c.if-not-branch.false c.in_ok-put_captured_message.ensures in
     let put = rw c.form.ensures at found in
-    (put.0, ends-after c.args.label.now c.args.text.now c.begin.new.text c.put_captured_message.new.text c.end.new.text (captured c.args.origin.now (message_record (message_of_der c.args.octets.now))) c.in_ok-end.ensures c.in_ok-begin.ensures put.1)
+    (put.0, ends-after c.args.label.now c.args.text.now c.begin.new.text c.put_captured_message.new.text c.end.new.text (captured c.args.label.now.form c.args.origin.now (message_record (message_of_der c.args.octets.now))) c.in_ok-end.ensures c.in_ok-begin.ensures put.1)

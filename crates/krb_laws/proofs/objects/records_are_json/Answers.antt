@@ -1,4 +1,4 @@
-use Rattle.krb_laws.proofs.JsonRecords.{record_is_json}
+use Rattle.krb_laws.proofs.JsonShown.{record_is_json}
 use Rattle.krb_laws.proofs.objects.records_are_json.Goals as goal
 
 pub returns : goal.returns

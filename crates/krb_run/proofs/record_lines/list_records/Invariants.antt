@@ -4,4 +4,4 @@ use Rattle.krb_run.proofs.record_lines.list_records.Given as goal
 
 -- what was written, what is to be written, and what is left are the listing
 abbrev pub invariant-records : goal.invariant-records
-invariant-records g l = (left : RecordListing) → g.L.RecordLines.IsLeft l.fn.lines 0 left → Listed (g.L.RecordLines.IsLeft l.lines l.count) (after_line l.fn.text left) (g.W.Write.contents l.fn.writer) (g.W.Write.contents l.writer) l.text
+invariant-records g l = (source : g.L.RecordLines.Source) (left : RecordListing) → g.L.RecordLines.IsLeft l.fn.lines 0 source left → Listed (g.L.RecordLines.IsLeft l.lines l.count source) (after_line l.fn.text left) (g.W.Write.contents l.fn.writer) (g.W.Write.contents l.writer) l.text

@@ -1,7 +1,7 @@
-use Rattle.std.proofs.Common.{[], inr, subst}
+use Rattle.std.proofs.Common.{◌≡◌, [], inr, refl, subst}
 use Rattle.std.specs.Io.KnownBytes.{Appends}
 use Rattle.std.proofs.lemmas.Result.{err_from_is_err_and}
-use Rattle.krb_run.specs.Records.{AppendsPrefix, IsRefusal}
+use Rattle.krb_run.specs.Records.{AppendsPrefix}
 use Rattle.krb_run.proofs.Records.{Listed-start, Listed-before, refusal_is, fault_stays, write-fault}
 use Rattle.krb_run.proofs.record_lines.list_refusal.Goals as goal
 
@@ -15,7 +15,7 @@ returns-in_err-write_all-in-Ok-clause-listed g c = λ listing refused.
     let p = err_from_is_err_and c.from_residual.result c.from_residual.ensures.1 in
     let is = refusal_is c.args.label.now c.args.fault listing c.put_fault.new.text c.in-Ok.ended refused (rw c.new-text.ensures at c.in-Ok.ensures.refused) in
     let prefix = rw c.octets.ensures at c.in_err-write_all-in-Ok.ensures.prefix in
-    rw (p.1, p.2) (write-fault listing (g.W.Write.contents c.args.writer.now) (g.W.Write.contents c.write_all.new.writer) _ c.in_err-write_all-in-Ok.ensures.fault
+    rw (p.1, p.2) (write-fault listing (λ left. left ≡ listing) (g.W.Write.contents c.args.writer.now) (g.W.Write.contents c.write_all.new.writer) _ c.in_err-write_all-in-Ok.ensures.fault
     (subst (AppendsPrefix (g.W.Write.contents c.args.writer.now) (g.W.Write.contents c.write_all.new.writer)) is.0 prefix))
 
 pub returns-in_err-write_all-in-Ok-clause-fault : goal.returns-in_err-write_all-in-Ok-clause-fault
@@ -25,8 +25,8 @@ returns-in_err-write_all-in-Ok-clause-fault g c =
 
 pub returns-clause-listed : goal.returns-clause-listed
 returns-clause-listed g c = λ listing refused.
-    let none = Listed-start (IsRefusal c.args.label.now c.args.fault) listing (g.W.Write.contents c.args.writer.now) [] refused in
-    Listed-before _ _ _ _ _ none c.in-Err.fault (g.W.Write.contents c.write_before.new.writer) c.put_fault.new.text c.write_before.new.text c.write_before.result (rw c.new-text.ensures at c.in-Err.ensures.kept) c.write_before.ensures
+    let none = Listed-start (λ left. left ≡ listing) listing (g.W.Write.contents c.args.writer.now) [] refl in
+    Listed-before _ _ _ _ _ none (λ left. left ≡ listing) c.in-Err.fault (g.W.Write.contents c.write_before.new.writer) c.put_fault.new.text c.write_before.result (λ is. none.is_left) (rw c.new-text.ensures at c.in-Err.ensures.kept) c.write_before.ensures
 
 pub returns-clause-fault : goal.returns-clause-fault
-returns-clause-fault g c = fault_stays c.args.fault c.in-Err.fault (g.W.Write.contents c.args.writer.now) (g.W.Write.contents c.write_before.new.writer) c.put_fault.new.text c.write_before.new.text c.write_before.result c.in-Err.ensures.fault c.write_before.ensures
+returns-clause-fault g c = fault_stays c.args.fault c.in-Err.fault (g.W.Write.contents c.args.writer.now) (g.W.Write.contents c.write_before.new.writer) c.put_fault.new.text c.write_before.result c.in-Err.ensures.fault c.write_before.ensures

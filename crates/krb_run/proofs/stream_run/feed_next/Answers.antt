@@ -4,7 +4,7 @@ use Rattle.krb_run.proofs.StreamRuns.{Reads-fed, Reads-end, FailsToRead-counted,
 use Rattle.krb_run.proofs.stream_run.feed_next.Goals as goal
 
 pub returns-in_err-count-clause-fault : goal.returns-in_err-count-clause-fault
-returns-in_err-count-clause-fault g c = FailsToRead-counted _ g.L.ListStream.rules _ _ _ _ (search rules) c.in_err-count.ensures.kept
+returns-in_err-count-clause-fault g c = FailsToRead-counted _ g.L.ListStream.rules _ _ _ _ (search rules) c.in_err-count.ensures.kept c.requires.none
 
 pub returns-then-count-eq0-clause-fed : goal.returns-then-count-eq0-clause-fed
 returns-then-count-eq0-clause-fed g c =

@@ -13,8 +13,12 @@ pieces-init g c = record {
   size = (c.in_ok-buffer.buffer.ok.0 ∙ c.in_ok-buffer.ensures);
   opens = c.requires.open;
   same_reader = refl;
+  none = c.new-lister.ensures.none;
   runs = Runs-start _ _ _ _ _ c.new-lister.ensures _ c.requires.none;
 }
+
+pub feed_next-requires-clause-none : goal.feed_next-requires-clause-none
+feed_next-requires-clause-none g c = c.pieces.invariant.none
 
 pub feed_next-requires-clause-waits : goal.feed_next-requires-clause-waits
 feed_next-requires-clause-waits g c = AcceptsPiece-runs c.pieces.invariant.runs c.pieces.counted.few
@@ -43,6 +47,7 @@ pieces-preserved g c =
       size = c.pieces.invariant.size;
       opens = c.in_ok-feed_next.ensures.open c.if-branch.true;
       same_reader = c.feed_next.ensures.same_reader ∙ c.pieces.invariant.same_reader;
+      none = c.clear_text.ensures.none;
       runs = Runs-written _ _ runs written c.clear_text.ensures;
     }
 

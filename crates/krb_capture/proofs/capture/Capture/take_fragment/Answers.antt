@@ -1,7 +1,7 @@
-use Rattle.std.proofs.Common.{◌≡◌, sym, ◌∙◌, ap, ap₂, subst}
+use Rattle.std.proofs.Common.{◌≡◌, List, sym, ◌∙◌, ap, ap₂, subst}
 use Rattle.std.proofs.lemmas.Result.{IfOk-weaker}
 use Rattle.krb_packet.specs.Fragments.{contents_of_whole, nested_step}
-use Rattle.krb_capture.specs.Captures.{Progress, Taken, and_counted, completed, fragment_taken, whole_taken}
+use Rattle.krb_capture.specs.Captures.{Finding, Progress, Taken, and_counted, completed, completed_event, fragment_taken, happened_in, whole_event, whole_taken, with_event}
 use Rattle.krb_capture.specs.Rests.{Lists}
 use Rattle.krb_capture.proofs.capture.Capture.take_fragment.Goals as goal
 
@@ -14,7 +14,13 @@ returns-in-Some c = IfOk-weaker c.take_whole.result _ _
     ∙ ap {B = Taken} (λ port. whole_taken settings (contents_of_whole port c.in-Some.whole) next) h.port
     ∙ ap {B = Taken} (λ found. completed settings found next) (sym c.in-Some.is ∙ c.in_ok-whole.ensures.whole ∙ ap₂ (λ port held. (nested_step port held c.args.fragment.now).0) h.port h.fragments)
     in
-    subst (λ taken. Lists c.take_whole.new.self settings (and_counted taken) rest c.args.text.now c.take_whole.new.text) whole
+    let event : whole_event settings progress.last c.contents.result ≡ completed_event settings progress.last (nested_step settings.port progress.fragments c.args.fragment.now).0 =
+    ap {B = List Finding} (λ contents. whole_event settings progress.last contents) c.contents.ensures
+    ∙ ap {B = List Finding} (λ port. whole_event settings progress.last (contents_of_whole port c.in-Some.whole)) h.port
+    ∙ ap {B = List Finding} (λ found. completed_event settings progress.last found) (sym c.in-Some.is ∙ c.in_ok-whole.ensures.whole ∙ ap₂ (λ port held. (nested_step port held c.args.fragment.now).0) h.port h.fragments)
+    in
+    subst (λ event. Lists (happened_in c.args.self.now.happened) c.take_whole.new.self settings (with_event event (and_counted (fragment_taken settings c.args.fragment.now progress))) rest c.args.text.now c.take_whole.new.text) event
+    (subst (λ taken. Lists (happened_in c.args.self.now.happened) c.take_whole.new.self settings (with_event (whole_event settings progress.last c.contents.result) (and_counted taken)) rest c.args.text.now c.take_whole.new.text) whole
     (k settings next (record {
       profile = h.profile;
       port = h.port;
@@ -23,5 +29,5 @@ returns-in-Some c = IfOk-weaker c.take_whole.result _ _
       table = h.table;
       last = h.last;
       counts = h.counts;
-    })))
+    }))))
     c.take_whole.ensures

@@ -14,5 +14,6 @@ returns c =
       last = h.last;
       all = h.all;
       holds = record { kept = h.holds.kept; size = h.holds.size };
+      so_far = h.so_far ∙ sym (ap (λ l. (written ++ old.text) ++ l) c.clear.ensures ∙ append-nil (written ++ old.text));
       goes_on = λ lines may. h.goes_on lines may ∙ ap (λ t. after_text t (records_from old.request old.seen lines)) (sym (ap (λ l. (written ++ old.text) ++ l) c.clear.ensures ∙ append-nil (written ++ old.text)));
     })

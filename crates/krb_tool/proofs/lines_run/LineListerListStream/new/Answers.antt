@@ -7,6 +7,6 @@ use Rattle.krb_tool.proofs.lines_run.LineListerListStream.new.Goals as goal
 
 pub returns : goal.returns
 returns c =
-    is_new message_lines _ c.args.request refl (record { kept = c.new.ensures.items; size = refl })
+    is_new message_lines _ c.args.request refl c.new-2.ensures (record { kept = c.new.ensures.items; size = refl }) refl
     (λ lines. λ i. after_text (sym c.new-2.ensures i) (records_from c.args.request none_seen lines))
     (record { lines = omega arith; records = omega arith }, tt, λ line held. tt) refl

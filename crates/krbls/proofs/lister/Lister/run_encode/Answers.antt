@@ -1,6 +1,13 @@
-use Rattle.krb_convert.proofs.Conversions.{at_fault, encoded_in_part}
+use Rattle.std.proofs.Common.{inl, inr}
+use Rattle.std.proofs.lemmas.Result.{err_from_is_err_and}
 use Rattle.krbls.proofs.lister.Lister.run_encode.Goals as goal
+
+pub returns-in_err-end-clause-fault : goal.returns-in_err-end-clause-fault
+returns-in_err-end-clause-fault g c =
+    let p = err_from_is_err_and c.from_residual-in_err-end.result c.from_residual-in_err-end.ensures.1 in
+    rw (p.1, p.2) (inl c.in_err-end.ensures.fault)
 
 pub returns-in_err-put_encode_end-clause-fault : goal.returns-in_err-put_encode_end-clause-fault
 returns-in_err-put_encode_end-clause-fault g c =
-    at_fault c.from_residual-in_err-put_encode_end.result (encoded_in_part c.args.profile c.args.limit _ _ _ _ c.args.framing c.in_ok-end.end c.in_ok-end.ensures.encoded)
+    let p = err_from_is_err_and c.from_residual-in_err-put_encode_end.result c.from_residual-in_err-put_encode_end.ensures.1 in
+    rw p.1 (inr (p.2, (c.in_ok-end.end, c.in_ok-end.ensures.encoded)))

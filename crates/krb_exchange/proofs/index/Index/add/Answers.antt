@@ -1,0 +1,29 @@
+use Rattle.std.proofs.Common.{refl}
+use Rattle.krb_exchange.proofs.Indexing.{request-octets, request-open, request-syns, syn-octets, syn-open, syn-syns}
+use Rattle.krb_exchange.proofs.Keys.{on-ok}
+use Rattle.krb_exchange.proofs.Syns.{request-added, syn-added}
+use Rattle.krb_exchange.proofs.index.Index.add.Goals as goal
+
+pub returns-in-Request-clause-added : goal.returns-in-Request-clause-added
+returns-in-Request-clause-added c = on-ok c.add_request.result (λ adds gone xs h n is.
+    let old = c.args.self.now in
+    let new = c.add_request.new.self in
+    let x = c.args.sending.now in
+    record {
+      requests = request-octets old new gone xs x h c.in-Request.request c.in-Request.octets c.args.number c.in-Request.is is n adds.requests;
+      syns = request-syns old new gone xs x h c.in-Request.request c.in-Request.octets c.args.number c.in-Request.is is n adds.syns;
+      open_syns = request-added xs x c.in-Request.request c.in-Request.octets old.open_syns new.open_syns c.in-Request.is h.open_syns adds.open_syns;
+      requests_open = request-open old new gone xs x h c.in-Request.request c.in-Request.octets c.args.number c.in-Request.is is n adds.requests_open;
+    }) c.add_request.ensures.added
+
+pub returns-in-Syn-clause-added : goal.returns-in-Syn-clause-added
+returns-in-Syn-clause-added c = on-ok c.add_syn.result (λ adds gone xs h n is.
+    let old = c.args.self.now in
+    let new = c.add_syn.new.self in
+    let x = c.args.sending.now in
+    record {
+      requests = syn-octets old new gone xs x h c.in-Syn.field-0 c.args.number c.in-Syn.is n adds.requests;
+      syns = syn-syns old new gone xs x h c.in-Syn.field-0 c.args.number c.in-Syn.is n adds.syns;
+      open_syns = syn-added xs x c.in-Syn.field-0 old.open_syns new.open_syns c.in-Syn.is is h.open_syns adds.open_syns;
+      requests_open = syn-open old new gone xs x h c.in-Syn.field-0 c.args.number c.in-Syn.is n adds.requests_open;
+    }) c.add_syn.ensures.added

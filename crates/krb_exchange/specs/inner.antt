@@ -1,0 +1,3 @@
+-- What proofs and private functions alone cite.
+pub mod Numbers
+pub mod Indexes

@@ -1,0 +1,15 @@
+pub mod Alike
+pub mod Answering
+pub mod Apart
+pub mod Each
+pub mod Flows
+pub mod Found
+pub mod Growing
+pub mod Octets
+pub mod Once
+pub mod Packets
+pub mod Picked
+pub mod Places
+pub mod Tally
+pub mod Unread
+pub mod Windows

@@ -1,0 +1,17 @@
+use Rattle.krb_tool_laws.proofs.ListedCaptures.{captures_are_printed}
+use Rattle.krb_tool_laws.proofs.listings.captures_are_printed.Goals as goal
+
+pub returns : goal.returns
+returns c = captures_are_printed (record {
+  message_of = c.message_of_der_is_message.ensures;
+  message_line_is = c.capture_is_one_line_each.ensures.message;
+  refusal_line_is = c.capture_is_one_line_each.ensures.refusal;
+  joined_line_is = c.capture_is_one_line_each.ensures.joined;
+  lost_line_is = c.capture_is_one_line_each.ensures.lost;
+  unread_line_is = c.capture_is_one_line_each.ensures.unread;
+  password_line_is = c.capture_is_one_line_each.ensures.password;
+  unanswered_line_is = c.capture_is_one_line_each.ensures.unanswered;
+  unreachable_line_is = c.capture_is_one_line_each.ensures.unreachable;
+  end_line_is = c.capture_is_one_line_each.ensures.end;
+  file_line_is = c.capture_is_one_line_each.ensures.file;
+})
