@@ -1,6 +1,6 @@
 //! Octets that are judged. Nothing here allocates.
 
-ghost use Rattle.std.specs.Prelude.{◌≡◌, ◌+◌, ◌^◌, ◌<◌, take};
+ghost use Rattle.std.specs.Prelude.{◌≡◌, ◌+◌, ◌^◌, ◌<◌, ◌≤◌, length, take};
 ghost use Rattle.krb_judge.specs.Parses.{refusal_of};
 ghost use Rattle.krb_msg.specs.Judgement.{judgement};
 ghost use Rattle.krb_c.specs.Judged.{Answers, frame_size, frame_verdict, front_verdict, whole_unless};
@@ -10,7 +10,7 @@ ghost use Rattle.krb_c.specs.inner.Frames.{after_length};
 use crate::numbers::{limit_of, profile_of};
 use krb_der::{Profile, Refusal, Why, why_number};
 use krb_frame::HIGH_BIT;
-use krb_judge::{Verdict, judge_in};
+use krb_judge::{Verdict, judge_in, read_message_in};
 use krb_tool::Limit;
 
 /// The greatest number of octets of a message.
@@ -40,7 +40,21 @@ pub(crate) fn front_verdict(profile: Profile, size: usize, octets: &[u8]) -> Ver
     if size == 0 {
         return refused(0, Why::Empty);
     }
-    judge_in(profile, size as u32, first_octets(octets, size))
+    message_verdict(profile, size as u32, first_octets(octets, size))
+}
+
+/// Returns the verdict on a message of `n` octets by those of them that are present. Where all are,
+/// they are viewed, which takes less than a tenth of a scan.
+fn message_verdict(profile: Profile, n: u32, present: &[u8]) -> Verdict
+    requires some { 0 < n }
+    requires short { n < 2 ^ 31 }
+    requires present { length present.now ≤ n }
+    ensures { result ≡ judgement profile n present.now }
+{
+    if present.len() < n as usize {
+        return judge_in(profile, n, present);
+    }
+    whole_verdict(profile, present)
 }
 
 /// Returns the verdict that refuses the octet at a place.
@@ -50,23 +64,13 @@ fn refused(place: u32, why: Why) -> Verdict
     Verdict::Refused(Refusal { place, why })
 }
 
-/// Returns why octets are no message of a profile, if they are none.
-fn refusal_in(profile: Profile, octets: &[u8]) -> Option<Refusal>
-    ensures { result ≡ refusal_of profile octets.now }
-{
-    match front_verdict(profile, octets.len(), octets) {
-        Verdict::Refused(refusal) => Some(refusal),
-        _ => None,
-    }
-}
-
 /// Returns the verdict on octets that are all of a message.
 fn whole_verdict(profile: Profile, octets: &[u8]) -> Verdict
     ensures { result ≡ whole_unless (refusal_of profile octets.now) }
 {
-    match refusal_in(profile, octets) {
-        None => Verdict::Whole,
-        Some(refusal) => Verdict::Refused(refusal),
+    match read_message_in(profile, octets) {
+        Ok(_) => Verdict::Whole,
+        Err(refusal) => Verdict::Refused(refusal),
     }
 }
 
@@ -77,7 +81,7 @@ fn contents_verdict(profile: Profile, size: u32, contents: &[u8]) -> Verdict
     requires short { size < 2 ^ 31 }
     ensures { result ≡ after_length (judgement profile size (take size contents.now)) }
 {
-    match judge_in(profile, size, first_octets(contents, size as usize)) {
+    match message_verdict(profile, size, first_octets(contents, size as usize)) {
         Verdict::Refused(Refusal { place, why }) => refused(LENGTH_OCTETS as u32 + place, why),
         other => other,
     }
