@@ -7,3 +7,4 @@ pub mod Decoded
 pub mod Told
 pub mod Rooms
 pub mod Passes
+pub mod Fours
