@@ -1,6 +1,6 @@
 //! Hexadecimal digits, with blanks anywhere between them.
 
-ghost use Rattle.std.specs.Prelude.{◌≡◌, ◌*◌, ◌<◌, length, true, Some, Ok, IfErr, IfOk};
+ghost use Rattle.std.specs.Prelude.{◌≡◌, ◌*◌, ◌<◌, ◌≤◌, length, take, true, Some, Ok, IfErr, IfOk};
 ghost use Rattle.std.specs.List.{list_all};
 ghost use Rattle.hex.specs.Hex.{decode_pairs, hex_digit_value, is_hex_digit};
 ghost use Rattle.krb_input.specs.Digits.{are_digits, digits};
@@ -11,8 +11,8 @@ use crate::characters::{is_blank, is_digit, octet_of};
 use crate::text_fault::TextFault;
 use std::alloc::{AllocError, Global};
 
-/// Returns whether a text has digits and blanks alone.
-pub(crate) fn are_digits(text: &[u8]) -> bool
+/// Returns whether a text has digits and blanks alone, all of which are looked at.
+fn are_fit(text: &[u8]) -> bool
     ensures { result ≡ are_digits text.now }
 {
     let mut are = true;
@@ -31,6 +31,29 @@ fn has_no_blank(text: &[u8]) -> bool
         are &= is_digit(*octet);
     }
     are
+}
+
+/// Returns how many pairs of digits a text is found to begin with: all but one octet or two at its
+/// end, or none, if one of the others is no digit.
+pub(crate) fn count_pairs(text: &[u8]) -> usize
+    ensures within { 2 * result ≤ length text.now }
+    ensures digits { list_all is_hex_digit (take (2 * result) text.now) ≡ true }
+{
+    let count = text.len().saturating_sub(1) / 2;
+    if has_no_blank(&text[..2 * count]) {
+        count
+    } else {
+        0
+    }
+}
+
+/// Returns whether a text, which begins with pairs of digits, has digits and blanks alone.
+pub(crate) fn are_digits(pairs: usize, text: &[u8]) -> bool
+    requires within { 2 * pairs ≤ length text.now }
+    requires digits { list_all is_hex_digit (take (2 * pairs) text.now) ≡ true }
+    ensures { result ≡ are_digits text.now }
+{
+    are_fit(&text[2 * pairs..])
 }
 
 /// Returns the value of a digit.
@@ -55,30 +78,28 @@ fn fill_octets(room: &mut [u8], digits: &[u8])
     }
 }
 
-/// Returns the octets of a text that has digits alone but for one octet or two at its end, and the
-/// end; or no octets and any other text.
-#[tactic(auto, using(crate::proofs::Prepends::prepends))]
-fn read_pairs(alloc: Global, text: &[u8]) -> Result<(Vec<u8>, &[u8]), AllocError>
+/// Returns the octets of the pairs of digits that a text begins with, and what follows them.
+fn read_pairs(alloc: Global, pairs: usize, text: &[u8]) -> Result<(Vec<u8>, &[u8]), AllocError>
+    requires within { 2 * pairs ≤ length text.now }
+    requires digits { list_all is_hex_digit (take (2 * pairs) text.now) ≡ true }
     ensures { IfOk result (λ made. digits text.now ≡ prepend made.0.items (digits made.1.now)) }
 {
     let mut octets = Vec::with_capacity(alloc, text.len() / 2)?;
-    let count = text.len().saturating_sub(1) / 2;
-    let (pairs, rest) = text.split_at(2 * count);
-    if !has_no_blank(pairs) {
-        return Ok((octets, text));
-    }
-    octets.resize(count, 0)?;
-    fill_octets(octets.as_mut_slice(), pairs);
+    let (digits, rest) = text.split_at(2 * pairs);
+    octets.resize(pairs, 0)?;
+    fill_octets(octets.as_mut_slice(), digits);
     Ok((octets, rest))
 }
 
-/// Returns the octets of digits, two digits for each.
+/// Returns the octets of digits, two digits for each, of a text that begins with pairs of digits.
 #[tactic(auto, using(crate::proofs::Prepends::prepends))]
-pub(crate) fn read_digits(alloc: Global, text: &[u8]) -> Result<Vec<u8>, TextFault>
+pub(crate) fn read_digits(alloc: Global, pairs: usize, text: &[u8]) -> Result<Vec<u8>, TextFault>
+    requires within { 2 * pairs ≤ length text.now }
+    requires digits { list_all is_hex_digit (take (2 * pairs) text.now) ≡ true }
     ensures octets { IfOk result (λ octets. digits text.now ≡ Ok octets.items) }
     ensures fault { IfErr result (IsFault (digits text.now)) }
 {
-    let (mut octets, mut rest) = read_pairs(alloc, text)?;
+    let (mut octets, mut rest) = read_pairs(alloc, pairs, text)?;
     let mut high = None;
     while let [octet, others @ ..] = rest {
         if !is_blank(*octet) {

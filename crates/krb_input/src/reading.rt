@@ -8,7 +8,7 @@ ghost use Rattle.krb_input.specs.inner.Results.{IsSpelled, Reads};
 
 use crate::base64::{first_octet, read_base64};
 use crate::braces::{after_first, read_braces};
-use crate::digits::{are_digits, read_digits};
+use crate::digits::{are_digits, count_pairs, read_digits};
 use crate::dump::{begins_dump, read_dump};
 use crate::escapes::{has_plain_escape, read_escapes};
 use crate::header::token_of;
@@ -101,8 +101,9 @@ fn read_text(alloc: Global, size: usize, text: &[u8]) -> Result<Spelled, InputFa
 fn read_plainly(alloc: Global, size: usize, text: &[u8]) -> Result<Spelled, InputFault>
     ensures { IsSpelled (spelled_plainly size text.now) result }
 {
-    if are_digits(text) {
-        return told(size, Spelling::Hex, read_digits(alloc, text));
+    let pairs = count_pairs(text);
+    if are_digits(pairs, text) {
+        return told(size, Spelling::Hex, read_digits(alloc, pairs, text));
     }
     match after_first(b'{', text) {
         Some(block) => told(size, Spelling::Hex, read_braces(alloc, block)),
