@@ -33,13 +33,13 @@ fn has_no_blank(text: &[u8]) -> bool
     are
 }
 
-/// Returns how many pairs of digits a text is found to begin with: all but one octet or two at its
-/// end, or none, if one of the others is no digit.
+/// Returns how many pairs of digits a text is found to begin with: all but an odd octet at its end, or
+/// none, if another octet is no digit.
 pub(crate) fn count_pairs(text: &[u8]) -> usize
     ensures within { 2 * result ≤ length text.now }
     ensures digits { list_all is_hex_digit (take (2 * result) text.now) ≡ true }
 {
-    let count = text.len().saturating_sub(1) / 2;
+    let count = text.len() / 2;
     if has_no_blank(&text[..2 * count]) {
         count
     } else {
