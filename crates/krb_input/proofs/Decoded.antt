@@ -1,5 +1,5 @@
 -- Hexadecimal with blanks anywhere, as it is decoded without them.
-use Rattle.std.proofs.Common.{ℕ, suc, ◌+◌, ◌*◌, ◌==◌, ◌%◌, ◌≡◌, ◌&&◌, ◌||◌, if◌then◌else◌, Bool, true, false, List, [], ◌∷◌, length, drop, Option, Some, None, Result, Ok, Err, refl, sym, ap, ◌∙◌, arith}
+use Rattle.std.proofs.Common.{ℕ, suc, ◌+◌, ◌*◌, ◌==◌, ◌%◌, ◌≡◌, ◌&&◌, ◌||◌, if◌then◌else◌, Bool, true, false, List, [], ◌∷◌, ◌++◌, length, drop, Option, Some, None, Result, Ok, Err, refl, sym, ap, ◌∙◌, arith}
 use Rattle.std.proofs.lemmas.Bool.Decides.{nat_tests}
 use Rattle.std.specs.Option.{option_and_then, option_map, is_some}
 use Rattle.hex.specs.Hex.{decode_pairs, digit_or_error, hex_digit_value, is_hex_digit, pair_value, ◌>>=◌}
@@ -14,6 +14,7 @@ use Rattle.krb_input.specs.Inputs.{as_form, line_spelled, line_spelled_by, spell
 use Rattle.krb_input.specs.Braces.{after_first}
 use Rattle.krb_input.specs.Laws.{without_blanks, DecodedLinesAreSpelled}
 use Rattle.krb_source.specs.declared.spelling.Spelling.TheVariants as form
+use Rattle.krb_input.proofs.Prepends.{prepend_none, prepend_twice}
 
 pub record AreRead (text : List ℕ) (reading : Reading) (octets : List ℕ) : Type 0 where
   pub read : reading ≡ Ok octets
@@ -54,6 +55,32 @@ pair_of : (high low i : ℕ) (h l : Option ℕ) (byte : ℕ) → (digit_or_error
     (option_and_then (λ a. option_map (λ b. 16 * a + b) l) h ≡ Some byte) × (is_some h ≡ true) × (is_some l ≡ true)
 pair_of high low i (Some a) (Some b) byte is = let same : a * 16 + b ≡ byte = cc in (let e : 16 * a + b ≡ byte = omega (arith, same) in ap Some e, refl, refl)
 pair_of high low i other another byte is = absurd (cc)
+
+-- the octet of two digits
+pub pair_read : (high low h l i : ℕ) → hex_digit_value high ≡ Some h → hex_digit_value low ≡ Some l → pair_value high low i ≡ Ok (16 * h + l)
+pair_read high low h l i first second =
+    let same : h * 16 + l ≡ 16 * h + l = omega arith in
+    rw (first, second) (ap Ok same)
+
+digit_no_blank : (octet : ℕ) → is_hex_digit octet ≡ true → is_blank octet ≡ false
+digit_no_blank octet is = grind (arith, nat_tests)
+
+-- digits that are decoded, before others
+pub pairs_read : (i : ℕ) (pairs octets others : List ℕ) → decode_pairs i pairs ≡ Ok octets → digits (pairs ++ others) ≡ prepend octets (digits others)
+unfolding decode_pairs
+pairs_read i [] octets others is =
+    let none : [] ≡ octets = cc in sym (prepend_none (digits others)) ∙ ap (λ o. prepend o (digits others)) none
+pairs_read i (digit ∷ []) octets others is = absurd (cc)
+pairs_read i (high ∷ low ∷ pairs) octets others is =
+    let parts = both_ok (pair_value high low i) (decode_pairs (i + 2) pairs) octets is in
+    let pair = pair_of high low i (hex_digit_value high) (hex_digit_value low) parts.0 parts.2 in
+    let first : digits (high ∷ low ∷ pairs ++ others) ≡ digits_after high (low ∷ pairs ++ others) = rw (digit_no_blank high pair.1) refl in
+    let second : digits_after high (low ∷ pairs ++ others) ≡ then_octet (octet_of high low) (suc (length (pairs ++ others))) (digits (pairs ++ others)) = rw (digit_no_blank low pair.2) refl in
+    first ∙ second
+    ∙ ap (λ o. then_octet o (suc (length (pairs ++ others))) (digits (pairs ++ others))) pair.0
+    ∙ ap (λ r. prepend (parts.0 ∷ []) r) (pairs_read (i + 2) pairs parts.1 others parts.3)
+    ∙ prepend_twice (parts.0 ∷ []) parts.1 (digits others)
+    ∙ ap (λ o. prepend o (digits others)) parts.4
 
 blank_before : (octet : ℕ) (text : List ℕ) → is_blank octet ≡ true → IsDecoded text → IsDecoded (octet ∷ text)
 blank_before octet text is decoded = record {

@@ -6,3 +6,5 @@ pub mod DumpLines
 pub mod Decoded
 pub mod Told
 pub mod Rooms
+pub mod Passes
+pub mod Fours

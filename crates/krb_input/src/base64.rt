@@ -1,14 +1,15 @@
 //! Base64 (RFC 4648, section 4), with blanks anywhere.
 
-ghost use Rattle.std.specs.Prelude.{◌≡◌, ◌<◌, [], Ok, IfErr, IfOk, IfSome};
+ghost use Rattle.std.specs.Prelude.{◌≡◌, ◌*◌, ◌<◌, ◌≤◌, [], drop, length, take, Ok, IfErr, IfOk, IfSome};
 ghost use Rattle.std.specs.Option.{option_to_list};
 ghost use Rattle.krb_input.specs.Base64.{base64, bits_fault, character_value, due, first_octet, kept, made, octet_of_characters, or_else, padding_fault};
-ghost use Rattle.krb_input.specs.Readings.{unless};
+ghost use Rattle.krb_input.specs.Readings.{prepend, unless};
+ghost use Rattle.krb_input.specs.inner.Fours.{octets_of_four, value_or_none};
 ghost use Rattle.krb_input.specs.inner.Results.{AreBits, IsFault};
 
 use crate::characters::{is_blank, skip_blanks};
 use crate::text_fault::TextFault;
-use std::alloc::Global;
+use std::alloc::{AllocError, Global};
 
 /// The bits of characters that are not yet in an octet.
 #[derive(Clone, Copy)]
@@ -90,16 +91,103 @@ impl Bits {
     }
 }
 
+/// In the table below, an octet that is no character.
+const N: u8 = 255;
+
+/// The six bits that each character stands for.
+#[rattlefmt::skip]
+static VALUES: [u8; 256] = [
+    N, N, N, N, N, N, N, N, N, N, N, N, N, N, N, N,
+    N, N, N, N, N, N, N, N, N, N, N, N, N, N, N, N,
+    N, N, N, N, N, N, N, N, N, N, N, 62, N, N, N, 63,
+    52, 53, 54, 55, 56, 57, 58, 59, 60, 61, N, N, N, N, N, N,
+    N, 0, 1, 2, 3, 4, 5, 6, 7, 8, 9, 10, 11, 12, 13, 14,
+    15, 16, 17, 18, 19, 20, 21, 22, 23, 24, 25, N, N, N, N, N,
+    N, 26, 27, 28, 29, 30, 31, 32, 33, 34, 35, 36, 37, 38, 39, 40,
+    41, 42, 43, 44, 45, 46, 47, 48, 49, 50, 51, N, N, N, N, N,
+    N, N, N, N, N, N, N, N, N, N, N, N, N, N, N, N,
+    N, N, N, N, N, N, N, N, N, N, N, N, N, N, N, N,
+    N, N, N, N, N, N, N, N, N, N, N, N, N, N, N, N,
+    N, N, N, N, N, N, N, N, N, N, N, N, N, N, N, N,
+    N, N, N, N, N, N, N, N, N, N, N, N, N, N, N, N,
+    N, N, N, N, N, N, N, N, N, N, N, N, N, N, N, N,
+    N, N, N, N, N, N, N, N, N, N, N, N, N, N, N, N,
+    N, N, N, N, N, N, N, N, N, N, N, N, N, N, N, N,
+];
+
+/// Returns the six bits that a character stands for, or 255 of any other octet.
+#[inline(always)]
+fn value_or_none(octet: u8) -> u8
+    ensures value { result ≡ value_or_none (character_value octet) }
+    ensures small { IfSome (character_value octet) (λ value. value < 64) }
+{
+    VALUES[usize::from(octet)]
+}
+
+/// Returns the octets of four characters, if they are characters. Only the value of an octet that is
+/// none makes the sum of four as great as 255.
+#[inline(always)]
+fn octets_of_four(first: u8, second: u8, third: u8, fourth: u8) -> Option<[u8; 3]>
+    ensures { result ≡ octets_of_four (character_value first) (character_value second) (character_value third) (character_value fourth) }
+{
+    let a = value_or_none(first);
+    let b = value_or_none(second);
+    let c = value_or_none(third);
+    let d = value_or_none(fourth);
+    if u16::from(a) + u16::from(b) + u16::from(c) + u16::from(d) < 255 {
+        Some([a * 4 + b / 16, b % 16 * 16 + c / 4, c % 4 * 64 + d])
+    } else {
+        None
+    }
+}
+
+/// Fills room with the octets of so many times four characters, up to the first four of which one is
+/// no character, and returns how many times four came before that.
+fn fill_octets(room: &mut [u8], count: usize, text: &[u8]) -> usize
+    requires text { 4 * count ≤ length text.now }
+    requires room { length room.old ≡ 3 * count }
+    ensures few { result ≤ count }
+    ensures filled { base64 text.now ≡ prepend (take (3 * result) room.new) (base64 (drop (4 * result) text.now)) }
+{
+    for index in 0..count {
+        let Some(three) = octets_of_four(
+            text[4 * index],
+            text[4 * index + 1],
+            text[4 * index + 2],
+            text[4 * index + 3],
+        ) else {
+            return index;
+        };
+        let [first, second, third] = three;
+        room[3 * index] = first;
+        room[3 * index + 1] = second;
+        room[3 * index + 2] = third;
+    }
+    count
+}
+
+/// Returns the octets of the characters that a text begins with, as far as each four of them follow
+/// one another, and what follows them.
+fn read_fours(alloc: Global, text: &[u8]) -> Result<(Vec<u8>, &[u8]), AllocError>
+    ensures { IfOk result (λ made. base64 text.now ≡ prepend made.0.items (base64 made.1.now)) }
+{
+    let count = text.len() / 4;
+    let mut octets = Vec::with_capacity(alloc, 3 * count + 3)?;
+    octets.resize(3 * count, 0)?;
+    let read = fill_octets(octets.as_mut_slice(), count, text);
+    octets.truncate(3 * read);
+    Ok((octets, &text[4 * read..]))
+}
+
 /// Returns the octets of a text in base64.
 #[tactic(auto, using(crate::proofs::Prepends::prepends))]
 pub(crate) fn read_base64(alloc: Global, text: &[u8]) -> Result<Vec<u8>, TextFault>
     ensures octets { IfOk result (λ octets. base64 text.now ≡ Ok octets.items) }
     ensures fault { IfErr result (IsFault (base64 text.now)) }
 {
-    let mut octets = Vec::with_capacity(alloc, text.len() / 4 * 3 + 3)?;
+    let (mut octets, mut rest) = read_fours(alloc, text)?;
     let mut bits = Bits::Whole;
     let mut last = 0;
-    let mut rest = text;
     while let [first, others @ ..] = rest {
         if !is_blank(*first) {
             let Some(value) = character_value(*first) else {

@@ -5,6 +5,7 @@ ghost use Rattle.krb_input.specs.Braces.{after_first, block, block_length, brace
 ghost use Rattle.krb_input.specs.Comments.{unclosed};
 ghost use Rattle.krb_input.specs.inner.Results.{IsPart, IsFault};
 
+use crate::characters::contains;
 use crate::escapes::{has_escape, read_escapes};
 use crate::text::{Text, unclosed};
 use crate::text_fault::TextFault;
@@ -12,9 +13,13 @@ use crate::tokens::{first_unfit, read_tokens};
 use std::alloc::Global;
 
 /// Returns what follows the first of an octet in a text, if it is there.
+#[tactic(auto, using(crate::proofs::Passes::no_first))]
 pub(crate) fn after_first(octet: u8, text: &[u8]) -> Option<&[u8]>
     ensures { IsPart (after_first octet text.now) result }
 {
+    if !contains(octet, text) {
+        return None;
+    }
     let mut rest = text;
     while let [first, others @ ..] = rest {
         if *first == octet {

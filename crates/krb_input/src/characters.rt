@@ -1,6 +1,8 @@
-//! What octets stand for in a text.
+//! What octets stand for in a text. Where most texts pass a test, it looks at all octets with no
+//! branch, many at a time, and not only up to the first that does not pass.
 
-ghost use Rattle.std.specs.Prelude.{◌≡◌, ◌<◌, ◌≤◌, length, IfSome};
+ghost use Rattle.std.specs.Prelude.{◌≡◌, ◌==◌, ◌<◌, ◌≤◌, length, IfSome};
+ghost use Rattle.std.specs.List.{list_any};
 ghost use Rattle.hex.specs.Hex.{hex_digit_value, is_hex_digit};
 ghost use Rattle.krb_der.specs.Octets.{begins_with};
 ghost use Rattle.krb_input.specs.Characters.{count_digits, is_blank, is_text, length_before, octet_of, skip_blanks};
@@ -9,14 +11,14 @@ ghost use Rattle.krb_input.specs.Characters.{count_digits, is_blank, is_text, le
 pub(crate) fn is_blank(octet: u8) -> bool
     ensures { result ≡ is_blank octet }
 {
-    octet == b' ' || octet == b'\t' || octet == b'\r' || octet == b'\n'
+    (octet == b' ') | (octet == b'\t') | (octet == b'\r') | (octet == b'\n')
 }
 
 /// Returns whether an octet may stand in a text: it is printable or a blank.
 pub(crate) fn is_text(octet: u8) -> bool
     ensures { result ≡ is_text octet }
 {
-    b' ' <= octet && octet <= b'~' || is_blank(octet)
+    ((b' ' <= octet) & (octet <= b'~')) | is_blank(octet)
 }
 
 /// Returns the value of a hexadecimal digit of either case, or `None` of any other octet.
@@ -36,7 +38,9 @@ pub(crate) fn digit_value(octet: u8) -> Option<u8>
 pub(crate) fn is_digit(octet: u8) -> bool
     ensures { result ≡ is_hex_digit octet }
 {
-    digit_value(octet).is_some()
+    ((b'0' <= octet) & (octet <= b'9'))
+        | ((b'A' <= octet) & (octet <= b'F'))
+        | ((b'a' <= octet) & (octet <= b'f'))
 }
 
 /// Returns the octet of two hexadecimal digits.
@@ -101,4 +105,15 @@ pub(crate) fn length_before(octet: u8, text: &[u8]) -> usize
         rest = others;
     }
     count
+}
+
+/// Returns whether an octet stands in a text.
+pub(crate) fn contains(octet: u8, text: &[u8]) -> bool
+    ensures { result ≡ list_any (λ one. one == octet) text.now }
+{
+    let mut found = false;
+    for one in text {
+        found |= *one == octet;
+    }
+    found
 }

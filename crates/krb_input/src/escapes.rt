@@ -5,7 +5,7 @@ ghost use Rattle.krb_input.specs.Comments.{text_left};
 ghost use Rattle.krb_input.specs.Escapes.{escapes, has_escape, is_between};
 ghost use Rattle.krb_input.specs.inner.Results.{IsFault, IsEscape};
 
-use crate::characters::{is_blank, octet_of};
+use crate::characters::{contains, is_blank, octet_of};
 use crate::text::Text;
 use crate::text_fault::TextFault;
 use std::alloc::Global;
@@ -22,6 +22,14 @@ pub(crate) fn has_escape(text: Text<'_>) -> bool
         rest = others;
     }
     false
+}
+
+/// Returns whether `\x` stands in a text that has no comments.
+#[tactic(auto, using(crate::proofs::Passes::no_escape))]
+pub(crate) fn has_plain_escape(text: &[u8]) -> bool
+    ensures { result ≡ has_escape text.now }
+{
+    contains(b'\\', text) && has_escape(Text::new(text))
 }
 
 /// Returns whether an octet may stand between escapes.

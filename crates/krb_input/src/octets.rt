@@ -1,6 +1,8 @@
 //! Octets that are no text.
 
 ghost use Rattle.std.specs.Prelude.{◌≡◌};
+ghost use Rattle.std.specs.List.{list_all};
+ghost use Rattle.krb_input.specs.Characters.{is_text};
 ghost use Rattle.krb_input.specs.Octets.{begin_message, begins_with_all, first_no_text, is_marked, is_tag, ntlm, without_mark};
 
 use crate::characters::is_text;
@@ -23,10 +25,25 @@ pub(crate) fn without_mark(input: &[u8]) -> &[u8]
     if is_marked(input) { &input[3..] } else { input }
 }
 
+/// Returns whether all octets may stand in a text.
+fn are_text(octets: &[u8]) -> bool
+    ensures { result ≡ list_all is_text octets.now }
+{
+    let mut are = true;
+    for octet in octets {
+        are &= is_text(*octet);
+    }
+    are
+}
+
 /// Returns how many octets there are from the first on that is no text, if there is one.
+#[tactic(auto, using(crate::proofs::Passes::no_other))]
 pub(crate) fn first_no_text(text: &[u8]) -> Option<usize>
     ensures { result ≡ first_no_text text.now }
 {
+    if are_text(text) {
+        return None;
+    }
     let mut rest = text;
     while let [octet, others @ ..] = rest {
         if !is_text(*octet) {

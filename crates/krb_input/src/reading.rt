@@ -8,9 +8,9 @@ ghost use Rattle.krb_input.specs.inner.Results.{IsSpelled, Reads};
 
 use crate::base64::{first_octet, read_base64};
 use crate::braces::{after_first, read_braces};
-use crate::digits::{are_digits, read_digits};
+use crate::digits::{are_digits, count_pairs, read_digits};
 use crate::dump::{begins_dump, read_dump};
-use crate::escapes::{has_escape, read_escapes};
+use crate::escapes::{has_plain_escape, read_escapes};
 use crate::header::token_of;
 use crate::octets::{begin_message, first_no_text, is_marked, is_tag, without_mark};
 use crate::spelled::{InputFault, Misspelling, Spelled};
@@ -101,8 +101,9 @@ fn read_text(alloc: Global, size: usize, text: &[u8]) -> Result<Spelled, InputFa
 fn read_plainly(alloc: Global, size: usize, text: &[u8]) -> Result<Spelled, InputFault>
     ensures { IsSpelled (spelled_plainly size text.now) result }
 {
-    if are_digits(text) {
-        return told(size, Spelling::Hex, read_digits(alloc, text));
+    let pairs = count_pairs(text);
+    if are_digits(pairs, text) {
+        return told(size, Spelling::Hex, read_digits(alloc, pairs, text));
     }
     match after_first(b'{', text) {
         Some(block) => told(size, Spelling::Hex, read_braces(alloc, block)),
@@ -114,7 +115,7 @@ fn read_plainly(alloc: Global, size: usize, text: &[u8]) -> Result<Spelled, Inpu
 fn read_escaped(alloc: Global, size: usize, text: &[u8]) -> Result<Spelled, InputFault>
     ensures { IsSpelled (spelled_in_braces size None text.now) result }
 {
-    if has_escape(Text::new(text)) {
+    if has_plain_escape(text) {
         return told(size, Spelling::Hex, read_escapes(alloc, Text::new(text)));
     }
     match token_of(text) {

@@ -1,0 +1,7 @@
+use Rattle.std.proofs.Common.{◌≡◌, ◌*◌, take, drop}
+use Rattle.hex.specs.Hex.{decode_pairs}
+use Rattle.hex.proofs.Pairs.{prepend}
+use Rattle.krb_input.proofs.digits.fill_octets.Given as goal
+
+abbrev pub invariant-loop-index : goal.invariant-loop-index
+invariant-loop-index l = decode_pairs 0 l.digits ≡ prepend (take l.index l.room) (decode_pairs (2 * l.index) (drop (2 * l.index) l.digits))
