@@ -217,7 +217,7 @@ abbrev pub IsTime : Option Timestamp → Type 0
 IsTime time = IfSome time (λ t. t.seconds < 2 ^ 32)
 
 abbrev pub IsPacketNumber : ℕ → Type 0
-IsPacketNumber number = number ≤ 2 ^ 64
+IsPacketNumber number = number < 10 ^ 64
 
 pub record IsPacket (packet : Packet) : Type 0 where
   pub number : IsPacketNumber packet.number
