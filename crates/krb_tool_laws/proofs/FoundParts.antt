@@ -44,15 +44,11 @@ use Rattle.krb_flow.specs.declared.unread.Untaken.{Untaken}
 use Rattle.krb_capture.specs.Datagrams.{all_found, by_service, datagram_found, extent_of, surplus_found}
 use Rattle.krb_capture.specs.Found.{Begun, Failed, Faulty, Found, Joined, Missing, Password, Sent, Unread, Whole}
 use Rattle.krb_capture.specs.Messages.{cut_found, found_unless, message_found, missing_unless, most_octets, path_of, prefix_refusal}
-use Rattle.krb_capture.specs.Passwords.{and_then, at, checked, header, part_found, parts_found, password_found}
+use Rattle.krb_capture.specs.Passwords.{and_then, checked, header, part_found, parts_found, password_found}
 use Rattle.krb_capture.specs.Sending.{beginning_found, end_if, segment_found, last_found, unread_found, untaken_found, Sent as Direction}
 use Rattle.krb_capture.specs.Streams.{Framed, after_entries, after_entry, after_frame, before_frames, cut_octets, cut_refusal, end_found, entries_found, entry_found, found_with, frame_of, framed, is_cut, known_end, length_found, messages_framed, no_frames, not_cut, open_path, password_frame_by, password_frames, passwords_framed, refusal_found}
 use Rattle.krb_capture.specs.declared.flow.Service.{Service}
 use Rattle.krb_capture.specs.declared.flow.Service.TheVariants as services
-use Rattle.krb_capture.specs.declared.password.Fault.{Fault as PasswordFault}
-use Rattle.krb_capture.specs.declared.password.Field.{Field as PasswordField}
-use Rattle.krb_capture.specs.declared.password.Field.TheVariants as fields
-use Rattle.krb_capture.specs.declared.password.Header.{Header}
 use Rattle.krb_tool_laws.proofs.CaptureParts.{HasOctets}
 use Rattle.krb_tool_laws.proofs.ContentOctets.{IsDatagram}
 use Rattle.krb_tool_laws.proofs.FlowOctets.{IsEnding, IsEndingIf, IsPlaceIf, IsState, IsStep, IsStream, end_is as flow_end_is, step_is, stream_is, taken_few}
@@ -121,9 +117,9 @@ two_small octets are = wide16.below octets are
 
 -- a refusal of the first octets of a message of so many is at one of them, or at the first
 prefix_place : (long : Bool) (first : Refusal) (v : Verdict) (r : Refusal) (most : ℕ) → first.place ≡ 0 → ((p : Refusal) → v ≡ verdict.Refused p → p.place ≤ most) → (if long then Some first else refused v) ≡ Some r → r.place ≤ most
-prefix_place true first v r most zero within e = let same : first ≡ r = cc in omega (arith, zero, ap (λ (x : Refusal). x.place) same)
-prefix_place false first (verdict.Refused p) r most zero within e = let same : p ≡ r = cc in omega (arith, within p refl, ap (λ (x : Refusal). x.place) same)
-prefix_place false first other r most zero within e = absurd cc
+prefix_place true first v r most at_first within e = let same : first ≡ r = cc in omega (arith, at_first, ap (λ (x : Refusal). x.place) same)
+prefix_place false first (verdict.Refused p) r most at_first within e = let same : p ≡ r = cc in omega (arith, within p refl, ap (λ (x : Refusal). x.place) same)
+prefix_place false first other r most at_first within e = absurd cc
 
 prefix_small : (profile : Profile) (size : ℕ) (octets : List ℕ) (refusal : Refusal) → length octets ≤ size → prefix_refusal profile size octets ≡ Some refusal → refusal.place ≤ length octets
 prefix_small profile size octets refusal fits e =
@@ -166,27 +162,26 @@ module _ (p : Rules) where
         (part_is profile extent (before + 6) (take ap (drop 6 octets)) where_is (omega (arith, near)) (few_taken ap (drop 6 octets) (few_dropped 6 octets are)))
         (part_is profile extent (before + (6 + ap)) (drop (6 + ap) octets) where_is (omega (arith, near, small)) (few_dropped (6 + ap) octets are))
 
-    abbrev ArePartsOf : Result Header PasswordFault → Type 0
-    ArePartsOf read = AreFound (parts_found profile extent before octets read)
+    -- a field of the header is refused
+    field_fault : (place : ℕ) (name : List ℕ) → place < 2 ^ 32 → AreOctets name → IsNumeral (before + place) × AreOctets name × IsExtent extent
+    field_fault place name small named = (omega (arith, near, small), named, where_is)
 
-    field_fault : (field : PasswordField) (reason : Why) → ArePartsOf (Err (at field reason))
-    field_fault fields.Length reason = ((omega (arith, near), octets_of (codes "KPASSWD.length") refl, where_is), tt)
-    field_fault fields.Version reason = ((omega (arith, near), octets_of (codes "KPASSWD.version") refl, where_is), tt)
-    field_fault fields.ApLength reason = ((omega (arith, near), octets_of (codes "KPASSWD.ap-length") refl, where_is), tt)
-
-    checked_is : (all version ap : ℕ) → version < 2 ^ 16 → ap < 2 ^ 16 → ArePartsOf (checked (length octets) all version ap)
+    checked_is : (all version ap : ℕ) → version < 2 ^ 16 → ap < 2 ^ 16 → AreFound (parts_found profile extent before octets (checked (length octets) all version ap))
     checked_is all version ap version_small ap_small =
-        chosen ArePartsOf (nat_lt all (length octets)) _ _ (field_fault fields.Length why.Loose)
-        (chosen ArePartsOf (nat_lt (length octets) all) _ _ (field_fault fields.Length why.Overrun)
-        (chosen ArePartsOf (nat_lt (length octets) (6 + ap)) _ _ (field_fault fields.ApLength why.Overrun)
+        chosen (λ read. AreFound (parts_found profile extent before octets read)) (nat_lt all (length octets)) _ _ (field_fault 0 (codes "KPASSWD.length") (omega arith) (octets_of (codes "KPASSWD.length") refl), tt)
+        (chosen (λ read. AreFound (parts_found profile extent before octets read)) (nat_lt (length octets) all) _ _ (field_fault 0 (codes "KPASSWD.length") (omega arith) (octets_of (codes "KPASSWD.length") refl), tt)
+        (chosen (λ read. AreFound (parts_found profile extent before octets read)) (nat_lt (length octets) (6 + ap)) _ _ (field_fault 4 (codes "KPASSWD.ap-length") (omega arith) (octets_of (codes "KPASSWD.ap-length") refl), tt)
         ((version_small, ap_small, omega (arith, are.few)), both_parts ap ap_small)))
 
     password_is : AreFound (password_found profile extent before octets)
     unfolding password_found header
     password_is =
-        then_is ArePartsOf (nat_lt (length octets) 2) _ _ _ (field_fault fields.Length why.Overrun) (two_small (take 2 octets) (few_taken 2 octets are).octets_are) (λ all _.
-        then_is ArePartsOf (nat_lt (length octets) 4) _ _ _ (field_fault fields.Version why.Overrun) (two_small (take 2 (drop 2 octets)) (few_taken 2 (drop 2 octets) (few_dropped 2 octets are)).octets_are) (λ version version_small.
-        then_is ArePartsOf (nat_lt (length octets) 6) _ _ _ (field_fault fields.ApLength why.Overrun) (two_small (take 2 (drop 4 octets)) (few_taken 2 (drop 4 octets) (few_dropped 4 octets are)).octets_are) (λ ap ap_small.
+        then_is (λ read. AreFound (parts_found profile extent before octets read)) (nat_lt (length octets) 2) _ _ _ (field_fault 0 (codes "KPASSWD.length") (omega arith) (octets_of (codes "KPASSWD.length") refl), tt)
+        (two_small (take 2 octets) (few_taken 2 octets are).octets_are) (λ all _.
+        then_is (λ read. AreFound (parts_found profile extent before octets read)) (nat_lt (length octets) 4) _ _ _ (field_fault 2 (codes "KPASSWD.version") (omega arith) (octets_of (codes "KPASSWD.version") refl), tt)
+        (two_small (take 2 (drop 2 octets)) (few_taken 2 (drop 2 octets) (few_dropped 2 octets are)).octets_are) (λ version version_small.
+        then_is (λ read. AreFound (parts_found profile extent before octets read)) (nat_lt (length octets) 6) _ _ _ (field_fault 4 (codes "KPASSWD.ap-length") (omega arith) (octets_of (codes "KPASSWD.ap-length") refl), tt)
+        (two_small (take 2 (drop 4 octets)) (few_taken 2 (drop 4 octets) (few_dropped 4 octets are)).octets_are) (λ ap ap_small.
         checked_is all version ap version_small ap_small)))
 
   -- ---- a datagram
