@@ -3,7 +3,7 @@ use Rattle.krb_tool_laws.proofs.listings.captures_are_lines.Goals as goal
 
 pub returns : goal.returns
 returns c = captures_are_lines (record {
-  rules = record { message_of = c.message_of_der_is_message.ensures; inside = c.slices_are_refused_inside.ensures; frames_inside = c.refusals_are_inside.ensures };
+  rules = record { message_of = c.message_of_der_is_message.ensures; inside = c.refusals_are_inside.ensures; frames_inside = c.refusals_are_inside-2.ensures };
   message_line_is = c.capture_is_one_line_each.ensures.message;
   refusal_line_is = c.capture_is_one_line_each.ensures.refusal;
   joined_line_is = c.capture_is_one_line_each.ensures.joined;
