@@ -1,44 +1,56 @@
 -- What a packet carries is of its octets, and between addresses as their types have them.
-use Rattle.std.proofs.Common.{ℕ, zero, suc, ◌+◌, ◌-◌, ◌*◌, ◌/◌, ◌%◌, ◌^◌, ◌==◌, ◌&&◌, ◌||◌, nat_le, nat_lt, Bool, length, Option, Some, None, IfSome}
+use Rattle.std.proofs.Common.{ℕ, zero, suc, ◌+◌, ◌-◌, ◌*◌, ◌/◌, ◌%◌, ◌^◌, ◌<◌, ◌==◌, ◌&&◌, ◌||◌, nat_le, nat_lt, Bool, length, Option, Some, None, IfSome, arith}
 use Rattle.std.specs.declared.net.ip_addr.IpAddr.{IpAddr}
 use Rattle.krb_packet.specs.Contents.{authentication, datagram, datagram_or_tunnel, fragment, of_other_protocol, of_protocol, or_unread_between, segment, tcp, udp}
 use Rattle.std.specs.Prelude.{bit_and}
 use Rattle.krb_packet.specs.Envelopes.{after_labels, gre, label, long_ppp, mirrored2, mirrored3, of_frame_kind, of_gre, of_ppp, pseudowire, session}
 use Rattle.krb_packet.specs.Headers.{addresses4, addresses6, ends, extension, fragment_header, options, skip_headers}
-use Rattle.krb_packet.specs.Icmp.{error, is_error, icmp, or_passed, protocol_of, quoted, quoted4, quoted6, quoted_after, skip_quoted}
+use Rattle.krb_packet.specs.Icmp.{error, is_error, is_passed_in_quote, icmp, or_passed, protocol_of, quoted, quoted4, quoted6, quoted_after, skip_quoted}
 use Rattle.krb_packet.specs.Payloads.{Captured, ◌>>=◌, after, beyond, field, number16, number32, number8}
 use Rattle.krb_packet.specs.Passed.{is_passed_protocol}
 use Rattle.krb_packet.specs.Steps.{if_valid, passed}
 use Rattle.krb_packet.specs.Tunnels.{beside_esp, geneve, keep_alive, key_exchange, of_port, or_answer, is_served, is_tunnel, payload, tunnel, vxlan}
 use Rattle.krb_packet.specs.declared.contents.Contents.{Contents}
 use Rattle.krb_packet.specs.declared.contents.Contents.TheVariants as contents
+use Rattle.krb_packet.specs.declared.contents.Datagram.{Datagram}
 use Rattle.krb_packet.specs.declared.contents.Ends.{Ends}
 use Rattle.krb_packet.specs.declared.contents.Fragment.{Fragment}
 use Rattle.krb_packet.specs.declared.contents.IcmpError.{IcmpError}
 use Rattle.krb_packet.specs.declared.contents.QuotedProtocol.{QuotedProtocol}
+use Rattle.krb_packet.specs.declared.contents.Segment.{Segment}
 use Rattle.krb_packet.specs.declared.header.Addresses.{Addresses}
 use Rattle.krb_packet.specs.declared.header.Header.{Header}
 use Rattle.krb_packet.specs.declared.header.Header.TheVariants as headers
 use Rattle.krb_packet.specs.declared.header.Step.{Step}
 use Rattle.krb_packet.specs.declared.header.Step.TheVariants as steps
-use Rattle.krb_tool_laws.proofs.CaptureParts.{AreSoMany, HasOctets, IsHost, after_octets, beyond_octets, either_if, field_octets, host4, host6, then_any, then_if, valid_if, within_octets}
+use Rattle.krb_tool_laws.proofs.CaptureParts.{AreSoMany, HasOctets, IsHost, IsNumber, IsPort, after_octets, beyond_octets, either_if, field_octets, host4, host6, number16_small, number8_small, past_octets, then_any, then_if, valid_if, within_octets}
 
 -- ---- what is shown of each
 abbrev pub AreHosts : Addresses → Type 0
 AreHosts addresses = IsHost addresses.source × IsHost addresses.target
 
 abbrev pub AreEnds : Ends → Type 0
-AreEnds ends = IsHost ends.source.address × IsHost ends.target.address
+AreEnds ends = IsPort ends.source × IsPort ends.target
 
 abbrev pub IsFragment : Fragment → Type 0
 IsFragment fragment = (IsHost fragment.original.source × IsHost fragment.original.target) × HasOctets fragment.payload
 
-abbrev pub IsError : IcmpError → Type 0
-IsError error = IsHost error.by × AreEnds error.ends
+-- its type and its code have an octet each
+pub record IsError (error : IcmpError) : Type 0 where
+  pub by : IsHost error.by
+  pub error_type : error.error_type < 2 ^ 8
+  pub code : error.code < 2 ^ 8
+  pub ends : AreEnds error.ends
+
+abbrev pub IsDatagram : Datagram → Type 0
+IsDatagram datagram = (IsPort datagram.source × IsPort datagram.target) × (HasOctets datagram.payload × HasOctets datagram.surplus)
+
+abbrev pub IsSegment : Segment → Type 0
+IsSegment segment = (IsPort segment.source × IsPort segment.target) × HasOctets segment.payload
 
 abbrev pub AreContents : Contents → Type 0
-AreContents (contents.Datagram datagram) = (IsHost datagram.source.address × IsHost datagram.target.address) × HasOctets datagram.payload
-AreContents (contents.Segment segment) = (IsHost segment.source.address × IsHost segment.target.address) × HasOctets segment.payload
+AreContents (contents.Datagram datagram) = IsDatagram datagram
+AreContents (contents.Segment segment) = IsSegment segment
 AreContents (contents.Fragment fragment) = IsFragment fragment
 AreContents (contents.Error error) = IsError error
 AreContents contents.Other = Unit {0}
@@ -59,16 +71,18 @@ IsStep (steps.Found read) = AreContents read
 IsStep (steps.Next header packet) = IsHeader header × HasOctets packet
 
 -- ---- ports, and what follows them
-ends_between : (from to : IpAddr) (packet : Captured) → IsHost from → IsHost to → IfSome (ends from to packet) AreEnds
+ends_between : (from to : IpAddr) (packet : Captured) → IsHost from → IsHost to → HasOctets packet → IfSome (ends from to packet) AreEnds
 unfolding ends
-ends_between from to packet a b = then_any AreEnds (number16 0 packet) _ (λ source. then_any AreEnds (number16 2 packet) _ (λ target. (a, b)))
+ends_between from to packet a b are =
+    then_if (IsNumber 16) AreEnds (number16 0 packet) _ (number16_small 0 packet are) (λ source from_small.
+    then_if (IsNumber 16) AreEnds (number16 2 packet) _ (number16_small 2 packet are) (λ target to_small. (record { host = a; small = from_small }, record { host = b; small = to_small })))
 
 datagram_is : (between : Ends) (packet : Captured) → AreEnds between → HasOctets packet → IfSome (datagram between packet) AreContents
 unfolding datagram
 datagram_is between packet its are =
-    then_any AreContents (number16 4 packet) _ (λ length.
+    then_if (IsNumber 16) AreContents (number16 4 packet) _ (number16_small 4 packet are) (λ length small.
     then_if HasOctets AreContents (after 8 packet) _ (after_octets 8 packet are) (λ rest rest_are.
-    valid_if AreContents (nat_le 8 length) _ (its, within_octets (length - 8) rest rest_are)))
+    valid_if AreContents (nat_le 8 length) _ (its, (within_octets (length - 8) rest (omega (arith, small)) rest_are, past_octets (length - 8) rest rest_are))))
 
 segment_is : (between : Ends) (packet : Captured) → AreEnds between → HasOctets packet → IfSome (segment between packet) AreContents
 unfolding segment
@@ -87,13 +101,13 @@ read_or_unread between (Some read) is = is
 udp_is : (addresses : Addresses) (packet : Captured) → AreHosts addresses → HasOctets packet → IfSome (udp addresses packet) IsStep
 unfolding udp
 udp_is addresses packet hosts are =
-    then_if AreEnds IsStep (ends addresses.source addresses.target packet) _ (ends_between addresses.source addresses.target packet hosts.0 hosts.1) (λ between its.
+    then_if AreEnds IsStep (ends addresses.source addresses.target packet) _ (ends_between addresses.source addresses.target packet hosts.0 hosts.1 are) (λ between its.
     either_if IsStep (is_tunnel between.target.port) _ _ (hosts, are) (read_or_unread between (datagram between packet) (datagram_is between packet its are)))
 
 tcp_is : (addresses : Addresses) (packet : Captured) → AreHosts addresses → HasOctets packet → IfSome (tcp addresses packet) IsStep
 unfolding tcp
 tcp_is addresses packet hosts are =
-    then_if AreEnds IsStep (ends addresses.source addresses.target packet) _ (ends_between addresses.source addresses.target packet hosts.0 hosts.1) (λ between its.
+    then_if AreEnds IsStep (ends addresses.source addresses.target packet) _ (ends_between addresses.source addresses.target packet hosts.0 hosts.1 are) (λ between its.
     read_or_unread between (segment between packet) (segment_is between packet its are))
 
 -- ---- tunnels
@@ -126,9 +140,9 @@ port_is port packet are = either_if IsStep (port == 4789 || port == 8472) _ _ (v
 payload_is : (packet : Captured) → HasOctets packet → IfSome (payload packet) HasOctets
 unfolding payload
 payload_is packet are =
-    then_any HasOctets (number16 4 packet) _ (λ length.
+    then_if (IsNumber 16) HasOctets (number16 4 packet) _ (number16_small 4 packet are) (λ length small.
     then_if HasOctets HasOctets (after 8 packet) _ (after_octets 8 packet are) (λ rest rest_are.
-    valid_if HasOctets (nat_le 8 length) _ (within_octets (length - 8) rest rest_are)))
+    valid_if HasOctets (nat_le 8 length) _ (within_octets (length - 8) rest (omega (arith, small)) rest_are)))
 
 answer_is : (source : ℕ) (read : Option Step) → IfSome read IsStep → IfSome (or_answer source read) IsStep
 answer_is source None is = either_if IsStep (nat_lt source 1024) (λ _. passed) (λ _. None) tt tt
@@ -143,7 +157,7 @@ tunnel_is between packet are =
 pub served_is : (port : ℕ) (addresses : Addresses) (packet : Captured) → AreHosts addresses → HasOctets packet → IfSome (datagram_or_tunnel port addresses packet) IsStep
 unfolding datagram_or_tunnel
 served_is port addresses packet hosts are =
-    then_if AreEnds IsStep (ends addresses.source addresses.target packet) _ (ends_between addresses.source addresses.target packet hosts.0 hosts.1) (λ between its.
+    then_if AreEnds IsStep (ends addresses.source addresses.target packet) _ (ends_between addresses.source addresses.target packet hosts.0 hosts.1 are) (λ between its.
     either_if IsStep (is_served port between) _ _ (read_or_unread between (datagram between packet) (datagram_is between packet its are)) (tunnel_is between packet are))
 
 -- ---- envelopes
@@ -252,11 +266,11 @@ skipped_is is_skipped (suc bound) kind packet are =
 abbrev IsQuote : QuotedProtocol × Ends → Type 0
 IsQuote quote = AreEnds quote.1
 
-quoted_after_is : (addresses : Addresses) (protocol : ℕ) (packet : Captured) → AreHosts addresses → IfSome (quoted_after addresses protocol packet) IsQuote
+quoted_after_is : (addresses : Addresses) (protocol : ℕ) (packet : Captured) → AreHosts addresses → HasOctets packet → IfSome (quoted_after addresses protocol packet) IsQuote
 unfolding quoted_after
-quoted_after_is addresses protocol packet hosts =
+quoted_after_is addresses protocol packet hosts are =
     then_any IsQuote (protocol_of protocol) _ (λ its.
-    then_if AreEnds IsQuote (ends addresses.source addresses.target packet) _ (ends_between addresses.source addresses.target packet hosts.0 hosts.1) (λ between are. are))
+    then_if AreEnds IsQuote (ends addresses.source addresses.target packet) _ (ends_between addresses.source addresses.target packet hosts.0 hosts.1 are) (λ between its. its))
 
 quoted4_is : (packet : Captured) → HasOctets packet → IfSome (quoted4 packet) IsQuote
 unfolding quoted4
@@ -266,9 +280,9 @@ quoted4_is packet are =
     then_any IsQuote (number8 9 packet) _ (λ protocol.
     then_if (AreSoMany 4) IsQuote (field 4 12 packet) _ (field_octets 4 12 packet are) (λ source from.
     then_if (AreSoMany 4) IsQuote (field 4 16 packet) _ (field_octets 4 16 packet are) (λ target to.
-    then_any IsQuote (after (first % 16 * 4) packet) _ (λ rest.
-    then_any IsQuote (if_valid (nat_le 5 (first % 16) && flags % 2 ^ 13 == 0) rest) _ (λ valid.
-    quoted_after_is (addresses4 source target) protocol valid (host4 source from, host4 target to))))))))
+    then_if HasOctets IsQuote (after (first % 16 * 4) packet) _ (after_octets (first % 16 * 4) packet are) (λ rest rest_are.
+    then_if HasOctets IsQuote (if_valid (nat_le 5 (first % 16) && flags % 2 ^ 13 == 0) rest) _ (valid_if HasOctets (nat_le 5 (first % 16) && flags % 2 ^ 13 == 0) rest rest_are) (λ valid valid_are.
+    quoted_after_is (addresses4 source target) protocol valid (host4 source from, host4 target to) valid_are)))))))
 
 quoted6_is : (packet : Captured) → HasOctets packet → IfSome (quoted6 packet) IsQuote
 unfolding quoted6
@@ -276,9 +290,9 @@ quoted6_is packet are =
     then_any IsQuote (number8 6 packet) _ (λ kind.
     then_if (AreSoMany 16) IsQuote (field 16 8 packet) _ (field_octets 16 8 packet are) (λ source from.
     then_if (AreSoMany 16) IsQuote (field 16 24 packet) _ (field_octets 16 24 packet are) (λ target to.
-    then_any IsQuote (after 40 packet) _ (λ rest.
-    then_any IsQuote (skip_quoted (length rest.octets + 1) kind rest) _ (λ last.
-    quoted_after_is (addresses6 source target) last.0 last.1 (host6 source from, host6 target to))))))
+    then_if HasOctets IsQuote (after 40 packet) _ (after_octets 40 packet are) (λ rest rest_are.
+    then_if FollowsKind IsQuote (skip_quoted (length rest.octets + 1) kind rest) _ (skipped_is is_passed_in_quote (length rest.octets + 1) kind rest rest_are) (λ last last_are.
+    quoted_after_is (addresses6 source target) last.0 last.1 (host6 source from, host6 target to) last_are)))))
 
 quoted_is : (packet : Captured) → HasOctets packet → IfSome (quoted packet) IsQuote
 unfolding quoted
@@ -287,11 +301,11 @@ quoted_is packet are = then_any IsQuote (number8 0 packet) _ (λ first. either_i
 error_is : (by : IpAddr) (protocol : ℕ) (packet : Captured) → IsHost by → HasOctets packet → IfSome (error by protocol packet) IsError
 unfolding error
 error_is by protocol packet host are =
-    then_any IsError (number8 0 packet) _ (λ kind.
-    then_any IsError (number8 1 packet) _ (λ code.
+    then_if (IsNumber 8) IsError (number8 0 packet) _ (number8_small 0 packet are) (λ kind kind_small.
+    then_if (IsNumber 8) IsError (number8 1 packet) _ (number8_small 1 packet are) (λ code code_small.
     then_if HasOctets IsError (after 8 packet) _ (after_octets 8 packet are) (λ quote quote_are.
     then_if HasOctets IsError (if_valid (is_error by protocol kind) quote) _ (valid_if HasOctets (is_error by protocol kind) quote quote_are) (λ valid valid_are.
-    then_if IsQuote IsError (quoted valid) _ (quoted_is valid valid_are) (λ found its. (host, its))))))
+    then_if IsQuote IsError (quoted valid) _ (quoted_is valid valid_are) (λ found its. record { by = host; error_type = kind_small; code = code_small; ends = its })))))
 
 passed_is : (read : Option IcmpError) → IfSome read IsError → AreContents (or_passed read)
 passed_is None is = tt

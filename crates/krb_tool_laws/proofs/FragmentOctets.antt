@@ -1,5 +1,6 @@
 -- Datagrams that are put together are of the octets of their fragments.
-use Rattle.std.proofs.Common.{ℕ, zero, suc, ◌+◌, nat_lt, not, List, [], ◌∷◌, ◌++◌, length, Option, Some, None, IfSome}
+use Rattle.std.proofs.Common.{◌≡◌, ℕ, zero, suc, ◌+◌, ◌^◌, ◌<◌, ◌≤◌, nat_le, nat_lt, not, Bool, true, false, List, [], ◌∷◌, ◌++◌, length, Option, Some, None, IfSome, refl, arith, le_refl, length-append}
+use Rattle.std.proofs.lemmas.Bool.{and_parts, leb-true}
 use Rattle.std.specs.Prelude.{slice_set, remove}
 use Rattle.std.specs.List.{AllByRecursion, slice_get, slice_index_or}
 use Rattle.std.specs.Option.{option_and_then}
@@ -7,7 +8,7 @@ use Rattle.krb_der.specs.Octets.{AreOctets, when}
 use Rattle.krb_der.specs.inner.Numbers.{AreOctets-append}
 use Rattle.krb_laws.proofs.JsonStrings.{all-append}
 use Rattle.krb_packet.specs.Fragments.{after_inner, carried_in, contents_of_whole, finished, if_completed, index_of, inner, inside, most_datagrams, nested_step, no_fragments_of, or_discarded, pending_with, progress_with, step, unless_fragment, whole, whole_of, with_datagram, with_fragment_at, within_limit, without_first, without_whole}
-use Rattle.krb_packet.specs.Parts.{Parts, Piece, add_fragment, fits, is_before, is_complete, is_copy, is_sound, joined, piece_of, with_fragment, with_piece}
+use Rattle.krb_packet.specs.Parts.{Parts, Piece, add_fragment, fits, is_before, is_complete, is_copy, is_sound, joined, most_octets, piece_of, with_fragment, with_piece}
 use Rattle.krb_packet.specs.Table.{Table}
 use Rattle.krb_packet.specs.declared.contents.Contents.{Contents}
 use Rattle.krb_packet.specs.declared.contents.Contents.TheVariants as contents
@@ -29,8 +30,14 @@ IsOriginal original = IsHost original.source × IsHost original.target
 abbrev pub ArePieces : List Piece → Type 0
 ArePieces pieces = AllByRecursion (λ piece. AreOctets piece.octets) pieces
 
+-- of octets, as many as are counted, and no more than a datagram may have
+pub record AreParts (parts : Parts) : Type 0 where
+  pub pieces : ArePieces parts.pieces
+  pub counted : length (joined parts.pieces) ≡ parts.count
+  pub few : parts.count ≤ most_octets
+
 abbrev pub IsProgress : Progress → Type 0
-IsProgress (Open parts) = ArePieces parts.pieces
+IsProgress (Open parts) = AreParts parts
 IsProgress Discarded = Unit {0}
 
 abbrev pub IsPending : Pending → Type 0
@@ -39,8 +46,10 @@ IsPending pending = IsOriginal pending.original × IsProgress pending.progress
 abbrev pub AreDatagrams : Table → Type 0
 AreDatagrams table = AllByRecursion IsPending table.pending
 
-abbrev pub IsWhole : Reassembled → Type 0
-IsWhole made = IsOriginal made.original × AreOctets made.octets
+pub record IsWhole (made : Reassembled) : Type 0 where
+  pub original : IsOriginal made.original
+  pub octets : AreOctets made.octets
+  pub few : length made.octets ≤ most_octets
 
 -- ---- lists
 pub all_set : {A : Type 0} (P : A → Type 0) (xs : List A) (place : ℕ) (x : A) → AllByRecursion P xs → P x → AllByRecursion P (slice_set xs place x)
@@ -73,14 +82,33 @@ joined_is : (pieces : List Piece) → ArePieces pieces → AreOctets (joined pie
 joined_is [] are = tt
 joined_is (piece ∷ pieces) are = AreOctets-append piece.octets (joined pieces) are.0 (joined_is pieces are.1)
 
-abbrev AreParts : Parts → Type 0
-AreParts parts = ArePieces parts.pieces
+joined_more : (piece : Piece) (pieces : List Piece) → length (joined (with_piece piece pieces)) ≡ length piece.octets + length (joined pieces)
+joined_more piece [] = length-append piece.octets []
+joined_more piece (first ∷ others) = by (joined_more piece others) (is_before first.span piece.span)
+  where
+    by : length (joined (with_piece piece others)) ≡ length piece.octets + length (joined others) → (before : Bool) → length (joined (when before (λ _. first ∷ with_piece piece others) (λ _. piece ∷ first ∷ others))) ≡ length piece.octets + length (joined (first ∷ others))
+    by later true = omega (arith, length-append first.octets (joined (with_piece piece others)), later, length-append first.octets (joined others))
+    by later false = length-append piece.octets (joined (first ∷ others))
 
-added_is : (parts : Parts) (fragment : Fragment) → ArePieces parts.pieces → IsFragment fragment → IfSome (add_fragment parts fragment) AreParts
+one_more : (parts : Parts) (fragment : Fragment) → AreParts parts → IsFragment fragment → parts.count + length fragment.payload.octets ≤ most_octets → AreParts (with_fragment parts fragment)
+one_more parts fragment are is few = record {
+  pieces = with_piece_is (piece_of fragment) parts.pieces is.1.octets are.pieces;
+  counted = omega (arith, joined_more (piece_of fragment) parts.pieces, are.counted);
+  few = few;
+}
+
+added_is : (parts : Parts) (fragment : Fragment) → AreParts parts → IsFragment fragment → IfSome (add_fragment parts fragment) AreParts
 added_is parts fragment are is =
     either_if AreParts (not (is_sound fragment)) (λ _. None) (λ _. when (is_copy parts fragment) (λ _. Some parts) (λ _. when (fits parts fragment) (λ _. Some (with_fragment parts fragment)) (λ _. None))) tt
     (either_if AreParts (is_copy parts fragment) (λ _. Some parts) (λ _. when (fits parts fragment) (λ _. Some (with_fragment parts fragment)) (λ _. None)) are
-    (either_if AreParts (fits parts fragment) (λ _. Some (with_fragment parts fragment)) (λ _. None) (with_piece_is (piece_of fragment) parts.pieces is.1 are) tt))
+    (by (fits parts fragment) refl))
+  where
+    few : fits parts fragment ≡ true → parts.count + length fragment.payload.octets ≤ most_octets
+    few e = leb-true _ _ (and_parts _ (nat_le (parts.count + length fragment.payload.octets) most_octets) e).1
+
+    by : (does : Bool) → fits parts fragment ≡ does → IfSome (when does (λ _. Some (with_fragment parts fragment)) (λ _. None)) AreParts
+    by true e = one_more parts fragment are is (few e)
+    by false e = tt
 
 or_discarded_is : (parts : Option Parts) → IfSome parts AreParts → IsProgress (or_discarded parts)
 or_discarded_is None is = tt
@@ -95,7 +123,8 @@ pending_is fragment pending is are = (are.0, progress_is fragment pending.progre
 
 whole_is : (original : Original) (progress : Progress) → IsOriginal original → IsProgress progress → IfSome (whole original progress) IsWhole
 whole_is original (Open parts) is are =
-    either_if IsWhole (is_complete parts) (λ _. Some (record { original = original; protocol = parts.protocol; octets = joined parts.pieces })) (λ _. None) (is, joined_is parts.pieces are) tt
+    either_if IsWhole (is_complete parts) (λ _. Some (record { original = original; protocol = parts.protocol; octets = joined parts.pieces })) (λ _. None)
+    (record { original = is; octets = joined_is parts.pieces are.pieces; few = omega (arith, are.counted, are.few) }) tt
 whole_is original Discarded is are = tt
 
 -- ---- the table
@@ -110,7 +139,7 @@ datagrams_with : (table : Table) (pending : Pending) → AreDatagrams table → 
 datagrams_with table pending are is = limit_is (record table { pending = table.pending ++ pending ∷ [] }) (all-append IsPending table.pending (pending ∷ []) are (is, tt))
 
 new_is : (fragment : Fragment) → IsFragment fragment → IsPending (no_fragments_of fragment.original)
-new_is fragment is = (is.0, tt)
+new_is fragment is = (is.0, record { pieces = tt; counted = refl; few = omega arith })
 
 fragment_at : (table : Table) (fragment : Fragment) (place : Option ℕ) → AreDatagrams table → IsFragment fragment → AreDatagrams (with_fragment_at table fragment place).0
 fragment_at table fragment (Some place) are is =
@@ -141,7 +170,8 @@ step_is table fragment are is = finished_is (with_fragment_at table fragment (in
 carried_is : (port : ℕ) (made : Reassembled) → IsWhole made → AreContents (carried_in port made)
 unfolding carried_in
 carried_is port made is =
-    walked_is port (length made.octets + 1) (headers.Protocol (record { source = made.original.source; target = made.original.target }) made.protocol) (record { octets = made.octets; size = length made.octets }) is.0 is.1
+    walked_is port (length made.octets + 1) (headers.Protocol (record { source = made.original.source; target = made.original.target }) made.protocol) (record { octets = made.octets; size = length made.octets }) is.original
+    (record { octets = is.octets; fits = le_refl (length made.octets); small = omega (arith, is.few) })
 
 completed_is : (rest : Reassembled → Table → Option Reassembled × Table) → ((made : Reassembled) (table : Table) → IsWhole made → AreDatagrams table → AreLeft (rest made table)) → (made : Option Reassembled) (table : Table) → IfSome made IsWhole → AreDatagrams table → AreLeft (if_completed rest made table)
 completed_is rest each None table is are = (tt, are)

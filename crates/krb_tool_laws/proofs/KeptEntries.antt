@@ -33,6 +33,16 @@ module _ {K X : Type 0} (P : X → Type 0) where
   kept_found test [] are = tt
   kept_found test (e ∷ entries) are = chosen (λ (o : Option X). IfSome o P) (test e.0) (Some e.1) (lookup test entries) are.0 (kept_found test entries are.1)
 
+-- what holds of each key holds of those of a list that has one more
+pub keys_inserted : {K X : Type 0} (Q : K → Type 0) (cmp : K → K → Ordering) (entries : List (K × X)) (k : K) (v : X) → AllByRecursion (λ (entry : K × X). Q entry.0) entries → Q k → AllByRecursion (λ (entry : K × X). Q entry.0) (insert_entry cmp entries k v)
+keys_inserted Q cmp [] k v are is = (is, tt)
+keys_inserted {K} {X} Q cmp (e ∷ entries) k v are is = by (keys_inserted Q cmp entries k v are.1 is) (cmp k e.0)
+  where
+    by : AllByRecursion (λ (entry : K × X). Q entry.0) (insert_entry cmp entries k v) → (order : Ordering) → AllByRecursion (λ (entry : K × X). Q entry.0) (match_ordering order ((k, v) ∷ e ∷ entries) ((e.0, v) ∷ entries) (e ∷ insert_entry cmp entries k v))
+    by others Less = (is, are)
+    by others Equal = are
+    by others Greater = (are.0, others)
+
 pub all_filtered : {A : Type 0} (P : A → Type 0) (test : A → Bool) (xs : List A) → AllByRecursion P xs → AllByRecursion P (filter test xs)
 all_filtered P test [] are = tt
 all_filtered P test (x ∷ xs) are = chosen (AllByRecursion P) (test x) (x ∷ filter test xs) (filter test xs) (are.0, all_filtered P test xs are.1) (all_filtered P test xs are.1)

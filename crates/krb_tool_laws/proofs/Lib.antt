@@ -29,5 +29,6 @@ pub mod ReadOctets
 pub mod RoundTrips
 pub mod SpelledOctets
 pub mod TokenParts
+pub mod UntakenPlaces
 pub mod Upgrades
 pub mod WindowFlows

@@ -1,5 +1,5 @@
 -- The walk from one header to the next keeps to the octets of a packet.
-use Rattle.std.proofs.Common.{ℕ, zero, suc, ◌+◌, ◌*◌, ◌/◌, ◌%◌, ◌^◌, ◌==◌, ◌||◌, ◌&&◌, nat_le, Bool, length, Option, Some, None, IfSome}
+use Rattle.std.proofs.Common.{ℕ, zero, suc, ◌+◌, ◌*◌, ◌/◌, ◌%◌, ◌^◌, ◌==◌, ◌||◌, ◌&&◌, nat_le, Bool, length, Option, Some, None, IfSome, arith}
 use Rattle.std.specs.declared.net.ip_addr.IpAddr.{IpAddr}
 use Rattle.std.specs.declared.net.ip_addr.IpAddr.TheVariants as ip
 use Rattle.krb_packet.specs.Contents.{after_headers, announced, bsd_loopback, contents_of, cooked, cooked_type, ethernet, extensions, fragment, frame, ipv4, ipv6, is_skipped, is_tag, logical_link, of_family, of_fragment, of_type, of_type_or_length, onwards, openbsd_loopback, or_unread, payload_between, payload_of, raw_ip, snap, snap_type, step, tag, walk}
@@ -15,13 +15,13 @@ use Rattle.krb_packet.specs.declared.header.Step.{Step}
 use Rattle.krb_packet.specs.declared.header.Step.TheVariants as steps
 use Rattle.krb_packet.specs.declared.packet.LinkType.{LinkType}
 use Rattle.krb_packet.specs.declared.packet.LinkType.TheVariants as links
-use Rattle.krb_tool_laws.proofs.CaptureParts.{AreSoMany, HasOctets, after_octets, either_has, either_if, field_octets, host4, host6, then_any, then_if, valid_if, within_octets}
+use Rattle.krb_tool_laws.proofs.CaptureParts.{AreSoMany, HasOctets, IsNumber, after_octets, either_has, either_if, field_octets, host4, host6, number16_small, then_any, then_if, valid_if, within_octets}
 use Rattle.krb_tool_laws.proofs.ContentOctets.{AreContents, AreHosts, FollowsKind, IsHeader, IsStep, label_is, other_is, protocol_is, served_is, session_is, skipped_is}
 
 -- ---- IP
-announced_is : (size : ℕ) (packet : Captured) → HasOctets packet → HasOctets (announced size packet)
+announced_is : (size : ℕ) (packet : Captured) → IsNumber 16 size → HasOctets packet → HasOctets (announced size packet)
 unfolding announced
-announced_is size packet are = either_has HasOctets (size == 0) _ _ are (within_octets size packet are)
+announced_is size packet small are = either_has HasOctets (size == 0) _ _ are (within_octets size packet (omega (arith, small)) are)
 
 kept_is : (is_kept : Bool) (protocol : ℕ) (fragment : Contents) → AreContents fragment → IfSome (of_fragment is_kept protocol fragment) IsStep
 unfolding of_fragment
@@ -31,13 +31,13 @@ ipv4_is : (packet : Captured) → HasOctets packet → IfSome (ipv4 packet) IsSt
 unfolding ipv4
 ipv4_is packet are =
     then_any IsStep (number8 0 packet) _ (λ first.
-    then_any IsStep (number16 2 packet) _ (λ total.
+    then_if (IsNumber 16) IsStep (number16 2 packet) _ (number16_small 2 packet are) (λ total small.
     then_any IsStep (number16 4 packet) _ (λ identification.
     then_any IsStep (number16 6 packet) _ (λ flags.
     then_any IsStep (number8 9 packet) _ (λ protocol.
     then_if (AreSoMany 4) IsStep (field 4 12 packet) _ (field_octets 4 12 packet are) (λ source from.
     then_if (AreSoMany 4) IsStep (field 4 16 packet) _ (field_octets 4 16 packet are) (λ target to.
-    then_if HasOctets IsStep (after (first % 16 * 4) (announced total packet)) _ (after_octets (first % 16 * 4) (announced total packet) (announced_is total packet are)) (λ rest rest_are.
+    then_if HasOctets IsStep (after (first % 16 * 4) (announced total packet)) _ (after_octets (first % 16 * 4) (announced total packet) (announced_is total packet small are)) (λ rest rest_are.
     then_if HasOctets IsStep (if_valid (first / 16 == 4 && nat_le 5 (first % 16)) rest) _ (valid_if HasOctets (first / 16 == 4 && nat_le 5 (first % 16)) rest rest_are) (λ valid valid_are.
     either_if IsStep (flags % 2 ^ 14 == 0) _ _
     (protocol_is (addresses4 source target) protocol valid (host4 source from, host4 target to) valid_are)
@@ -62,12 +62,12 @@ ipv6_is : (packet : Captured) → HasOctets packet → IfSome (ipv6 packet) IsSt
 unfolding ipv6
 ipv6_is packet are =
     then_any IsStep (number8 0 packet) _ (λ first.
-    then_any IsStep (number16 4 packet) _ (λ size.
+    then_if (IsNumber 16) IsStep (number16 4 packet) _ (number16_small 4 packet are) (λ size small.
     then_any IsStep (number8 6 packet) _ (λ kind.
     then_if (AreSoMany 16) IsStep (field 16 8 packet) _ (field_octets 16 8 packet are) (λ source from.
     then_if (AreSoMany 16) IsStep (field 16 24 packet) _ (field_octets 16 24 packet are) (λ target to.
     then_if HasOctets IsStep (after 40 packet) _ (after_octets 40 packet are) (λ rest rest_are.
-    then_if HasOctets IsStep (if_valid (first / 16 == 6) (announced size rest)) _ (valid_if HasOctets (first / 16 == 6) (announced size rest) (announced_is size rest rest_are)) (λ valid valid_are.
+    then_if HasOctets IsStep (if_valid (first / 16 == 6) (announced size rest)) _ (valid_if HasOctets (first / 16 == 6) (announced size rest) (announced_is size rest small rest_are)) (λ valid valid_are.
     headers_are (addresses6 source target) kind valid (host6 source from, host6 target to) valid_are)))))))
 
 between_is : (from : IpAddr) (addresses : Addresses) (kind : ℕ) (packet : Captured) → AreHosts addresses → HasOctets packet → IfSome (payload_between from addresses kind packet) IsStep

@@ -75,6 +75,10 @@ lenient_in message_of profile octets its =
 pub its_message : MessageOfDerIsMessage → (profile : Profile) (octets : List ℕ) → AreOctets octets → refusal_of profile octets ≡ None → IsInProfile profiles.Lenient (message_of_der octets)
 its_message message_of profile octets are none = lenient_in message_of profile octets (message_in profile octets are none)
 
+pub message_place : RefusalsAreInside → (profile : Profile) (octets : List ℕ) (refusal : Refusal) → refusal_of profile octets ≡ Some refusal → refusal.place ≤ length octets
+message_place inside profile [] refusal e = let first : record { place = 0; why = why.Empty } ≡ refusal = cc in omega (arith, ap (λ (r : Refusal). r.place) first)
+message_place inside profile (octet ∷ octets) refusal e = omega (arith, inside.of_message profile (octet ∷ octets) refusal (omega arith) e)
+
 module _ (p : Premises) where
   record IsTicketOf (octets : List ℕ) : Type 0 where
     fits : Fits ticket (ticket_value (ticket_of_der octets))
@@ -92,10 +96,6 @@ module _ (p : Premises) where
       }
 
   -- ---- refusals
-  message_place : (profile : Profile) (octets : List ℕ) (refusal : Refusal) → refusal_of profile octets ≡ Some refusal → refusal.place ≤ length octets
-  message_place profile [] refusal e = let first : record { place = 0; why = why.Empty } ≡ refusal = cc in omega (arith, ap (λ (r : Refusal). r.place) first)
-  message_place profile (octet ∷ octets) refusal e = omega (arith, p.inside.of_message profile (octet ∷ octets) refusal (omega arith) e)
-
   ticket_place : (profile : Profile) (octets : List ℕ) (refusal : Refusal) → ticket_refusal profile octets ≡ Some refusal → refusal.place ≤ length octets
   ticket_place profile [] refusal e = let first : record { place = 0; why = why.Empty } ≡ refusal = cc in omega (arith, ap (λ (r : Refusal). r.place) first)
   ticket_place profile (octet ∷ octets) refusal e = omega (arith, p.inside.of_ticket profile (octet ∷ octets) refusal (omega arith) e)
@@ -133,7 +133,7 @@ module _ (p : Premises) where
         json = λ json. p.messages_json.from input.line layered.layers (message_of_der octets) line its;
       }
   judged input layered place octets (Some refusal) extent line are small e =
-      refused input layered (record { place = place + refusal.place; why = refusal.why }) (refused_path input.profile octets refusal) extent line (omega (arith, small, message_place input.profile octets refusal e)) (refused_octets input.profile octets refusal)
+      refused input layered (record { place = place + refusal.place; why = refusal.why }) (refused_path input.profile octets refusal) extent line (omega (arith, small, message_place p.inside input.profile octets refusal e)) (refused_octets input.profile octets refusal)
 
   as_ticket : (input : _) (layered : Layered) (refusal : Option Refusal) → IsExtent (extent_of input layered.all) → IsLine input.line → AreOctets layered.all → ticket_refusal input.profile layered.all ≡ refusal → IsGood input.form (ticket_listing input layered refusal)
   as_ticket input layered None extent line are e =

@@ -38,7 +38,7 @@ use Rattle.krb_tool_laws.proofs.Lines.{a_line, and_lines, each_line, no_lines}
 use Rattle.krb_tool_laws.proofs.PathOctets.{frame_octets}
 
 -- ---- numbers
-four_small : (octets : List ℕ) → AreOctets octets → number (take 4 octets) < 2 ^ 32
+pub four_small : (octets : List ℕ) → AreOctets octets → number (take 4 octets) < 2 ^ 32
 four_small [] are = omega arith
 four_small (a ∷ []) are = omega (arith, are.0)
 four_small (a ∷ b ∷ []) are = omega (arith, are.0, are.1.0)
@@ -52,7 +52,7 @@ announced_small octets are = by (nat_lt (length octets) 4)
     by true = tt
     by false = omega (arith, four_small octets are)
 
-extent_small : (offset : ℕ) (octets : List ℕ) → offset < 10 ^ 64 → AreOctets octets → IsExtent (frame_extent offset octets)
+pub extent_small : (offset : ℕ) (octets : List ℕ) → offset < 10 ^ 64 → AreOctets octets → IsExtent (frame_extent offset octets)
 extent_small offset octets small are = record { at = small; length = announced_small octets are }
 
 -- ---- how a stream ends
@@ -218,7 +218,7 @@ module _ (p : Premises) (label : Label) (named : IsNamed label) (profile : Profi
 -- ---- a stream that goes on after refusals
 module _ (inside : RefusalsAreInside) (profile : Profile) (limit : ℕ) where
   -- of a refused frame the octets are octets, and its place is small
-  abbrev IsGoodEntry : Entry → Type 0
+  abbrev pub IsGoodEntry : Entry → Type 0
   IsGoodEntry (Contents contents) = IsGood profile limit contents
   IsGoodEntry (Fault place reason prefix) = AreOctets prefix × (place < 10 ^ 64)
 
@@ -243,7 +243,7 @@ module _ (inside : RefusalsAreInside) (profile : Profile) (limit : ℕ) where
       by true = tt
       by false = each rest (AreOctets-drop (4 + number (take 4 octets)) octets are) (omega (arith, length-drop (4 + number (take 4 octets)) octets))
 
-  good_entries : (bound : ℕ) (stream : List ℕ) → AreOctets stream → length stream < 2 ^ 64 → AllByRecursion IsGoodEntry (entries_within bound (messages profile) limit stream)
+  pub good_entries : (bound : ℕ) (stream : List ℕ) → AreOctets stream → length stream < 2 ^ 64 → AllByRecursion IsGoodEntry (entries_within bound (messages profile) limit stream)
   good_entries zero stream are few = tt
   good_entries (suc bound) stream are few =
       let found : Frames = frames (messages profile) limit stream in

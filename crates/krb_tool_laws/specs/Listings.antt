@@ -74,5 +74,5 @@ CachesAreLines = (label : Label) (now : Option ℕ) (file : List ℕ) → IsName
 
 -- ---- captures
 -- the listing of a capture
-abbrev pub CapturesArePrinted : Type 0
-CapturesArePrinted = (settings : Settings) (file : List ℕ) → IsNamed settings.label → AreOctets file → ArePrintedLines (text_of (capture_listing settings file))
+abbrev pub CapturesAreLines : Type 0
+CapturesAreLines = (settings : Settings) (file : List ℕ) → IsNamed settings.label → AreRead file → AreLinesOf settings.label.form (text_of (capture_listing settings file))

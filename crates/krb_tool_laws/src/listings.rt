@@ -1,12 +1,12 @@
 //! Laws of whole listings. Each is the contract of a function that does nothing.
 
-ghost use Rattle.krb_tool_laws.specs.Listings.{CachesAreLines, CachesArePrinted, CapturesArePrinted, KeytabsAreLines, KeytabsArePrinted, MessagesAreLines, StreamsAreLines};
+ghost use Rattle.krb_tool_laws.specs.Listings.{CachesAreLines, CachesArePrinted, CapturesAreLines, KeytabsAreLines, KeytabsArePrinted, MessagesAreLines, StreamsAreLines};
 
 use krb_file_laws::ccache::credentials_are_spelled;
 use krb_file_laws::keytab::records_are_spelled;
 use krb_frame::law::refusals_are_inside;
 use krb_judge::law::refusals_are_inside as slices_are_refused_inside;
-use krb_laws::objects::{ends_are_json, files_are_json, messages_are_json};
+use krb_laws::objects::{captures_are_json, ends_are_json, files_are_json, messages_are_json};
 use krb_msg::law::{
     der_is_prefix_free, message_of_der_is_message, strict_is_narrower, value_of_der_is_value,
 };
@@ -70,12 +70,16 @@ pub fn files_are_lines()
     files_are_json();
 }
 
-/// Whatever octets a capture has, and whatever octets name its file, each line of its listing is one
-/// line of printable ASCII, in each form: the records of what is found in its packets, those that are
-/// told, and the last one, also if the file is refused.
-pub fn captures_are_printed()
-    ensures { CapturesArePrinted }
+/// Whatever octets a capture has, fewer than 2^64, and whatever octets name its file, each line of its
+/// listing is one line of printable ASCII, and in the form Json one JSON text in which no object has a
+/// name twice: the records of what is found in its packets, those that are told, and the last one, also
+/// if the file is refused.
+pub fn captures_are_lines()
+    ensures { CapturesAreLines }
 {
     message_of_der_is_message();
+    slices_are_refused_inside();
+    refusals_are_inside();
     capture_is_one_line_each();
+    captures_are_json();
 }

@@ -1,9 +1,9 @@
-use Rattle.krb_tool_laws.proofs.ListedCaptures.{captures_are_printed}
-use Rattle.krb_tool_laws.proofs.listings.captures_are_printed.Goals as goal
+use Rattle.krb_tool_laws.proofs.ListedCaptures.{captures_are_lines}
+use Rattle.krb_tool_laws.proofs.listings.captures_are_lines.Goals as goal
 
 pub returns : goal.returns
-returns c = captures_are_printed (record {
-  message_of = c.message_of_der_is_message.ensures;
+returns c = captures_are_lines (record {
+  rules = record { message_of = c.message_of_der_is_message.ensures; inside = c.refusals_are_inside.ensures; frames_inside = c.refusals_are_inside-2.ensures };
   message_line_is = c.capture_is_one_line_each.ensures.message;
   refusal_line_is = c.capture_is_one_line_each.ensures.refusal;
   joined_line_is = c.capture_is_one_line_each.ensures.joined;
@@ -14,4 +14,5 @@ returns c = captures_are_printed (record {
   unreachable_line_is = c.capture_is_one_line_each.ensures.unreachable;
   end_line_is = c.capture_is_one_line_each.ensures.end;
   file_line_is = c.capture_is_one_line_each.ensures.file;
+  json = c.captures_are_json.ensures;
 })
