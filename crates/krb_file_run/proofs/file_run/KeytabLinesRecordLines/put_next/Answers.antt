@@ -15,8 +15,8 @@ returns-in_ok-put-in-Ok-Item-clause-line g c = λ source left is_left.
     (item_added (lines.label.now ≡ source.label) (λ r. record_line lines.label.now r) (keytab_last lines.label.now) items.Record (keytab_records field_limit) (ReturnedRecords lines.records.reader lines.records.state) c.args.count source.file left is_left c.args.text.now c.put_record-put.new.text
     (ReturnedRecords new.reader new.state) c.in-Ok-Item.record
     (λ file returned.
-        let next = (rw c.in-Ok-Item.field-0-is at c.in-Ok-Item.ensures.next) file 16777216 c.args.count returned.0 in
-        (next.0, (next.1, c.in-Ok-Item.ensures.fetched returned.1)))
+    let next = (rw c.in-Ok-Item.field-0-is at c.in-Ok-Item.ensures.next) file 16777216 c.args.count returned.0 in
+    (next.0, (next.1, c.in-Ok-Item.ensures.fetched returned.1)))
     (rw c.in-Ok-Item.field-0-is at c.in_ok-put-in-Ok-Item.ensures))
 
 pub returns-in_ok-put_keytab_end-in-Ok-Done-clause-line : goal.returns-in_ok-put_keytab_end-in-Ok-Done-clause-line
