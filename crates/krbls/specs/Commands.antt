@@ -67,7 +67,8 @@ Does IsTold label now commands.Keytab had left written_before written_after outc
 Does IsTold label now (commands.Ccache when) had left written_before written_after outcome =
     (file : List ℕ) → had ≡ Some file → ListsRecords (ccache_listing label now file) (IsCcacheRest label now file) written_before written_after outcome
 Does IsTold label now (commands.Capture limit profile port) had left written_before written_after outcome =
-    (file : List ℕ) → had ≡ Some file → let settings = record { label = label; profile = profile; limit = limit; port = port } in ListsRecords (capture_listing settings file) (IsCaptureRest settings file) written_before written_after outcome
+    (file : List ℕ) → had ≡ Some file → ListsRecords (capture_listing (record { label = label; profile = profile; limit = limit; port = port }) file)
+      (IsCaptureRest (record { label = label; profile = profile; limit = limit; port = port }) file) written_before written_after outcome
 Does IsTold label now (commands.Decode limit profile how) had left written_before written_after outcome =
     IfOk outcome (Turns (DecodesBy how profile limit had left written_before written_after) (decode_end_line how) IsTold)
     × IfErr outcome (FailsToTurn (DecodesBy how profile limit had left written_before written_after) (FailsToDecodeBy how profile limit had left written_before written_after))
