@@ -2,9 +2,10 @@
 
 ghost use Rattle.std.specs.Prelude.{◌≡◌, ℕ, List, Some, IfErr, IfOk};
 ghost use Rattle.krb_capture_run.specs.Captures.{IsCaptureRest, capture_listing, refused_end};
+ghost use Rattle.krb_file.specs.declared.fault.FileFault.TheVariants as faults;
 ghost use Rattle.krb_run.specs.Faults.{IsRead, IsWrite};
 ghost use Rattle.krb_run.specs.Records.{ListsRecords};
-ghost use Rattle.krb_capture_run.specs.inner.CaptureRuns.{AddsCaptureEnd, AddsFileRefusal, CaptureSource, IsCaptureLeft};
+ghost use Rattle.krb_capture_run.specs.inner.CaptureRuns.{AddsCaptureEnd, AddsFileRefusal, CaptureSource, FailsInPacket, IsCaptureLeft};
 
 use krb_capture::{Capture, Rest};
 use krb_der::Profile;
@@ -65,6 +66,8 @@ impl<R: Read> CaptureLines<'_, '_, R> {
         ensures put { IfOk result (AddsFileRefusal fault self.old.capture self.old.label.now text.old text.new) }
         ensures fault { IfErr result (λ e. IsWrite e → ⊥) }
         ensures kept { IfErr result (λ e. IsRead e → text.new ≡ text.old) }
+        ensures failed { IfErr result (λ e. IsRead e → (fault ≡ faults.Read) × (self.new.capture ≡ self.old.capture)) }
+        ensures same_packets { self.new.packets ≡ self.old.packets }
     {
         match fault {
             FileFault::Refused(refusal) => {
@@ -89,6 +92,8 @@ impl<R: Read> RecordLines for CaptureLines<'_, '_, R> {
     ghost Source = { CaptureSource };
 
     ghost IsLeft = { λ lines _ source left. IsCaptureLeft lines.packets lines.capture lines.rest lines.label.now source left };
+
+    ghost Fails = { λ was now. FailsInPacket now.packets was.capture now.capture was.rest };
 
     fn put_next(
         &mut self,

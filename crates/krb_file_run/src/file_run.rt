@@ -5,7 +5,7 @@ ghost use Rattle.krb_ccache.specs.Streaming.{Reads};
 ghost use Rattle.krb_record.specs.Labels.{no_label};
 ghost use Rattle.krb_run.specs.Records.{ListsRecords};
 ghost use Rattle.krb_file_run.specs.Files.{IsCcacheRest, IsKeytabRest, field_limit, keytab_listing, ccache_listing};
-ghost use Rattle.krb_file_run.specs.inner.RecordRuns.{AreRecordsLeft, AreCredentialsLeft, CacheSource, KeytabSource};
+ghost use Rattle.krb_file_run.specs.inner.RecordRuns.{AreRecordsLeft, AreCredentialsLeft, CacheSource, FailsInCredential, FailsInRecord, KeytabSource};
 
 use crate::labelled::{put_cache, put_cache_end, put_credential, put_keytab_end, put_record};
 use krb_ccache::Credentials;
@@ -30,6 +30,8 @@ impl<R: Read> RecordLines for KeytabLines<'_, '_, R> {
     ghost Source = { KeytabSource };
 
     ghost IsLeft = { λ lines. AreRecordsLeft lines.label.now lines.records.reader lines.records.state };
+
+    ghost Fails = { λ was now. FailsInRecord was.records.reader now.records.reader was.records.state now.records.state };
 
     fn put_next(
         &mut self,
@@ -70,6 +72,8 @@ impl<R: Read + Drop> RecordLines for CredentialLines<'_, '_, R> {
     ghost Source = { CacheSource };
 
     ghost IsLeft = { λ lines. AreCredentialsLeft lines.label.now lines.credentials.reader lines.credentials.start lines.credentials.state lines.now };
+
+    ghost Fails = { λ _ now. FailsInCredential now.credentials.state };
 
     fn put_next(
         &mut self,

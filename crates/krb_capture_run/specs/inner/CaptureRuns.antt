@@ -3,6 +3,7 @@ use Rattle.std.specs.Prelude.{ℕ, ◌≡◌, List, ◌++◌, drop, Option, Some
 use Rattle.std.specs.declared.alloc.Global.{Global}
 use Rattle.krb_file.specs.declared.fault.FileFault.{FileFault}
 use Rattle.krb_file.specs.declared.fault.FileFault.TheVariants as faults
+use Rattle.krb_file.specs.declared.progress.Progress.TheVariants as states
 use Rattle.krb_packet.specs.Captures.{packets}
 use Rattle.krb_packet.specs.Streaming.{PacketsModel, Reads}
 use Rattle.krb_record.specs.Labels.{Label}
@@ -30,6 +31,12 @@ pub record IsCaptureLeft (model : PacketsModel) (capture : Capture) (rest : Opti
   pub followed : HasFollowedBut capture source.settings progress rest found
   pub label_is : label ≡ source.settings.label
   pub is : left ≡ after_line (lines_of source.settings.label (happened_in capture.happened) found) (listing_from source.settings (drop count (packets source.file).items) (packets source.file).end (happened_each found (happened_in capture.happened)) progress)
+
+-- A read failed after the packets that were followed: the reader is at that fault, nothing was left of the last packet, and no other was followed.
+pub record FailsInPacket (model : PacketsModel) (was now : Capture) (rest : Option (Box Rest Global)) : Type 0 where
+  pub failed : model.state ≡ states.Failed faults.Read
+  pub none_left : rest ≡ None
+  pub same : now ≡ was
 
 -- the records of the end were added
 abbrev pub AddsCaptureEnd : Capture → List ℕ → List ℕ → Option RunEnd → Type 0

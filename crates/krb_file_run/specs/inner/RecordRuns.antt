@@ -1,13 +1,15 @@
 -- What the parts of a run on the records of a file promise each other.
-use Rattle.std.specs.Prelude.{ℕ, Bool, ◌≡◌, List, Option, Result}
-use Rattle.krb_file.specs.FieldReaders.{Cursor}
+use Rattle.std.specs.Prelude.{ℕ, Bool, ◌≡◌, List, [], Option, Result}
+use Rattle.krb_file.specs.FieldReaders.{Cursor, FetchesToAnnounced}
+use Rattle.krb_file.specs.declared.fault.FileFault.TheVariants as faults
 use Rattle.krb_file.specs.declared.progress.Progress.{Progress}
+use Rattle.krb_file.specs.declared.progress.Progress.TheVariants as states
 use Rattle.krb_file.specs.Fields.{Fault}
 use Rattle.krb_file.specs.Items.{Items}
 use Rattle.krb_file.specs.declared.field_path.FileItem.{FileItem}
 use Rattle.krb_file.specs.declared.field_path.FileItem.TheVariants as items
 use Rattle.krb_keytab.specs.Reading.{items as keytab_records}
-use Rattle.krb_keytab.specs.Streaming.{Reads as ReadsRecords}
+use Rattle.krb_keytab.specs.Streaming.{Reads as ReadsRecords, announced_in}
 use Rattle.krb_keytab.specs.declared.value.Stop.{Stop}
 use Rattle.krb_ccache.specs.declared.reading.Start.{Start}
 use Rattle.krb_ccache.specs.Streaming.{Reads as ReadsCredentials, credentials}
@@ -27,15 +29,28 @@ pub record KeytabSource : Type 0 where
   pub label : Label
   pub file : List ℕ
 
+-- The reader returned the first `count` records of a keytab, goes on, and fetched no octet after them.
+abbrev pub ReturnedRecords : Cursor → Progress Bool Stop → (file : List ℕ) → (count : ℕ) → Type 0
+ReturnedRecords cursor state file count = ReadsRecords field_limit cursor state file count × (cursor.ahead ≡ [])
+
+-- A read failed in the record after those that were returned: the reader is at that fault, and of what follows these it fetched no octet but those that the record announces.
+pub record FailsInRecord (was now : Cursor) (before after : Progress Bool Stop) : Type 0 where
+  pub failed : after ≡ states.Failed faults.Read
+  pub fetched : FetchesToAnnounced (announced_in before) was now
+
 abbrev pub AreRecordsLeft : Label → Cursor → Progress Bool Stop → (count : ℕ) → KeytabSource → RecordListing → Type 0
 AreRecordsLeft label cursor state count source =
-    AreLeft (label ≡ source.label) (λ r. record_line label r) (keytab_last label) items.Record (keytab_records field_limit) (λ file count. ReadsRecords field_limit cursor state file count) count source.file
+    AreLeft (label ≡ source.label) (λ r. record_line label r) (keytab_last label) items.Record (keytab_records field_limit) (ReturnedRecords cursor state) count source.file
 
 -- a cache, the label of its records, and a time if there is one
 pub record CacheSource : Type 0 where
   pub label : Label
   pub now : Option ℕ
   pub file : List ℕ
+
+-- A read failed after those that were returned: the reader is at that fault.
+abbrev pub FailsInCredential : Progress (Unit {0}) (Unit {0}) → Type 0
+FailsInCredential after = after ≡ states.Failed faults.Read
 
 abbrev pub AreCredentialsLeft : Label → Cursor → Start → Progress (Unit {0}) (Unit {0}) → Option ℕ → (count : ℕ) → CacheSource → RecordListing → Type 0
 AreCredentialsLeft label cursor start state now count source =

@@ -1,4 +1,4 @@
-use Rattle.std.proofs.Common.{◌≡◌, ◌++◌, ℕ, List, Option, ◌∙◌, inr, refl, ap, ap₂, subst}
+use Rattle.std.proofs.Common.{◌≡◌, ◌++◌, ℕ, List, Option, ◌∙◌, inr, refl, ap, ap₂}
 use Rattle.std.proofs.lemmas.Result.{err_from_is_err_and}
 use Rattle.krb_ccache.specs.Streaming.{credentials}
 use Rattle.krb_file.specs.FieldReaders.{Cursor}
@@ -7,7 +7,7 @@ use Rattle.krb_file.specs.declared.progress.Progress.{Progress}
 use Rattle.krb_ccache.specs.declared.reading.Start.{Start}
 use Rattle.krb_record.specs.Labels.{Label}
 use Rattle.krb_file_run.specs.Lines.{cache_line, credential_line}
-use Rattle.krb_run.specs.Records.{RecordListing, after_line, ListsRecords}
+use Rattle.krb_run.specs.Records.{RecordListing, after_line}
 use Rattle.krb_file_run.specs.Files.{IsCcacheRest, field_limit, ccache_last, credentials_listing, ccache_listing, items_left}
 use Rattle.krb_file_run.specs.inner.RecordRuns.{AreCredentialsLeft, CacheSource}
 use Rattle.krb_run.proofs.Records.{none_written}
