@@ -291,6 +291,7 @@ impl<'a> Capture<'a> {
     }
 
     /// Counts a packet whose header is cut or wrong after its ports, if it is of Kerberos.
+    #[inline(never)]
     fn take_unread(&mut self, ends: Ends)
         ensures happened { happened_in self.new.happened ≡ happened_in self.old.happened }
         ensures followed { (settings : Settings) (progress : Progress) → HasFollowed self.old settings progress → HasFollowed self.new settings (and_counted (unread_taken (service_of settings.profile settings.port ends.source ends.target) progress)).progress }
@@ -370,6 +371,7 @@ impl<'a> Capture<'a> {
     }
 
     /// Lists what an error tells, if it quotes a packet of Kerberos.
+    #[inline(never)]
     fn take_error(&mut self, error: &IcmpError, text: &mut TextBuffer) -> Result<(), Memory>
         ensures { OnOk result ((settings : Settings) (progress : Progress) → HasFollowed self.old settings progress → Lists (happened_in self.old.happened) self.new settings (with_event (error_event (service_of settings.profile settings.port error.now.ends.source error.now.ends.target) progress.last error.now) (and_counted (nothing_in progress))) None text.old text.new) }
     {

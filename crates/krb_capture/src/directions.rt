@@ -359,6 +359,7 @@ impl Directions {
     }
 
     /// Keeps a direction after its segment, or returns what is left of that.
+    #[inline(always)]
     fn keep_or_wait(
         &mut self,
         flow: Flow,
@@ -408,6 +409,7 @@ impl Directions {
     }
 
     /// Keeps a direction of a flow by its number, or what it had if it ended.
+    #[inline(always)]
     fn keep(&mut self, flow: Flow, last: Last, step: Step) -> Result<(), Memory>
         requires { self.old.last ≡ None }
         ensures { OnOk result ((limit : ℕ) (table : Table) (sent : Sent) → HoldsMaps self.old limit table → IsKnown step.began flow last self.old.numbers.entries → Represents last.sending.value limit sent → HoldsTable self.new limit (kept flow last.number step sent table)) }

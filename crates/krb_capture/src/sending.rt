@@ -179,6 +179,7 @@ impl Sending {
     }
 
     /// Returns the last octets that it took since it began, at most 4096 of them.
+    #[inline(never)]
     pub(crate) fn into_last_octets(self) -> Result<Vec<u8>, Memory>
         ensures { IfOk result (λ octets. (limit : ℕ) (sent : Sent) → Represents self limit sent → octets.items ≡ last 4096 sent.stream) }
     {
@@ -231,6 +232,7 @@ impl Sending {
 
     /// Takes octets and others that follow them, until the listing is full, lists what is found,
     /// and how the direction ends after them. Returns what is left of them.
+    #[inline(always)]
     fn list(
         &mut self,
         octets: &[u8],
@@ -252,6 +254,7 @@ impl Sending {
     }
 
     /// Takes octets, as [`list`](Sending::list) does.
+    #[inline(never)]
     fn list_left(
         &mut self,
         mut left: Unlisted,
@@ -271,6 +274,7 @@ impl Sending {
     }
 
     /// Lists what is known at an end, if it is one.
+    #[inline(always)]
     fn list_end(
         &self,
         end: Option<End>,
