@@ -318,7 +318,7 @@ impl Directions {
         ensures { IfOk result (λ rest. (limit : ℕ) (table : Table) (sent : Sent) → HoldsMaps self.old limit (without last.number table) → lookup (is_at (flow_cmp last.flow)) self.old.numbers.entries ≡ Some last.number → Represents last.sending.value limit sent → Follows self.new limit (gone_on limit due.packet last.number sent segment.now table).table due rest (over_tcp due (gone_on limit due.packet last.number sent segment.now table).found) listing.old listing.new) }
     {
         let mut sending = last.sending;
-        let stepped = sending.take(segment, due, &mut self.waited, listing)?;
+        let stepped = sending.take(false, segment, due, &mut self.waited, listing)?;
         let flow = sending.flow();
         let kept = Last {
             flow: flow_after(last.flow, flow, stepped.step),
@@ -347,7 +347,7 @@ impl Directions {
     {
         let direction = direction_after(self.alloc, had);
         let mut sending = Sending::new(self.alloc, self.limit, flow, service, direction);
-        let mut stepped = sending.take(segment, due, &mut self.waited, listing)?;
+        let mut stepped = sending.take(true, segment, due, &mut self.waited, listing)?;
         let kept = Last {
             flow,
             number: due.packet,

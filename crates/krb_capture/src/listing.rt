@@ -229,7 +229,19 @@ impl<'text> Listing<'text> {
     }
 
     /// Adds that a direction begins: the requests that no reply answered of the one before it.
+    #[inline(always)]
     pub(crate) fn put_begun(&mut self, origin: &CaptureOrigin) -> Result<(), Memory>
+        ensures { OnOk result (self.new ≡ with_found origin.now Begun self.old) }
+    {
+        match &self.happened {
+            None => Ok(()),
+            Some(_) => self.put_told_begun(origin),
+        }
+    }
+
+    /// Adds these requests.
+    #[inline(never)]
+    fn put_told_begun(&mut self, origin: &CaptureOrigin) -> Result<(), Memory>
         ensures { OnOk result (self.new ≡ with_found origin.now Begun self.old) }
     {
         while let Some(news) = self.next_begun(origin) {
@@ -268,24 +280,12 @@ impl<'text> Listing<'text> {
         }
     }
 
-    /// Adds what a segment tells before its octets do, if what happened is told.
-    #[inline(always)]
+    /// Adds what a segment tells before its octets do.
     pub(crate) fn put_segment(
         &mut self,
         origin: &CaptureOrigin,
         header: Header,
     ) -> Result<(), Memory>
-        ensures { OnOk result (self.new ≡ with_found origin.now (Sent header) self.old) }
-    {
-        match &self.happened {
-            None => Ok(()),
-            Some(_) => self.put_told_segment(origin, header),
-        }
-    }
-
-    /// Adds what a segment tells before its octets do.
-    #[inline(never)]
-    fn put_told_segment(&mut self, origin: &CaptureOrigin, header: Header) -> Result<(), Memory>
         ensures { OnOk result (self.new ≡ with_found origin.now (Sent header) self.old) }
     {
         let Some(happened) = &mut self.happened else {

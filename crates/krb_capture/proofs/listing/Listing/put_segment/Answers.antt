@@ -4,7 +4,7 @@ use Rattle.krb_capture.specs.Boxed.{happened_in}
 use Rattle.krb_capture.specs.Found.{Written}
 use Rattle.krb_capture.specs.Told.{with_news_if}
 use Rattle.krb_capture.proofs.Segments.{segment-told}
-use Rattle.krb_capture.proofs.listing.Listing.put_told_segment.Goals as goal
+use Rattle.krb_capture.proofs.listing.Listing.put_segment.Goals as goal
 
 pub returns : goal.returns
 returns c =
