@@ -307,6 +307,7 @@ impl Directions {
     }
 
     /// Takes a segment of a direction that has not ended, which is not in the table meanwhile.
+    #[inline(always)]
     fn go_on(
         &mut self,
         last: Last,
