@@ -3,13 +3,13 @@
 ghost use Rattle.std.specs.Prelude.{◌≡◌, ◌++◌, ℕ, true, List, None, Some, IfOk, IsErr, OnErr, OnOk};
 ghost use Rattle.std.specs.Option.{option_copied};
 ghost use Rattle.krb_packet.specs.Fragments.{nested_step, unread};
+ghost use Rattle.krb_record.specs.declared.flow.Transport.TheVariants as transports;
 ghost use Rattle.krb_capture.specs.Captures.{Finding, HasEnded, HasFollowed, Progress, Settings, all_counts, and_counted, at_first, completed_event, contents_event, contents_taken, datagram_taken, end_taken, end_text, error_event, failure_of, fragment_taken, happened_in, has_no_packet, header_of, is_clean, nothing_in, over_tcp, packet_told, quoted_transport, refusal_text, segment_event, segment_taken, unread_taken, whole_event, whole_taken, with_each, with_event};
 ghost use Rattle.krb_capture.specs.Directions.{HoldsTable, Table, followed, last_of};
 ghost use Rattle.krb_capture.specs.Ends.{IsEnded, told_in};
 ghost use Rattle.krb_capture.specs.Flows.{moment_due, origin_of, service_of};
 ghost use Rattle.krb_capture.specs.Found.{Sent, totals, with_found};
 ghost use Rattle.krb_capture.specs.Happened.{told_at_first};
-ghost use Rattle.krb_record.specs.declared.flow.Transport.TheVariants as transports;
 ghost use Rattle.krb_capture.specs.Rests.{Follows, HasFollowedBut, Lists};
 
 use crate::datagram::list_with_surplus;

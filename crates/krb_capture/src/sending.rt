@@ -187,8 +187,8 @@ impl Sending {
     }
 
     /// Takes a segment, and lists what is found with it until the listing is full. Octets that
-    /// waited for it go through `waited`. If no octets were taken before, it `is_new`, or may be said
-    /// not to be.
+    /// waited for it go through `waited`. The frames of a direction that `is_new` are those of one
+    /// with no octets yet, and stay when it begins.
     pub(crate) fn take(
         &mut self,
         is_new: bool,
@@ -292,7 +292,8 @@ impl Sending {
         }
     }
 
-    /// Begins the frames anew, if the direction begins, and lists that it does so without a SYN.
+    /// Begins the frames anew, if the direction begins and is not new, and lists that it does so
+    /// without a SYN.
     #[inline(always)]
     fn begin(
         &mut self,
