@@ -3,11 +3,12 @@
 ghost use Rattle.std.specs.Prelude.{◌≡◌, ◌++◌, ℕ, true, List, None, Some, IfOk, IsErr, OnErr, OnOk};
 ghost use Rattle.std.specs.Option.{option_copied};
 ghost use Rattle.krb_packet.specs.Fragments.{nested_step, unread};
+ghost use Rattle.krb_record.specs.declared.flow.Transport.TheVariants as transports;
 ghost use Rattle.krb_capture.specs.Captures.{Finding, HasEnded, HasFollowed, Progress, Settings, all_counts, and_counted, at_first, completed_event, contents_event, contents_taken, datagram_taken, end_taken, end_text, error_event, failure_of, fragment_taken, happened_in, has_no_packet, header_of, is_clean, nothing_in, over_tcp, packet_told, quoted_transport, refusal_text, segment_event, segment_taken, unread_taken, whole_event, whole_taken, with_each, with_event};
 ghost use Rattle.krb_capture.specs.Directions.{HoldsTable, Table, followed, last_of};
 ghost use Rattle.krb_capture.specs.Ends.{IsEnded, told_in};
-ghost use Rattle.krb_capture.specs.Flows.{moment_due, service_of};
-ghost use Rattle.krb_capture.specs.Found.{totals};
+ghost use Rattle.krb_capture.specs.Flows.{moment_due, origin_of, service_of};
+ghost use Rattle.krb_capture.specs.Found.{Sent, totals, with_found};
 ghost use Rattle.krb_capture.specs.Happened.{told_at_first};
 ghost use Rattle.krb_capture.specs.Rests.{Follows, HasFollowedBut, Lists};
 
@@ -107,6 +108,30 @@ fn quoted_transport(protocol: QuotedProtocol) -> Transport
     }
 }
 
+/// Lists what a segment tells itself, if what happened is told.
+#[inline(always)]
+fn put_told(segment: &Segment<'_>, last: Due, listing: &mut Listing<'_>) -> Result<(), Memory>
+    ensures { OnOk result (listing.new ≡ with_found (origin_of last transports.Tcp segment.now.source segment.now.target) (Sent (header_of segment.now)) listing.old) }
+{
+    match &listing.happened {
+        None => Ok(()),
+        Some(_) => put_told_segment(segment, last, listing),
+    }
+}
+
+/// Lists what a segment tells itself.
+#[inline(never)]
+fn put_told_segment(
+    segment: &Segment<'_>,
+    last: Due,
+    listing: &mut Listing<'_>,
+) -> Result<(), Memory>
+    ensures { OnOk result (listing.new ≡ with_found (origin_of last transports.Tcp segment.now.source segment.now.target) (Sent (header_of segment.now)) listing.old) }
+{
+    let origin = last.over(Transport::Tcp, segment.source, segment.target);
+    listing.put_segment(&origin, header_of(segment))
+}
+
 /// Lists what is found with a segment, after what it tells itself.
 fn take_listed(
     directions: &mut Directions,
@@ -117,8 +142,7 @@ fn take_listed(
 ) -> Result<Option<Box<Rest>>, Memory>
     ensures { IfOk result (λ rest. (limit : ℕ) (table : Table) → HoldsTable directions.old limit table → Follows directions.new limit (followed limit last.packet service segment.now table).table last rest (segment_event (Some service) last segment.now ++ over_tcp last (followed limit last.packet service segment.now table).found) listing.old listing.new) }
 {
-    let origin = last.over(Transport::Tcp, segment.source, segment.target);
-    listing.put_segment(&origin, header_of(segment))?;
+    put_told(segment, last, listing)?;
     directions.take(segment, service, last, listing)
 }
 
@@ -291,6 +315,7 @@ impl<'a> Capture<'a> {
     }
 
     /// Counts a packet whose header is cut or wrong after its ports, if it is of Kerberos.
+    #[inline(never)]
     fn take_unread(&mut self, ends: Ends)
         ensures happened { happened_in self.new.happened ≡ happened_in self.old.happened }
         ensures followed { (settings : Settings) (progress : Progress) → HasFollowed self.old settings progress → HasFollowed self.new settings (and_counted (unread_taken (service_of settings.profile settings.port ends.source ends.target) progress)).progress }
@@ -370,6 +395,7 @@ impl<'a> Capture<'a> {
     }
 
     /// Lists what an error tells, if it quotes a packet of Kerberos.
+    #[inline(never)]
     fn take_error(&mut self, error: &IcmpError, text: &mut TextBuffer) -> Result<(), Memory>
         ensures { OnOk result ((settings : Settings) (progress : Progress) → HasFollowed self.old settings progress → Lists (happened_in self.old.happened) self.new settings (with_event (error_event (service_of settings.profile settings.port error.now.ends.source error.now.ends.target) progress.last error.now) (and_counted (nothing_in progress))) None text.old text.new) }
     {

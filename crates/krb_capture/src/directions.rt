@@ -307,6 +307,7 @@ impl Directions {
     }
 
     /// Takes a segment of a direction that has not ended, which is not in the table meanwhile.
+    #[inline(always)]
     fn go_on(
         &mut self,
         last: Last,
@@ -318,7 +319,7 @@ impl Directions {
         ensures { IfOk result (λ rest. (limit : ℕ) (table : Table) (sent : Sent) → HoldsMaps self.old limit (without last.number table) → lookup (is_at (flow_cmp last.flow)) self.old.numbers.entries ≡ Some last.number → Represents last.sending.value limit sent → Follows self.new limit (gone_on limit due.packet last.number sent segment.now table).table due rest (over_tcp due (gone_on limit due.packet last.number sent segment.now table).found) listing.old listing.new) }
     {
         let mut sending = last.sending;
-        let stepped = sending.take(segment, due, &mut self.waited, listing)?;
+        let stepped = sending.take(false, segment, due, &mut self.waited, listing)?;
         let flow = sending.flow();
         let kept = Last {
             flow: flow_after(last.flow, flow, stepped.step),
@@ -347,7 +348,7 @@ impl Directions {
     {
         let direction = direction_after(self.alloc, had);
         let mut sending = Sending::new(self.alloc, self.limit, flow, service, direction);
-        let mut stepped = sending.take(segment, due, &mut self.waited, listing)?;
+        let mut stepped = sending.take(true, segment, due, &mut self.waited, listing)?;
         let kept = Last {
             flow,
             number: due.packet,
@@ -359,6 +360,7 @@ impl Directions {
     }
 
     /// Keeps a direction after its segment, or returns what is left of that.
+    #[inline(always)]
     fn keep_or_wait(
         &mut self,
         flow: Flow,
@@ -408,6 +410,7 @@ impl Directions {
     }
 
     /// Keeps a direction of a flow by its number, or what it had if it ended.
+    #[inline(always)]
     fn keep(&mut self, flow: Flow, last: Last, step: Step) -> Result<(), Memory>
         requires { self.old.last ≡ None }
         ensures { OnOk result ((limit : ℕ) (table : Table) (sent : Sent) → HoldsMaps self.old limit table → IsKnown step.began flow last self.old.numbers.entries → Represents last.sending.value limit sent → HoldsTable self.new limit (kept flow last.number step sent table)) }

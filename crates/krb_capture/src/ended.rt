@@ -49,6 +49,7 @@ impl Ended {
     }
 
     /// Keeps a direction by its number.
+    #[inline(never)]
     pub(crate) fn insert(&mut self, number: u64, gone: Gone) -> Result<(), Memory>
         ensures { OnOk result (self.new.entries ≡ insert_entry nat_cmp self.old.entries number gone) }
     {

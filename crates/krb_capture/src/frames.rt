@@ -44,6 +44,7 @@ impl Frames {
     /// Takes the next octets, until the listing is full, and lists the frames that are whole with
     /// them or refused. Returns how many octets it took. The frame after one that is refused begins
     /// where that one ends, unless its length is not known: then all that follows is passed over.
+    #[inline(always)]
     pub(crate) fn take(
         &mut self,
         octets: &[u8],
@@ -67,6 +68,7 @@ impl Frames {
 
     /// Lists what is known at the end of the direction: octets that are missing, or the refusal of
     /// a frame that is not whole.
+    #[inline(never)]
     pub(crate) fn end(
         &self,
         end: End,

@@ -114,7 +114,25 @@ impl<'text> Listing<'text> {
     }
 
     /// Adds a message, if octets are one of a profile, and returns whether they are.
+    #[inline(always)]
     pub(crate) fn put_message(
+        &mut self,
+        origin: &CaptureOrigin,
+        profile: Profile,
+        octets: &[u8],
+    ) -> Result<bool, Memory>
+        requires { length octets.now < 2 ^ 31 }
+        ensures { IfOk result (IsListed profile octets.now origin.now self.old self.new) }
+    {
+        match &self.happened {
+            None => self.put_message_of(origin, profile, octets),
+            Some(_) => self.put_told_message(origin, profile, octets),
+        }
+    }
+
+    /// Adds a message with what is told of it, as [`put_message`](Listing::put_message) does.
+    #[inline(never)]
+    fn put_told_message(
         &mut self,
         origin: &CaptureOrigin,
         profile: Profile,
@@ -137,6 +155,7 @@ impl<'text> Listing<'text> {
 
     /// Adds a message of an origin as it is, if octets are one of a profile, and returns whether they
     /// are.
+    #[inline(always)]
     fn put_message_of(
         &mut self,
         origin: &CaptureOrigin,
@@ -175,6 +194,7 @@ impl<'text> Listing<'text> {
     }
 
     /// Remembers an event, and adds a request that is forgotten with it and has no answer.
+    #[inline(never)]
     fn take(&mut self, event: Event, origin: &CaptureOrigin) -> Result<(), Memory>
         ensures { OnOk result (self.new ≡ with_event event origin.now self.old) }
     {
@@ -186,6 +206,7 @@ impl<'text> Listing<'text> {
     }
 
     /// Adds news, and counts them.
+    #[inline(never)]
     fn put_news(&mut self, news: News, now: Moment) -> Result<(), Memory>
         ensures { OnOk result (self.new ≡ with_news news now self.old) }
     {
@@ -208,7 +229,19 @@ impl<'text> Listing<'text> {
     }
 
     /// Adds that a direction begins: the requests that no reply answered of the one before it.
+    #[inline(always)]
     pub(crate) fn put_begun(&mut self, origin: &CaptureOrigin) -> Result<(), Memory>
+        ensures { OnOk result (self.new ≡ with_found origin.now Begun self.old) }
+    {
+        match &self.happened {
+            None => Ok(()),
+            Some(_) => self.put_told_begun(origin),
+        }
+    }
+
+    /// Adds these requests.
+    #[inline(never)]
+    fn put_told_begun(&mut self, origin: &CaptureOrigin) -> Result<(), Memory>
         ensures { OnOk result (self.new ≡ with_found origin.now Begun self.old) }
     {
         while let Some(news) = self.next_begun(origin) {
@@ -266,6 +299,7 @@ impl<'text> Listing<'text> {
     }
 
     /// Adds what an error tells, about a packet of the flow of an origin.
+    #[inline(never)]
     pub(crate) fn put_error(
         &mut self,
         origin: &CaptureOrigin,
@@ -282,6 +316,7 @@ impl<'text> Listing<'text> {
 
     /// Adds a refusal, the path of the field at fault, and where the frame or datagram is and its
     /// length.
+    #[inline(never)]
     pub(crate) fn put_refusal(
         &mut self,
         origin: &CaptureOrigin,
@@ -298,6 +333,7 @@ impl<'text> Listing<'text> {
     }
 
     /// Adds that a direction began without its SYN.
+    #[inline(never)]
     pub(crate) fn put_joined(&mut self, origin: &CaptureOrigin) -> Result<(), Memory>
         ensures { OnOk result (self.new ≡ with_found origin.now Joined self.old) }
     {
@@ -306,6 +342,7 @@ impl<'text> Listing<'text> {
     }
 
     /// Adds octets that are missing, and the path of the field that has the first of them.
+    #[inline(never)]
     pub(crate) fn put_lost(
         &mut self,
         origin: &CaptureOrigin,
@@ -321,6 +358,7 @@ impl<'text> Listing<'text> {
     }
 
     /// Adds octets that no message has.
+    #[inline(never)]
     pub(crate) fn put_unread(
         &mut self,
         origin: &CaptureOrigin,

@@ -43,6 +43,7 @@ impl MessageFrames {
 
     /// Takes the next octets, until the listing is full, and lists the frames that are whole with
     /// them or refused. Returns how many octets it took.
+    #[inline(never)]
     pub(crate) fn take(
         &mut self,
         octets: &[u8],

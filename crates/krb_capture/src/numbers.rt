@@ -95,6 +95,7 @@ impl Numbers {
     }
 
     /// Gives a flow a number.
+    #[inline(never)]
     pub(crate) fn insert(&mut self, flow: Flow, number: u64) -> Result<(), Memory>
         ensures entries { OnOk result (self.new.entries ≡ insert_entry flow_cmp self.old.entries flow number) }
         ensures known { OnOk result (lookup (is_at (flow_cmp flow)) self.new.entries ≡ Some number) }

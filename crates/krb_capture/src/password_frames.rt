@@ -53,6 +53,7 @@ impl PasswordFrames {
 
     /// Takes the next octets, until the listing is full, and lists the frames that are whole with
     /// them or refused. Returns how many octets it took.
+    #[inline(never)]
     pub(crate) fn take(
         &mut self,
         octets: &[u8],

@@ -32,6 +32,7 @@ impl Recent {
 
     /// Keeps the last octets of a direction that ended, in place of those of the one that ended 4096
     /// before it. Returns how many ended before it.
+    #[inline(never)]
     pub(crate) fn push(&mut self, octets: Vec<u8>) -> Result<u64, Memory>
         ensures { IfOk result (λ nth. (streams : List (List ℕ)) (stream : List ℕ) → Remembers self.old streams → octets.items ≡ last 4096 stream → (nth ≡ length streams) × Remembers self.new (streams ++ stream ∷ [])) }
     {

@@ -1,6 +1,6 @@
 //! What one end of a TCP connection sends.
 
-ghost use Rattle.std.specs.Prelude.{◌≡◌, ◌≤◌, ℕ, List, [], ◌++◌, drop, length, Some, IfOk, OnOk};
+ghost use Rattle.std.specs.Prelude.{◌≡◌, ◌≤◌, ℕ, true, List, [], ◌++◌, drop, length, Some, IfOk, OnOk};
 ghost use Rattle.krb_record.specs.declared.flow.Transport.TheVariants as transports;
 ghost use Rattle.krb_capture.specs.Flows.{origin_of};
 ghost use Rattle.krb_capture.specs.Found.{Found, with_all};
@@ -179,6 +179,7 @@ impl Sending {
     }
 
     /// Returns the last octets that it took since it began, at most 4096 of them.
+    #[inline(always)]
     pub(crate) fn into_last_octets(self) -> Result<Vec<u8>, Memory>
         ensures { IfOk result (λ octets. (limit : ℕ) (sent : Sent) → Represents self limit sent → octets.items ≡ last 4096 sent.stream) }
     {
@@ -186,14 +187,17 @@ impl Sending {
     }
 
     /// Takes a segment, and lists what is found with it until the listing is full. Octets that
-    /// waited for it go through `waited`.
+    /// waited for it go through `waited`. The frames of a direction that `is_new` are those of one
+    /// with no octets yet, and stay when it begins.
     pub(crate) fn take(
         &mut self,
+        is_new: bool,
         segment: &Segment<'_>,
         due: Due,
         waited: &mut Vec<u8>,
         listing: &mut Listing<'_>,
     ) -> Result<Stepped, Memory>
+        requires { is_new ≡ true → Took self.old.frames self.old.limit [] }
         ensures flow { self.new.flow ≡ self.old.flow }
         ensures step { IfOk result (λ stepped. stepped.step ≡ step_of self.old.direction.state segment.now) }
         ensures found { IfOk result (λ stepped. (limit : ℕ) (sent : Sent) → Represents self.old limit sent → Sends self.new limit (after_segment sent segment.now) stepped.left (origin_of due transports.Tcp self.old.flow.source self.old.flow.target) (segment_found limit sent segment.now) listing.old listing.new) }
@@ -201,7 +205,7 @@ impl Sending {
         let origin = due.over(Transport::Tcp, self.flow.source, self.flow.target);
         let taken = self.direction.take(self.alloc, segment, waited)?;
         self.list_end(taken.before, &origin, listing)?;
-        self.begin(taken.begins, &origin, listing)?;
+        self.begin(is_new, taken.begins, &origin, listing)?;
         list_untaken(taken.untaken, &origin, listing)?;
         let octets = taken.octets;
         let left = self.list(octets, waited.as_slice(), taken.end, &origin, listing)?;
@@ -231,6 +235,7 @@ impl Sending {
 
     /// Takes octets and others that follow them, until the listing is full, lists what is found,
     /// and how the direction ends after them. Returns what is left of them.
+    #[inline(always)]
     fn list(
         &mut self,
         octets: &[u8],
@@ -252,6 +257,7 @@ impl Sending {
     }
 
     /// Takes octets, as [`list`](Sending::list) does.
+    #[inline(never)]
     fn list_left(
         &mut self,
         mut left: Unlisted,
@@ -271,6 +277,7 @@ impl Sending {
     }
 
     /// Lists what is known at an end, if it is one.
+    #[inline(always)]
     fn list_end(
         &self,
         end: Option<End>,
@@ -285,14 +292,17 @@ impl Sending {
         }
     }
 
-    /// Begins the frames anew, if the direction begins, and lists that it does so without a SYN.
+    /// Begins the frames anew, if the direction begins and is not new, and lists that it does so
+    /// without a SYN.
     #[inline(always)]
     fn begin(
         &mut self,
+        is_new: bool,
         begins: Option<Beginning>,
         origin: &CaptureOrigin,
         listing: &mut Listing<'_>,
     ) -> Result<(), Memory>
+        requires { is_new ≡ true → Took self.old.frames self.old.limit [] }
         ensures same { self.new ≡ record self.old { frames = self.new.frames } }
         ensures service { OnOk result (service_of self.old.frames ≡ self.old.service → service_of self.new.frames ≡ self.old.service) }
         ensures took { OnOk result ((stream : List ℕ) → Took self.old.frames self.old.limit stream → Took self.new.frames self.old.limit (stream_at begins stream)) }
@@ -301,7 +311,9 @@ impl Sending {
         let Some(beginning) = begins else {
             return Ok(());
         };
-        self.frames = Frames::new(self.alloc, self.limit, self.service);
+        if !is_new {
+            self.frames = Frames::new(self.alloc, self.limit, self.service);
+        }
         listing.put_begun(origin)?;
         match beginning {
             Beginning::Syn => Ok(()),

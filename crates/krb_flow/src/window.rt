@@ -43,6 +43,7 @@ impl Window {
 
     /// Keeps octets that were taken. Those that are no longer kept are let go once they are as many
     /// as those that are.
+    #[inline(always)]
     pub(crate) fn push(&mut self, alloc: Global, octets: &[u8]) -> Result<(), Memory>
         ensures most { self.new.most ≡ self.old.most }
         ensures octets { OnOk result (kept_in self.new ≡ last self.old.most (kept_in self.old ++ octets.now)) }
@@ -61,6 +62,7 @@ impl Window {
     }
 
     /// Lets go of the octets that are no longer kept.
+    #[inline(never)]
     fn trim(&mut self, alloc: Global) -> Result<(), Memory>
         ensures most { self.new.most ≡ self.old.most }
         ensures octets { OnOk result (self.new.octets.items ≡ kept_in self.old) }
