@@ -66,7 +66,8 @@ impl<R: Read> CaptureLines<'_, '_, R> {
         ensures put { IfOk result (AddsFileRefusal fault self.old.capture self.old.label.now text.old text.new) }
         ensures fault { IfErr result (λ e. IsWrite e → ⊥) }
         ensures kept { IfErr result (λ e. IsRead e → text.new ≡ text.old) }
-        ensures failed { IfErr result (λ e. IsRead e → (fault ≡ faults.Read) × (self.new.capture ≡ self.old.capture)) }
+        ensures failed { IfErr result (λ e. IsRead e → fault ≡ faults.Read) }
+        ensures same_capture { IfErr result (λ e. IsRead e → self.new.capture ≡ self.old.capture) }
         ensures same_packets { self.new.packets ≡ self.old.packets }
     {
         match fault {
