@@ -24,7 +24,7 @@ use Rattle.krb_tool_laws.proofs.ContentOctets.{IsSegment}
 use Rattle.krb_tool_laws.proofs.FlowOctets.{IsHad, IsState, IsStream, step_is, stream_is}
 use Rattle.krb_tool_laws.proofs.FoundParts.{AreFound, IsFound, Rules, last_found_is, segment_is, untaken_found_is}
 use Rattle.krb_tool_laws.proofs.KeptEntries.{AreKept, chosen, kept_found, kept_inserted, kept_removed}
-use Rattle.krb_tool_laws.proofs.UntakenPlaces.{IsUntaken, reset_untaken, untaken_is}
+use Rattle.krb_tool_laws.proofs.UntakenPlaces.{reset_untaken, untaken_is}
 
 -- ---- what is shown of each
 abbrev pub IsFlow : Flow → Type 0

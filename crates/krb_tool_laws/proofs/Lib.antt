@@ -6,6 +6,8 @@ pub mod ContentOctets
 pub mod DecodedTexts
 pub mod DirectionParts
 pub mod EncodedMessages
+pub mod FileFaults
+pub mod FileReaders
 pub mod FlowOctets
 pub mod FoundParts
 pub mod FragmentOctets

@@ -19,7 +19,7 @@ use Rattle.krb_exchange.specs.declared.sending.Moment.{Moment}
 use Rattle.krb_exchange.specs.declared.sending.Sending.{Sending}
 use Rattle.krb_exchange.specs.declared.sending.What.{What}
 use Rattle.krb_exchange.specs.declared.sending.What.TheVariants as whats
-use Rattle.krb_laws.specs.JsonLaws.{AreCounts, AreToldCounts, CapturesAreJson, IsAnswer, IsError, IsExtent, IsFlowOrigin, IsSmall, IsTold as IsToldIn, PrintsJson}
+use Rattle.krb_laws.specs.JsonLaws.{AreCounts, AreToldCounts, CapturesAreJson, IsAnswer, IsError, IsFlowOrigin, IsSmall, IsTold as IsToldIn, PrintsJson}
 use Rattle.krb_record.specs.Captures.{capture_end_record, capture_refused_record, captured, lost_record, password_record, unanswered_record, unreachable_record, unread_line, unread_record}
 use Rattle.krb_record.specs.Forms.{record_line}
 use Rattle.krb_record.specs.Labels.{Label, line_of}
@@ -42,7 +42,6 @@ use Rattle.krb_record.specs.declared.unreachable.How.{How}
 use Rattle.krb_record.specs.declared.unreachable.How.TheVariants as hows
 use Rattle.krb_run.specs.Extents.{extent_of}
 use Rattle.krb_run.specs.Paths.{field_path}
-use Rattle.krb_source.specs.FileReasons.{file_reason_length}
 use Rattle.krb_source.specs.declared.timestamp.Timestamp.{Timestamp}
 use Rattle.krb_source.specs.declared.unread_why.UnreadWhy.{UnreadWhy}
 use Rattle.krb_text.specs.Laws.{CapturedMessageIsOneLine}
@@ -58,11 +57,12 @@ use Rattle.krb_tool_laws.specs.Listings.{AreLinesOf, CapturesAreLines, IsNamed}
 use Rattle.krb_tool_laws.proofs.CaptureFindings.{AreFindings, IsProgress, after_is, first_is, told_are, totals_are}
 use Rattle.krb_tool_laws.proofs.CaptureListings.{captures_are_listed}
 use Rattle.krb_tool_laws.proofs.CaptureParts.{IsHost}
+use Rattle.krb_tool_laws.proofs.FileReaders.{IsFault, IsSmallFault, small_fault}
 use Rattle.krb_tool_laws.proofs.FoundParts.{IsFound, Rules}
 use Rattle.krb_tool_laws.proofs.KeptEntries.{chosen}
 use Rattle.krb_tool_laws.proofs.Lines.{a_line, and_lines, no_lines}
 use Rattle.krb_tool_laws.proofs.ListedFiles.{path_octets}
-use Rattle.krb_tool_laws.proofs.PacketOctets.{ArePackets, IsFault, IsTime, packets_are}
+use Rattle.krb_tool_laws.proofs.PacketOctets.{ArePackets, IsTime, packets_are}
 use Rattle.krb_tool_laws.proofs.WindowFlows.{AreSendings, AreTold, IsMoment, IsRecordFlow, IsRequested, IsSegmentTold, IsSending, IsTold, before_is, begun_is, error_is, open_is, replied_is, requested_is, segment_is}
 
 pub record Premises : Type 0 where
@@ -234,15 +234,6 @@ both_counts one other counts are = subst AreToldCounts (sym (both_counted one ot
 end_counts_are : (happened : Option Happened) → IsHappened happened → AreToldCounts (end_counts happened)
 end_counts_are None is = no_counts
 end_counts_are (Some happened) is = each_made _ (open_in happened.sendings) happened.counts (λ sending counts are. missed_counts sending.what counts are) is.1
-
--- a fault of a file, with a small place and extent
-record IsSmallFault (fault : Fault) : Type 0 where
-  place : fault.place < 10 ^ 64
-  extent : IsExtent (extent_of fault)
-
-length_small : (size : Option ℕ) → IfSome size (λ n. n < 2 ^ 64) → IfSome size (λ n. n < 10 ^ 64)
-length_small None is = tt
-length_small (Some n) is = omega (arith, is)
 
 module _ (p : Premises) (label : Label) (named : IsNamed label) where
   abbrev AreOurs : List ℕ → Type 0
@@ -445,7 +436,7 @@ faults_are file few is = by (packets file).end refl is
   where
     by : (end : Option Fault) → (packets file).end ≡ end → IfSome end IsFault → IfSome end IsSmallFault
     by None e is = tt
-    by (Some fault) e is = record { place = omega (arith, refusal_in_file file fault e, few); extent = record { at = omega (arith, is.begin); length = length_small (file_reason_length fault.why) is.length } }
+    by (Some fault) e is = small_fault fault (omega (arith, refusal_in_file file fault e, few)) is
 
 pub captures_are_lines : Premises → CapturesAreLines
 captures_are_lines p settings file named are =

@@ -38,7 +38,7 @@ use Rattle.krb_list.specs.Ccaches.{cache_end, cache_record, credential_record}
 use Rattle.krb_list.specs.Keytabs.{keytab_end, printed_record}
 use Rattle.krb_list.specs.Laws.{CacheEndIsOneLine, CacheIsOneLine, CredentialIsOfOctets, CredentialIsOneLine, KeytabEndIsOneLine, PrincipalIsOfOctets, RecordIsOfOctets, RecordIsOneLine}
 use Rattle.krb_laws.specs.JsonFiles.{FilesAreJson, IsRecord}
-use Rattle.krb_laws.specs.JsonLaws.{PrintsJson}
+use Rattle.krb_laws.specs.JsonLaws.{EndsAreJson, PrintsJson}
 use Rattle.krb_laws.proofs.JsonStrings.{all-append}
 use Rattle.krb_record.specs.Forms.{record_line as line_alone}
 use Rattle.krb_record.specs.Labels.{Label, line_of}
@@ -48,11 +48,12 @@ use Rattle.krb_record.specs.Text.{AllAreOctets, IsPrintable, line_feed}
 use Rattle.krb_record.specs.Values.{Printed}
 use Rattle.krb_run.specs.Extents.{extent_of, fault_line}
 use Rattle.krb_run.specs.Paths.{file_path}
-use Rattle.krb_run.specs.Records.{RecordListing, end_of, refused_in, text_of}
-use Rattle.krb_run.specs.declared.run.RunEnd.TheVariants as run
+use Rattle.krb_run.specs.Records.{RecordListing, text_of}
 use Rattle.krb_file_run.specs.Files.{cache_listing, ccache_last, ccache_listing, credentials_listing, field_limit, keytab_last, keytab_listing, records_listing}
 use Rattle.krb_file_run.specs.Lines.{cache_line, credential_line, record_line}
-use Rattle.krb_tool_laws.specs.Listings.{AreLinesBut, AreLinesOf, ArePrintedLines, AreRead, IsNamed}
+use Rattle.krb_tool_laws.specs.Listings.{AreLinesOf, ArePrintedLines, AreRead, IsNamed}
+use Rattle.krb_tool_laws.proofs.FileFaults.{AreSmall, EndsSmall, cache_fault, keytab_fault}
+use Rattle.krb_tool_laws.proofs.FileReaders.{IsSmallFault}
 use Rattle.krb_tool_laws.proofs.Labelled.{labelled_line}
 use Rattle.krb_tool_laws.proofs.Lines.{a_line as a_line_of, and_lines as and_lines_of, each_line as each_line_of, no_lines as no_lines_of}
 use Rattle.krb_tool_laws.proofs.PathOctets.{index_octets, octets_of}
@@ -205,13 +206,6 @@ module _ (refused : FileRefusalIsOneLine) (cache_one : CacheIsOneLine) (credenti
   cache_printed spelled file are =
       started (file_start field_limit file) (credentials field_limit file) (λ start after e. let all = spelled field_limit file start after are e in contents_are start (credentials field_limit file).items _ all.1.spelled)
 
--- a run that is refused is not clean
-never_clean : (item : FileItem) → refused_in item ≡ run.Clean → ⊥
-never_clean places.File e = cc
-never_clean (places.Record zero) e = cc
-never_clean (places.Record (suc count)) e = cc
-never_clean (places.Credential count) e = cc
-
 -- ---- in the form Json, too
 record_fits : (r : Record) (octets : List ℕ) → RecordSpells r octets → RecordIsOfOctets r × IsRecord r
 record_fits (records.Entry e) octets spelled = (record_is (records.Entry e) octets spelled, spelled.0)
@@ -260,21 +254,27 @@ few_in_cache : (limit : Option ℕ) (file : List ℕ) → length (credentials li
 few_in_cache limit file =
     few_of_start limit (length file) (file_start limit file) (λ start t e. Moved-shorter (source_of file) t ((Steps-start (3 ∷ 4 ∷ [])).moves (limited limit) (source_of file) start t e))
 
+-- the line of a refusal, whose numbers are small
+module _ (ends : EndsAreJson) (refused : FileRefusalIsOneLine) (label : Label) (named : IsNamed label) where
+  fault_line_of : (fault : Fault) (item : FileItem) → IsSmallFault fault → AreLinesOf label.form (fault_line label fault (file_path item fault.field))
+  fault_line_of fault item small =
+      a_line_of label named (file_refused_record label.form fault.place fault.why (file_path item fault.field) (extent_of fault)) (refused label.form fault.place fault.why (file_path item fault.field) (extent_of fault) (path_octets item fault.field))
+      (λ json. subst (λ f. PrintsJson (file_refused_record f fault.place fault.why (file_path item fault.field) (extent_of fault))) (sym json) (ends.file fault.place fault.why (file_path item fault.field) (extent_of fault) small.place small.extent))
+
 -- ---- keytabs
-module _ (json : FilesAreJson) (record_one : RecordIsOneLine) (end_one : KeytabEndIsOneLine) (label : Label) (named : IsNamed label) where
+module _ (json : FilesAreJson) (ends : EndsAreJson) (refused : FileRefusalIsOneLine) (record_one : RecordIsOneLine) (end_one : KeytabEndIsOneLine) (label : Label) (named : IsNamed label) where
   fit_lines : (found : List Record) → AllByRecursion (λ r. RecordIsOfOctets r × IsRecord r) found → AreLinesOf label.form (flat_map (record_line label) found)
   fit_lines found are = each_line_of label.form (λ r. RecordIsOfOctets r × IsRecord r) (record_line label) (λ r is. a_line_of label named (printed_record r) (record_one label.form r is.0) (λ _. json.of_record r is.1)) found are
 
-  fit_end : (count : ℕ) (end : Result (Stop × ℕ) Fault) → count < 10 ^ 64 → end_of (places.Record count) end ≡ run.Clean → AreLinesOf label.form (keytab_last label count end)
-  fit_end count (Ok end) few clean = a_line_of label named (keytab_end count end.0) (end_one label.form count end.0) (λ _. json.end_of_keytab count end.0 few)
-  fit_end count (Err fault) few clean = absurd (never_clean (places.Record count) clean)
+  fit_end : (count : ℕ) (end : Result (Stop × ℕ) Fault) → count < 10 ^ 64 → EndsSmall end → AreLinesOf label.form (keytab_last label count end)
+  fit_end count (Ok end) few small = a_line_of label named (keytab_end count end.0) (end_one label.form count end.0) (λ _. json.end_of_keytab count end.0 few)
+  fit_end count (Err fault) few small = fault_line_of ends refused label named fault (places.Record count) small
 
-  pub keytab_lines_of : RecordsAreSpelled → (file : List ℕ) → AreRead file → AreLinesBut label.form (keytab_listing label file)
+  pub keytab_lines_of : RecordsAreSpelled → (file : List ℕ) → AreRead file → AreLinesOf label.form (text_of (keytab_listing label file))
   unfolding keytab_listing
-  keytab_lines_of spelled file are = record {
-    records = lines;
-    whole = λ clean. and_lines_of label.form (flat_map (record_line label) found.items) (keytab_last label (length found.items) found.end) lines (fit_end (length found.items) found.end (omega (arith, few_in_keytab field_limit file, are.1)) clean);
-  }
+  keytab_lines_of spelled file are =
+      and_lines_of label.form (flat_map (record_line label) found.items) (keytab_last label (length found.items) found.end) (fit_lines found.items (by (spelled field_limit file are.0)))
+      (fit_end (length found.items) found.end (omega (arith, few_in_keytab field_limit file, are.1)) (keytab_fault field_limit file are.0 are.1))
     where
       found : Records
       found = keytab_records field_limit file
@@ -282,9 +282,6 @@ module _ (json : FilesAreJson) (record_one : RecordIsOneLine) (end_one : KeytabE
       by : (found.items ≡ []) ⊎ ((size : ℕ) × AreFirst file found.items size × AreBefore size found.end) → AllByRecursion (λ r. RecordIsOfOctets r × IsRecord r) found.items
       by (inl none) = subst (AllByRecursion (λ r. RecordIsOfOctets r × IsRecord r)) (sym none) tt
       by (inr some) = records_fit found.items some.1.spelled.0 some.1.spelled.1
-
-      lines : AreLinesOf label.form (flat_map (record_line label) found.items)
-      lines = fit_lines found.items (by (spelled field_limit file are.0))
 
 -- ---- caches
 -- what is read fits, and is of octets
@@ -307,30 +304,29 @@ contents_fit start found octets (inr (version, v, spelled, same)) =
       each = subst (λ (c : Ccache). AllByRecursion CredentialFits c.credentials) same (all3 v.credentials spelled.fits.credentials);
     }
 
-module _ (json : FilesAreJson) (cache_one : CacheIsOneLine) (credential_one : CredentialIsOneLine) (end_one : CacheEndIsOneLine) (label : Label) (named : IsNamed label) (now : Option ℕ) where
+module _ (json : FilesAreJson) (ends : EndsAreJson) (refused : FileRefusalIsOneLine) (cache_one : CacheIsOneLine) (credential_one : CredentialIsOneLine) (end_one : CacheEndIsOneLine) (label : Label) (named : IsNamed label) (now : Option ℕ) where
   fit_credentials : (found : List Credential) → AllByRecursion CredentialFits found → AreLinesOf label.form (flat_map (credential_line label now) found)
   fit_credentials found fit =
       each_line_of label.form CredentialFits (credential_line label now)
       (λ c fits. a_line_of label named (credential_record label.form now c) (credential_one label.form now c (credential_is c fits)) (λ is. subst (λ f. PrintsJson (credential_record f now c)) (sym is) (json.credential now c fits))) found fit
 
-  fit_cache_end : (count : ℕ) (end : Result ℕ Fault) → count < 10 ^ 64 → end_of (places.Credential count) end ≡ run.Clean → AreLinesOf label.form (ccache_last label count end)
-  fit_cache_end count (Ok size) few clean = a_line_of label named (cache_end count) (end_one label.form count) (λ _. json.end_of_cache count few)
-  fit_cache_end count (Err fault) few clean = absurd cc
+  fit_cache_end : (count : ℕ) (end : Result ℕ Fault) → count < 10 ^ 64 → EndsSmall end → AreLinesOf label.form (ccache_last label count end)
+  fit_cache_end count (Ok size) few small = a_line_of label named (cache_end count) (end_one label.form count) (λ _. json.end_of_cache count few)
+  fit_cache_end count (Err fault) few small = fault_line_of ends refused label named fault (places.Credential count) small
 
-  started_lines : (r : Result (Start × Source) Fault) (found : CacheItems Credential) → length found.items < 10 ^ 64 → ((start : Start) (after : Source) → r ≡ Ok (start, after) → Fit start found.items) → AreLinesBut label.form (cache_listing label now r found)
-  started_lines (Err fault) found few fit = record { records = no_lines_of label.form; whole = λ clean. absurd cc }
-  started_lines (Ok (start, after)) found few fit =
+  started_lines : (r : Result (Start × Source) Fault) (found : CacheItems Credential) → length found.items < 10 ^ 64 → AreSmall r found → ((start : Start) (after : Source) → r ≡ Ok (start, after) → Fit start found.items) → AreLinesOf label.form (text_of (cache_listing label now r found))
+  started_lines (Err fault) found few small fit = fault_line_of ends refused label named fault places.File small.start_small
+  started_lines (Ok (start, after)) found few small fit =
       let its = fit start after refl in
       let line : List ℕ = cache_line label start.header start.principal in
+      let others : RecordListing = credentials_listing label now found in
       let first = a_line_of label named (cache_record start.header start.principal) (cache_one label.form start.header start.principal (principal_is start.principal its.principal)) (λ _. json.cache start.header start.principal its.header its.principal) in
-      let lines = and_lines_of label.form line (flat_map (credential_line label now) found.items) first (fit_credentials found.items its.each) in
-      record {
-        records = lines;
-        whole = λ clean. and_lines_of label.form (line ++ flat_map (credential_line label now) found.items) (ccache_last label (length found.items) found.end) lines (fit_cache_end (length found.items) found.end few clean);
-      }
+      subst (AreLinesOf label.form) (sym (append_assoc line others.lines others.last))
+      (and_lines_of label.form line (text_of others) first
+      (and_lines_of label.form (flat_map (credential_line label now) found.items) (ccache_last label (length found.items) found.end) (fit_credentials found.items its.each) (fit_cache_end (length found.items) found.end few small.end_small)))
 
-  pub cache_lines_of : CredentialsAreSpelled → (file : List ℕ) → AreRead file → AreLinesBut label.form (ccache_listing label now file)
+  pub cache_lines_of : CredentialsAreSpelled → (file : List ℕ) → AreRead file → AreLinesOf label.form (text_of (ccache_listing label now file))
   unfolding ccache_listing
   cache_lines_of spelled file are =
-      started_lines (file_start field_limit file) (credentials field_limit file) (omega (arith, few_in_cache field_limit file, are.1))
+      started_lines (file_start field_limit file) (credentials field_limit file) (omega (arith, few_in_cache field_limit file, are.1)) (cache_fault field_limit file are.0 are.1)
       (λ start after e. let all = spelled field_limit file start after are.0 e in contents_fit start (credentials field_limit file).items _ all.1.spelled)

@@ -9,7 +9,7 @@ use Rattle.std.specs.Int.{Width, byte_len, w16, w32, w8}
 use Rattle.krb_der.specs.Octets.{AreOctets, when}
 use Rattle.krb_der.specs.inner.Numbers.{AreOctets-append, AreOctets-drop, AreOctets-take}
 use Rattle.krb_file.specs.Fields.{Bounds, Fault, Reader, Source, ◌>>=◌, and_then, begun_at, bound_of, called, ended, exceeds, in_part, is_at_end, is_empty, limited, next_octets_at, number_at, octets_at, octets_to_end, refused, refused_at, source_of, succeed, with_name, with_part}
-use Rattle.krb_file.proofs.Fields.{IsWide, wide16, wide32}
+use Rattle.krb_file.proofs.Fields.{IsWide, wide16, wide32, wide8}
 use Rattle.krb_file.specs.FieldReaders.{skipped_at}
 use Rattle.krb_file.specs.declared.field_name.FieldName.{FieldName}
 use Rattle.krb_file.specs.declared.field_name.FieldName.TheVariants as fields
@@ -50,120 +50,24 @@ use Rattle.krb_packet.specs.declared.pcap.Magic.{Magic}
 use Rattle.krb_packet.specs.declared.pcap.PacketHead.{PacketHead}
 use Rattle.krb_packet.specs.declared.pcap.Magic.TheVariants as magics
 use Rattle.krb_tool_laws.proofs.CaptureParts.{either_has}
+use Rattle.krb_tool_laws.proofs.FileReaders.{Anything, AreAtMost, Gives, IsBelow, IsFault, IsRead, IsReason, IsSource, any_gives, begun_read, called_gives, either_gives, either_read, gives, limited_read, named_read, number_gives, octets_give, part_gives, piece_gives, skipped_gives, then_gives}
 
--- ---- readers of octets
--- octets that are not read yet, in a file of fewer than 2^64
-record IsSource (source : Source) : Type 0 where
-  octets : AreOctets source.octets
-  few : source.place + length source.octets < 2 ^ 64
-
--- the length that is at fault, if one is
-abbrev IsReason : FileWhy → Type 0
-IsReason reason = IfSome (file_reason_length reason) (λ n. n < 2 ^ 64)
-
--- where the part begins that is at fault
-pub record IsFault (fault : Fault) : Type 0 where
-  pub begin : fault.begin < 2 ^ 65
-  pub length : IsReason fault.why
-
--- a value that was read, after which octets are left
-abbrev IsRead : {A : Type 0} → (A → Type 0) → Result (A × Source) Fault → Type 0
-IsRead P (Ok read) = P read.0 × IsSource read.1
-IsRead P (Err fault) = IsFault fault
-
-record Gives {A : Type 0} (P : A → Type 0) (reader : Reader A) : Type 0 where
-  each : (bounds : Bounds) (source : Source) → IsSource source → IsRead P (reader bounds source)
-
-abbrev Anything : {A : Type 0} → A → Type 0
-Anything value = Unit {0}
-
-then_read : {A B : Type 0} (P : A → Type 0) (Q : B → Type 0) (next : A → Reader B) (bounds : Bounds) (read : Result (A × Source) Fault) → IsRead P read → ((value : A) → P value → Gives Q (next value)) → IsRead Q (and_then read (λ r. next r.0 bounds r.1))
-then_read P Q next bounds (Err fault) is others = is
-then_read P Q next bounds (Ok read) is others = (others read.0 is.0).each bounds read.1 is.1
-
-then_gives : {A B : Type 0} (P : A → Type 0) (Q : B → Type 0) (reader : Reader A) (next : A → Reader B) → Gives P reader → ((value : A) → P value → Gives Q (next value)) → Gives Q (reader >>= next)
-then_gives P Q reader next first others = record { each = λ bounds source are. then_read P Q next bounds (reader bounds source) (first.each bounds source are) others }
-
-gives : {A : Type 0} (P : A → Type 0) (value : A) → P value → Gives P (succeed value)
-gives P value is = record { each = λ bounds source are. (is, are) }
-
-named_read : {A : Type 0} (P : A → Type 0) (field : Option FileField → Option FileField) (read : Result (A × Source) Fault) → IsRead P read → IsRead P (refused_at field read)
-named_read P field (Ok read) is = is
-named_read P field (Err fault) is = record { begin = is.begin; length = is.length }
-
-begun_read : {A : Type 0} (P : A → Type 0) (place : ℕ) (read : Result (A × Source) Fault) → place < 2 ^ 64 → IsRead P read → IsRead P (begun_at place read)
-begun_read P place (Ok read) small is = is
-begun_read P place (Err fault) small is = record { begin = omega (arith, small); length = is.length }
-
+-- ---- readers of captures
 moved_read : {A : Type 0} (P : A → Type 0) (place : ℕ) (read : Result (A × Source) Fault) → IsRead P read → IsRead P (moved_to place read)
 moved_read P place (Ok read) is = is
 moved_read P place (Err fault) is = record { begin = is.begin; length = is.length }
 
-called_gives : {A : Type 0} (P : A → Type 0) (name : FieldName) (reader : Reader A) → Gives P reader → Gives P (called name reader)
-called_gives P name reader g = record { each = λ bounds source are. named_read P (with_name name) (reader bounds source) (g.each bounds source are) }
-
 from_gives : {A : Type 0} (P : A → Type 0) (part : FilePart) (place : ℕ) (reader : Reader A) → place < 2 ^ 64 → Gives P reader → Gives P (part_from part place reader)
-from_gives P part place reader small g = record { each = λ bounds source are. begun_read P place (refused_at (with_part part) (reader bounds source)) small (named_read P (with_part part) (reader bounds source) (g.each bounds source are)) }
-
-part_gives : {A : Type 0} (P : A → Type 0) (part : FilePart) (reader : Reader A) → Gives P reader → Gives P (in_part part reader)
-part_gives P part reader g = record { each = λ bounds source are. (from_gives P part source.place reader (omega (arith, are.few)) g).each bounds source are }
+from_gives P part place reader small g = record { each = λ bounds source near are. begun_read P place (refused_at (with_part part) (reader bounds source)) small (named_read P (with_part part) (reader bounds source) (g.each bounds source near are)) }
 
 moved_gives : {A : Type 0} (P : A → Type 0) (place : ℕ) (reader : Reader A) → Gives P reader → Gives P (moved_at place reader)
-moved_gives P place reader g = record { each = λ bounds source are. moved_read P place (reader bounds source) (g.each bounds source are) }
+moved_gives P place reader g = record { each = λ bounds source near are. moved_read P place (reader bounds source) (g.each bounds source near are) }
 
 here_gives : {A : Type 0} (P : A → Type 0) (reader : ℕ → Reader A) → ((place : ℕ) → place < 2 ^ 64 → Gives P (reader place)) → Gives P (from_here reader)
-here_gives P reader g = record { each = λ bounds source are. (g source.place (omega (arith, are.few))).each bounds source are }
+here_gives P reader g = record { each = λ bounds source near are. (g source.place (omega (arith, are.few))).each bounds source near are }
 
--- ---- octets and numbers
-either_read : {A : Type 0} (P : A → Type 0) (test : Bool) (one other : Unit {0} → Result (A × Source) Fault) → IsRead P (one tt) → IsRead P (other tt) → IsRead P (when test one other)
-either_read P true one other a b = a
-either_read P false one other a b = b
-
-either_gives : {A : Type 0} (P : A → Type 0) (test : Bool) (one other : Unit {0} → Reader A) → Gives P (one tt) → Gives P (other tt) → Gives P (when test one other)
-either_gives P true one other a b = a
-either_gives P false one other a b = b
-
--- octets, at most so many
-abbrev AreAtMost : ℕ → List ℕ → Type 0
-AreAtMost size octets = AreOctets octets × (length octets ≤ size)
-
-refused_here : {A : Type 0} (P : A → Type 0) (source : Source) (reason : FileWhy) → IsSource source → IsReason reason → IsRead P (refused source reason)
-refused_here P source reason are is = record { begin = omega (arith, are.few); length = is }
-
--- a size is compared with a limit only if there is one
-piece_read : (limit : Option ℕ) (size : ℕ) (bounds : Bounds) (source : Source) → IfSome limit (λ most. size < 2 ^ 64) → IsSource source → IsRead (AreAtMost size) (next_octets_at limit size bounds source)
-piece_read limit size bounds source small are =
-    either_read (AreAtMost size) (exceeds (source.place + size) bounds.end) _ _ (refused_here (AreAtMost size) source why.Overrun are tt) (unless_long limit small)
-  where
-    piece : Bool → Result (List ℕ × Source) Fault
-    piece short = when short (λ _. refused source why.Truncated) (λ _. Ok (take size source.octets, record { place = source.place + size; octets = drop size source.octets }))
-
-    taken : (short : Bool) → nat_lt (length source.octets) size ≡ short → IsRead (AreAtMost size) (piece short)
-    taken true e = refused_here (AreAtMost size) source why.Truncated are tt
-    taken false e = (
-      (AreOctets-take size source.octets are.octets, omega (arith, length-take size source.octets)),
-      record { octets = AreOctets-drop size source.octets are.octets; few = omega (arith, are.few, length-drop size source.octets, ltb-false (length source.octets) size e) },
-    )
-
-    unless_long : (most : Option ℕ) → IfSome most (λ most. size < 2 ^ 64) → IsRead (AreAtMost size) (when (exceeds size most) (λ _. refused source (why.TooLong size)) (λ _. piece (nat_lt (length source.octets) size)))
-    unless_long None few = taken (nat_lt (length source.octets) size) refl
-    unless_long (Some most) few = either_read (AreAtMost size) (nat_lt most size) _ _ (refused_here (AreAtMost size) source (why.TooLong size) are few) (taken (nat_lt (length source.octets) size) refl)
-
-piece_gives : (size : ℕ) → Gives (AreAtMost size) (next_octets_at None size)
-piece_gives size = record { each = λ bounds source are. piece_read None size bounds source tt are }
-
-limited_read : (size : ℕ) (bounds : Bounds) (source : Source) → size < 2 ^ 64 → IsSource source → IsRead (AreAtMost size) (octets_at size bounds source)
-limited_read size bounds source small are = piece_read bounds.limit size bounds source (by bounds.limit) are
-  where
-    by : (limit : Option ℕ) → IfSome limit (λ most. size < 2 ^ 64)
-    by None = tt
-    by (Some most) = small
-
-octets_give : (size : ℕ) → size < 2 ^ 64 → Gives (AreAtMost size) (octets_at size)
-octets_give size small = record { each = λ bounds source are. limited_read size bounds source small are }
-
-most_give : (most : ℕ) → most < 2 ^ 64 → Gives (AreAtMost most) (most_octets_at most)
-most_give most small = record { each = λ bounds source are. fewer (min most (octets_to_end bounds.end source.place)) bounds source (omega arith) are }
+most_give : (most : ℕ) → most < 2 ^ 65 → Gives (AreAtMost most) (most_octets_at most)
+most_give most small = record { each = λ bounds source near are. fewer (min most (octets_to_end bounds.end source.place)) bounds source (omega arith) are }
   where
     weaken : (size : ℕ) (read : Result (List ℕ × Source) Fault) → size ≤ most → IsRead (AreAtMost size) read → IsRead (AreAtMost most) read
     weaken size (Ok read) less is = ((is.0.0, omega (arith, is.0.1, less)), is.1)
@@ -172,10 +76,6 @@ most_give most small = record { each = λ bounds source are. fewer (min most (oc
     fewer : (size : ℕ) (bounds : Bounds) (source : Source) → size ≤ most → IsSource source → IsRead (AreAtMost most) (octets_at size bounds source)
     fewer size bounds source less are = weaken size (octets_at size bounds source) less (limited_read size bounds source (omega (arith, less, small)) are)
 
--- a number of a width
-abbrev IsBelow : Width → ℕ → Type 0
-IsBelow width n = n < bound_of width
-
 reversed_are : (octets : List ℕ) → AreOctets octets → AreOctets (reverse octets)
 reversed_are [] are = tt
 reversed_are (octet ∷ octets) are = subst AreOctets (sym (reverse-cons octet octets)) (AreOctets-append (reverse octets) (octet ∷ []) (reversed_are octets are.1) (are.0, tt))
@@ -183,9 +83,6 @@ reversed_are (octet ∷ octets) are = subst AreOctets (sym (reverse-cons octet o
 in_order_small : (width : Width) → IsWide width → (order : ByteOrder) (octets : List ℕ) → AreOctets octets → IsBelow width (in_order width order octets)
 in_order_small width wide orders.BigEndian octets are = wide.below octets are
 in_order_small width wide orders.LittleEndian octets are = wide.below (reverse octets) (reversed_are octets are)
-
-number_gives : (width : Width) → Gives Anything (number_at width)
-number_gives width = then_gives (AreAtMost (byte_len width)) Anything (next_octets_at None (byte_len width)) _ (piece_gives (byte_len width)) (λ octets is. gives Anything _ tt)
 
 number_in_gives : (width : Width) → IsWide width → (order : ByteOrder) → Gives (IsBelow width) (number_in width order)
 number_in_gives width wide order =
@@ -205,7 +102,7 @@ either_checked P false one other a b = b
 
 checked_gives : {A : Type 0} (P : A → Type 0) (name : FieldName) (place : ℕ) (checked : Result A FileWhy) → place < 2 ^ 65 → IsChecked P checked → Gives P (checked_at name place checked)
 checked_gives P name place (Ok value) small is = gives P value is
-checked_gives P name place (Err reason) small is = record { each = λ bounds source are. record { begin = small; length = is } }
+checked_gives P name place (Err reason) small is = record { each = λ bounds source near are. record { begin = small; length = is } }
 
 checked_number_gives : {A : Type 0} (P : A → Type 0) (name : FieldName) (width : Width) → IsWide width → (order : ByteOrder) (check : ℕ → Result A FileWhy) → ((n : ℕ) → IsBelow width n → IsChecked P (check n)) → Gives P (checked_number name width order check)
 checked_number_gives P name width wide order check each =
@@ -277,9 +174,9 @@ IsPacketIf packet = IfSome packet IsPacket
 
 next_gives : (header : Header) (count : ℕ) → count < 2 ^ 64 → Gives IsPacketIf (next_at header count)
 next_gives header count small = record {
-  each = λ bounds source are.
+  each = λ bounds source near are.
       either_read IsPacketIf (is_empty source.octets) (λ _. Ok (None, source)) (λ _. (packet_at header count >>= λ packet. succeed (Some packet)) bounds source) (tt, are)
-      ((then_gives IsPacket IsPacketIf (packet_at header count) (λ packet. succeed (Some packet)) (packet_gives header count small) (λ packet is. gives IsPacketIf (Some packet) is)).each bounds source are);
+      ((then_gives IsPacket IsPacketIf (packet_at header count) (λ packet. succeed (Some packet)) (packet_gives header count small) (λ packet is. gives IsPacketIf (Some packet) is)).each bounds source near are);
 }
 
 no_length : {A : Type 0} (test : Bool) (value : A) (reason : FileWhy) → IsReason reason → IsChecked Anything (when test (λ _. Ok value) (λ _. Err reason))
@@ -288,9 +185,9 @@ no_length test value reason is = either_checked Anything test (λ _. Ok value) (
 header_gives : (form : Form) → Gives Anything (header_at form)
 header_gives form =
     then_gives Anything Anything (checked_number fields.Version w32 form.order (version form.order)) _ (checked_number_gives Anything fields.Version w32 wide32 form.order (version form.order) (λ n _. no_length _ tt why.Version tt)) (λ _ _.
-    then_gives Anything Anything (called fields.ThisZone (number_at w32)) _ (called_gives Anything fields.ThisZone (number_at w32) (number_gives w32)) (λ _ _.
-    then_gives Anything Anything (called fields.SigFigs (number_at w32)) _ (called_gives Anything fields.SigFigs (number_at w32) (number_gives w32)) (λ _ _.
-    then_gives Anything Anything (called fields.SnapLen (number_at w32)) _ (called_gives Anything fields.SnapLen (number_at w32) (number_gives w32)) (λ _ _.
+    then_gives Anything Anything (called fields.ThisZone (number_at w32)) _ (called_gives Anything fields.ThisZone (number_at w32) (any_gives (IsBelow w32) (number_at w32) (number_gives w32 wide32))) (λ _ _.
+    then_gives Anything Anything (called fields.SigFigs (number_at w32)) _ (called_gives Anything fields.SigFigs (number_at w32) (any_gives (IsBelow w32) (number_at w32) (number_gives w32 wide32))) (λ _ _.
+    then_gives Anything Anything (called fields.SnapLen (number_at w32)) _ (called_gives Anything fields.SnapLen (number_at w32) (any_gives (IsBelow w32) (number_at w32) (number_gives w32 wide32))) (λ _ _.
     then_gives (IsBelow w32) Anything (field_in fields.LinkType w32 form.order) _ (field_gives fields.LinkType w32 wide32 form.order) (λ link _.
     gives Anything _ tt)))))
 
@@ -352,16 +249,13 @@ simple_gives order count interfaces few =
     gives IsPacket _ (record { number = omega (arith, few); octets = are.0; few = omega (arith, are.1, less, small); size = omega (arith, small); time = tt }))))
 
 -- options of an interface, of which the values are not looked at here
-skipped_octets : (size : ℕ) → Gives Anything (skipped_at size)
-skipped_octets size = then_gives (AreAtMost size) Anything (next_octets_at None size) _ (piece_gives size) (λ octets _. gives Anything _ tt)
-
 value_gives : (order : ByteOrder) (code size : ℕ) → Gives Anything (value_at order code size)
 value_gives order code size =
     either_gives Anything (code == 9 && size == 1) _ _
-    (then_gives Anything Anything (number_at w8) _ (number_gives w8) (λ octet _. then_gives Anything Anything (skipped_at 3) _ (skipped_octets 3) (λ zeros _. gives Anything _ tt)))
+    (then_gives Anything Anything (number_at w8) _ (any_gives (IsBelow w8) (number_at w8) (number_gives w8 wide8)) (λ octet _. then_gives Anything Anything (skipped_at 3) _ (skipped_gives 3) (λ zeros _. gives Anything _ tt)))
     (either_gives Anything (code == 14 && size == 8) _ _
     (then_gives (AreAtMost 8) Anything (next_octets_at None 8) _ (piece_gives 8) (λ octets _. gives Anything _ tt))
-    (then_gives Anything Anything (skipped_at (padded size)) _ (skipped_octets (padded size)) (λ zeros _. gives Anything _ tt)))
+    (then_gives Anything Anything (skipped_at (padded size)) _ (skipped_gives (padded size)) (λ zeros _. gives Anything _ tt)))
 
 setting_gives : (order : ByteOrder) → Gives Anything (setting_at order)
 setting_gives order =
@@ -379,13 +273,13 @@ after_setting_gives found (Some setting) others each = each (with_setting settin
 options_within_give : (bound : ℕ) (order : ByteOrder) (found : Options) → Gives Anything (options_within bound order found)
 options_within_give zero order found = gives Anything found tt
 options_within_give (suc bound) order found = record {
-  each = λ bounds source are.
+  each = λ bounds source near are.
       (either_gives Anything (is_at_end bounds source) (λ _. succeed found) (λ _. option_at order >>= λ setting. after_setting found setting (options_within bound order)) (gives Anything found tt)
-      (then_gives Anything Anything (option_at order) _ (option_gives order) (λ setting _. after_setting_gives found setting (options_within bound order) (options_within_give bound order)))).each bounds source are;
+      (then_gives Anything Anything (option_at order) _ (option_gives order) (λ setting _. after_setting_gives found setting (options_within bound order) (options_within_give bound order)))).each bounds source near are;
 }
 
 options_give : (order : ByteOrder) → Gives Anything (options_at order)
-options_give order = record { each = λ bounds source are. (options_within_give (octets_to_end bounds.end source.place) order no_options).each bounds source are }
+options_give order = record { each = λ bounds source near are. (options_within_give (octets_to_end bounds.end source.place) order no_options).each bounds source near are }
 
 interface_gives : (order : ByteOrder) → Gives Anything (interface_at order)
 interface_gives order =
@@ -419,16 +313,16 @@ content_gives kinds.Other order count interfaces few = gives IsContent contents.
 body_is : (kind : BlockKind) (order : ByteOrder) (count : ℕ) (interfaces : List Interface) (body : List ℕ) → count < 2 ^ 64 → AreAtMost (2 ^ 32) body → IsValue (in_body (content_at kind order count interfaces) body)
 body_is kind order count interfaces body few are =
     value_is (content_at kind order count interfaces (ended (Some (length body))) (source_of body))
-    ((content_gives kind order count interfaces few).each (ended (Some (length body))) (source_of body) (record { octets = are.0; few = omega (arith, are.1) }))
+    ((content_gives kind order count interfaces few).each (ended (Some (length body))) (source_of body) (omega (arith, are.1)) (record { octets = are.0; few = omega (arith, are.1) }))
 
 in_file_gives : (begin : ℕ) (content : Result Content Fault) → IsValue content → Gives IsContent (content_in_file begin content)
 in_file_gives begin (Ok content) is = gives IsContent content is
-in_file_gives begin (Err fault) is = record { each = λ bounds source are. record { begin = is.begin; length = is.length } }
+in_file_gives begin (Err fault) is = record { each = λ bounds source near are. record { begin = is.begin; length = is.length } }
 
-skipped_gives : (head : Head) → Gives IsContent (skipped_body head)
-skipped_gives head =
+passed_gives : (head : Head) → Gives IsContent (skipped_body head)
+passed_gives head =
     then_gives Anything IsContent (called fields.Body (skipped_at head.left)) (λ zeros. succeed contents.Other)
-    (called_gives Anything fields.Body (skipped_at head.left) (skipped_octets head.left))
+    (called_gives Anything fields.Body (skipped_at head.left) (skipped_gives head.left))
     (λ zeros _. gives IsContent contents.Other tt)
 
 -- what is left of a block
@@ -443,7 +337,7 @@ read_gives kind section count place head few small =
     (λ octets are. in_file_gives begin (in_body (content_at kind head.order count section.interfaces) octets) (body_is kind head.order count section.interfaces octets few (are.0, omega (arith, are.1, small)))))
 
 body_gives : (kind : BlockKind) (section : Section) (count place : ℕ) (head : Head) → count < 2 ^ 64 → IsHead head → Gives IsContent (body_in kind section count place head)
-body_gives kinds.Other section count place head few small = skipped_gives head
+body_gives kinds.Other section count place head few small = passed_gives head
 body_gives kinds.Section section count place head few small = read_gives kinds.Section section count place head few small
 body_gives kinds.Interface section count place head few small = read_gives kinds.Interface section count place head few small
 body_gives kinds.OldPacket section count place head few small = read_gives kinds.OldPacket section count place head few small
@@ -508,9 +402,9 @@ block_after_gives kind section count few =
 
 kind_gives : (order : ByteOrder) → Gives Anything (next_kind_at order)
 kind_gives order = record {
-  each = λ bounds source are.
+  each = λ bounds source near are.
       either_read Anything (is_empty source.octets) (λ _. Ok (None, source)) (λ _. (field_in fields.Type w32 order >>= λ number. succeed (Some (block_kind number))) bounds source) (tt, are)
-      ((then_gives (IsBelow w32) Anything (field_in fields.Type w32 order) (λ number. succeed (Some (block_kind number))) (field_gives fields.Type w32 wide32 order) (λ number _. gives Anything (Some (block_kind number)) tt)).each bounds source are);
+      ((then_gives (IsBelow w32) Anything (field_in fields.Type w32 order) (λ number. succeed (Some (block_kind number))) (field_gives fields.Type w32 wide32 order) (λ number _. gives Anything (Some (block_kind number)) tt)).each bounds source near are);
 }
 
 after_kind_gives : (section : Section) (count : ℕ) (kind : Option BlockKind) → count < 2 ^ 64 → Gives IsNext (after_kind section count kind)
@@ -554,7 +448,7 @@ steps_give bound count (Ok (nexts.End, source)) few is others = record { each = 
 within_give : (bound : ℕ) (format : Format) (count : ℕ) (source : Source) → count + bound ≤ 2 ^ 64 → IsSource source → ArePackets (packets_within bound format count source)
 within_give zero format count source few are = record { each = tt; end = tt }
 within_give (suc bound) format count source few are =
-    steps_give bound count (next_in format count (limited (Some most_captured)) source) few ((step_gives format count (omega (arith, few))).each (limited (Some most_captured)) source are) (within_give bound)
+    steps_give bound count (next_in format count (limited (Some most_captured)) source) few ((step_gives format count (omega (arith, few))).each (limited (Some most_captured)) source tt are) (within_give bound)
 
 pub packets_are : (file : List ℕ) → AreOctets file → length file < 2 ^ 64 → ArePackets (packets file)
 packets_are file are few = within_give (suc (length file)) formats.Unknown 0 (source_of file) (omega (arith, few)) (record { octets = are; few = omega (arith, few) })

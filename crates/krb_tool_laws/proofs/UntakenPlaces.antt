@@ -1,5 +1,5 @@
 -- Octets of a segment that are not taken are at places below 2^64, and fewer than 2^64.
-use Rattle.std.proofs.Common.{◌≡◌, ℕ, ◌+◌, ◌-◌, ◌%◌, ◌^◌, ◌<◌, ◌≤◌, nat_lt, ◌&&◌, Bool, true, false, if◌then◌else◌, List, [], ◌∷◌, length, drop, Option, Some, None, IfSome, arith, length-drop}
+use Rattle.std.proofs.Common.{ℕ, ◌+◌, ◌-◌, ◌%◌, ◌^◌, ◌<◌, ◌≤◌, nat_lt, ◌&&◌, Bool, true, false, if◌then◌else◌, List, [], ◌∷◌, length, Option, Some, None, IfSome, arith, length-drop}
 use Rattle.std.specs.Prelude.{min, slice_get}
 use Rattle.std.specs.List.{AllByRecursion}
 use Rattle.krb_der.specs.Octets.{when}
@@ -10,7 +10,7 @@ use Rattle.krb_flow.specs.Copies.{differing, old_of}
 use Rattle.krb_flow.specs.Directions.{begins, distance_to, first_number, is_copy_of, is_far, passes_all, start}
 use Rattle.krb_flow.specs.Progress.{Progress}
 use Rattle.krb_flow.specs.Serial.{behind}
-use Rattle.krb_flow.specs.Unread.{before_first, differs_after, differs_in, distance_after, if_any, is_keep_alive, is_keep_alive_after, nothing, octets_in, of_before, of_differing, of_far, of_reset, place_in, untaken_after, untaken_at, untaken_copy, untaken_in, untaken_near, untaken_of}
+use Rattle.krb_flow.specs.Unread.{before_first, differs_after, differs_in, distance_after, if_any, is_keep_alive, is_keep_alive_after, nothing, octets_in, of_before, of_differing, of_far, of_reset, place_in, untaken_at, untaken_copy, untaken_in, untaken_near, untaken_of}
 use Rattle.krb_flow.specs.Window.{recent, stream_at}
 use Rattle.krb_flow.specs.declared.direction.State.{State}
 use Rattle.krb_flow.specs.declared.direction.State.TheVariants.{Fresh, Open, Ended}

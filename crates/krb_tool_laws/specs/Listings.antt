@@ -12,8 +12,7 @@ use Rattle.krb_record.specs.Labels.{Label}
 use Rattle.krb_record.specs.Text.{IsPrintable, line_feed}
 use Rattle.krb_record.specs.declared.form.Form.{Form}
 use Rattle.krb_record.specs.declared.form.Form.TheVariants as forms
-use Rattle.krb_run.specs.Records.{RecordListing, text_of}
-use Rattle.krb_run.specs.declared.run.RunEnd.TheVariants as run
+use Rattle.krb_run.specs.Records.{text_of}
 use Rattle.krb_tool.specs.GoingOn.{AreCountedLines, IsCountedListing}
 use Rattle.krb_tool.specs.Listing.{AreLines, IsListing}
 use Rattle.krb_tool.specs.MessageLines.{lines_listed}
@@ -61,16 +60,12 @@ KeytabsArePrinted = (label : Label) (file : List ℕ) → IsNamed label → AreO
 abbrev pub CachesArePrinted : Type 0
 CachesArePrinted = (label : Label) (now : Option ℕ) (file : List ℕ) → IsNamed label → AreOctets file → ArePrintedLines (text_of (ccache_listing label now file))
 
--- The listing of a file is lines in its form, but for the line of a refusal: the lines of its records, and all of it if nothing is refused.
-pub record AreLinesBut (form : Form) (listing : RecordListing) : Type 0 where
-  pub records : AreLinesOf form listing.lines
-  pub whole : listing.end ≡ run.Clean → AreLinesOf form (text_of listing)
-
+-- these are lines in their form
 abbrev pub KeytabsAreLines : Type 0
-KeytabsAreLines = (label : Label) (file : List ℕ) → IsNamed label → AreRead file → AreLinesBut label.form (keytab_listing label file)
+KeytabsAreLines = (label : Label) (file : List ℕ) → IsNamed label → AreRead file → AreLinesOf label.form (text_of (keytab_listing label file))
 
 abbrev pub CachesAreLines : Type 0
-CachesAreLines = (label : Label) (now : Option ℕ) (file : List ℕ) → IsNamed label → AreRead file → AreLinesBut label.form (ccache_listing label now file)
+CachesAreLines = (label : Label) (now : Option ℕ) (file : List ℕ) → IsNamed label → AreRead file → AreLinesOf label.form (text_of (ccache_listing label now file))
 
 -- ---- captures
 -- the listing of a capture

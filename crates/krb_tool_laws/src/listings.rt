@@ -56,9 +56,8 @@ pub fn files_are_printed()
     end_is_one_line();
 }
 
-/// In the form Json each of these lines is one JSON text in which no object has a name twice, but
-/// that of a refusal, of which [`ends_are_json`](krb_laws::objects::ends_are_json) says it of numbers
-/// of at most 64 digits: those of all records, and all of them if nothing is refused.
+/// If it has fewer than 2^64 octets, each of these lines is in the form Json one JSON text in which no
+/// object has a name twice, also that of a refusal.
 pub fn files_are_lines()
     ensures keytab { KeytabsAreLines }
     ensures ccache { CachesAreLines }
@@ -67,7 +66,9 @@ pub fn files_are_lines()
     credentials_are_spelled();
     keytab_is_one_line_each();
     ccache_is_one_line_each();
+    end_is_one_line();
     files_are_json();
+    ends_are_json();
 }
 
 /// Whatever octets a capture has, fewer than 2^64, and whatever octets name its file, each line of its
