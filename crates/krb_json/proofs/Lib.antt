@@ -8,6 +8,7 @@ mod Texts
 pub mod Messages
 mod FirstOctets
 mod Walks
+mod Zeros
 mod Measures
 mod Searches
 mod ReadLemmas

@@ -9,7 +9,7 @@ ghost use Rattle.krb_msg.specs.Table.{IsNode, IsSlot, fields_from};
 ghost use Rattle.krb_msg.specs.Views.{message_der, IsInProfile};
 ghost use Rattle.krb_msg.specs.declared.message.Message.{Message};
 ghost use Rattle.krb_json.specs.Unencrypted.{is_encrypted_data, unencrypted_in};
-ghost use Rattle.krb_json.specs.inner.Searching.{AreUnencrypted, BeginWithZero, Finds, FindsInFields, FindsInItems, FindsInMessage, IsZero, is_single_zero};
+ghost use Rattle.krb_json.specs.inner.Searching.{AreUnencrypted, BeginWithZero, Finds, FindsInFields, FindsInItems, FindsInMessage, HasZero, IsZero, is_single_zero};
 
 use crate::writing::node_of;
 use itoa::Buffer;
@@ -31,7 +31,22 @@ pub fn unencrypted_path(alloc: Global, octets: &[u8]) -> Result<Option<String>, 
     let Some(kind) = Kind::of_tag(*tag) else {
         return Ok(None);
     };
+    if !has_zero(octets) {
+        return Ok(None);
+    }
     Ok(find_in_message(alloc, kind, octets)?)
+}
+
+/// Returns whether octets have those of the INTEGER 0 somewhere; if they have not, no value in them
+/// is 0. It looks at all of them, many at a time, which costs less than to find the values.
+fn has_zero(octets: &[u8]) -> bool
+    ensures { HasZero octets.now → result ≡ true }
+{
+    let mut has = false;
+    for index in 2..octets.len() {
+        has |= (octets[index - 2] == 2) & (octets[index - 1] == 1) & (octets[index] == 0);
+    }
+    has
 }
 
 /// Returns the path in a message of a kind.

@@ -18,6 +18,7 @@ ghost use Rattle.krb_json.specs.Objects.{bits_json};
 ghost use Rattle.krb_json.specs.Spelling.{is_shown_itself, shown, shown_octet};
 ghost use Rattle.krb_json.specs.inner.Writing.{Puts, PutsBits, PutsFields, PutsItems, PutsMessage, slot_node};
 
+use crate::hexadecimal::digits_of;
 use json::Writer;
 use krb_der::{Memory, Profile, integer_value};
 use krb_judge::{Names, message_node};
@@ -38,9 +39,11 @@ pub fn put_text(alloc: Global, line: Vec<u8>, octets: &[u8]) -> Result<Vec<u8>, 
     let Some(kind) = Kind::of_tag(*tag) else {
         return Ok(line);
     };
-    let mut out = Writer::new(line);
+    let mut out = Writer::new(Vec::with_capacity(alloc, 2 * octets.len() + 1024)?);
     put_message(alloc, &mut out, kind, octets)?;
-    Ok(out.into_inner())
+    let mut line = line;
+    line.extend_from_slice(out.into_inner().as_slice())?;
+    Ok(line)
 }
 
 /// Appends the JSON of a message of a kind.
@@ -109,11 +112,15 @@ fn put_number(out: &mut Writer, contents: &[u8]) -> Result<(), AllocError>
 
 /// Appends octets in hexadecimal, as a string.
 fn put_hex(alloc: Global, out: &mut Writer, octets: &[u8]) -> Result<(), AllocError>
+    requires { length octets.now < 2 ^ 31 }
     ensures before { out.new.before ≡ out.old.before }
     ensures written { OnOk result (out.new.tokens ≡ out.old.tokens ++ string (encode_lower octets.now) ∷ []) }
 {
-    let digits = hex::encode(alloc, octets)?;
-    out.string(digits.as_str())
+    let digits = digits_of(alloc, octets)?;
+    match str::from_utf8(digits.as_slice()) {
+        Ok(text) => out.string(text),
+        Err(_) => unreachable!(),
+    }
 }
 
 /// Appends a time, as a string.

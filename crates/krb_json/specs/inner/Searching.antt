@@ -1,5 +1,5 @@
 -- What is found of what is not encrypted, in octets that are contents of a value, fields, or items: a path, after that of the value.
-use Rattle.std.specs.Prelude.{ℕ, ◌≡◌, ◌==◌, ◌&&◌, if◌then◌else◌, Bool, false, length, slice_index, List, ◌++◌, Option}
+use Rattle.std.specs.Prelude.{ℕ, ◌≡◌, ◌==◌, ◌&&◌, if◌then◌else◌, Bool, false, length, slice_index, List, ◌∷◌, ◌++◌, Option}
 use Rattle.std.specs.Option.{option_map}
 use Rattle.std.specs.List.{AllByRecursion, flat_map}
 use Rattle.krb_der.specs.declared.profile.Profile.TheVariants.{Lenient}
@@ -41,3 +41,9 @@ AreUnencrypted fields names octets result = (values : Values fields) → AreFiel
 
 abbrev pub FindsInMessage : Kind → (octets : List ℕ) → (path : Option (List ℕ)) → Type 0
 FindsInMessage kind octets path = (m : Message) → IsInProfile Lenient m → kind_of m ≡ kind → message_der m ≡ octets → unencrypted_in m ≡ path
+
+-- octets that have those of the INTEGER 0 somewhere: its tag, its length, and 0
+pub record HasZero (octets : List ℕ) : Type 0 where
+  pub before : List ℕ
+  pub after : List ℕ
+  pub parts : octets ≡ before ++ 2 ∷ 1 ∷ 0 ∷ after
