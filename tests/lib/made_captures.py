@@ -301,7 +301,7 @@ class ConnectionMaker:
             ends = self.dice.choice(flows)
             way, octets = self.dice.choice([(ends, requests), (ends, requests), (ends.turned(), replies), (ends.turned(), requests)])
             sent += self.packets.datagram(way, self.dice.choice(octets))
-            if self.maybe(0.2):
+            if self.maybe(0.2) and sent:
                 sent += self.failure(self.dice.choice(sent))
         return sent
 
@@ -323,7 +323,7 @@ class ConnectionMaker:
             ends = self.dice.choice(flows)
             way = self.dice.choice([ends, ends, ends.turned()])
             sent += self.packets.segment(way, self.dice.choice([7, 7, 9]), self.dice.choice(pieces))
-            if self.maybe(0.2):
+            if self.maybe(0.2) and sent:
                 sent += self.failure(self.dice.choice(sent))
         return sent
 
