@@ -286,7 +286,7 @@ interface_gives order =
     then_gives Anything Anything (options_at order) _ (options_give order) (λ options _.
     gives Anything _ tt))))
 
--- the value of a body, of fewer than 2^32 octets; what is left of it does not matter
+-- the value of a body, or its fault; what is left of it does not matter
 abbrev IsValue : Result Content Fault → Type 0
 IsValue (Ok content) = IsContent content
 IsValue (Err fault) = IsFault fault
