@@ -1,4 +1,4 @@
--- What a packet carries is of its octets, and between addresses as their types have them.
+-- What a packet carries is of its octets, and between addresses and ports as their types have them.
 use Rattle.std.proofs.Common.{ℕ, zero, suc, ◌+◌, ◌-◌, ◌*◌, ◌/◌, ◌%◌, ◌^◌, ◌<◌, ◌==◌, ◌&&◌, ◌||◌, nat_le, nat_lt, Bool, length, Option, Some, None, IfSome, arith}
 use Rattle.std.specs.declared.net.ip_addr.IpAddr.{IpAddr}
 use Rattle.krb_packet.specs.Contents.{authentication, datagram, datagram_or_tunnel, fragment, of_other_protocol, of_protocol, or_unread_between, segment, tcp, udp}

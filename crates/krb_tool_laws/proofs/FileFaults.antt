@@ -1,13 +1,13 @@
 -- The fault of a keytab or of a cache of fewer than 2^64 octets has a small place and extent.
-use Rattle.std.proofs.Common.{◌≡◌, ℕ, zero, suc, ◌^◌, ◌<◌, ◌≤◌, ◌==◌, Bool, true, false, ℤ, pos, negsuc, List, [], ◌∷◌, length, Option, Some, None, Result, Ok, Err, refl, ap, ◌∙◌, arith}
+use Rattle.std.proofs.Common.{◌≡◌, ℕ, zero, suc, ◌^◌, ◌<◌, ◌≤◌, ◌==◌, Bool, true, false, ℤ, pos, negsuc, List, [], ◌∷◌, length, Option, None, Result, Ok, Err, refl, arith}
 use Rattle.std.specs.Int.{w16, w32, w8}
 use Rattle.krb_der.specs.Octets.{AreOctets, when}
-use Rattle.krb_file.specs.Fields.{Bounds, Fault, Reader, Source, ◌>>=◌, called, counted_at, in_part, is_at_end, is_empty, limited, names_at, next_octets_at, number_at, rest_at, signed_at, source_of, succeed, times, version_at, within}
+use Rattle.krb_file.specs.Fields.{Fault, Source, ◌>>=◌, called, counted_at, in_part, is_at_end, is_empty, limited, names_at, next_octets_at, number_at, rest_at, signed_at, source_of, succeed, version_at, within}
 use Rattle.krb_file.specs.declared.field_name.FieldName.{FieldName}
 use Rattle.krb_file.specs.declared.field_name.FieldName.TheVariants as fields
 use Rattle.krb_file.specs.declared.field_name.FilePart.{FilePart}
 use Rattle.krb_file.specs.declared.field_name.FilePart.TheVariants as parts
-use Rattle.krb_file.proofs.Fields.{IsWide, wide16, wide32, wide8}
+use Rattle.krb_file.proofs.Fields.{wide16, wide32, wide8}
 use Rattle.krb_keytab.specs.Reading.{Records, after_version, entry_at, items as keytab_records, items_after, items_from, items_within, next_record_at, record_at, record_of}
 use Rattle.krb_keytab.specs.declared.reading.Next.{Next}
 use Rattle.krb_keytab.specs.declared.reading.Next.TheVariants as nexts

@@ -1,4 +1,4 @@
--- Datagrams that are put together are of the octets of their fragments.
+-- Datagrams that are put together are of the octets of their fragments, and no longer than a datagram may be.
 use Rattle.std.proofs.Common.{◌≡◌, ℕ, zero, suc, ◌+◌, ◌≤◌, nat_le, nat_lt, not, Bool, true, false, List, [], ◌∷◌, ◌++◌, length, Option, Some, None, IfSome, refl, arith, le_refl, length-append}
 use Rattle.std.proofs.lemmas.Bool.{and_parts, leb-true}
 use Rattle.std.specs.Prelude.{slice_set, remove}

@@ -55,7 +55,7 @@ use Rattle.krb_tool_laws.specs.Listings.{AreLinesOf, ArePrintedLines, AreRead, I
 use Rattle.krb_tool_laws.proofs.FileFaults.{AreSmall, EndsSmall, cache_fault, keytab_fault}
 use Rattle.krb_tool_laws.proofs.FileReaders.{IsSmallFault}
 use Rattle.krb_tool_laws.proofs.Labelled.{labelled_line}
-use Rattle.krb_tool_laws.proofs.Lines.{a_line as a_line_of, and_lines as and_lines_of, each_line as each_line_of, no_lines as no_lines_of}
+use Rattle.krb_tool_laws.proofs.Lines.{a_line as a_line_of, and_lines as and_lines_of, each_line as each_line_of}
 use Rattle.krb_tool_laws.proofs.PathOctets.{index_octets, octets_of}
 
 -- ---- lines

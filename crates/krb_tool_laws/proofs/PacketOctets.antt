@@ -1,19 +1,17 @@
 -- The packets of a file of octets are of octets, and their sizes and times are numbers of 32 bits; the place of a fault and a length that is one are small.
-use Rattle.std.proofs.Common.{ℕ, zero, suc, ◌+◌, ◌-◌, ◌*◌, ◌/◌, ◌%◌, ◌^◌, ◌<◌, ◌≤◌, ◌≡◌, ◌==◌, ◌&&◌, ◌||◌, not, nat_lt, nat_le, Bool, true, false, List, [], ◌∷◌, length, take, drop, Option, Some, None, Result, Ok, Err, IfSome, refl, sym, subst, arith, length-drop, length-take}
+use Rattle.std.proofs.Common.{ℕ, zero, suc, ◌+◌, ◌-◌, ◌*◌, ◌/◌, ◌%◌, ◌^◌, ◌<◌, ◌≤◌, ◌≡◌, ◌==◌, ◌&&◌, ◌||◌, not, nat_lt, nat_le, Bool, true, false, List, [], ◌∷◌, length, Option, Some, None, Result, Ok, Err, IfSome, refl, sym, subst, arith}
 use mathlib.Core.List.{reverse, reverse-cons}
-use Rattle.std.proofs.lemmas.Bool.{ltb-false}
 use Rattle.std.proofs.lemmas.Bool.Decides.{nat_tests}
 use Rattle.std.specs.Prelude.{min, slice_get}
 use Rattle.std.specs.List.{AllByRecursion}
 use Rattle.std.specs.Int.{Width, byte_len, w16, w32, w8}
 use Rattle.krb_der.specs.Octets.{AreOctets, when}
-use Rattle.krb_der.specs.inner.Numbers.{AreOctets-append, AreOctets-drop, AreOctets-take}
-use Rattle.krb_file.specs.Fields.{Bounds, Fault, Reader, Source, ◌>>=◌, and_then, begun_at, bound_of, called, ended, exceeds, in_part, is_at_end, is_empty, limited, next_octets_at, number_at, octets_at, octets_to_end, refused, refused_at, source_of, succeed, with_name, with_part}
+use Rattle.krb_der.specs.inner.Numbers.{AreOctets-append}
+use Rattle.krb_file.specs.Fields.{Bounds, Fault, Reader, Source, ◌>>=◌, called, ended, in_part, is_at_end, is_empty, limited, next_octets_at, number_at, octets_at, octets_to_end, refused_at, source_of, succeed, with_part}
 use Rattle.krb_file.proofs.Fields.{IsWide, wide16, wide32, wide8}
 use Rattle.krb_file.specs.FieldReaders.{skipped_at}
 use Rattle.krb_file.specs.declared.field_name.FieldName.{FieldName}
 use Rattle.krb_file.specs.declared.field_name.FieldName.TheVariants as fields
-use Rattle.krb_file.specs.declared.field_name.FileField.{FileField}
 use Rattle.krb_file.specs.declared.field_name.FilePart.{FilePart}
 use Rattle.krb_file.specs.declared.field_name.FilePart.TheVariants as parts
 use Rattle.krb_packet.specs.Blocks.{after_content, after_kind, block_after, block_in, body_in, content_in_file, end_in, part_from, read_body, skipped_body, whole_block_in}
@@ -23,7 +21,6 @@ use Rattle.krb_packet.specs.Interfaces.{after_setting, clock_time, interface_at,
 use Rattle.krb_packet.specs.Numbers.{checked_at, checked_number, field_in, from_here, in_order, moved_to, number_in, refused_at as moved_at}
 use Rattle.krb_packet.specs.Pcaps.{captured, header_at, magic_at, magic_of, most_captured, next_at, packet_at, packet_head_at, unit, version}
 use Rattle.krb_packet.specs.Values.{time_at, time_of}
-use Rattle.krb_source.specs.FileReasons.{file_reason_length}
 use Rattle.krb_source.specs.declared.file_why.FileWhy.{FileWhy}
 use Rattle.krb_source.specs.declared.file_why.FileWhy.TheVariants as why
 use Rattle.krb_source.specs.declared.timestamp.Timestamp.{Timestamp}
@@ -289,7 +286,7 @@ interface_gives order =
     then_gives Anything Anything (options_at order) _ (options_give order) (λ options _.
     gives Anything _ tt))))
 
--- the value of a body, of fewer than 2^32 octets; what is left of it does not matter
+-- the value of a body, or its fault; what is left of it does not matter
 abbrev IsValue : Result Content Fault → Type 0
 IsValue (Ok content) = IsContent content
 IsValue (Err fault) = IsFault fault
