@@ -39,7 +39,7 @@ pub fn put_text(alloc: Global, line: Vec<u8>, octets: &[u8]) -> Result<Vec<u8>, 
     let Some(kind) = Kind::of_tag(*tag) else {
         return Ok(line);
     };
-    let mut out = Writer::new(Vec::with_capacity(alloc, 2 * octets.len() + 1024)?);
+    let mut out = Writer::new(Vec::with_capacity(alloc, 2 * octets.len() + 512)?);
     put_message(alloc, &mut out, kind, octets)?;
     let mut line = line;
     line.extend_from_slice(out.into_inner().as_slice())?;
