@@ -1,5 +1,5 @@
 -- Texts are printable: 20 to 7E.
-use Rattle.std.proofs.Common.{◌≡◌, ℕ, ℤ, pos, negsuc, zero, suc, ◌/◌, ◌%◌, ◌^◌, ◌<◌, ◌≤◌, true, false, ◌&&◌, ◌==◌, not, Bool, cond, ◌⊎◌, inl, inr, if◌then◌else◌, List, [], ◌∷◌, ◌++◌, length, get_or, slice_index, codes, decimal, refl, sym, subst, arith}
+use Rattle.std.proofs.Common.{◌≡◌, ℕ, ℤ, pos, negsuc, zero, suc, ◌/◌, ◌%◌, ◌^◌, ◌<◌, ◌≤◌, true, false, ◌&&◌, ◌==◌, not, Bool, cond, ◌⊎◌, inl, inr, if◌then◌else◌, List, [], ◌∷◌, ◌++◌, length, get_or, slice_index, codes, decimal, refl, sym, ap, ◌∙◌, subst, arith}
 use Rattle.std.specs.Prelude.{nat_le}
 use Rattle.std.proofs.lemmas.Bool.{and_parts, leb-true, cases_eq}
 use Rattle.std.specs.List.{AllByRecursion, list_all}
@@ -20,7 +20,7 @@ use Rattle.krb_msg.specs.Views.{kind_name}
 use Rattle.krb_msg.specs.declared.message.Kind.{Kind}
 use Rattle.krb_judge.specs.FieldNames.{fields_of, field_at, no_field}
 use Rattle.krb_judge.specs.declared.locating.names.Names.{Names}
-use Rattle.krb_json.specs.Spelling.{shown_octet, shown}
+use Rattle.krb_json.specs.Spelling.{is_shown_itself, shown_octet, shown}
 use Rattle.krb_json.proofs.KindTexts.{is_printable, all-kinds, all-names}
 
 abbrev pub IsPrintable : List ℕ → Type 0
@@ -160,3 +160,10 @@ printable-print after [] p = tt
 printable-print after (t ∷ ts) p =
     printable-append (separator after t) (token_text t ++ print_from (ends t) ts) (printable-comma (after && begins t))
     (printable-append (token_text t) (print_from (ends t) ts) (printable-token t p.0) (printable-print (ends t) ts p.1))
+
+-- a string all of whose octets are shown as themselves
+pub plain-shown : (octets : List ℕ) → list_all is_shown_itself octets ≡ true → shown octets ≡ octets
+plain-shown [] plain = refl
+plain-shown (octet ∷ octets) plain =
+    let p = and_parts (is_shown_itself octet) (list_all is_shown_itself octets) plain in
+    ap (λ b. (if b then octet ∷ [] else codes "\\x" ++ encode_lower (octet ∷ [])) ++ shown octets) p.0 ∙ ap (λ l. octet ∷ l) (plain-shown octets p.1)

@@ -1,12 +1,12 @@
 //! Hexadecimal digits of octets, and octets of digits. None is looked at by a branch, which the
 //! processor would have to guess: most of what `put_text` writes, and `read_line` reads, is digits.
 
-ghost use Rattle.std.specs.Prelude.{◌≡◌, ◌^◌, ◌*◌, ◌<◌, length, slice_index, true, IfOk, Some, Ok};
+ghost use Rattle.std.specs.Prelude.{◌≡◌, ◌*◌, ◌<◌, length, slice_index, true, IfOk, Some, Ok};
 ghost use Rattle.std.specs.List.{list_all};
 ghost use Rattle.hex.specs.Hex.{decode_pairs, encode_lower, hex_digit_value, is_hex_digit, lower_digits};
 ghost use Rattle.krb_json.specs.inner.Scalars.{Decodes};
 
-use std::alloc::{AllocError, Global};
+use std::alloc::AllocError;
 
 /// Returns whether an octet is a hexadecimal digit, of either case.
 fn is_digit(octet: u8) -> bool
@@ -76,8 +76,8 @@ fn digit_of(value: u8) -> u8
     }
 }
 
-/// Fills room with the digits of octets, two for each.
-fn fill_digits(room: &mut [u8], octets: &[u8])
+/// Fills room with the digits of octets, two for each, in lower case.
+pub(crate) fn fill_digits(room: &mut [u8], octets: &[u8])
     requires { length room.old ≡ 2 * length octets.now }
     ensures { room.new ≡ encode_lower octets.now }
 {
@@ -87,16 +87,4 @@ fn fill_digits(room: &mut [u8], octets: &[u8])
         room[2 * index] = high;
         room[2 * index + 1] = low;
     }
-}
-
-/// Returns the digits of octets, two for each, in lower case.
-pub(crate) fn digits_of(alloc: Global, octets: &[u8]) -> Result<Vec<u8>, AllocError>
-    requires { length octets.now < 2 ^ 31 }
-    ensures { IfOk result (λ digits. digits.items ≡ encode_lower octets.now) }
-{
-    let count = 2 * octets.len();
-    let mut digits = Vec::with_capacity(alloc, count)?;
-    digits.resize(count, 0)?;
-    fill_digits(digits.as_mut_slice(), octets);
-    Ok(digits)
 }

@@ -2,7 +2,7 @@
 
 ghost use Rattle.std.specs.Prelude.{◌≡◌, ◌^◌, ◌<◌, ◌+◌, ◌≤◌, ◌++◌, ◌∷◌, [], length, true, IfOk, OnOk};
 ghost use Rattle.std.specs.Fmt.{signed_decimal};
-ghost use Rattle.std.specs.List.{AllByRecursion};
+ghost use Rattle.std.specs.List.{AllByRecursion, list_all};
 ghost use Rattle.std.specs.Str.{IsAscii};
 ghost use Rattle.hex.specs.Hex.{encode_lower};
 ghost use Rattle.json.specs.Token.{number, string};
@@ -18,7 +18,7 @@ ghost use Rattle.krb_json.specs.Objects.{bits_json};
 ghost use Rattle.krb_json.specs.Spelling.{is_shown_itself, shown, shown_octet};
 ghost use Rattle.krb_json.specs.inner.Writing.{Puts, PutsBits, PutsFields, PutsItems, PutsMessage, slot_node};
 
-use crate::hexadecimal::digits_of;
+use crate::hexadecimal::fill_digits;
 use json::Writer;
 use krb_der::{Memory, Profile, integer_value};
 use krb_judge::{Names, message_node};
@@ -39,7 +39,7 @@ pub fn put_text(alloc: Global, line: Vec<u8>, octets: &[u8]) -> Result<Vec<u8>, 
     let Some(kind) = Kind::of_tag(*tag) else {
         return Ok(line);
     };
-    let mut out = Writer::new(Vec::with_capacity(alloc, 2 * octets.len() + 1024)?);
+    let mut out = Writer::new(Vec::with_capacity(alloc, 2 * octets.len() + 512)?);
     put_message(alloc, &mut out, kind, octets)?;
     let mut line = line;
     line.extend_from_slice(out.into_inner().as_slice())?;
@@ -58,14 +58,16 @@ fn put_message(alloc: Global, out: &mut Writer, kind: Kind, octets: &[u8]) -> Re
     };
     out.begin_object()?;
     out.key(kind.name())?;
-    put_contents(alloc, out, node, Names::of_kind(kind), contents)?;
+    let mut room = Vec::with_capacity(alloc, 2 * octets.len())?;
+    put_contents(alloc, &mut room, out, node, Names::of_kind(kind), contents)?;
     out.end_object()
 }
 
-/// Appends the JSON of the value of an item that has these contents.
+/// Appends the JSON of the value of an item that has these contents. Digits are made in the room.
 #[cycle(put)]
 fn put_contents(
     alloc: Global,
+    room: &mut Vec<u8>,
     out: &mut Writer,
     node: u16,
     names: Names,
@@ -80,20 +82,20 @@ fn put_contents(
     match form_of(node) {
         Form::Integer { .. } => put_number(out, contents),
         Form::Text { .. } => put_shown(alloc, out, contents),
-        Form::Octets => put_hex(alloc, out, contents),
-        Form::Time => put_time(out, contents),
-        Form::Bits { .. } => put_bits(alloc, out, contents),
+        Form::Octets => put_hex(room, out, contents),
+        Form::Time => put_ascii(out, contents),
+        Form::Bits { .. } => put_bits(room, out, contents),
         Form::Items { node, .. } => {
             out.begin_array()?;
-            put_items(alloc, out, node, names, contents)
+            put_items(alloc, room, out, node, names, contents)
         }
         Form::Item { node } => match first_item(tag_of(node), contents) {
-            Some((inner, _rest)) => put_contents(alloc, out, node, names, inner),
+            Some((inner, _rest)) => put_contents(alloc, room, out, node, names, inner),
             None => Ok(()),
         },
         Form::Fields { fields } => {
             out.begin_object()?;
-            put_fields(alloc, out, fields, names, 0, contents)
+            put_fields(alloc, room, out, fields, names, 0, contents)
         }
     }
 }
@@ -110,21 +112,23 @@ fn put_number(out: &mut Writer, contents: &[u8]) -> Result<(), AllocError>
     }
 }
 
-/// Appends octets in hexadecimal, as a string.
-fn put_hex(alloc: Global, out: &mut Writer, octets: &[u8]) -> Result<(), AllocError>
+/// Appends octets in hexadecimal, as a string whose digits are made in the room.
+fn put_hex(room: &mut Vec<u8>, out: &mut Writer, octets: &[u8]) -> Result<(), AllocError>
     requires { length octets.now < 2 ^ 31 }
     ensures before { out.new.before ≡ out.old.before }
     ensures written { OnOk result (out.new.tokens ≡ out.old.tokens ++ string (encode_lower octets.now) ∷ []) }
 {
-    let digits = digits_of(alloc, octets)?;
-    match str::from_utf8(digits.as_slice()) {
-        Ok(text) => out.string(text),
-        Err(_) => unreachable!(),
+    let count = 2 * octets.len();
+    if room.len() < count {
+        room.resize(count, 0)?;
     }
+    let digits = &mut room.as_mut_slice()[..count];
+    fill_digits(digits, octets);
+    put_ascii(out, digits)
 }
 
-/// Appends a time, as a string.
-fn put_time(out: &mut Writer, octets: &[u8]) -> Result<(), AllocError>
+/// Appends octets of ASCII, as a string.
+fn put_ascii(out: &mut Writer, octets: &[u8]) -> Result<(), AllocError>
     ensures before { out.new.before ≡ out.old.before }
     ensures written { IsAscii octets.now → OnOk result (out.new.tokens ≡ out.old.tokens ++ string octets.now ∷ []) }
 {
@@ -138,7 +142,7 @@ fn put_time(out: &mut Writer, octets: &[u8]) -> Result<(), AllocError>
 fn is_plain(octet: u8) -> bool
     ensures { result ≡ is_shown_itself octet }
 {
-    0x20 <= octet && octet <= 0x7E && octet != b'\\'
+    (0x20 <= octet) & (octet <= 0x7E) & (octet != b'\\')
 }
 
 /// Appends what shows an octet of a string.
@@ -167,11 +171,25 @@ pub(crate) fn shown(alloc: Global, octets: &[u8]) -> Result<Vec<u8>, AllocError>
     Ok(text)
 }
 
+/// Returns whether all octets of a string are shown as themselves. All are looked at.
+fn are_plain(octets: &[u8]) -> bool
+    ensures { result ≡ list_all is_shown_itself octets.now }
+{
+    let mut are = true;
+    for octet in octets {
+        are &= is_plain(*octet);
+    }
+    are
+}
+
 /// Appends the octets of a string, as a string.
 fn put_shown(alloc: Global, out: &mut Writer, octets: &[u8]) -> Result<(), AllocError>
     ensures before { out.new.before ≡ out.old.before }
     ensures written { OnOk result (out.new.tokens ≡ out.old.tokens ++ string (shown octets.now) ∷ []) }
 {
+    if are_plain(octets) {
+        return put_ascii(out, octets);
+    }
     let text = shown(alloc, octets)?;
     match str::from_utf8(text.as_slice()) {
         Ok(text) => out.string(text),
@@ -180,7 +198,7 @@ fn put_shown(alloc: Global, out: &mut Writer, octets: &[u8]) -> Result<(), Alloc
 }
 
 /// Appends the JSON of a BIT STRING.
-fn put_bits(alloc: Global, out: &mut Writer, contents: &[u8]) -> Result<(), AllocError>
+fn put_bits(room: &mut Vec<u8>, out: &mut Writer, contents: &[u8]) -> Result<(), AllocError>
     requires { length contents.now < 2 ^ 31 }
     ensures before { out.new.before ≡ out.old.before }
     ensures written { OnOk result (PutsBits contents.now out.old.tokens out.new.tokens) }
@@ -188,12 +206,12 @@ fn put_bits(alloc: Global, out: &mut Writer, contents: &[u8]) -> Result<(), Allo
     let [unused, octets @ ..] = contents else {
         return Ok(());
     };
-    put_bit_string(alloc, out, *unused, octets)
+    put_bit_string(room, out, *unused, octets)
 }
 
 /// Appends the JSON of the BIT STRING of octets, the last of which has unused bits.
 fn put_bit_string(
-    alloc: Global,
+    room: &mut Vec<u8>,
     out: &mut Writer,
     unused: u8,
     octets: &[u8],
@@ -205,7 +223,7 @@ fn put_bit_string(
     let all = 8 * octets.len() as u64;
     out.begin_object()?;
     out.key("value")?;
-    put_hex(alloc, out, octets)?;
+    put_hex(room, out, octets)?;
     out.key("length")?;
     out.u64(all.saturating_sub(u64::from(unused)))?;
     out.end_object()
@@ -215,6 +233,7 @@ fn put_bit_string(
 #[cycle(put)]
 fn put_items(
     alloc: Global,
+    room: &mut Vec<u8>,
     out: &mut Writer,
     node: u16,
     names: Names,
@@ -228,7 +247,7 @@ fn put_items(
 {
     let mut rest = octets;
     while let Some((contents, others)) = first_item(tag_of(node), rest) {
-        put_contents(alloc, out, node, names, contents)?;
+        put_contents(alloc, room, out, node, names, contents)?;
         rest = others;
     }
     out.end_array()
@@ -239,6 +258,7 @@ fn put_items(
 #[cycle(put)]
 fn put_fields(
     alloc: Global,
+    room: &mut Vec<u8>,
     out: &mut Writer,
     slots: &[Slot],
     names: Names,
@@ -260,10 +280,10 @@ fn put_fields(
         Some((contents, rest)) => {
             let field = names.field(index);
             out.key(field.name)?;
-            put_contents(alloc, out, node, field.inside, contents)?;
-            put_fields(alloc, out, others, names, index + 1, rest)
+            put_contents(alloc, room, out, node, field.inside, contents)?;
+            put_fields(alloc, room, out, others, names, index + 1, rest)
         }
-        None => put_fields(alloc, out, others, names, index + 1, octets),
+        None => put_fields(alloc, room, out, others, names, index + 1, octets),
     }
 }
 

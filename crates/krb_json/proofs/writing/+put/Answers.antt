@@ -25,7 +25,7 @@ put_contents-returns-in-Octets-clause-written t c =
 
 pub put_contents-returns-in-Time-clause-written : goal.put_contents-returns-in-Time-clause-written
 put_contents-returns-in-Time-clause-written t c =
-    on-ok-if c.put_time.result (puts-time c.args.names c.args.contents.now c.args.out.now.tokens c.put_time.new.out.tokens (term_at c.args.node) (subst (λ it. IsFormOf nodes it (term_at c.args.node)) c.in-Time.is c.form_of.ensures)) c.put_time.ensures.written
+    on-ok-if c.put_ascii.result (puts-time c.args.names c.args.contents.now c.args.out.now.tokens c.put_ascii.new.out.tokens (term_at c.args.node) (subst (λ it. IsFormOf nodes it (term_at c.args.node)) c.in-Time.is c.form_of.ensures)) c.put_ascii.ensures.written
 
 pub put_contents-returns-in-Bits-clause-written : goal.put_contents-returns-in-Bits-clause-written
 put_contents-returns-in-Bits-clause-written t c =
