@@ -44,7 +44,7 @@ pub(crate) fn front_verdict(profile: Profile, size: usize, octets: &[u8]) -> Ver
 }
 
 /// Returns the verdict on a message of `n` octets by those of them that are present. Where all are,
-/// they are viewed, which takes less than a tenth of a scan.
+/// they are viewed, which takes a sixth of what a scan does.
 fn message_verdict(profile: Profile, n: u32, present: &[u8]) -> Verdict
     requires some { 0 < n }
     requires short { n < 2 ^ 31 }

@@ -13,7 +13,7 @@
 //! - [`Sendings::error`] returns what an ICMP error is about.
 //! - [`Sendings::end`] returns each sending that is open at the end.
 //!
-//! [`Sendings::again`] and [`Sendings::answer`] say what a request or a reply will tell, and change
+//! [`Sendings::again_of`] and [`Sendings::answer_of`] say what a request or a reply will tell, and change
 //! nothing.
 //!
 //! No octets are kept: a request is known by its [`Fingerprint`]. No call takes more steps than the
