@@ -161,7 +161,7 @@ impl Window {
     pub(crate) fn latest_syn(&self, flow: Flow) -> Option<usize>
         ensures { Keeps self.now None → result ≡ latest_syn flow self.now.sendings.items }
     {
-        self.place_of(self.index.latest_syn(&flow))
+        self.place_of(self.index.latest_syn(flow))
     }
 
     /// Returns the place of the latest SYN of a flow, if it is open.

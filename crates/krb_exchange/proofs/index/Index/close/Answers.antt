@@ -9,13 +9,13 @@ use Rattle.krb_exchange.proofs.index.Index.close.Goals as goal
 pub returns-in-Request : goal.returns-in-Request
 returns-in-Request c = λ gone xs place state h at few n closed.
     let old = c.args.self.now in
-    let new : Index = record old { «open» = c.remove.new.self } in
-    record {
+    let new : Index = record old { «open» = c.close_request.new.self.«open» } in
+    subst (λ index. Indexes index gone (set xs place (in_state state c.args.sending.now))) (sym c.close_request.ensures.same) (record {
       requests = closed-octets old new gone xs c.args.sending.now place c.args.number state h at few n closed refl;
       syns = closed-syns old new gone xs c.args.sending.now place c.args.number state h at few n closed refl;
       open_syns = request-closed xs place c.args.sending.now state c.in-Request.request c.in-Request.field-1 old.open_syns c.in-Request.is at closed h.open_syns;
-      requests_open = closed-request old new gone xs c.args.sending.now place c.args.number state h at few n closed c.in-Request.request c.in-Request.field-1 c.in-Request.is c.remove.ensures;
-    }
+      requests_open = closed-request old new gone xs c.args.sending.now place c.args.number state h at few n closed c.in-Request.request c.in-Request.field-1 c.in-Request.is c.close_request.ensures.closed;
+    })
 
 pub returns-in-Syn : goal.returns-in-Syn
 returns-in-Syn c = λ gone xs place state h at few n closed.

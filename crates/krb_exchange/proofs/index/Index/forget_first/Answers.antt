@@ -9,13 +9,13 @@ use Rattle.krb_exchange.proofs.index.Index.forget_first.Goals as goal
 pub returns-in-Request : goal.returns-in-Request
 returns-in-Request c = λ others h.
     let old = c.args.self.now in
-    let new : Index = record old { «open» = c.remove.new.self; requests = c.forget.new.numbers } in
-    record {
+    let new : Index = record old { «open» = c.close_request.new.self.«open»; requests = c.forget.new.numbers } in
+    subst (λ index. Indexes index (c.args.number + 1) others) (sym c.close_request.ensures.same) (record {
       requests = left-octets old new c.args.number c.args.first.now others h c.in-Request.octets c.in-Request.request c.in-Request.is c.forget.ensures;
       syns = left-syns_same old new c.args.number c.args.first.now others h c.in-Request.request c.in-Request.octets c.in-Request.is refl;
       open_syns = request-left c.args.first.now others c.in-Request.request c.in-Request.octets old.open_syns c.in-Request.is h.open_syns;
-      requests_open = left-open old new c.args.number c.args.first.now others h c.in-Request.request c.in-Request.octets c.in-Request.is c.remove.ensures;
-    }
+      requests_open = left-open old new c.args.number c.args.first.now others h c.in-Request.request c.in-Request.octets c.in-Request.is c.close_request.ensures.closed;
+    })
 
 pub returns-in-Syn : goal.returns-in-Syn
 returns-in-Syn c = λ others h.
