@@ -1,14 +1,10 @@
 -- Keys of open requests, and which of them a map has.
-use Rattle.std.proofs.Common.{◌≡◌, ℕ, ◌+◌, ◌-◌, ◌<◌, ◌≤◌, ◌^◌, ◌⊎◌, inl, inr, arith, Bool, true, false, not, cond, ◌&&◌, ◌||◌, ◌==◌, List, [], ◌∷◌, ◌++◌, length, Option, Some, None, Result, Ok, Err, OnErr, OnOk, is_some, slice_get, refl, sym, ◌∙◌, ap, subst}
+use Rattle.std.proofs.Common.{◌≡◌, ℕ, ◌+◌, ◌-◌, ◌<◌, ◌≤◌, ◌^◌, ◌⊎◌, inl, inr, arith, Bool, true, false, not, cond, ◌&&◌, ◌||◌, ◌==◌, [], Option, Some, None, Result, Ok, Err, OnErr, OnOk, is_some, refl, sym, ◌∙◌, ap}
 use Rattle.std.specs.declared.cmp.Ordering.{Ordering}
 use Rattle.std.specs.declared.cmp.Ordering.TheVariants.{Less, Equal, Greater}
-use Rattle.std.specs.declared.ops.Bound.TheVariants.{Included, Unbounded}
 use Rattle.std.specs.Ordering.{is_eq, is_gt, is_le, is_lt, nat_cmp, ordering_reverse, ordering_then}
-use Rattle.std.specs.Cmp.{IsTotalOrder}
-use Rattle.std.specs.Option.{IfSome}
 use Rattle.std.specs.Map.{lookup}
-use Rattle.std.specs.BTreeMap.{BTreeMap, get, is_at}
-use Rattle.std.specs.BTreeMap.Range.{IsRangeOf}
+use Rattle.std.specs.BTreeMap.{get, is_at}
 use Rattle.std.proofs.lemmas.Bool.{both_ways, cases_eq, cases_lt, eq-eqb, false_from_ne_true, ne_eqb, true≢false}
 use Rattle.std.proofs.lemmas.Cmp.{nat_cmp_total, tied_itself, ranked}
 use Rattle.krb_record.specs.contracts.told.RequestOrd.TheImpl as request_order
@@ -206,35 +202,10 @@ not_lt-turned x y f = ap is_gt (key_laws.total-law.antisymm y x) ∙ by (key_cmp
     by Equal e = refl
     by Greater e = refl
 
--- ---- the next key, and the one before
+-- ---- between two keys
 module _ (kept : Open) where
   abbrev holds : Key → Bool
   holds key = is_some (get key_cmp kept.keys key)
-
-  module _ (low : Key) (range : List (Key × Unit {0})) (r : IsRangeOf key_cmp (Included low) Unbounded kept.keys range) where
-    pub none-from : range ≡ [] → IsFirstFrom low kept None
-    none-from e = λ key l. r.5 e key (l, tt)
-
-    pub first-from : (e : Key × Unit {0}) (rest : List (Key × Unit {0})) → range ≡ e ∷ rest → IsFirstFrom low kept (Some e.0)
-    first-from e rest q =
-        let is : slice_get range 0 ≡ Some e = ap (λ es. slice_get es 0) q in
-        let it = subst (λ o. IfSome o (λ e. ((is_gt (key_cmp low e.0) ≡ false) × ⊤) × (get key_cmp kept.keys e.0 ≡ Some e.1))) is r.1 in (
-          it.0.0,
-          ap (λ o. is_some o) it.1,
-          λ key l h. subst (λ o. IfSome o (λ e. is_gt (key_cmp e.0 key) ≡ false)) is (r.2 key (l, tt) h),
-        )
-
-  module _ (high : Key) (range : List (Key × Unit {0})) (r : IsRangeOf key_cmp Unbounded (Included high) kept.keys range) where
-    pub none-up_to : range ≡ [] → IsLastUpTo high kept None
-    none-up_to e = λ key l. r.5 e key (tt, l)
-
-    pub last-up_to : (e : Key × Unit {0}) (rest : List (Key × Unit {0})) → range ≡ rest ++ e ∷ [] → IsLastUpTo high kept (Some e.0)
-    last-up_to e rest q =
-        let it = r.3 e rest q in (
-          it.0.1,
-          ap (λ o. is_some o) it.1,
-          λ key l h. r.4 e rest q key (tt, l) h,
-        )
 
   -- between two keys there is none, if the next is past the second, or the one before is before the first
   module _ (low high : Key) where
