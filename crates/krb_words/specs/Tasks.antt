@@ -1,8 +1,10 @@
--- What a command says to do: the text that it prints, the kind that it lists, and the time and the first octets that it needs.
-use Rattle.std.specs.Prelude.{ℕ, Bool, true, false, List, Option, Some, None, string_bytes}
+-- What a command says to do: the text that it prints, the kind that it lists, the time and the first octets that it needs, and what is said of a name that it cannot open.
+use Rattle.std.specs.Prelude.{ℕ, Bool, true, false, List, Option, Some, None, codes, string_bytes, if◌then◌else◌}
 use Rattle.krb_der.specs.declared.profile.Profile.TheVariants as profile
 use Rattle.krb_input.specs.declared.source_kind.SourceKind.{SourceKind}
 use Rattle.krb_input.specs.declared.source_kind.SourceKind.TheVariants as kind
+use Rattle.krb_words.specs.CacheTypes.{other_cache}
+use Rattle.krb_words.specs.Names.{is_command}
 use Rattle.krb_words.specs.declared.when.When.{When}
 use Rattle.krb_words.specs.declared.words.AfterRefusal.TheVariants as after
 use Rattle.krb_words.specs.declared.words.Inputs.TheVariants as inputs
@@ -26,11 +28,11 @@ abbrev pub writes_messages : Command → Bool
 writes_messages (commands.Encode limit profile how) = true
 writes_messages _ = false
 
--- names may be those of credential caches
-abbrev pub names_caches : Command → Bool
-names_caches (commands.List when) = true
-names_caches (commands.Ccache when) = true
-names_caches _ = false
+-- What is said of a name that cannot be opened: if no command came before it and it is a command's, that this comes first; if it may be a cache's, how to get a file of it.
+abbrev pub said_unopened : Command → (name : List ℕ) → Option (List ℕ)
+said_unopened (commands.List when) name = if is_command name then Some (codes "a command comes before options: krbls COMMAND [OPTIONS] [FILE]...") else other_cache name
+said_unopened (commands.Ccache when) name = other_cache name
+said_unopened _ name = None
 
 -- the command that lists a source of a kind, without options but a time
 abbrev pub listing_for : SourceKind → Option When → Command

@@ -19,10 +19,9 @@ use Rattle.krb_run.specs.declared.run.RunEnd.{RunEnd}
 use Rattle.krb_run.specs.declared.run.RunEnd.TheVariants as run
 use Rattle.krb_run.specs.declared.run.RunFault.{RunFault}
 use Rattle.krb_run.specs.declared.run.RunFault.TheVariants as fault
-use Rattle.krb_words.specs.CacheTypes.{other_cache}
 use Rattle.krb_words.specs.Shell.{shell_word}
 use Rattle.krb_words.specs.Sources.{place_of}
-use Rattle.krb_words.specs.Tasks.{is_conversion, kind_used, names_caches, octets_awaited, text_of, when_of, writes_messages}
+use Rattle.krb_words.specs.Tasks.{is_conversion, kind_used, octets_awaited, said_unopened, text_of, when_of, writes_messages}
 use Rattle.krb_words.specs.Words.{IsFaultIn, IsCommandLineIn}
 use Rattle.krb_words.specs.declared.sources.Source.{Source}
 use Rattle.krb_words.specs.declared.sources.Source.TheVariants as source
@@ -118,17 +117,13 @@ labels_of command_line = labels_by command_line.naming command_line.sources.item
 abbrev pub names_for : CommandLine → ℕ → Named
 names_for command_line count = if is_conversion command_line.command then unnamed else names_of (labels_of command_line) command_line.form count
 
--- what a name is, of a command that takes the names of caches, if it is that of a cache that is no file
-abbrev pub other_named : Command → (name : List ℕ) → Option (List ℕ)
-other_named command name = if names_caches command then other_cache name else None
-
 abbrev pub IsTold : Around → Source → Option (List ℕ) → Type 0
 IsTold around s None = Unit {0}
 IsTold around s (Some text) = around.IsHintTold s text
 
--- The fault by which the run over a source ended is told; and of a cache that is no file, and so cannot be opened, what it is.
+-- The fault by which the run over a source ended is told; and of a name that could not be opened, what it is.
 abbrev pub IsFaultReported : Around → Command → Source → RunFault → Type 0
-IsFaultReported around command s (fault.Read error) = around.IsFaultTold s (fault.Read error) × IsTold around s (other_named command (name_of s))
+IsFaultReported around command s (fault.Read error) = around.IsFaultTold s (fault.Read error) × IsTold around s (said_unopened command (name_of s))
 IsFaultReported around command s (fault.Write error) = around.IsFaultTold s (fault.Write error)
 IsFaultReported around command s fault.Memory = around.IsFaultTold s fault.Memory
 

@@ -4,11 +4,11 @@ ghost use Rattle.std.specs.Prelude.{◌≡◌, IfErr, IfOk, OnOk, string_bytes};
 ghost use Rattle.krb_run.specs.Begun.{begun_remaining, first_of};
 ghost use Rattle.krb_convert.specs.Encoding.{FailsToEncode};
 ghost use Rattle.krb_words.specs.Shell.{shell_word};
-ghost use Rattle.krb_words.specs.Tasks.{kind_used};
+ghost use Rattle.krb_words.specs.Tasks.{kind_used, said_unopened};
 ghost use Rattle.krb_convert.specs.Conversions.{DecodesBy, EncodesBy, FailsToDecodeBy, is_framed};
 ghost use Rattle.krb_convert.specs.Ends.{decode_end_line, encode_end_line};
 ghost use Rattle.krbls.specs.Commands.{Does, FailsToTurn, TellsEnd, Turns, chosen, hint_by};
-ghost use Rattle.krbls.specs.Program.{DoesFrom, IsFaultReported, IsHinted, IsTold, ListsBy, name_of, other_named};
+ghost use Rattle.krbls.specs.Program.{DoesFrom, IsFaultReported, IsHinted, IsTold, ListsBy, name_of};
 
 use krb_capture_run::run_capture;
 use krb_convert::{decode, encode, put_decode_end, put_encode_end};
@@ -18,7 +18,7 @@ use krb_input::{Hint, hint_of, kind_of};
 use krb_record::{Label, TextBuffer};
 use krb_run::{Begun, ListSource, RunEnd, RunFault};
 use krb_tool::{Limit, Profile, run_lines_in, run_message_in, run_stream_in};
-use krb_words::{AfterRefusal, Command, Framing, Inputs, ShellWord, Source, other_cache};
+use krb_words::{AfterRefusal, Command, Framing, Inputs, ShellWord, Source};
 use std::alloc::{AllocError, Global};
 use std::io::{Read, Write};
 
@@ -190,15 +190,12 @@ impl<H: Host> Lister<'_, H> {
 }
 
 impl<H: Host> Lister<'_, H> {
-    /// Tells how to get a file of a credential cache that is none, if the command reads caches and the
-    /// name of a source is that of such a cache.
-    fn tell_other_cache(&self, source: &Source)
-        ensures { IsTold (H.around self.now.host.now) source.now (other_named self.now.command.now (name_of source.now)) }
+    /// Tells what the name of a source that could not be opened is, if it is that of a command or of a
+    /// credential cache that is no file.
+    fn tell_unopened(&self, source: &Source)
+        ensures { IsTold (H.around self.now.host.now) source.now (said_unopened self.now.command.now (name_of source.now)) }
     {
-        if !self.command.names_caches() {
-            return;
-        }
-        if let Some(text) = other_cache(octets_name(source)) {
+        if let Some(text) = self.command.said_unopened(octets_name(source)) {
             self.host.tell_hint(source, text);
         }
     }
@@ -250,7 +247,7 @@ impl<H: Host> ListSource<Source> for Lister<'_, H> {
     fn report(&self, source: &Source, fault: &RunFault) {
         self.host.tell_fault(source, fault);
         if matches!(fault, RunFault::Read(_)) {
-            self.tell_other_cache(source);
+            self.tell_unopened(source);
         }
     }
 }
