@@ -46,6 +46,7 @@ kind_used commands.Keytab = Some kind.Keytab
 kind_used (commands.Ccache when) = Some kind.Ccache
 kind_used (commands.Capture limit chosen port) = Some kind.Capture
 kind_used (commands.Message profile each) = Some kind.Message
+kind_used (commands.Items profile) = Some kind.Message
 kind_used (commands.Stream limit profile refused) = Some kind.Stream
 kind_used _ = None
 

@@ -65,7 +65,7 @@ impl Command {
             Command::Keytab => Some(SourceKind::Keytab),
             Command::Ccache(_) => Some(SourceKind::Ccache),
             Command::Capture(..) => Some(SourceKind::Capture),
-            Command::Message(..) => Some(SourceKind::Message),
+            Command::Message(..) | Command::Items(_) => Some(SourceKind::Message),
             Command::Stream(..) => Some(SourceKind::Stream),
             _ => None,
         }

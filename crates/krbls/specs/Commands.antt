@@ -16,6 +16,7 @@ use Rattle.krb_tool.specs.GoingOn.{FailsAll, ListsAll}
 use Rattle.krb_tool.specs.Listing.{Fails, Lists}
 use Rattle.krb_tool.specs.MessageLines.{FailsLines, ListsLines}
 use Rattle.krb_tool.specs.Messages.{IsMessageListing}
+use Rattle.krb_items_run.specs.Items.{IsItemsListing}
 use Rattle.krb_run.specs.Sources.{Run}
 use Rattle.krb_run.specs.declared.run.RunEnd.{RunEnd}
 use Rattle.krb_run.specs.declared.run.RunEnd.TheVariants as run
@@ -62,6 +63,8 @@ Does IsTold label now (commands.Message profile inputs.Whole) had left written_b
     IfOk outcome (ListsFile (IsMessageListing label profile) had left written_before written_after) × IfErr outcome (FailsFile (IsMessageListing label profile) had left written_before written_after)
 Does IsTold label now (commands.Message profile inputs.EachLine) had left written_before written_after outcome =
     IfOk outcome (ListsLines label profile had left written_before written_after) × IfErr outcome (FailsLines label profile had left written_before written_after)
+Does IsTold label now (commands.Items profile) had left written_before written_after outcome =
+    IfOk outcome (ListsFile (IsItemsListing label profile) had left written_before written_after) × IfErr outcome (FailsFile (IsItemsListing label profile) had left written_before written_after)
 Does IsTold label now commands.Keytab had left written_before written_after outcome =
     (file : List ℕ) → had ≡ Some file → ListsRecords (keytab_listing label file) (IsKeytabRest label file) written_before written_after outcome
 Does IsTold label now (commands.Ccache when) had left written_before written_after outcome =

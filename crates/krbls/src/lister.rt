@@ -15,6 +15,7 @@ use krb_convert::{decode, encode, put_decode_end, put_encode_end};
 use krb_file_run::{run_ccache_in, run_keytab_in};
 use krb_host::Host;
 use krb_input::{Hint, hint_of, kind_of};
+use krb_items_run::run_items_in;
 use krb_record::{Label, TextBuffer};
 use krb_run::{Begun, ListSource, RunEnd, RunFault};
 use krb_tool::{Limit, Profile, run_lines_in, run_message_in, run_stream_in};
@@ -58,6 +59,7 @@ impl<H: Host> Lister<'_, H> {
             Command::Message(profile, Inputs::EachLine) => {
                 run_lines_in(alloc, label, *profile, reader, writer)
             }
+            Command::Items(profile) => run_items_in(alloc, label, *profile, reader, writer),
             Command::Keytab => run_keytab_in(alloc, label, reader, writer),
             Command::Ccache(_) => run_ccache_in(alloc, label, reader, writer, self.time),
             Command::Capture(limit, profile, port) => {

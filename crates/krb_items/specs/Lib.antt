@@ -1,0 +1,7 @@
+pub mod Heads
+pub mod Names
+pub mod Shapes
+pub mod Items
+pub mod Records
+pub mod Seen
+pub mod Reached
