@@ -1,6 +1,8 @@
 -- What a command says to do: the text that it prints, the kind that it lists, and the time and the first octets that it needs.
-use Rattle.std.specs.Prelude.{ℕ, Bool, true, false, List, Option, Some, None, string_bytes}
+use Rattle.std.specs.Prelude.{ℕ, Bool, true, false, List, codes, Option, Some, None, string_bytes}
+use Rattle.std.specs.Option.{option_map}
 use Rattle.krb_der.specs.declared.profile.Profile.TheVariants as profile
+use Rattle.krb_input.specs.Sources.{kind_name}
 use Rattle.krb_input.specs.declared.source_kind.SourceKind.{SourceKind}
 use Rattle.krb_input.specs.declared.source_kind.SourceKind.TheVariants as kind
 use Rattle.krb_words.specs.declared.when.When.{When}
@@ -49,6 +51,11 @@ kind_used (commands.Message profile each) = Some kind.Message
 kind_used (commands.Items profile) = Some kind.Message
 kind_used (commands.Stream limit profile refused) = Some kind.Stream
 kind_used _ = None
+
+-- the name of a command that lists sources of one kind
+abbrev pub name_used : Command → Option (List ℕ)
+name_used (commands.Items profile) = Some (codes "items")
+name_used command = option_map kind_name (kind_used command)
 
 -- the time that a command compares credentials with
 abbrev pub when_of : Command → Option When

@@ -1,8 +1,8 @@
 //! What a command says to do.
 
 ghost use Rattle.std.specs.Prelude.{◌≡◌};
-ghost use Rattle.std.specs.Option.{option_map};
-ghost use Rattle.krb_words.specs.Tasks.{is_conversion, kind_used, listing_for, names_caches, octets_awaited, text_of, when_of, writes_messages};
+ghost use Rattle.std.specs.Option.{option_copied, option_map};
+ghost use Rattle.krb_words.specs.Tasks.{is_conversion, kind_used, listing_for, name_used, names_caches, octets_awaited, text_of, when_of, writes_messages};
 
 use crate::when::When;
 use crate::words::{AfterRefusal, Command, Inputs, USUAL_PORT};
@@ -68,6 +68,19 @@ impl Command {
             Command::Message(..) | Command::Items(_) => Some(SourceKind::Message),
             Command::Stream(..) => Some(SourceKind::Stream),
             _ => None,
+        }
+    }
+
+    /// Returns the name of the command, if it lists sources of one kind.
+    pub fn name(&self) -> Option<&'static str>
+        ensures { option_copied result ≡ name_used self.now }
+    {
+        match self {
+            Command::Items(_) => Some("items"),
+            _ => match self.kind() {
+                Some(kind) => Some(kind.name()),
+                None => None,
+            },
         }
     }
 

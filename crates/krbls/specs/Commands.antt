@@ -1,9 +1,10 @@
 -- What is done with a source by a command: the run of its command, with the label of the source and by the profile, the limit and the numbers of the command.
-use Rattle.std.specs.Prelude.{ℕ, ◌≡◌, ◌⊎◌, List, [], ◌∷◌, Option, Some, IfOk, IfErr}
+use Rattle.std.specs.Prelude.{ℕ, ◌≡◌, ◌⊎◌, List, [], ◌∷◌, Option, Some, None, IfOk, IfErr}
 use Rattle.std.specs.Option.{option_and_then}
 use Rattle.krb_input.specs.Hints.{hint_for}
 use Rattle.krb_input.specs.Sources.{command_for}
 use Rattle.krb_input.specs.declared.hint.Hint.{Hint}
+use Rattle.krb_input.specs.declared.hint.Hint.TheVariants as hint
 use Rattle.krb_record.specs.Labels.{Label}
 use Rattle.krb_capture_run.specs.Captures.{IsCaptureRest, capture_listing}
 use Rattle.krb_convert.specs.Conversions.{DecodesBy, EncodesBy, FailsToDecodeBy, is_framed}
@@ -49,9 +50,14 @@ abbrev pub chosen : Command → (first : List ℕ) → Command
 chosen (commands.List when) first = listing_for (command_for first) when
 chosen named first = named
 
+-- HTTP is searched for headers that are read line by line, which `items` does not do
+abbrev pub hint_fit_for : Command → Option Hint → Option Hint
+hint_fit_for (commands.Items profile) (Some hint.Http) = None
+hint_fit_for used found = found
+
 -- the hint for a source that is listed by a command, by its first octets
 abbrev pub hint_by : Command → (first : List ℕ) → Option Hint
-hint_by used first = option_and_then (λ kind. hint_for kind first) (kind_used used)
+hint_by used first = hint_fit_for used (option_and_then (λ kind. hint_for kind first) (kind_used used))
 
 -- ---- a command over a reader that had octets and has others left, and what is written
 abbrev pub Does : (IsTold : List ℕ → Type 0) → Label → (now : Option ℕ) → Command → (had left : Option (List ℕ)) → Run

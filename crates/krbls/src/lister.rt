@@ -4,7 +4,7 @@ ghost use Rattle.std.specs.Prelude.{◌≡◌, IfErr, IfOk, OnOk, string_bytes};
 ghost use Rattle.krb_run.specs.Begun.{begun_remaining, first_of};
 ghost use Rattle.krb_convert.specs.Encoding.{FailsToEncode};
 ghost use Rattle.krb_words.specs.Shell.{shell_word};
-ghost use Rattle.krb_words.specs.Tasks.{kind_used};
+ghost use Rattle.krb_words.specs.Tasks.{name_used};
 ghost use Rattle.krb_convert.specs.Conversions.{DecodesBy, EncodesBy, FailsToDecodeBy, is_framed};
 ghost use Rattle.krb_convert.specs.Ends.{decode_end_line, encode_end_line};
 ghost use Rattle.krbls.specs.Commands.{Does, FailsToTurn, TellsEnd, Turns, chosen, hint_by};
@@ -131,22 +131,25 @@ impl<H: Host> Lister<'_, H> {
 fn hint_by(command: &Command, first: &[u8]) -> Option<Hint>
     ensures { result ≡ hint_by command.now first.now }
 {
-    match command.kind() {
-        Some(kind) => hint_of(kind, first),
-        None => None,
+    let Some(kind) = command.kind() else {
+        return None;
+    };
+    match (command, hint_of(kind, first)) {
+        (Command::Items(_), Some(Hint::Http)) => None,
+        (_, hint) => hint,
     }
 }
 
 impl<H: Host> Lister<'_, H> {
     /// Tells what a source is, if that is known.
     fn tell_hint(&self, source: &Source, hint: Option<Hint>) -> Result<(), AllocError>
-        ensures { OnOk result (IsHinted (H.around self.now.host.now) source.now (kind_used self.now.command.now) hint) }
+        ensures { OnOk result (IsHinted (H.around self.now.host.now) source.now (name_used self.now.command.now) hint) }
     {
         let Some(hint) = hint else {
             return Ok(());
         };
         let name = name_word(self.alloc, source)?;
-        let text = hint.text(self.alloc, self.command.kind(), name.as_str())?;
+        let text = hint.text(self.alloc, self.command.name(), name.as_str())?;
         self.host.tell_hint(source, text.as_str());
         Ok(())
     }

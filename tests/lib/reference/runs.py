@@ -238,9 +238,7 @@ class Listing:
         self.status = max(self.status, status)
         # What `items` lists before a refusal is of what `message` refuses at once.
         is_refused = found[-1 if used == "items" else 0].kind == "refused"
-        # A hint has `message` for it.
-        command = "message" if self.command == "items" else self.command
-        said = hint(octets, "message" if used == "items" else used, command, shell_word(name))
+        said = hint(octets, used, self.command, shell_word(name))
         if is_refused and said is not None:
             self.errors.append(f"krbls: {said_of}: {said}\n")
 
