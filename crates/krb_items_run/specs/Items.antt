@@ -64,9 +64,8 @@ found_listable profile octets layers IsTicket = Some (record { layers = layers; 
 found_listable profile octets layers (Ntlm place) = None
 found_listable profile octets layers (Refused fault) = refused_layer layers (record { place = fault.place; why = fault.why })
 
--- A message has three layers at most: a token of GSS-API in one of SPNEGO in one of GSS-API (RFC 4178, 4.2).
 abbrev pub opened_listable : Profile → List ℕ → Opened → Option Listable
-opened_listable profile octets o = if nat_lt 3 (length o.layers) then None else found_listable profile octets o.layers o.found
+opened_listable profile octets o = found_listable profile octets o.layers o.found
 
 abbrev pub listable : Profile → List ℕ → Option Listable
 listable profile octets = opened_listable profile octets (opened octets)

@@ -62,10 +62,8 @@ fn frame_verdict(profile: Profile, size: u32, octets: &[u8]) -> Verdict
     ensures { result ≡ front_verdict profile Lies.Framed size octets.now }
 {
     let left = size.saturating_sub(FRAME_LENGTH);
-    match octets {
-        [_, _, _, _, message @ ..] => judged(profile, left, message),
-        _ => judged(profile, left, &[]),
-    }
+    let start = octets.len().min(FRAME_LENGTH as usize);
+    judged(profile, left, &octets[start..])
 }
 
 /// Returns what octets present of a length that is believed decide.

@@ -7,6 +7,7 @@
 #![tactic(auto)]
 
 mod fronts;
+pub mod law;
 mod listable;
 mod records;
 mod run;

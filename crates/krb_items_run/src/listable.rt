@@ -13,10 +13,6 @@ use krb_judge::law::refusals_are_inside;
 use krb_judge::{read_message_in, read_ticket_in};
 use krb_token::{Found, Layer, open};
 
-/// The greatest number of layers of a message: a token of GSS-API in one of SPNEGO in one of GSS-API
-/// (RFC 4178, 4.2).
-const MOST_LAYERS: usize = 3;
-
 /// What octets are listed as, and what is refused of them.
 #[derive(Clone, Copy)]
 pub(crate) struct Listable {
@@ -31,10 +27,12 @@ fn depth_in(layers: &[Layer]) -> u32
     ensures depth { result ≡ depth_in layers.now }
     ensures shallow { result ≤ 2 * length layers.now }
 {
-    match layers {
-        [] => 0,
-        [Layer::Frame | Layer::Gss, others @ ..] => 1 + depth_in(others),
-        [Layer::Spnego, others @ ..] => 2 + depth_in(others),
+    let Some((first, others)) = layers.split_first() else {
+        return 0;
+    };
+    match first {
+        Layer::Frame | Layer::Gss => 1 + depth_in(others),
+        Layer::Spnego => 2 + depth_in(others),
     }
 }
 
@@ -44,10 +42,10 @@ fn lies_in(layers: &[Layer], place: u32) -> Lies
     ensures lies { result ≡ lies_in layers.now place }
     ensures shallow { IsShallow result }
 {
-    match layers {
-        [] => Lies::Alone,
-        [Layer::Frame, ..] => Lies::Framed,
-        [Layer::Gss | Layer::Spnego, ..] => Lies::Within {
+    match layers.first() {
+        None => Lies::Alone,
+        Some(Layer::Frame) => Lies::Framed,
+        Some(Layer::Gss | Layer::Spnego) => Lies::Within {
             place,
             depth: depth_in(layers),
         },
@@ -94,8 +92,8 @@ fn refused_layer(layers: &'static [Layer], refusal: Refusal) -> Option<Listable>
     ensures found { option_map listable_of result ≡ refused_layer layers.now refusal }
     ensures shallow { IfSome result (λ found. IsShallow found.lies) }
 {
-    match layers {
-        [Layer::Frame, ..] => Some(Listable {
+    match layers.first() {
+        Some(Layer::Frame) => Some(Listable {
             layers,
             lies: Lies::Framed,
             fault: Some(refusal),
@@ -113,9 +111,6 @@ pub(crate) fn listable(profile: Profile, octets: &[u8]) -> Option<Listable>
 {
     let opened = open(octets);
     let layers = opened.layers;
-    if layers.len() > MOST_LAYERS {
-        return None;
-    }
     match opened.found {
         Found::Message { place, octets } => Some(Listable {
             layers,
