@@ -50,14 +50,18 @@ abbrev pub chosen : Command → (first : List ℕ) → Command
 chosen (commands.List when) first = listing_for (command_for first) when
 chosen named first = named
 
--- HTTP is searched for headers that are read line by line, which `items` does not do
-abbrev pub hint_fit_for : Command → Option Hint → Option Hint
-hint_fit_for (commands.Items profile) (Some hint.Http) = None
-hint_fit_for used found = found
+-- from HTTP headers are taken that are read line by line, which `items` does not do
+abbrev pub unless_http : Option Hint → Option Hint
+unless_http (Some hint.Http) = None
+unless_http found = found
+
+abbrev pub fitting : Command → Option Hint → Option Hint
+fitting (commands.Items profile) found = unless_http found
+fitting used found = found
 
 -- the hint for a source that is listed by a command, by its first octets
 abbrev pub hint_by : Command → (first : List ℕ) → Option Hint
-hint_by used first = hint_fit_for used (option_and_then (λ kind. hint_for kind first) (kind_used used))
+hint_by used first = fitting used (option_and_then (λ kind. hint_for kind first) (kind_used used))
 
 -- ---- a command over a reader that had octets and has others left, and what is written
 abbrev pub Does : (IsTold : List ℕ → Type 0) → Label → (now : Option ℕ) → Command → (had left : Option (List ℕ)) → Run
