@@ -104,7 +104,7 @@ fn refused_layer(layers: &'static [Layer], refusal: Refusal) -> Option<Listable>
 
 /// Returns what octets are listed as, and what is refused of them. Of a token's layer that is
 /// refused, and of a message of NTLM, nothing is listed.
-pub(crate) fn listable(profile: Profile, octets: &[u8]) -> Option<Listable>
+pub(crate) fn find_listable(profile: Profile, octets: &[u8]) -> Option<Listable>
     requires { length octets.now < 2 ^ 31 }
     ensures found { option_map listable_of result ≡ listable profile octets.now }
     ensures shallow { IfSome result (λ found. IsShallow found.lies) }

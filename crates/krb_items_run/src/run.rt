@@ -8,7 +8,7 @@ ghost use Rattle.krb_items_run.specs.Seen.{listable_of};
 ghost use Rattle.krb_tool.specs.Messages.{message_listing};
 
 use crate::fronts::front_fault;
-use crate::listable::{Listable, listable};
+use crate::listable::{Listable, find_listable};
 use crate::records::{put_believed, put_items_end};
 use krb_der::{Profile, Refusal};
 use krb_input::{InputFault, read_input};
@@ -83,7 +83,7 @@ impl SpelledItems<'_> {
         if octets.len() > MOST_OCTETS {
             return self.list_refused(alloc, input);
         }
-        match listable(self.profile, octets) {
+        match find_listable(self.profile, octets) {
             None => self.list_refused(alloc, input),
             Some(found) => self.list_found(alloc, found, octets, input),
         }
