@@ -11,20 +11,6 @@ use Rattle.krb_items.specs.Reached.{last_members}
 abbrev last_by : Form → Option (List ℕ) → List ℕ
 last_by form file = last_text form (with_file_if form file (printed [] [])).last
 
-lines-last : (file : Option (List ℕ)) → last_by forms.Lines file ≡ []
-lines-last None = refl
-lines-last (Some name) = refl
-
-named-last : (file : Option (List ℕ)) → last_by forms.NamedLines file ≡ []
-named-last None = refl
-named-last (Some name) = refl
-
-pub last-in-lines : (label : Label) → label.form ≡ forms.Lines → [] ≡ last_members label
-last-in-lines label is = sym (ap (λ form. last_by form label.file) is ∙ lines-last label.file)
-
-pub last-in-named : (label : Label) → label.form ≡ forms.NamedLines → [] ≡ last_members label
-last-in-named label is = sym (ap (λ form. last_by form label.file) is ∙ named-last label.file)
-
 -- a record of no kind and no fields
 bare-line : (form : Form) → record_line form (printed [] []) ≡ opening form [] ++ closing form ++ line_feed
 unfolding record_text

@@ -1,5 +1,5 @@
 -- The types of items are those of the grammar (RFC 4120, appendix A): the same tags, the same fields in the same order, and what is shown of a value is of its type.
-use Rattle.std.specs.Prelude.{ℕ, ◌≡◌, ◌==◌, ◌&&◌, not, Bool, true, false, List, [], ◌∷◌}
+use Rattle.std.specs.Prelude.{◌≡◌, ◌==◌, ◌&&◌, not, Bool, true, false, List, [], ◌∷◌}
 use Rattle.krb_msg.specs.Term.{Term, Fields, Integer, Text, Octets, Time, Bits, Sequence, SequenceOf, Tagged, Application, End, Required, Optional}
 use Rattle.krb_items.specs.Shapes.{Field, ItemType, fields_of, item_of}
 use Rattle.krb_items.specs.declared.shape.Leaf.{Leaf}
