@@ -1,6 +1,6 @@
 -- Items that are listed after one another.
-use Rattle.std.proofs.Common.{◌≡◌, ℕ, List, [], ◌∷◌, ◌++◌, Option, Some, None, refl, sym, ap, ◌∙◌}
-use Rattle.krb_items.specs.Items.{Item, Items, Part, after_item, cut_in, followed_by, goes_on}
+use Rattle.std.proofs.Common.{◌≡◌, List, [], ◌∷◌, ◌++◌, Option, Some, None, refl, sym, ap, ◌∙◌}
+use Rattle.krb_items.specs.Items.{Item, Items, Part, followed_by, goes_on}
 use Rattle.krb_items.specs.Records.{Context, Lists, end_of, listed_item, listed_items, listed_part}
 use Rattle.krb_items.specs.declared.listing.End.{End}
 use Rattle.krb_items.specs.declared.listing.End.TheVariants as ends
@@ -30,10 +30,3 @@ cut-by context items (Some part) next old new first is = record { listed = first
 
 pub lists-cut : (context : Context) (first : Items) (next : Unit {0} → Items) (old new : Listed) → Lists context first old new ends.Cut → Lists context (followed_by first next) old new ends.Cut
 lists-cut context first next old new a = cut-by context first.items first.cut next old new a.listed a.ended
-
--- one item before others
-pub lists-after : (context : Context) (item : Item) (others : Items) (old mid new : Listed) (end : End) → mid ≡ listed_item context item old → Lists context others mid new end → Lists context (after_item item others) old new end
-lists-after context item others old mid new end first second = record {
-  listed = second.listed ∙ ap (λ m. listed_part context others.cut (listed_items context others.items m)) first;
-  ended = second.ended;
-}

@@ -1,7 +1,7 @@
 -- Lists of words that are made of other values.
 use Rattle.std.proofs.Common.{◌≡◌, ℕ, List, [], ◌∷◌, ◌++◌, map, codes, refl, sym, ap}
 use Rattle.std.specs.List.{flat_map}
-use Rattle.krb_record.specs.Text.{joined, list_text}
+use Rattle.krb_record.specs.Text.{joined}
 use Rattle.krb_record.specs.declared.form.Form.{Form}
 use Rattle.krb_record.specs.declared.form.Form.TheVariants as forms
 use Rattle.krb_items.specs.Records.{quoted, words_text}

@@ -1,5 +1,5 @@
 -- The identifier and length octets of items, as they are read of octets up to and with one that is refused (X.690, 8.1.2 and 8.1.3). Whether contents fit in what they lie in is not asked here.
-use Rattle.std.specs.Prelude.{ℕ, ◌+◌, ◌-◌, ◌%◌, min, Bool, ◌&&◌, ◌||◌, ◌==◌, nat_lt, nat_le, if◌then◌else◌, List, [], ◌∷◌, ◌++◌, length, take, drop, Option, Some, None}
+use Rattle.std.specs.Prelude.{ℕ, ◌+◌, ◌-◌, ◌%◌, min, ◌&&◌, ◌||◌, ◌==◌, nat_lt, if◌then◌else◌, List, [], ◌∷◌, ◌++◌, length, take, drop, Option, Some, None}
 use Rattle.krb_der.specs.Octets.{when, begins_with, number}
 use Rattle.krb_items.specs.declared.head.Head.{Head}
 use Rattle.krb_items.specs.declared.tag.Tag.{Tag}

@@ -1,6 +1,6 @@
 -- The types of this crate as what the definitions speak of.
 use Rattle.std.specs.Prelude.{ℕ, Bool, ◌^◌, ◌<◌, List, map, Option, IfSome}
-use Rattle.std.specs.Option.{option_map, option_copied}
+use Rattle.std.specs.Option.{option_map}
 use Rattle.krb_items.specs.Heads.{Begun, Headed}
 use Rattle.krb_items.specs.Items.{Item, Items, Part, Here, cut_in}
 use Rattle.krb_items.specs.declared.begun.Begun.{Begun as BegunOfCode}

@@ -33,6 +33,7 @@ impl<'a> Begun<'a> {
         ensures begun { begun_of result ≡ begun_at at depth }
         ensures next { result.next ≡ at }
         ensures size { result.size ≡ None }
+        ensures depth { result.depth ≡ depth }
     {
         Begun {
             at,
@@ -56,6 +57,7 @@ impl<'a> Begun<'a> {
         ensures head { OnOk result (begun_of self.new ≡ with_head (begun_of self.old) tag octets.now size) }
         ensures near { OnOk result (IsNear self.new) }
         ensures next { OnOk result (self.new.next ≡ self.old.next + length octets.now) }
+        ensures depth { OnOk result (self.new.depth ≡ self.old.depth) }
     {
         self.heads.push(octets)?;
         self.tags.push(tag)?;
@@ -69,6 +71,7 @@ impl<'a> Begun<'a> {
         requires { IsNear self.old }
         ensures unknown { OnOk result (begun_of self.new ≡ with_unknown (begun_of self.old) octets.now) }
         ensures near { OnOk result (IsNear self.new) }
+        ensures depth { OnOk result (self.new.depth ≡ self.old.depth) }
     {
         if octets.is_empty() {
             return Ok(());
@@ -91,6 +94,7 @@ impl<'a> Begun<'a> {
         ensures headed { IfOk result (λ contents. headed limit (begun_of self.old) tags.now octets.now ≡ headed_of self.new (option_map (λ contents. contents.now) contents)) }
         ensures near { OnOk result (IsNear self.new) }
         ensures within { IfOk result (λ contents. IfSome contents (λ contents. self.new.next + length contents.now ≤ self.old.next + length octets.now)) }
+        ensures depth { OnOk result (self.new.depth ≡ self.old.depth) }
     {
         let [tag, others @ ..] = tags else {
             return Ok(Some(octets));

@@ -1,7 +1,10 @@
 //! What is in the items of messages, with the names of fields (RFC 4120, appendix A).
 
 ghost use Rattle.std.specs.Prelude.{◌≡◌, ◌≤◌, length, map};
+ghost use Rattle.krb_msg.specs.Grammar.{ticket as ticket_term};
+ghost use Rattle.krb_msg.specs.Views.{kind_term};
 ghost use Rattle.krb_items.specs.Shapes.{field_of, fields_of, item_of, message_of, sequence_type, ticket, type_of};
+ghost use Rattle.krb_items.specs.Terms.{IsOf};
 
 use crate::tag::Tag;
 use krb_msg::Kind;
@@ -307,7 +310,8 @@ fn of_sequence(of: Sequence) -> ItemType
 
 /// Returns the type of a Ticket (RFC 4120, 5.3).
 pub(crate) fn ticket_type() -> ItemType
-    ensures { type_of result ≡ ticket }
+    ensures ticket { type_of result ≡ ticket }
+    ensures grammar { IsOf (type_of result) ticket_term }
 {
     ItemType {
         tags: &[Tag::Application(1), Tag::Sequence],
@@ -326,7 +330,8 @@ macro_rules! message {
 
 /// Returns the type of the messages of a kind.
 pub(crate) fn message_type(kind: Kind) -> ItemType
-    ensures { type_of result ≡ message_of kind }
+    ensures message { type_of result ≡ message_of kind }
+    ensures grammar { IsOf (type_of result) (kind_term kind) }
 {
     match kind {
         Kind::AsReq => message!(10 KdcReq),

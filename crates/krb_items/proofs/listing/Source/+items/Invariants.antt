@@ -1,4 +1,4 @@
-use Rattle.std.proofs.Common.{◌≡◌, ℕ, ◌+◌, ◌-◌, ◌*◌, ◌≤◌, length}
+use Rattle.std.proofs.Common.{◌≡◌, ◌+◌, ◌-◌, ◌*◌, ◌≤◌, length}
 use Rattle.krb_items.specs.Items.{element_items, item_items}
 use Rattle.krb_items.specs.Records.{Lists}
 use Rattle.krb_items.specs.Seen.{context_of, here_of}
