@@ -1,5 +1,5 @@
 pub mod Ends
-pub mod Fronts
 pub mod Inputs
 pub mod Layers
+pub mod Lengths
 pub mod Listables
