@@ -1,6 +1,8 @@
 -- What a command says to do: the text that it prints, the kind that it lists, the time and the first octets that it needs, and what is said of a name that it cannot open.
 use Rattle.std.specs.Prelude.{ℕ, Bool, true, false, List, Option, Some, None, codes, string_bytes, if◌then◌else◌}
+use Rattle.std.specs.Option.{option_map}
 use Rattle.krb_der.specs.declared.profile.Profile.TheVariants as profile
+use Rattle.krb_input.specs.Sources.{kind_name}
 use Rattle.krb_input.specs.declared.source_kind.SourceKind.{SourceKind}
 use Rattle.krb_input.specs.declared.source_kind.SourceKind.TheVariants as kind
 use Rattle.krb_words.specs.CacheTypes.{other_cache}
@@ -48,8 +50,14 @@ kind_used commands.Keytab = Some kind.Keytab
 kind_used (commands.Ccache when) = Some kind.Ccache
 kind_used (commands.Capture limit chosen port) = Some kind.Capture
 kind_used (commands.Message profile each) = Some kind.Message
+kind_used (commands.Items profile) = Some kind.Message
 kind_used (commands.Stream limit profile refused) = Some kind.Stream
 kind_used _ = None
+
+-- the name of a command that lists sources of one kind
+abbrev pub name_used : Command → Option (List ℕ)
+name_used (commands.Items profile) = Some (codes "items")
+name_used command = option_map kind_name (kind_used command)
 
 -- the time that a command compares credentials with
 abbrev pub when_of : Command → Option When

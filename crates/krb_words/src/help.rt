@@ -103,6 +103,27 @@ Examples:
   krbls message --lines payloads.txt",
 };
 
+pub(crate) const ITEMS_HELP: CommandHelp = CommandHelp {
+    about: "Shows where each field of a message is in its octets",
+    usage: "krbls items [OPTIONS] [FILE]...",
+    below: "\
+Reads one message, Ticket or token, as `krbls message` does. Prints a line for
+each item of its octets, in order: the place of its first octet (`at`), in how
+many items it is (`depth`), its identifier and length octets (`heads`), where
+its contents begin and how many octets they are, and after `item` its path, its
+type and its value. What is inside of an OCTET STRING has no items, nor have the
+layers of a token, but for the message in it.
+
+The last line is `end items=N`, or the refusal of `krbls message`. Before a
+refusal come the items up to there, and `fault`: the item at fault, with the
+octets before it. If the first length is at fault, `believed` and the items of
+that length follow. Of a token's layer that is refused nothing is listed.
+
+Examples:
+  krbls items --names ticket.kirbi
+  krbls items reply | grep name=AS-REP.ticket",
+};
+
 pub(crate) const KEYTAB_HELP: CommandHelp = CommandHelp {
     about: "Lists a keytab",
     usage: "krbls keytab [OPTIONS] [FILE]...",

@@ -1,8 +1,8 @@
 //! What a command says to do.
 
 ghost use Rattle.std.specs.Prelude.{◌≡◌};
-ghost use Rattle.std.specs.Option.{option_map};
-ghost use Rattle.krb_words.specs.Tasks.{is_conversion, kind_used, listing_for, octets_awaited, said_unopened, text_of, when_of, writes_messages};
+ghost use Rattle.std.specs.Option.{option_copied, option_map};
+ghost use Rattle.krb_words.specs.Tasks.{is_conversion, kind_used, listing_for, name_used, octets_awaited, said_unopened, text_of, when_of, writes_messages};
 
 use crate::cache_types::other_cache;
 use crate::names::is_command;
@@ -75,9 +75,22 @@ impl Command {
             Command::Keytab => Some(SourceKind::Keytab),
             Command::Ccache(_) => Some(SourceKind::Ccache),
             Command::Capture(..) => Some(SourceKind::Capture),
-            Command::Message(..) => Some(SourceKind::Message),
+            Command::Message(..) | Command::Items(_) => Some(SourceKind::Message),
             Command::Stream(..) => Some(SourceKind::Stream),
             _ => None,
+        }
+    }
+
+    /// Returns the name of the command, if it lists sources of one kind.
+    pub fn name(&self) -> Option<&'static str>
+        ensures { option_copied result ≡ name_used self.now }
+    {
+        match self {
+            Command::Items(_) => Some("items"),
+            _ => match self.kind() {
+                Some(kind) => Some(kind.name()),
+                None => None,
+            },
         }
     }
 

@@ -4,7 +4,6 @@ use Rattle.std.specs.Io.KnownBytes.{Appends, Keeps}
 use Rattle.std.specs.List.{list_any}
 use Rattle.krb_input.specs.Hints.{hint_text}
 use Rattle.krb_input.specs.declared.hint.Hint.{Hint}
-use Rattle.krb_input.specs.declared.source_kind.SourceKind.{SourceKind}
 use Rattle.krb_record.specs.Labels.{Label}
 use Rattle.krb_record.specs.declared.form.Form.{Form}
 use Rattle.krb_record.specs.declared.form.Form.TheVariants as forms
@@ -21,7 +20,7 @@ use Rattle.krb_run.specs.declared.run.RunFault.{RunFault}
 use Rattle.krb_run.specs.declared.run.RunFault.TheVariants as fault
 use Rattle.krb_words.specs.Shell.{shell_word}
 use Rattle.krb_words.specs.Sources.{place_of}
-use Rattle.krb_words.specs.Tasks.{is_conversion, kind_used, octets_awaited, said_unopened, text_of, when_of, writes_messages}
+use Rattle.krb_words.specs.Tasks.{is_conversion, name_used, octets_awaited, said_unopened, text_of, when_of, writes_messages}
 use Rattle.krb_words.specs.Words.{IsFaultIn, IsCommandLineIn}
 use Rattle.krb_words.specs.declared.sources.Source.{Source}
 use Rattle.krb_words.specs.declared.sources.Source.TheVariants as source
@@ -60,12 +59,12 @@ IsUnread (Err (fault.Write error)) = ⊥
 IsUnread (Err fault.Memory) = Unit {0}
 
 -- a hint for a source is told, if there is one; it gives the command as it was given, and the name as a word of a shell
-abbrev pub IsHinted : Around → Source → Option SourceKind → Option Hint → Type 0
+abbrev pub IsHinted : Around → Source → (given : Option (List ℕ)) → Option Hint → Type 0
 IsHinted around s given None = Unit {0}
 IsHinted around s given (Some hint) = around.IsHintTold s (hint_text hint given (shell_word (name_of s)))
 
--- a hint for a source is told if its run is refused at once: the first record of its listing is that of a refusal
-abbrev pub Hints : Around → Source → Option SourceKind → Option Hint → RunEnd → Type 0
+-- a hint for a source is told if its run is refused at once: the first record of its listing is that of a refusal, by `items` the last
+abbrev pub Hints : Around → Source → (given : Option (List ℕ)) → Option Hint → RunEnd → Type 0
 Hints around s given hint run.Clean = Unit {0}
 Hints around s given hint run.Refused = Unit {0}
 Hints around s given hint run.RefusedAtOnce = IsHinted around s given hint
@@ -76,7 +75,7 @@ pub record ListsBy (around : Around) (label : Label) (now : Option ℕ) (command
   pub result : Outcome
   pub does : Does (around.IsEndTold s) label now used had left written_before written_after result
   pub ends : (outcome ≡ result) ⊎ (outcome ≡ Err fault.Memory)
-  pub hinted : IfOk outcome (Hints around s (kind_used command) (hint_by used first))
+  pub hinted : IfOk outcome (Hints around s (name_used command) (hint_by used first))
 
 -- octets that are known begin with these
 abbrev pub BeginsWith : (first : List ℕ) → Option (List ℕ) → Type 0

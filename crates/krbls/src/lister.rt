@@ -1,20 +1,23 @@
 //! The runs over sources.
 
 ghost use Rattle.std.specs.Prelude.{◌≡◌, IfErr, IfOk, OnOk, string_bytes};
+ghost use Rattle.std.specs.Option.{option_and_then};
 ghost use Rattle.krb_run.specs.Begun.{begun_remaining, first_of};
 ghost use Rattle.krb_convert.specs.Encoding.{FailsToEncode};
 ghost use Rattle.krb_words.specs.Shell.{shell_word};
-ghost use Rattle.krb_words.specs.Tasks.{kind_used, said_unopened};
+ghost use Rattle.krb_words.specs.Tasks.{name_used, said_unopened};
 ghost use Rattle.krb_convert.specs.Conversions.{DecodesBy, EncodesBy, FailsToDecodeBy, is_framed};
 ghost use Rattle.krb_convert.specs.Ends.{decode_end_line, encode_end_line};
-ghost use Rattle.krbls.specs.Commands.{Does, FailsToTurn, TellsEnd, Turns, chosen, hint_by};
+ghost use Rattle.krb_input.specs.Hints.{hint_for};
+ghost use Rattle.krbls.specs.Commands.{Does, FailsToTurn, TellsEnd, Turns, chosen, fitting as fitting_hint, hint_by, unless_http as hint_unless_http};
 ghost use Rattle.krbls.specs.Program.{DoesFrom, IsFaultReported, IsHinted, IsTold, ListsBy, name_of};
 
 use krb_capture_run::run_capture;
 use krb_convert::{decode, encode, put_decode_end, put_encode_end};
 use krb_file_run::{run_ccache_in, run_keytab_in};
 use krb_host::Host;
-use krb_input::{Hint, hint_of, kind_of};
+use krb_input::{Hint, SourceKind, hint_of, kind_of};
+use krb_items_run::run_items_in;
 use krb_record::{Label, TextBuffer};
 use krb_run::{Begun, ListSource, RunEnd, RunFault};
 use krb_tool::{Limit, Profile, run_lines_in, run_message_in, run_stream_in};
@@ -58,6 +61,7 @@ impl<H: Host> Lister<'_, H> {
             Command::Message(profile, Inputs::EachLine) => {
                 run_lines_in(alloc, label, *profile, reader, writer)
             }
+            Command::Items(profile) => run_items_in(alloc, label, *profile, reader, writer),
             Command::Keytab => run_keytab_in(alloc, label, reader, writer),
             Command::Ccache(_) => run_ccache_in(alloc, label, reader, writer, self.time),
             Command::Capture(limit, profile, port) => {
@@ -125,26 +129,53 @@ impl<H: Host> Lister<'_, H> {
     }
 }
 
-/// Returns the hint for a source that begins with these octets and is listed by a command.
-fn hint_by(command: &Command, first: &[u8]) -> Option<Hint>
-    ensures { result ≡ hint_by command.now first.now }
+/// Returns a hint, unless it is for HTTP.
+fn unless_http(hint: Option<Hint>) -> Option<Hint>
+    ensures { result ≡ hint_unless_http hint }
 {
-    match command.kind() {
+    match hint {
+        Some(Hint::Http) => None,
+        _ => hint,
+    }
+}
+
+/// Returns a hint, if it is one for a command: for HTTP lines are read, as `items` does not.
+fn fitting(command: &Command, hint: Option<Hint>) -> Option<Hint>
+    ensures { result ≡ fitting_hint command.now hint }
+{
+    match command {
+        Command::Items(_) => unless_http(hint),
+        _ => hint,
+    }
+}
+
+/// Returns the hint for a source that begins with these octets, if it was to be of a kind.
+fn hint_by_kind(kind: Option<SourceKind>, first: &[u8]) -> Option<Hint>
+    ensures { result ≡ option_and_then (λ kind. hint_for kind first.now) kind }
+{
+    match kind {
         Some(kind) => hint_of(kind, first),
         None => None,
     }
 }
 
+/// Returns the hint for a source that begins with these octets and is listed by a command.
+fn hint_by(command: &Command, first: &[u8]) -> Option<Hint>
+    ensures { result ≡ hint_by command.now first.now }
+{
+    fitting(command, hint_by_kind(command.kind(), first))
+}
+
 impl<H: Host> Lister<'_, H> {
     /// Tells what a source is, if that is known.
     fn tell_hint(&self, source: &Source, hint: Option<Hint>) -> Result<(), AllocError>
-        ensures { OnOk result (IsHinted (H.around self.now.host.now) source.now (kind_used self.now.command.now) hint) }
+        ensures { OnOk result (IsHinted (H.around self.now.host.now) source.now (name_used self.now.command.now) hint) }
     {
         let Some(hint) = hint else {
             return Ok(());
         };
         let name = name_word(self.alloc, source)?;
-        let text = hint.text(self.alloc, self.command.kind(), name.as_str())?;
+        let text = hint.text(self.alloc, self.command.name(), name.as_str())?;
         self.host.tell_hint(source, text.as_str());
         Ok(())
     }

@@ -19,6 +19,7 @@ COMMON = ("--names", "--json", "-H", "--with-filename", "--file")
 OPTIONS = {
     "stream": ("--limit", "--keep-going", "--strict"),
     "message": ("--lines", "--strict"),
+    "items": ("--strict",),
     "keytab": (),
     "ccache": ("--now",),
     "capture": ("--limit", "--port", "--strict"),
@@ -241,8 +242,10 @@ class Listing:
         named = [self.with_name(record, name) for record in found]
         self.lines += [f"{line}\n" for line in lines_of(named, self.forms)]
         self.status = max(self.status, status)
+        # What `items` lists before a refusal is of what `message` refuses at once.
+        is_refused = found[-1 if used == "items" else 0].kind == "refused"
         said = hint(octets, used, self.command, shell_word(name))
-        if found[0].kind == "refused" and said is not None:
+        if is_refused and said is not None:
             self.errors.append(f"krbls: {said_of}: {said}\n")
 
     def with_name(self, record, name):
