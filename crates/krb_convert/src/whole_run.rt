@@ -68,7 +68,7 @@ fn decode_source<R: Read, W: Write>(
 }
 
 /// Reads what a reader has, `most` octets of it if it has more.
-fn read_most<R: Read>(
+pub fn read_most<R: Read>(
     alloc: Global,
     counted: &mut CountedReader<'_, R>,
     most: usize,

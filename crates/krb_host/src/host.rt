@@ -46,6 +46,10 @@ pub trait Host {
     fn tell_end(&self, source: &Source, line: &str)
         ensures { (around self.now).IsEndTold source.now line.now };
 
+    /// Writes lines to the standard error, each after the source's name.
+    fn tell_lines(&self, source: &Source, lines: &[u8])
+        ensures { (around self.now).IsEndTold source.now lines.now };
+
     /// Writes what is wrong with the words of the command line to the standard error.
     fn tell_words(&self, text: &str)
         ensures { (around self.now).AreWordsTold text.now };

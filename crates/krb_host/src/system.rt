@@ -13,6 +13,7 @@ use std::fs::File;
 use std::io;
 use std::io::{ErrorKind, IsTerminal, Read, Write};
 use std::rt::{Stdin, Stdout};
+use std::str;
 use std::time::{SystemTime, UNIX_EPOCH};
 
 /// The name of the standard input in faults.
@@ -149,6 +150,16 @@ impl Host for System<'_> {
 
     fn tell_end(&self, source: &Source, line: &str) {
         tell(self.rt, source, line, "");
+    }
+
+    fn tell_lines(&self, source: &Source, lines: &[u8]) {
+        for line in lines.split(|octet| *octet == b'\n') {
+            if let Ok(line) = str::from_utf8(line) {
+                if !line.is_empty() {
+                    tell(self.rt, source, line, "\n");
+                }
+            }
+        }
     }
 
     fn tell_words(&self, text: &str) {

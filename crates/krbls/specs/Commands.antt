@@ -1,6 +1,7 @@
 -- What is done with a source by a command: the run of its command, with the label of the source and by the profile, the limit and the numbers of the command.
-use Rattle.std.specs.Prelude.{ℕ, ◌≡◌, ◌⊎◌, List, [], ◌∷◌, Option, Some, IfOk, IfErr}
+use Rattle.std.specs.Prelude.{ℕ, ◌≡◌, ◌⊎◌, List, [], ◌∷◌, Option, None, Some, IfOk, IfErr, OnErr}
 use Rattle.std.specs.Option.{option_and_then}
+use Rattle.krb_der.specs.declared.profile.Profile.{Profile}
 use Rattle.krb_input.specs.Hints.{hint_for}
 use Rattle.krb_input.specs.Sources.{command_for}
 use Rattle.krb_input.specs.declared.hint.Hint.{Hint}
@@ -23,6 +24,7 @@ use Rattle.krb_run.specs.declared.run.RunFault.{RunFault}
 use Rattle.krb_run.specs.declared.run.RunFault.TheVariants as fault
 use Rattle.krb_words.specs.Tasks.{kind_used, listing_for}
 use Rattle.krb_words.specs.declared.words.AfterRefusal.TheVariants as after
+use Rattle.krb_words.specs.declared.words.Framing.TheVariants as framing
 use Rattle.krb_words.specs.declared.words.Inputs.TheVariants as inputs
 use Rattle.krb_words.specs.declared.words.Command.{Command}
 use Rattle.krb_words.specs.declared.words.Command.TheVariants as commands
@@ -47,6 +49,11 @@ FailsToTurn {E} TurnsTo Fails failed = Fails failed ⊎ ((failed ≡ fault.Memor
 abbrev pub chosen : Command → (first : List ℕ) → Command
 chosen (commands.List when) first = listing_for (command_for first) when
 chosen named first = named
+
+-- the limit and the profile of a command that decodes each source as its first octets say
+abbrev pub decoding_of : Command → Option (ℕ × Profile)
+decoding_of (commands.Decode limit profile framing.Framed) = Some (limit, profile)
+decoding_of _ = None
 
 -- the hint for a source that is listed by a command, by its first octets
 abbrev pub hint_by : Command → (first : List ℕ) → Option Hint

@@ -151,7 +151,7 @@ impl<H: Host> Lister<'_, H> {
 
     /// Lists what a reader reads of a source by a command, and tells a hint if its first record is that
     /// of a refusal.
-    fn list_by<R: Read, W: Write>(
+    pub(crate) fn list_by<R: Read, W: Write>(
         &self,
         source: &Source,
         command: &Command,
@@ -170,7 +170,7 @@ impl<H: Host> Lister<'_, H> {
     }
 
     /// Does the command with what a reader reads of a source.
-    fn list_begun<R: Read, W: Write>(
+    pub(crate) fn list_begun<R: Read, W: Write>(
         &self,
         source: &Source,
         label: &Label,
@@ -205,7 +205,7 @@ impl<H: Host> Lister<'_, H> {
 }
 
 /// Returns the name of a source as a word of a shell.
-fn name_word(alloc: Global, source: &Source) -> Result<String, AllocError>
+pub(crate) fn name_word(alloc: Global, source: &Source) -> Result<String, AllocError>
     ensures { IfOk result (λ name. string_bytes name ≡ shell_word (name_of source.now)) }
 {
     format!(in alloc; "{}", ShellWord(octets_name(source)))
@@ -241,7 +241,7 @@ impl<H: Host> ListSource<Source> for Lister<'_, H> {
         match self.host.open(source) {
             Ok(reader) => {
                 let mut begun = Begun::begin(self.alloc, reader, self.command.octets_awaited())?;
-                self.list_begun(source, label, &mut begun, writer)
+                self.do_begun(source, label, &mut begun, writer)
             }
             Err(error) => Err(RunFault::Read(error)),
         }
