@@ -1,7 +1,7 @@
-//! Hints for sources that are refused at once as `decode` reads them.
+//! What is said of sources that `decode` cannot read as they are.
 
 ghost use Rattle.std.specs.Prelude.{◌≡◌, ◌++◌, IfOk, string_bytes};
-ghost use Rattle.krb_decode.specs.Hints.{decode_hint_text, unpacked_text};
+ghost use Rattle.krb_decode.specs.Hints.{decode_hint_text, keytab_text, unpacked_text};
 
 use krb_input::Hint;
 use std::alloc::{AllocError, Global};
@@ -18,6 +18,16 @@ pub fn decode_hint_text(alloc: Global, hint: Hint, file: &str) -> Result<String,
         Hint::Bzip2 => unpacked(alloc, "this is a bzip2 file: bzcat ", file),
         _ => hint.text(alloc, None, file),
     }
+}
+
+/// Returns what is said of a keytab, whose name is written as a user has to write it.
+pub fn keytab_text(alloc: Global, file: &str) -> Result<String, AllocError>
+    ensures { IfOk result (λ text. string_bytes text ≡ keytab_text file.now) }
+{
+    let mut text = String::new(alloc);
+    text.push_str("this is a keytab, which has no messages: krbls keytab ")?;
+    text.push_str(file)?;
+    Ok(text)
 }
 
 /// Returns what is said of a packed file.

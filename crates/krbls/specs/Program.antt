@@ -2,11 +2,11 @@
 use Rattle.std.specs.Prelude.{ℕ, ◌≡◌, ◌++◌, ◌⊎◌, ◌&&◌, max, Bool, true, false, if◌then◌else◌, List, length, map, Option, Some, None, Result, Ok, Err, IfOk, OnErr, codes, string_bytes}
 use Rattle.std.specs.Io.KnownBytes.{Appends, Keeps}
 use Rattle.std.specs.List.{list_any}
-use Rattle.krb_decode.specs.Hints.{decode_hint_text}
+use Rattle.krb_decode.specs.Hints.{keytab_text}
 use Rattle.krb_decode.specs.Runs.{DecodesInput, FailsToDecodeInput}
 use Rattle.krb_decode.specs.declared.input.InputEnd.{InputEnd}
 use Rattle.krb_der.specs.declared.profile.Profile.{Profile}
-use Rattle.krb_input.specs.Hints.{hint_for, hint_text}
+use Rattle.krb_input.specs.Hints.{hint_for}
 use Rattle.krb_input.specs.Sources.{command_for}
 use Rattle.krb_input.specs.declared.hint.Hint.{Hint}
 use Rattle.krb_input.specs.declared.source_kind.SourceKind.{SourceKind}
@@ -28,7 +28,7 @@ use Rattle.krb_run.specs.declared.run.RunFault.TheVariants as fault
 use Rattle.krb_words.specs.CacheTypes.{other_cache}
 use Rattle.krb_words.specs.Shell.{shell_word}
 use Rattle.krb_words.specs.Sources.{place_of}
-use Rattle.krb_words.specs.Tasks.{is_conversion, kind_used, names_caches, octets_awaited, text_of, when_of, writes_messages}
+use Rattle.krb_words.specs.Tasks.{is_conversion, names_caches, octets_awaited, text_of, when_of, writes_messages}
 use Rattle.krb_words.specs.Words.{IsFaultIn, IsCommandLineIn}
 use Rattle.krb_words.specs.declared.sources.Source.{Source}
 use Rattle.krb_words.specs.declared.sources.Source.TheVariants as source
@@ -42,7 +42,7 @@ use Rattle.krb_words.specs.declared.words.WordsFault.{WordsFault}
 use Rattle.krb_words.specs.declared.words.WordsFault.TheVariants as words_fault
 use Rattle.krb_host.specs.Around.{Around}
 use Rattle.krb_host.specs.Expanded.{Expands}
-use Rattle.krbls.specs.Commands.{Does, chosen, decoding_of, hint_by}
+use Rattle.krbls.specs.Commands.{Does, TellsSaid, chosen, decoding_of, hint_by, hint_text_by}
 
 -- the name of a source, as it was given
 abbrev pub name_of : Source → List ℕ
@@ -67,12 +67,12 @@ IsUnread (Err (fault.Write error)) = ⊥
 IsUnread (Err fault.Memory) = Unit {0}
 
 -- a hint for a source is told, if there is one; it gives the command as it was given, and the name as a word of a shell
-abbrev pub IsHinted : Around → Source → Option SourceKind → Option Hint → Type 0
+abbrev pub IsHinted : Around → Source → (given : Command) → Option Hint → Type 0
 IsHinted around s given None = Unit {0}
-IsHinted around s given (Some hint) = around.IsHintTold s (hint_text hint given (shell_word (name_of s)))
+IsHinted around s given (Some hint) = around.IsHintTold s (hint_text_by given hint (shell_word (name_of s)))
 
 -- a hint for a source is told if its run is refused at once: the first record of its listing is that of a refusal
-abbrev pub Hints : Around → Source → Option SourceKind → Option Hint → RunEnd → Type 0
+abbrev pub Hints : Around → Source → (given : Command) → Option Hint → RunEnd → Type 0
 Hints around s given hint run.Clean = Unit {0}
 Hints around s given hint run.Refused = Unit {0}
 Hints around s given hint run.RefusedAtOnce = IsHinted around s given hint
@@ -83,44 +83,37 @@ pub record ListsBy (around : Around) (label : Label) (now : Option ℕ) (command
   pub result : Outcome
   pub does : Does (around.IsEndTold s) label now used had left written_before written_after result
   pub ends : (outcome ≡ result) ⊎ (outcome ≡ Err fault.Memory)
-  pub hinted : IfOk outcome (Hints around s (kind_used command) (hint_by used first))
+  pub hinted : IfOk outcome (Hints around s command (hint_by used first))
 
 -- ---- a source that is decoded as its first octets say
--- what is said of an input is told, if something is
-abbrev pub TellsSaid : (IsTold : List ℕ → Type 0) → (said : List ℕ) → Type 0
-TellsSaid IsTold [] = Unit {0}
-TellsSaid IsTold (octet ∷ said) = IsTold (octet ∷ said)
-
-abbrev pub IsDecodeHinted : Around → Source → Option Hint → Type 0
-IsDecodeHinted around s None = Unit {0}
-IsDecodeHinted around s (Some hint) = around.IsHintTold s (decode_hint_text hint (shell_word (name_of s)))
-
-abbrev pub DecodeHints : Around → Source → Option Hint → RunEnd → Type 0
-DecodeHints around s hint run.Clean = Unit {0}
-DecodeHints around s hint run.Refused = Unit {0}
-DecodeHints around s hint run.RefusedAtOnce = IsDecodeHinted around s hint
-
 abbrev pub ended_of : Result InputEnd RunFault → Outcome
 ended_of (Ok end) = Ok end.end
 ended_of (Err fault) = Err fault
 
 -- One message that an input spells was decoded: its lines were written, what is left out is told, and a hint if it is refused.
-pub record DecodesSpelled (around : Around) (profile : Profile) (s : Source) (first : List ℕ) (had written_before written_after : Option (List ℕ)) (outcome : Outcome) : Type 0 where
+pub record DecodesSpelled (around : Around) (command : Command) (profile : Profile) (s : Source) (first : List ℕ) (had written_before written_after : Option (List ℕ)) (outcome : Outcome) : Type 0 where
   pub left : Option (List ℕ)
   pub result : Result InputEnd RunFault
   pub decoded : IfOk result (DecodesInput profile had left written_before written_after)
   pub failed : OnErr result (FailsToDecodeInput profile had left written_before written_after)
   pub told : IfOk result (λ end. TellsSaid (around.IsEndTold s) end.said.items)
   pub ends : (outcome ≡ ended_of result) ⊎ (outcome ≡ Err fault.Memory)
-  pub hinted : IfOk outcome (DecodeHints around s (hint_for kind.Message first))
+  pub hinted : IfOk outcome (Hints around s command (hint_for kind.Message first))
 
--- It is one message if its first octets say so, and else a stream.
+-- Of a keytab, which has no messages, that is told, and which command lists it.
+pub record TellsKeytab (around : Around) (s : Source) (written_before written_after : Option (List ℕ)) (outcome : Outcome) : Type 0 where
+  pub told : IfOk outcome (λ _. around.IsHintTold s (keytab_text (shell_word (name_of s))))
+  pub ends : (outcome ≡ Ok run.Refused) ⊎ (outcome ≡ Err fault.Memory)
+  pub unwritten : written_after ≡ written_before
+
+-- It is one message or a keytab if its first octets say so, and else a stream.
 abbrev pub DecodesBegun : SourceKind → Around → Label → Option ℕ → Command → Profile → Source → (first : List ℕ) → (had written_before written_after : Option (List ℕ)) → Outcome → Type 0
-DecodesBegun kind.Message around label now command profile s first had written_before written_after outcome = DecodesSpelled around profile s first had written_before written_after outcome
+DecodesBegun kind.Message around label now command profile s first had written_before written_after outcome = DecodesSpelled around command profile s first had written_before written_after outcome
+DecodesBegun kind.Keytab around label now command profile s first had written_before written_after outcome = TellsKeytab around s written_before written_after outcome
 DecodesBegun other around label now command profile s first had written_before written_after outcome = ListsBy around label now command s (chosen command first) first had written_before written_after outcome
 
-abbrev pub BegunBy : Option (ℕ × Profile) → Around → Label → Option ℕ → Command → Source → (first : List ℕ) → (had written_before written_after : Option (List ℕ)) → Outcome → Type 0
-BegunBy (Some asked) around label now command s first had written_before written_after outcome = DecodesBegun (command_for first) around label now command asked.1 s first had written_before written_after outcome
+abbrev pub BegunBy : Option Profile → Around → Label → Option ℕ → Command → Source → (first : List ℕ) → (had written_before written_after : Option (List ℕ)) → Outcome → Type 0
+BegunBy (Some profile) around label now command s first had written_before written_after outcome = DecodesBegun (command_for first) around label now command profile s first had written_before written_after outcome
 BegunBy None around label now command s first had written_before written_after outcome = ListsBy around label now command s (chosen command first) first had written_before written_after outcome
 
 abbrev pub DoesBegun : Around → Label → Option ℕ → Command → Source → (first : List ℕ) → (had written_before written_after : Option (List ℕ)) → Outcome → Type 0

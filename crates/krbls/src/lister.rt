@@ -4,17 +4,17 @@ ghost use Rattle.std.specs.Prelude.{◌≡◌, IfErr, IfOk, OnOk, string_bytes};
 ghost use Rattle.krb_run.specs.Begun.{begun_remaining, first_of};
 ghost use Rattle.krb_convert.specs.Encoding.{FailsToEncode};
 ghost use Rattle.krb_words.specs.Shell.{shell_word};
-ghost use Rattle.krb_words.specs.Tasks.{kind_used};
 ghost use Rattle.krb_convert.specs.Conversions.{DecodesBy, EncodesBy, FailsToDecodeBy, is_framed};
-ghost use Rattle.krb_convert.specs.Ends.{decode_end_line, encode_end_line};
-ghost use Rattle.krbls.specs.Commands.{Does, FailsToTurn, TellsEnd, Turns, chosen, hint_by};
+ghost use Rattle.krb_convert.specs.Ends.{decode_end_line, decode_run_end, encode_end_line, encode_run_end};
+ghost use Rattle.krbls.specs.Commands.{Does, FailsToTurn, TellsSaid, Turns, chosen, hint_by, hint_text_by, kind_read};
 ghost use Rattle.krbls.specs.Program.{DoesFrom, IsFaultReported, IsHinted, IsTold, ListsBy, name_of, other_named};
 
 use krb_capture_run::run_capture;
 use krb_convert::{decode, encode, put_decode_end, put_encode_end};
+use krb_decode::decode_hint_text;
 use krb_file_run::{run_ccache_in, run_keytab_in};
 use krb_host::Host;
-use krb_input::{Hint, hint_of, kind_of};
+use krb_input::{Hint, SourceKind, hint_of, kind_of};
 use krb_record::{Label, TextBuffer};
 use krb_run::{Begun, ListSource, RunEnd, RunFault};
 use krb_tool::{Limit, Profile, run_lines_in, run_message_in, run_stream_in};
@@ -83,13 +83,15 @@ impl<H: Host> Lister<'_, H> {
         writer: &mut W,
         limit: Limit,
     ) -> Result<RunEnd, RunFault>
-        ensures turned { IfOk result (Turns (DecodesBy framing profile limit (R.remaining reader.old) (R.remaining reader.new) (W.contents writer.old) (W.contents writer.new)) (decode_end_line framing) ((H.around self.now.host.now).IsEndTold source.now)) }
+        ensures turned { IfOk result (Turns (DecodesBy framing profile limit (R.remaining reader.old) (R.remaining reader.new) (W.contents writer.old) (W.contents writer.new)) (decode_end_line framing) decode_run_end ((H.around self.now.host.now).IsEndTold source.now)) }
         ensures fault { IfErr result (FailsToTurn (DecodesBy framing profile limit (R.remaining reader.old) (R.remaining reader.new) (W.contents writer.old) (W.contents writer.new)) (FailsToDecodeBy framing profile limit (R.remaining reader.old) (R.remaining reader.new) (W.contents writer.old) (W.contents writer.new))) }
     {
         let end = decode(self.alloc, framing, profile, reader, writer, limit)?;
         let mut line = TextBuffer::new(self.alloc);
         put_decode_end(&mut line, framing, &end)?;
-        Ok(self.tell_end(source, line))
+        let line = line.into_string();
+        self.tell_said(source, line.as_bytes());
+        Ok(end.run_end())
     }
 
     /// Turns lines of JSON into messages, and tells why that ended before all was read.
@@ -102,56 +104,81 @@ impl<H: Host> Lister<'_, H> {
         writer: &mut W,
         limit: Limit,
     ) -> Result<RunEnd, RunFault>
-        ensures turned { IfOk result (Turns (EncodesBy framing profile limit (R.remaining reader.old) (R.remaining reader.new) (W.contents writer.old) (W.contents writer.new)) encode_end_line ((H.around self.now.host.now).IsEndTold source.now)) }
+        ensures turned { IfOk result (Turns (EncodesBy framing profile limit (R.remaining reader.old) (R.remaining reader.new) (W.contents writer.old) (W.contents writer.new)) encode_end_line encode_run_end ((H.around self.now.host.now).IsEndTold source.now)) }
         ensures fault { IfErr result (FailsToTurn (EncodesBy framing profile limit (R.remaining reader.old) (R.remaining reader.new) (W.contents writer.old) (W.contents writer.new)) (FailsToEncode (is_framed framing) profile limit (R.remaining reader.old) (R.remaining reader.new) (W.contents writer.old) (W.contents writer.new))) }
     {
         let end = encode(self.alloc, framing, profile, reader, writer, limit)?;
         let mut line = TextBuffer::new(self.alloc);
         put_encode_end(&mut line, &end)?;
-        Ok(self.tell_end(source, line))
+        let line = line.into_string();
+        self.tell_said(source, line.as_bytes());
+        Ok(end.run_end())
     }
 
-    /// Tells the line of a source, if there is one, and returns how its run ended. All that was
-    /// written before is on the standard output, which has no buffer.
-    fn tell_end(&self, source: &Source, line: TextBuffer) -> RunEnd
-        ensures { TellsEnd ((H.around self.now.host.now).IsEndTold source.now) line result }
+    /// Tells what is said of a source, if something is. All that was written before is on the standard
+    /// output, which has no buffer.
+    pub(crate) fn tell_said(&self, source: &Source, lines: &[u8])
+        ensures { TellsSaid ((H.around self.now.host.now).IsEndTold source.now) lines.now }
     {
-        let line = line.into_string();
-        if line.is_empty() {
-            return RunEnd::Clean;
+        if !lines.is_empty() {
+            self.host.tell_end(source, lines);
         }
-        self.host.tell_end(source, line.as_str());
-        RunEnd::Refused
     }
 }
 
-/// Returns the hint for a source that begins with these octets and is listed by a command.
+/// Returns the kind of the sources that a command reads, if hints are told of them.
+fn kind_read(command: &Command) -> Option<SourceKind>
+    ensures { result ≡ kind_read command.now }
+{
+    match command {
+        Command::Decode(_, _, Framing::Framed) => Some(SourceKind::Stream),
+        _ => command.kind(),
+    }
+}
+
+/// Returns the hint for a source that begins with these octets and is read by a command.
 fn hint_by(command: &Command, first: &[u8]) -> Option<Hint>
     ensures { result ≡ hint_by command.now first.now }
 {
-    match command.kind() {
+    match kind_read(command) {
         Some(kind) => hint_of(kind, first),
         None => None,
     }
 }
 
+/// Returns what a hint says of a file, whose name is written as a user has to write it, where a
+/// command was given.
+fn hint_text_by(
+    alloc: Global,
+    command: &Command,
+    hint: Hint,
+    file: &str,
+) -> Result<String, AllocError>
+    ensures { IfOk result (λ text. string_bytes text ≡ hint_text_by command.now hint file.now) }
+{
+    match command {
+        Command::Decode(..) => decode_hint_text(alloc, hint, file),
+        _ => hint.text(alloc, command.kind(), file),
+    }
+}
+
 impl<H: Host> Lister<'_, H> {
     /// Tells what a source is, if that is known.
-    fn tell_hint(&self, source: &Source, hint: Option<Hint>) -> Result<(), AllocError>
-        ensures { OnOk result (IsHinted (H.around self.now.host.now) source.now (kind_used self.now.command.now) hint) }
+    pub(crate) fn tell_hint(&self, source: &Source, hint: Option<Hint>) -> Result<(), AllocError>
+        ensures { OnOk result (IsHinted (H.around self.now.host.now) source.now self.now.command.now hint) }
     {
         let Some(hint) = hint else {
             return Ok(());
         };
         let name = name_word(self.alloc, source)?;
-        let text = hint.text(self.alloc, self.command.kind(), name.as_str())?;
+        let text = hint_text_by(self.alloc, self.command, hint, name.as_str())?;
         self.host.tell_hint(source, text.as_str());
         Ok(())
     }
 
     /// Lists what a reader reads of a source by a command, and tells a hint if its first record is that
     /// of a refusal.
-    pub(crate) fn list_by<R: Read, W: Write>(
+    fn list_by<R: Read, W: Write>(
         &self,
         source: &Source,
         command: &Command,
