@@ -15,12 +15,15 @@ from .values import count
 
 BLANKS = b" \t\r"
 
-
 NOT_ENCRYPTED = "not encrypted, and so not printed"
 
 
 class Ends(Exception):
     """What ends a source, in words."""
+
+
+class RefusedAtOnce(Ends):
+    """The same of a refusal with no message before it."""
 
 
 def line_of(name, item, value, before=""):
@@ -56,7 +59,7 @@ def lines_of(octets, limit, messages, unframed):
     lines = []
     for found in found_in_by(lambda octets, n: [message_or_refusal(octets, n, messages)], octets, limit):
         if isinstance(found, Refused):
-            raise Ends(named_line(without_extent(refused(found, {"messages": count(lines)}))))
+            raise (Ends if lines else RefusedAtOnce)(named_line(without_extent(refused(found, {"messages": count(lines)}))))
         name, value = found
         lines.append(name)
         yield line_of(name, messages[name], value, f"message {len(lines)}: ")
@@ -158,12 +161,17 @@ WRITTEN = {"decode": lines_of, "encode": frames_of}
 
 def written(command, octets, limit=LIMIT, messages=MESSAGES, unframed=False):
     """What a command writes of the octets of a source, and what it says of what it left out, in lines, or None."""
-    if command == "decode" and not unframed and command_for(octets) == "message":
+    chooses = command == "decode" and not unframed
+    kind = command_for(octets) if chooses else None
+    if kind == "message":
         return decoded_input(octets, messages)
+    if kind == "keytab":
+        return b"", "this is a keytab, which has no messages: krbls keytab -"
     found = []
     try:
         for part in WRITTEN[command](octets, limit, messages, unframed):
             found.append(part)
     except Ends as end:
-        return b"".join(found), str(end)
+        help_of = hint(octets, "stream", "decode", "-") if chooses and isinstance(end, RefusedAtOnce) else None
+        return b"".join(found), "\n".join(filter(None, (str(end), help_of)))
     return b"".join(found), None
