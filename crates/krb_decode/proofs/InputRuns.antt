@@ -12,7 +12,7 @@ use Rattle.krb_run.specs.Files.{FileListing, IsSettled, ListsFile, ReadsSome}
 use Rattle.krb_run.specs.Records.{AppendsPrefix}
 use Rattle.krb_run.specs.declared.run.RunEnd.{RunEnd}
 use Rattle.krb_tool.specs.Messages.{IsMessageListing, message_listing}
-use Rattle.krb_convert.specs.inner.WholeRuns.{ReadsMost}
+use Rattle.krb_convert.specs.Decoding.{ReadsMost}
 use Rattle.krb_decode.specs.Decoded.{decoded_by, decoded_input, decoded_spelled}
 use Rattle.krb_decode.specs.Runs.{DecodesInput, FailsToDecodeInput}
 use Rattle.krb_decode.specs.inner.Inputs.{decoded_of}
