@@ -5,7 +5,6 @@ use Rattle.krb_input.specs.declared.source_kind.SourceKind.{SourceKind}
 use Rattle.krb_input.specs.declared.source_kind.SourceKind.TheVariants as kind
 use Rattle.krb_words.specs.declared.when.When.{When}
 use Rattle.krb_words.specs.declared.words.AfterRefusal.TheVariants as after
-use Rattle.krb_words.specs.declared.words.Framing.TheVariants as framing
 use Rattle.krb_words.specs.declared.words.Inputs.TheVariants as inputs
 use Rattle.krb_words.specs.declared.words.Command.{Command}
 use Rattle.krb_words.specs.declared.words.Command.TheVariants as commands
@@ -58,6 +57,6 @@ when_of _ = None
 
 -- how many octets of a source are awaited before its run begins: those by which a command or a hint is chosen, if one is
 abbrev pub octets_awaited : Command → ℕ
-octets_awaited (commands.Decode limit profile framing.Unframed) = 1
+octets_awaited (commands.Decode limit profile how) = 1
 octets_awaited (commands.Encode limit profile how) = 1
 octets_awaited _ = 16

@@ -5,7 +5,7 @@ ghost use Rattle.std.specs.Option.{option_map};
 ghost use Rattle.krb_words.specs.Tasks.{is_conversion, kind_used, listing_for, names_caches, octets_awaited, text_of, when_of, writes_messages};
 
 use crate::when::When;
-use crate::words::{AfterRefusal, Command, Framing, Inputs, USUAL_PORT};
+use crate::words::{AfterRefusal, Command, Inputs, USUAL_PORT};
 use krb_der::{Limit, Profile};
 use krb_input::SourceKind;
 
@@ -84,12 +84,12 @@ impl Command {
     /// Returns how many octets of a source are awaited before it is listed: those by which the
     /// command of the source or a hint is chosen, whatever the pieces are in which they come. No
     /// frame of a message is as short, so a live stream is still listed as it comes. Nothing is
-    /// chosen for `encode`, nor for one message without its length.
+    /// chosen for `decode` and `encode`.
     pub fn octets_awaited(&self) -> usize
         ensures { result ≡ octets_awaited self.now }
     {
         match self {
-            Command::Decode(_, _, Framing::Unframed) | Command::Encode(..) => 1,
+            Command::Decode(..) | Command::Encode(..) => 1,
             _ => 16,
         }
     }
