@@ -5,6 +5,7 @@ What is made follows from the dice alone.
 
 import json
 
+import made_inputs
 from made_up import FAULTS, NAMED, OFTEN, Maker, changed, stream
 from reference.documents import DEEPEST
 from reference.frames import LIMIT
@@ -223,7 +224,9 @@ def source(dice, command, real):
     """What a command of some options reads."""
     if command.startswith("encode"):
         return lines(dice, STRICT_MESSAGES if "--strict" in command else MESSAGES)
-    return message(dice, real) if "--unframed" in command else stream(dice, real)
+    if "--unframed" in command:
+        return message(dice, real)
+    return made_inputs.message(dice, real) if dice.random() < 0.4 else stream(dice, real)
 
 
 def message(dice, real):
