@@ -220,13 +220,13 @@ def options(dice):
     return f"{dice.choice(['', '', ' --strict'])}{dice.choice(['', '', ' --unframed'])}{limit}"
 
 
-def source(dice, command, real):
-    """What a command of some options reads."""
+def source(dice, command, real, messages):
+    """What a command of some options reads, made up by real streams and real messages."""
     if command.startswith("encode"):
         return lines(dice, STRICT_MESSAGES if "--strict" in command else MESSAGES)
     if "--unframed" in command:
         return message(dice, real)
-    return made_inputs.message(dice, real) if dice.random() < 0.4 else stream(dice, real)
+    return made_inputs.message(dice, messages) if dice.random() < 0.4 else stream(dice, real)
 
 
 def message(dice, real):
