@@ -1,6 +1,7 @@
 -- What is decoded of a Ticket and of a message, by a view of it, and of items.
-use Rattle.std.proofs.Common.{◌≡◌, ℕ, ℤ, ◌+◌, ◌-◌, ◌<◌, ◌≤◌, ◌^◌, false, true, List, [], ◌∷◌, ◌++◌, length, take, drop, map, codes, decimal, Option, None, Some, refl, sym, ◌∙◌, ap, ap₂, subst, arith, append-nil, append_assoc, length-append}
+use Rattle.std.proofs.Common.{◌≡◌, ℕ, ◌+◌, ◌-◌, ◌<◌, ◌≤◌, Bool, false, if◌then◌else◌, List, [], ◌∷◌, ◌++◌, length, take, map, codes, Option, None, Some, Result, OnOk, refl, sym, ◌∙◌, ap, ap₂, subst, arith, append-nil, append_assoc, length-append}
 use Rattle.std.proofs.Math.Seq.{take-append_seam}
+use Rattle.std.proofs.lemmas.Bool.{lt-ltb, le-ltb}
 use Rattle.std.specs.List.{AllByRecursion, flat_map}
 use Rattle.krb_der.specs.declared.profile.Profile.{Profile}
 use Rattle.krb_der.specs.declared.verdict.Refusal.{Refusal}
@@ -9,6 +10,8 @@ use Rattle.krb_msg.specs.Term.{Value, Fits, der, tag_of}
 use Rattle.krb_msg.specs.inner.Values.{contents, der_is}
 use Rattle.krb_msg.specs.Types.{ticket_of, ticket_value}
 use Rattle.krb_msg.specs.Viewed.{AreViewed, items_of}
+use Rattle.krb_msg.specs.Views.{message_of_der}
+use Rattle.krb_msg.specs.declared.message.Message.{Message}
 use Rattle.krb_msg.specs.ViewValues.{message_of_view}
 use Rattle.krb_msg.specs.declared.krb_cred.KrbCredView.{KrbCredView}
 use Rattle.krb_msg.specs.declared.message_view.MessageView.{MessageView}
@@ -16,9 +19,15 @@ use Rattle.krb_msg.specs.declared.message_view.MessageView.TheVariants as view
 use Rattle.krb_msg.specs.declared.ticket.Ticket.{Ticket}
 use Rattle.krb_msg.proofs.FieldViews.{same_contents}
 use Rattle.krb_msg.proofs.ProfileValues.{der_profile, lenient_back, lenient_fits}
-use Rattle.krb_judge.specs.Parses.{AreOfTicket, ticket_value_in}
+use Rattle.krb_judge.specs.Parses.{AreOfTicket, refusal_of, ticket_value_in}
 use Rattle.krb_judge.specs.Paths.{element_path}
-use Rattle.krb_decode.specs.Decoded.{Added, both, decoded_found, decoded_message, decoded_ticket, decoded_tickets, judged, nothing}
+use Rattle.krb_source.specs.declared.layer.Layer.{Layer}
+use Rattle.krb_token.specs.Opened.{Opened}
+use Rattle.krb_token.specs.Seen.{found_of, opened_of}
+use Rattle.krb_token.specs.Tokens.{opened}
+use Rattle.krb_token.specs.declared.opening.Found.{Found as FoundOfCode}
+use Rattle.krb_token.specs.declared.opening.Opened.{Opened as OpenedOfCode}
+use Rattle.krb_decode.specs.Decoded.{Added, both, decoded_found, decoded_message, decoded_octets, decoded_part, decoded_ticket, decoded_tickets, decoded_under, judged, nothing, origin_text}
 use Rattle.krb_decode.specs.inner.Adding.{Adds}
 use Rattle.krb_decode.specs.declared.parts.Parts.{Parts}
 
@@ -45,6 +54,33 @@ adds-judged refusal added old new none a = subst (λ r. Adds (judged r added) ol
 -- and what is
 pub adds-refused : (refusal : Option Refusal) (r : Refusal) (added : Added) (old : Parts) → refusal ≡ Some r → Adds (judged refusal added) old old
 adds-refused refusal r added old is = subst (λ x. Adds (judged x added) old old) (sym is) (adds-nothing old)
+
+-- one of two, by a test
+pub adds-chosen : (test is : Bool) (one other : Added) (old new : Parts) → test ≡ is → Adds (if is then one else other) old new → Adds (if test then one else other) old new
+adds-chosen test is one other old new same adds = subst (λ (b : Bool). Adds (if b then one else other) old new) (sym same) adds
+
+-- the same, said otherwise
+pub adds-as : {T E : Type 0} (r : Result T E) (one other : Added) (old new : Parts) → one ≡ other → OnOk r (Adds one old new) → OnOk r (Adds other old new)
+adds-as r one other old new is adds = subst (λ (a : Added). OnOk r (Adds a old new)) is adds
+
+-- ---- octets that are opened
+pub decoded-long : (profile : Profile) (octets : List ℕ) → 2147483647 < length octets → nothing ≡ decoded_octets profile octets
+unfolding decoded_octets
+decoded-long profile octets long = rw (lt-ltb 2147483647 (length octets) long) refl
+
+pub decoded-opened : (profile : Profile) (octets : List ℕ) (o : OpenedOfCode) (found : FoundOfCode) → length octets ≤ 2147483647 → opened_of o ≡ opened octets → o.found ≡ found → decoded_under profile octets o.layers.now (found_of found) ≡ decoded_octets profile octets
+unfolding decoded_octets
+decoded-opened profile octets o found few is found_is =
+    ap (λ (f : FoundOfCode). decoded_under profile octets o.layers.now (found_of f)) (sym found_is)
+    ∙ ap (λ (x : Opened). decoded_under profile octets x.layers x.found) is
+    ∙ rw (le-ltb 2147483647 (length octets) few) refl
+
+-- a message in layers
+pub part-decoded : {T E : Type 0} (r : Result T E) (profile : Profile) (layers : List Layer) (octets origin : List ℕ) (m : Message) (old new : Parts) → refusal_of profile octets ≡ None → m ≡ message_of_der octets → origin ≡ origin_text layers → OnOk r (Adds (decoded_found origin m) old new) → OnOk r (Adds (decoded_part profile layers octets) old new)
+part-decoded r profile layers octets origin m old new none is_m is_origin adds =
+    adds-as r (decoded_found origin m) (decoded_part profile layers octets) old new
+    ((λ i. decoded_found (is_origin i) (is_m i)) ∙ ap (λ (found : Option Refusal). judged found (decoded_found (origin_text layers) (message_of_der octets))) (sym none))
+    adds
 
 -- ---- a Ticket
 pub ticket-fits : (profile : Profile) (octets : List ℕ) (t : Ticket) → AreOfTicket profile octets t → Fits ticket (ticket_value t)

@@ -40,8 +40,8 @@ pub(crate) fn put_octets(parts: &mut Parts, profile: Profile, octets: &[u8]) -> 
     }
     let opened = open(octets);
     match opened.found {
-        Found::Message { octets, .. } => put_part(parts, profile, opened.layers, octets),
-        Found::Ticket(octets) => put_lone(parts, profile, octets),
+        Found::Message { octets: part, .. } => put_part(parts, profile, opened.layers, part),
+        Found::Ticket(_) => put_lone(parts, profile, octets),
         Found::Ntlm { .. } | Found::Refused { .. } => Ok(()),
     }
 }
@@ -72,7 +72,7 @@ fn put_lone(parts: &mut Parts, profile: Profile, octets: &[u8]) -> Result<(), Me
 {
     match read_ticket_in(profile, octets) {
         Ok(ticket) => put_ticket(parts, "", "Ticket.enc-part", &ticket, octets),
-        Err(_) => Ok(()),
+        Err(_refusal) => Ok(()),
     }
 }
 
@@ -89,7 +89,7 @@ fn put_part(
     let origin = origin_text(parts.alloc, layers)?;
     match read_message_in(profile, octets) {
         Ok(message) => put_message(parts, origin.as_str(), &message, octets),
-        Err(_) => Ok(()),
+        Err(_refusal) => Ok(()),
     }
 }
 
@@ -141,9 +141,8 @@ fn origin_text(alloc: Global, layers: &'static [Layer]) -> Result<String, Memory
 
 /// Adds the line of each ticket, or that it is not encrypted.
 fn put_tickets(parts: &mut Parts, origin: &str, tickets: ItemsView<'_>) -> Result<(), Memory>
-    requires short { length tickets.octets.now < 2 ^ 31 }
-    requires viewed { AreViewed ticket tickets.octets.now }
-    ensures { OnOk result (Adds (decoded_tickets origin.now 0 (map ticket_of (items_of ticket tickets.octets.now))) parts.old parts.new) }
+    requires { AreViewed ticket tickets.octets.now }
+    ensures { OnOk result (Adds (decoded_tickets origin.now 0 (map ticket_of (items_of ticket tickets.entry.octets.now))) parts.old parts.new) }
 {
     let mut items = tickets;
     let mut index = 0u64;

@@ -1,8 +1,7 @@
-use Rattle.std.proofs.Common.{◌∙◌, sym, ap, subst}
+use Rattle.std.proofs.Common.{refl, subst}
 use Rattle.std.proofs.lemmas.Result.{on_ok_weaker}
 use Rattle.std.specs.Prelude.{codes}
 use Rattle.krb_judge.specs.Parses.{ticket_refusal}
-use Rattle.krb_msg.specs.Types.{ticket_of_view}
 use Rattle.krb_tool.proofs.Messages.{not_refused, ticket-read}
 use Rattle.krb_decode.specs.Decoded.{decoded_ticket}
 use Rattle.krb_decode.specs.inner.Adding.{Adds}
@@ -28,4 +27,4 @@ returns-in-Ok c =
     c.put_ticket.ensures
 
 pub returns-in-Err : goal.returns-in-Err
-returns-in-Err c = adds-refused (ticket_refusal c.args.profile c.args.octets.now) c.in-Err.refusal _ c.args.parts.now ((c.in-Err.ensures.refused c.in-Err.refusal).0 refl)
+returns-in-Err c = adds-refused (ticket_refusal c.args.profile c.args.octets.now) c.in-Err._refusal _ c.args.parts.now ((c.in-Err.ensures.refused c.in-Err._refusal).0 refl)
