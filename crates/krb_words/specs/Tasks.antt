@@ -9,6 +9,7 @@ use Rattle.krb_words.specs.CacheTypes.{other_cache}
 use Rattle.krb_words.specs.Names.{is_command}
 use Rattle.krb_words.specs.declared.when.When.{When}
 use Rattle.krb_words.specs.declared.words.AfterRefusal.TheVariants as after
+use Rattle.krb_words.specs.declared.words.Framing.TheVariants as framing
 use Rattle.krb_words.specs.declared.words.Inputs.TheVariants as inputs
 use Rattle.krb_words.specs.declared.words.Command.{Command}
 use Rattle.krb_words.specs.declared.words.Command.TheVariants as commands
@@ -54,9 +55,10 @@ kind_used (commands.Items profile) = Some kind.Message
 kind_used (commands.Stream limit profile refused) = Some kind.Stream
 kind_used _ = None
 
--- the name of a command that lists sources of one kind
+-- the name of a command that hints give again
 abbrev pub name_used : Command → Option (List ℕ)
 name_used (commands.Items profile) = Some (codes "items")
+name_used (commands.Decode limit profile how) = Some (codes "decode")
 name_used command = option_map kind_name (kind_used command)
 
 -- the time that a command compares credentials with
@@ -67,6 +69,6 @@ when_of _ = None
 
 -- how many octets of a source are awaited before its run begins: those by which a command or a hint is chosen, if one is
 abbrev pub octets_awaited : Command → ℕ
-octets_awaited (commands.Decode limit profile how) = 1
+octets_awaited (commands.Decode limit profile framing.Unframed) = 1
 octets_awaited (commands.Encode limit profile how) = 1
 octets_awaited _ = 16

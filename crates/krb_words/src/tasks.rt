@@ -7,7 +7,7 @@ ghost use Rattle.krb_words.specs.Tasks.{is_conversion, kind_used, listing_for, n
 use crate::cache_types::other_cache;
 use crate::names::is_command;
 use crate::when::When;
-use crate::words::{AfterRefusal, Command, Inputs, USUAL_PORT};
+use crate::words::{AfterRefusal, Command, Framing, Inputs, USUAL_PORT};
 use krb_der::{Limit, Profile};
 use krb_input::SourceKind;
 
@@ -81,12 +81,13 @@ impl Command {
         }
     }
 
-    /// Returns the name of the command, if it lists sources of one kind.
+    /// Returns the name of the command, if hints give it again.
     pub fn name(&self) -> Option<&'static str>
         ensures { option_copied result ≡ name_used self.now }
     {
         match self {
             Command::Items(_) => Some("items"),
+            Command::Decode(..) => Some("decode"),
             _ => match self.kind() {
                 Some(kind) => Some(kind.name()),
                 None => None,
@@ -107,12 +108,12 @@ impl Command {
     /// Returns how many octets of a source are awaited before it is listed: those by which the
     /// command of the source or a hint is chosen, whatever the pieces are in which they come. No
     /// frame of a message is as short, so a live stream is still listed as it comes. Nothing is
-    /// chosen for `decode` and `encode`.
+    /// chosen for `encode`, nor for one message without its length.
     pub fn octets_awaited(&self) -> usize
         ensures { result ≡ octets_awaited self.now }
     {
         match self {
-            Command::Decode(..) | Command::Encode(..) => 1,
+            Command::Decode(_, _, Framing::Unframed) | Command::Encode(..) => 1,
             _ => 16,
         }
     }

@@ -1,9 +1,16 @@
 -- What the program does by its words: to the standard output, to the standard error, and its status.
-use Rattle.std.specs.Prelude.{ℕ, ◌≡◌, ◌++◌, ◌⊎◌, ◌&&◌, max, Bool, true, false, if◌then◌else◌, List, length, map, Option, Some, None, Result, Ok, Err, IfOk, codes, string_bytes}
+use Rattle.std.specs.Prelude.{ℕ, ◌≡◌, ◌++◌, ◌⊎◌, ◌&&◌, max, Bool, true, false, if◌then◌else◌, List, length, map, Option, Some, None, Result, Ok, Err, IfOk, OnErr, codes, string_bytes}
 use Rattle.std.specs.Io.KnownBytes.{Appends, Keeps}
 use Rattle.std.specs.List.{list_any}
-use Rattle.krb_input.specs.Hints.{hint_text}
+use Rattle.krb_decode.specs.Hints.{keytab_text}
+use Rattle.krb_decode.specs.Runs.{DecodesInput, FailsToDecodeInput}
+use Rattle.krb_decode.specs.declared.input.InputEnd.{InputEnd}
+use Rattle.krb_der.specs.declared.profile.Profile.{Profile}
+use Rattle.krb_input.specs.Hints.{hint_for, hint_text}
+use Rattle.krb_input.specs.Sources.{command_for}
 use Rattle.krb_input.specs.declared.hint.Hint.{Hint}
+use Rattle.krb_input.specs.declared.source_kind.SourceKind.{SourceKind}
+use Rattle.krb_input.specs.declared.source_kind.SourceKind.TheVariants as kind
 use Rattle.krb_record.specs.Labels.{Label}
 use Rattle.krb_record.specs.declared.form.Form.{Form}
 use Rattle.krb_record.specs.declared.form.Form.TheVariants as forms
@@ -34,7 +41,7 @@ use Rattle.krb_words.specs.declared.words.WordsFault.{WordsFault}
 use Rattle.krb_words.specs.declared.words.WordsFault.TheVariants as words_fault
 use Rattle.krb_host.specs.Around.{Around}
 use Rattle.krb_host.specs.Expanded.{Expands}
-use Rattle.krbls.specs.Commands.{Does, chosen, hint_by}
+use Rattle.krbls.specs.Commands.{Does, TellsSaid, chosen, decoding_of, hint_by}
 
 -- the name of a source, as it was given
 abbrev pub name_of : Source → List ℕ
@@ -77,6 +84,40 @@ pub record ListsBy (around : Around) (label : Label) (now : Option ℕ) (command
   pub ends : (outcome ≡ result) ⊎ (outcome ≡ Err fault.Memory)
   pub hinted : IfOk outcome (Hints around s (name_used command) (hint_by used first))
 
+-- ---- a source that is decoded as its first octets say
+abbrev pub ended_of : Result InputEnd RunFault → Outcome
+ended_of (Ok end) = Ok end.end
+ended_of (Err fault) = Err fault
+
+-- One message that an input spells was decoded: its lines were written, what is left out is told, and a hint if it is refused.
+pub record DecodesSpelled (around : Around) (command : Command) (profile : Profile) (s : Source) (first : List ℕ) (had written_before written_after : Option (List ℕ)) (outcome : Outcome) : Type 0 where
+  pub left : Option (List ℕ)
+  pub result : Result InputEnd RunFault
+  pub decoded : IfOk result (DecodesInput profile had left written_before written_after)
+  pub failed : OnErr result (FailsToDecodeInput profile had left written_before written_after)
+  pub told : IfOk result (λ end. TellsSaid (around.IsEndTold s) end.said.items)
+  pub ends : (outcome ≡ ended_of result) ⊎ (outcome ≡ Err fault.Memory)
+  pub hinted : IfOk outcome (Hints around s (name_used command) (hint_for kind.Message first))
+
+-- Of a keytab, which has no messages, that is told, and which command lists it.
+pub record TellsKeytab (around : Around) (s : Source) (written_before written_after : Option (List ℕ)) (outcome : Outcome) : Type 0 where
+  pub told : IfOk outcome (λ _. around.IsHintTold s (keytab_text (shell_word (name_of s))))
+  pub ends : (outcome ≡ Ok run.Refused) ⊎ (outcome ≡ Err fault.Memory)
+  pub unwritten : written_after ≡ written_before
+
+-- It is one message or a keytab if its first octets say so, and else a stream.
+abbrev pub DecodesBegun : SourceKind → Around → Label → Option ℕ → Command → Profile → Source → (first : List ℕ) → (had written_before written_after : Option (List ℕ)) → Outcome → Type 0
+DecodesBegun kind.Message around label now command profile s first had written_before written_after outcome = DecodesSpelled around command profile s first had written_before written_after outcome
+DecodesBegun kind.Keytab around label now command profile s first had written_before written_after outcome = TellsKeytab around s written_before written_after outcome
+DecodesBegun other around label now command profile s first had written_before written_after outcome = ListsBy around label now command s (chosen command first) first had written_before written_after outcome
+
+abbrev pub BegunBy : Option Profile → Around → Label → Option ℕ → Command → Source → (first : List ℕ) → (had written_before written_after : Option (List ℕ)) → Outcome → Type 0
+BegunBy (Some profile) around label now command s first had written_before written_after outcome = DecodesBegun (command_for first) around label now command profile s first had written_before written_after outcome
+BegunBy None around label now command s first had written_before written_after outcome = ListsBy around label now command s (chosen command first) first had written_before written_after outcome
+
+abbrev pub DoesBegun : Around → Label → Option ℕ → Command → Source → (first : List ℕ) → (had written_before written_after : Option (List ℕ)) → Outcome → Type 0
+DoesBegun around label now command s first had written_before written_after outcome = BegunBy (decoding_of command) around label now command s first had written_before written_after outcome
+
 -- octets that are known begin with these
 abbrev pub BeginsWith : (first : List ℕ) → Option (List ℕ) → Type 0
 BeginsWith first None = Unit {0}
@@ -91,7 +132,7 @@ pub record DoesOpened (around : Around) (label : Label) (now : Option ℕ) (comm
   pub enough : IsEnough follows (octets_awaited command) (length first)
   pub whole : follows ≡ End → had ≡ Some first
   pub same : Keeps (around.octets s) had
-  pub lists : ListsBy around label now command s (chosen command first) first had written_before written_after outcome
+  pub lists : DoesBegun around label now command s first had written_before written_after outcome
 
 -- a source was opened, or it could not be
 abbrev pub DoesFrom : Around → Label → Option ℕ → Command → Source → Run
