@@ -1,5 +1,5 @@
 -- Octets are opened to three layers at most: a token of GSS-API in one of SPNEGO in one of GSS-API.
-use Rattle.std.proofs.Common.{◌≡◌, ℕ, ◌+◌, ◌≤◌, ◌==◌, Bool, true, false, List, [], ◌∷◌, ◌++◌, length, Option, Some, None, Result, Ok, Err, arith}
+use Rattle.std.proofs.Common.{ℕ, ◌+◌, ◌≤◌, ◌==◌, Bool, true, false, List, [], ◌∷◌, ◌++◌, length, Option, Some, None, Result, Ok, Err, arith}
 use Rattle.std.specs.Prelude.{codes, bytes_eq, nat_lt, if◌then◌else◌}
 use Rattle.krb_der.specs.Octets.{number, when}
 use Rattle.krb_der.specs.declared.why.Why.TheVariants as why
