@@ -1,5 +1,5 @@
 -- What is decoded of a Ticket and of a message, by a view of it, and of items.
-use Rattle.std.proofs.Common.{◌≡◌, ℕ, ◌+◌, ◌-◌, ◌<◌, ◌≤◌, Bool, false, if◌then◌else◌, List, [], ◌∷◌, ◌++◌, length, take, map, codes, Option, None, Some, Result, OnOk, refl, sym, ◌∙◌, ap, ap₂, subst, arith, append-nil, append_assoc, length-append}
+use Rattle.std.proofs.Common.{◌≡◌, ℕ, ◌+◌, ◌-◌, ◌<◌, ◌≤◌, Bool, false, if◌then◌else◌, List, [], ◌∷◌, ◌++◌, length, take, map, codes, decimal, Option, None, Some, Result, OnOk, refl, sym, ◌∙◌, ap, ap₂, subst, arith, append-nil, append_assoc, length-append}
 use Rattle.std.proofs.Math.Seq.{take-append_seam}
 use Rattle.std.proofs.lemmas.Bool.{lt-ltb, le-ltb}
 use Rattle.std.specs.List.{AllByRecursion, flat_map}
@@ -139,6 +139,10 @@ pub record AreAdded (origin all octets : List ℕ) (index : ℕ) (old new : Part
 
 pub none-added : (origin all : List ℕ) (old : Parts) → AreViewed ticket all → AreAdded origin all all 0 old old
 none-added origin all old v = record { added = nothing; adds = adds-nothing old; viewed = v; parts = refl; few = omega arith }
+
+-- the path of one of them
+pub ticket-path : (index : ℕ) → codes "KRB-CRED.tickets[" ++ (decimal index ++ codes "].enc-part") ≡ element_path (codes "KRB-CRED.tickets") index ++ codes ".enc-part"
+ticket-path index = ap (λ l. codes "KRB-CRED.tickets[" ++ l) (sym (append_assoc (decimal index) (codes "]") (codes ".enc-part")))
 
 pub one-added : (origin all octets : List ℕ) (index : ℕ) (old between new : Parts) (value : Value ticket) (rest path : List ℕ) → AreAdded origin all octets index old between → items_of ticket octets ≡ value ∷ items_of ticket rest → AreViewed ticket rest → length rest < length octets
     → path ≡ element_path (codes "KRB-CRED.tickets") index ++ codes ".enc-part" → Adds (decoded_ticket origin path (ticket_of value)) between new → AreAdded origin all rest (index + 1) old new

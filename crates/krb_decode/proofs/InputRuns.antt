@@ -1,5 +1,5 @@
 -- A run that decodes an input.
-use Rattle.std.proofs.Common.{◌≡◌, ℕ, ◌≤◌, List, [], ◌++◌, length, Option, Some, Result, Ok, Err, IfOk, OnErr, refl, sym, ◌∙◌, ap, subst, append-nil}
+use Rattle.std.proofs.Common.{◌≡◌, ℕ, ◌≤◌, List, [], ◌++◌, length, Option, Some, Result, Ok, Err, inl, inr, OnErr, refl, sym, ◌∙◌, ap, subst, append-nil}
 use Rattle.std.proofs.KnownBytes.{Appends-nil}
 use Rattle.std.proofs.lemmas.Result.{IfOk-weaker}
 use Rattle.std.specs.Io.KnownBytes.{Appends, Consumes, IsAtEnd}
@@ -11,9 +11,10 @@ use Rattle.krb_record.specs.declared.form.Form.TheVariants as form
 use Rattle.krb_run.specs.Files.{FileListing, IsSettled, ListsFile, ReadsSome}
 use Rattle.krb_run.specs.Records.{AppendsPrefix}
 use Rattle.krb_run.specs.declared.run.RunEnd.{RunEnd}
+use Rattle.krb_run.specs.declared.run.RunEnd.TheVariants as run
 use Rattle.krb_tool.specs.Messages.{IsMessageListing, message_listing}
 use Rattle.krb_convert.specs.Decoding.{ReadsMost}
-use Rattle.krb_decode.specs.Decoded.{decoded_by, decoded_input, decoded_spelled}
+use Rattle.krb_decode.specs.Decoded.{Added, decoded_by, decoded_input, decoded_spelled, refused}
 use Rattle.krb_decode.specs.Runs.{DecodesInput, FailsToDecodeInput}
 use Rattle.krb_decode.specs.inner.Inputs.{decoded_of}
 use Rattle.krb_decode.specs.declared.input.DecodedInput.{DecodedInput}
@@ -25,15 +26,20 @@ whole-of label profile input left file listing taken listed (inl end) =
     listed ∙ ap (message_listing label profile) (sym (taken ∙ ap (λ l. file ++ l) end ∙ append-nil file))
 whole-of label profile input left file listing taken listed (inr settled) = settled left ∙ ap (message_listing label profile) (sym taken)
 
-pub input-by : (profile : Profile) (label : Label) (input left said : List ℕ) (ended : RunEnd) → label ≡ no_label form.NamedLines → ListsFile (IsMessageListing label profile) (Some input) (Some left) (Some []) (Some said) ended
+pub input-by : (profile : Profile) (label : Label) (input left before said : List ℕ) (ended : RunEnd) → label ≡ no_label form.NamedLines → before ≡ [] → ListsFile (IsMessageListing label profile) (Some input) (Some left) (Some before) (Some said) ended
     → decoded_input profile input ≡ decoded_by ended said (decoded_spelled profile (spelled input))
 unfolding decoded_input
-input-by profile label input left said ended none l =
+input-by profile label input left before said ended none empty l =
     let whole : l.listing ≡ message_listing label profile input = whole-of label profile input left l.file l.listing l.read.taken l.read.listed l.read.enough in
     let is : message_listing (no_label form.NamedLines) profile input ≡ l.listing = ap (λ x. message_listing x profile input) (sym none) ∙ sym whole in
     ap (λ (x : FileListing). decoded_by x.end x.text (decoded_spelled profile (spelled input))) is
     ∙ ap (λ e. decoded_by e l.listing.text (decoded_spelled profile (spelled input))) (sym l.ended_so)
-    ∙ ap (λ t. decoded_by ended t (decoded_spelled profile (spelled input))) (sym l.added)
+    ∙ ap (λ t. decoded_by ended t (decoded_spelled profile (spelled input))) (sym (l.added ∙ ap (λ (b : List ℕ). b ++ l.listing.text) empty))
+
+-- one that is refused
+pub refused-by : (ended : RunEnd) (listed : List ℕ) (added : Added) → (ended ≡ run.Refused) ⊎ (ended ≡ run.RefusedAtOnce) → decoded_by ended listed added ≡ refused listed
+refused-by ended listed added (inl is) = ap (λ e. decoded_by e listed added) is
+refused-by ended listed added (inr is) = ap (λ e. decoded_by e listed added) is
 
 -- ---- what a run did
 pub DecodesInput-made : (profile : Profile) (had left written_before written_after : Option (List ℕ)) (octets : List ℕ) (made : DecodedInput) → ReadsMost had left 16777217 octets → Appends written_before written_after made.lines.items → decoded_of made ≡ decoded_input profile octets

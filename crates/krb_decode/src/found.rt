@@ -51,15 +51,15 @@ fn put_ticket(
     parts: &mut Parts,
     origin: &str,
     path: &str,
-    ticket: &TicketView<'_>,
+    view: &TicketView<'_>,
     octets: &[u8],
 ) -> Result<(), Memory>
     requires short { length octets.now < 2 ^ 31 }
-    requires fits { Fits ticket (ticket_view_value ticket.now) }
-    requires form { der ticket (ticket_view_value ticket.now) ≡ octets.now }
-    ensures { OnOk result (Adds (decoded_ticket origin.now path.now (ticket_of_view ticket.now)) parts.old parts.new) }
+    requires fits { Fits ticket (ticket_view_value view.now) }
+    requires form { der ticket (ticket_view_value view.now) ≡ octets.now }
+    ensures { OnOk result (Adds (decoded_ticket origin.now path.now (ticket_of_view view.now)) parts.old parts.new) }
 {
-    if is_sealed(&ticket.enc_part) {
+    if is_sealed(&view.enc_part) {
         parts.put_ticket(octets)
     } else {
         parts.put_unencrypted(origin, path)

@@ -75,7 +75,7 @@ fn decode_source<R: Read, W: Write>(
 /// Returns what is decoded of an input: what its listing says if it is refused, and else what it
 /// spells.
 fn decode_input(alloc: Global, profile: Profile, input: &[u8]) -> Result<DecodedInput, RunFault>
-    ensures decoded { IfOk result (λ made. decoded_of made ≡ decoded_input profile input.now) }
+    ensures { IfOk result (λ made. decoded_of made ≡ decoded_input profile input.now) }
 {
     let mut reader = input;
     let mut said = Vec::new(alloc);
@@ -100,7 +100,7 @@ fn refused(alloc: Global, said: Vec<u8>) -> DecodedInput
 
 /// Returns what is decoded of an input that is not refused.
 fn decode_accepted(alloc: Global, profile: Profile, input: &[u8]) -> Result<DecodedInput, RunFault>
-    ensures decoded { IfOk result (λ made. decoded_of made ≡ accepted (decoded_spelled profile (spelled input.now))) }
+    ensures { IfOk result (λ made. decoded_of made ≡ accepted (decoded_spelled profile (spelled input.now))) }
 {
     match read_input(alloc, input) {
         Ok(made) => decode_octets(alloc, profile, made.octets.as_slice()),
@@ -111,7 +111,7 @@ fn decode_accepted(alloc: Global, profile: Profile, input: &[u8]) -> Result<Deco
 
 /// Returns what is decoded of octets.
 fn decode_octets(alloc: Global, profile: Profile, octets: &[u8]) -> Result<DecodedInput, RunFault>
-    ensures decoded { IfOk result (λ made. decoded_of made ≡ accepted (decoded_octets profile octets.now)) }
+    ensures { IfOk result (λ made. decoded_of made ≡ accepted (decoded_octets profile octets.now)) }
 {
     let mut parts = Parts::new(alloc);
     put_octets(&mut parts, profile, octets)?;

@@ -17,8 +17,8 @@ returns-then-is_sealed c =
     (λ adds. adds-chosen _ true _ _ _ _ (sym c.is_sealed.ensures ∙ c.if-is_sealed.true) (adds (message_of_view (view.KrbCred c.args.cred.now)) c.requires.view.in_profile c.requires.view.form))
     c.put_message.ensures
 
-pub returns-else-is_sealed : goal.returns-else-is_sealed
-returns-else-is_sealed c =
+pub returns : goal.returns
+returns c =
     on_ok_weaker c.put_unencrypted.result
     (λ adds. adds-chosen _ false _ _ _ _ (sym c.is_sealed.ensures ∙ c.if-is_sealed.false) (adds-both _ _ _ _ _ c.in_ok-put_tickets.ensures adds))
     c.put_unencrypted.ensures

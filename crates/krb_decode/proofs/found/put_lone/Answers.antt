@@ -1,4 +1,4 @@
-use Rattle.std.proofs.Common.{refl, subst}
+use Rattle.std.proofs.Common.{[], refl, subst}
 use Rattle.std.proofs.lemmas.Result.{on_ok_weaker}
 use Rattle.std.specs.Prelude.{codes}
 use Rattle.krb_judge.specs.Parses.{ticket_refusal}
@@ -23,7 +23,7 @@ returns-in-Ok c =
     let none = not_refused refusal (λ r e. absurd (let bad = (c.in-Ok.ensures.refused r).1 e in cc)) in
     let read = ticket-read c.args.profile c.args.octets.now _ c.in-Ok.ensures.ticket in
     on_ok_weaker c.put_ticket.result
-    (λ adds. adds-judged refusal _ _ _ none (subst (λ t. Adds (decoded_ticket _ (codes "Ticket.enc-part") t) c.args.parts.now c.put_ticket.new.parts) read adds))
+    (λ adds. adds-judged refusal _ _ _ none (subst (λ t. Adds (decoded_ticket [] (codes "Ticket.enc-part") t) c.args.parts.now c.put_ticket.new.parts) read adds))
     c.put_ticket.ensures
 
 pub returns-in-Err : goal.returns-in-Err

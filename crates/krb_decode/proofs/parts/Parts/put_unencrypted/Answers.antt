@@ -9,7 +9,6 @@ returns c =
       lines = sym (append-nil old.lines.items);
       said =
           c.in_ok-push_str-3.ensures
-          ∙ ap (λ t. t ++ rest) (c.in_ok-push_str-2.ensures ∙ ap (λ t. t ++ c.args.path.now) c.in_ok-push_str.ensures)
-          ∙ append_assoc (old.said ++ c.args.origin.now) c.args.path.now rest
-          ∙ append_assoc old.said c.args.origin.now (c.args.path.now ++ rest);
+          ∙ ap (λ t. t ++ rest) (c.in_ok-push_str-2.ensures ∙ ap (λ t. t ++ c.args.path.now) c.in_ok-push_str.ensures ∙ append_assoc old.said c.args.origin.now c.args.path.now)
+          ∙ append_assoc old.said (c.args.origin.now ++ c.args.path.now) rest;
     }
