@@ -8,7 +8,7 @@ complete -c krbls -n $first -a items -d "Where each field of a message is in its
 complete -c krbls -n $first -a keytab -d "A keytab"
 complete -c krbls -n $first -a ccache -d "A credential cache"
 complete -c krbls -n $first -a capture -d "The messages in a capture"
-complete -c krbls -n $first -a decode -d "Framed messages as JSON"
+complete -c krbls -n $first -a decode -d "Messages as JSON"
 complete -c krbls -n $first -a encode -d "Framed messages made of JSON"
 complete -c krbls -n $first -a "help" -d "The help of a command"
 complete -c krbls -f -n "__fish_seen_subcommand_from help" -a "$commands"

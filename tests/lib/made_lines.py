@@ -5,6 +5,7 @@ What is made follows from the dice alone.
 
 import json
 
+import made_inputs
 from made_up import FAULTS, NAMED, OFTEN, Maker, changed, stream
 from reference.documents import DEEPEST
 from reference.frames import LIMIT
@@ -219,11 +220,13 @@ def options(dice):
     return f"{dice.choice(['', '', ' --strict'])}{dice.choice(['', '', ' --unframed'])}{limit}"
 
 
-def source(dice, command, real):
-    """What a command of some options reads."""
+def source(dice, command, real, messages):
+    """What a command of some options reads, made up by real streams and real messages."""
     if command.startswith("encode"):
         return lines(dice, STRICT_MESSAGES if "--strict" in command else MESSAGES)
-    return message(dice, real) if "--unframed" in command else stream(dice, real)
+    if "--unframed" in command:
+        return message(dice, real)
+    return made_inputs.message(dice, messages) if dice.random() < 0.4 else stream(dice, real)
 
 
 def message(dice, real):

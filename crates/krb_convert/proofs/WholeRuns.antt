@@ -13,7 +13,7 @@ use Rattle.krb_record.specs.Refusals.{path_in}
 use Rattle.krb_record.specs.Values.{Value, Absent, String, Field, if_there}
 use Rattle.krb_record.specs.declared.form.Form.TheVariants as forms
 use Rattle.krb_run.specs.Runs.{StopsInPiece}
-use Rattle.krb_convert.specs.Decoding.{Refusing, message_decoded, decoded_whole, DecodesWhole, FailsToDecodeWhole}
+use Rattle.krb_convert.specs.Decoding.{Refusing, message_decoded, decoded_whole, DecodesWhole, FailsToDecodeWhole, ReadsMost}
 use Rattle.krb_run.specs.Records.{AppendsPrefix}
 use Rattle.krb_run.specs.Faults.{IsWrite}
 use Rattle.krb_run.specs.Files.{ReadsSome}
@@ -21,7 +21,7 @@ use Rattle.krb_run.specs.declared.run.RunFault.{RunFault}
 use Rattle.krb_run.specs.declared.run.RunFault.TheVariants as fault
 use Rattle.krb_convert.specs.declared.whole_run.MessageLine.{MessageLine}
 use Rattle.krb_run.specs.Transfers.{ReturnsOctets}
-use Rattle.krb_convert.specs.inner.WholeRuns.{ReadsMost, converted_of}
+use Rattle.krb_convert.specs.inner.WholeRuns.{converted_of}
 
 -- ---- a message
 -- octets that are too many

@@ -1,5 +1,6 @@
 -- The lines of the messages of a stream, up to its end, to what is refused, or to a message with something that is not encrypted.
-use Rattle.std.specs.Prelude.{ℕ, ◌+◌, ◌≡◌, ◌≤◌, nat_lt, List, [], ◌∷◌, length, Option, Some, None, string_bytes}
+use Rattle.std.specs.Prelude.{ℕ, ◌+◌, ◌≡◌, ◌≤◌, ◌<◌, nat_lt, List, [], ◌∷◌, length, Option, Some, None, string_bytes}
+use Rattle.std.specs.Io.KnownBytes.{Consumes, IsAtEnd}
 use Rattle.std.specs.Option.{option_map}
 use Rattle.krb_der.specs.Octets.{when}
 use Rattle.krb_der.specs.declared.profile.Profile.{Profile}
@@ -68,6 +69,12 @@ decoded_whole profile limit octets =
     (λ _. message_decoded profile octets (refusal_of profile octets))
 
 -- ---- what a run does
+-- all octets that a reader had were read, or so many if it had more
+pub record ReadsMost (had left : Option (List ℕ)) (most : ℕ) (octets : List ℕ) : Type 0 where
+  pub taken : Consumes had left octets
+  pub few : length octets ≤ most
+  pub ended : length octets < most → IsAtEnd left
+
 abbrev pub AllAreEncrypted : (contents : List (List ℕ)) → Type 0
 AllAreEncrypted [] = Unit {0}
 AllAreEncrypted (octets ∷ contents) = (unencrypted_in (message_of_der octets) ≡ None) × AllAreEncrypted contents

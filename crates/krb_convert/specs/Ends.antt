@@ -1,10 +1,12 @@
--- What the standard error has after the name of a source that was not turned into another form to its end: a line, or nothing if it was.
-use Rattle.std.specs.Prelude.{ℕ, List, [], ◌++◌, codes, decimal, string_bytes}
+-- What is said of a source that was not turned into another form to its end, and how its run ends.
+use Rattle.std.specs.Prelude.{ℕ, ◌==◌, if◌then◌else◌, List, [], ◌++◌, codes, decimal, string_bytes}
 use Rattle.std.specs.Option.{option_map}
 use Rattle.krb_json.specs.Reading.{read_fault_text}
 use Rattle.krb_record.specs.Refusals.{untold_message_refused_line}
 use Rattle.krb_record.specs.Streams.{untold_refused_line}
 use Rattle.krb_record.specs.declared.form.Form.TheVariants.{NamedLines}
+use Rattle.krb_run.specs.declared.run.RunEnd.{RunEnd}
+use Rattle.krb_run.specs.declared.run.RunEnd.TheVariants as run
 use Rattle.krb_convert.specs.declared.decode_run.DecodeEnd.{DecodeEnd}
 use Rattle.krb_convert.specs.declared.decode_run.DecodeEnd.TheVariants as decoded
 use Rattle.krb_convert.specs.declared.encode_run.EncodeEnd.{EncodeEnd}
@@ -12,6 +14,7 @@ use Rattle.krb_convert.specs.declared.encode_run.EncodeEnd.TheVariants as encode
 use Rattle.krb_words.specs.declared.words.Framing.{Framing}
 use Rattle.krb_words.specs.declared.words.Framing.TheVariants as framing
 
+-- ---- the line that the standard error has after the name of the source; there is none if all was turned
 abbrev pub numbered : List ℕ → ℕ → List ℕ
 numbered what number = what ++ codes " " ++ decimal number ++ codes ": "
 
@@ -33,3 +36,16 @@ encode_end_line (encoded.Fault number fault) = numbered (codes "line") number ++
 encode_end_line (encoded.LongLine number most) = numbered (codes "line") number ++ codes "longer than " ++ decimal most ++ codes " octets\n"
 encode_end_line (encoded.SecondMessage number) = numbered (codes "line") number ++ codes "a second message\n"
 encode_end_line encoded.NoMessage = codes "no message\n"
+
+-- ---- how the run ends: at once if the first message is refused
+abbrev pub refused_after : (messages : ℕ) → RunEnd
+refused_after messages = if messages == 0 then run.RefusedAtOnce else run.Refused
+
+abbrev pub decode_run_end : DecodeEnd → RunEnd
+decode_run_end decoded.Clean = run.Clean
+decode_run_end (decoded.Refused messages refusal path) = refused_after messages
+decode_run_end (decoded.Unencrypted message path) = run.Refused
+
+abbrev pub encode_run_end : EncodeEnd → RunEnd
+encode_run_end encoded.Clean = run.Clean
+encode_run_end end = run.Refused

@@ -1,11 +1,12 @@
-//! What is said of a source that was not turned into another form to its end.
+//! What is said of a source that was not turned into another form to its end, and how its run ends.
 
 ghost use Rattle.std.specs.Prelude.{◌≡◌, ◌++◌, OnOk};
-ghost use Rattle.krb_convert.specs.Ends.{decode_end_line, encode_end_line};
+ghost use Rattle.krb_convert.specs.Ends.{decode_end_line, decode_run_end, encode_end_line, encode_run_end, refused_after};
 
 use crate::decode_run::DecodeEnd;
 use crate::encode_run::EncodeEnd;
 use krb_record::{Form, TextBuffer, put_untold_message_refusal, put_untold_stream_refusal};
+use krb_run::RunEnd;
 use krb_words::Framing;
 use std::alloc::AllocError;
 
@@ -64,5 +65,41 @@ pub fn put_encode_end(line: &mut TextBuffer, end: &EncodeEnd) -> Result<(), Allo
             write!(line, "line {number}: a second message\n")
         }
         EncodeEnd::NoMessage => line.push_str("no message\n"),
+    }
+}
+
+/// Returns how a run ends that was refused after a number of messages.
+fn refused_after(messages: u64) -> RunEnd
+    ensures { result ≡ refused_after messages }
+{
+    if messages == 0 {
+        RunEnd::RefusedAtOnce
+    } else {
+        RunEnd::Refused
+    }
+}
+
+impl DecodeEnd {
+    /// Returns how the run ends: refused at once if the first message was.
+    pub fn run_end(&self) -> RunEnd
+        ensures { result ≡ decode_run_end self.now }
+    {
+        match self {
+            DecodeEnd::Clean => RunEnd::Clean,
+            DecodeEnd::Refused { messages, .. } => refused_after(*messages),
+            DecodeEnd::Unencrypted { .. } => RunEnd::Refused,
+        }
+    }
+}
+
+impl EncodeEnd {
+    /// Returns how the run ends.
+    pub fn run_end(&self) -> RunEnd
+        ensures { result ≡ encode_run_end self.now }
+    {
+        match self {
+            EncodeEnd::Clean => RunEnd::Clean,
+            _ => RunEnd::Refused,
+        }
     }
 }

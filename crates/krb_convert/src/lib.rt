@@ -24,4 +24,4 @@ pub use conversion::{decode, encode};
 pub use decode_run::{DecodeEnd, run_decode};
 pub use encode_run::{EncodeEnd, run_encode, run_encode_unframed};
 pub use ends::{put_decode_end, put_encode_end};
-pub use whole_run::run_decode_unframed;
+pub use whole_run::{read_most, run_decode_unframed};

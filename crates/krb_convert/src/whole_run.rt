@@ -5,11 +5,11 @@ ghost use Rattle.std.specs.Prelude.{◌≡◌, ◌<◌, ◌^◌, length, [], IfE
 ghost use Rattle.krb_run.specs.Faults.{IsWrite};
 ghost use Rattle.krb_json.specs.Unencrypted.{unencrypted_in};
 ghost use Rattle.krb_msg.specs.Views.{message_of_der};
-ghost use Rattle.krb_convert.specs.Decoding.{All, line_and, decoded_whole, DecodesWhole, FailsToDecodeWhole};
+ghost use Rattle.krb_convert.specs.Decoding.{All, line_and, decoded_whole, DecodesWhole, FailsToDecodeWhole, ReadsMost};
 ghost use Rattle.krb_run.specs.Files.{ReadsSome};
 ghost use Rattle.krb_run.specs.declared.transfer.ReaderState.TheVariants as reader;
 ghost use Rattle.krb_convert.specs.inner.JsonLines.{IsOfMessage};
-ghost use Rattle.krb_convert.specs.inner.WholeRuns.{ReadsMost, converted_of};
+ghost use Rattle.krb_convert.specs.inner.WholeRuns.{converted_of};
 
 use crate::decode_run::DecodeEnd;
 use crate::json_lines::JsonLines;
@@ -68,7 +68,7 @@ fn decode_source<R: Read, W: Write>(
 }
 
 /// Reads what a reader has, `most` octets of it if it has more.
-fn read_most<R: Read>(
+pub fn read_most<R: Read>(
     alloc: Global,
     counted: &mut CountedReader<'_, R>,
     most: usize,

@@ -41,10 +41,10 @@ pub trait Host {
     fn tell_hint(&self, source: &Source, text: &str)
         ensures { (around self.now).IsHintTold source.now text.now };
 
-    /// Writes the line that says why a source was not turned into another form to its end to the
-    /// standard error, after the source's name.
-    fn tell_end(&self, source: &Source, line: &str)
-        ensures { (around self.now).IsEndTold source.now line.now };
+    /// Writes the lines that say what of a source was not turned into another form, and why, to the
+    /// standard error, each after the source's name.
+    fn tell_end(&self, source: &Source, lines: &[u8])
+        ensures { (around self.now).IsEndTold source.now lines.now };
 
     /// Writes what is wrong with the words of the command line to the standard error.
     fn tell_words(&self, text: &str)

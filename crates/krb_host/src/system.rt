@@ -13,6 +13,7 @@ use std::fs::File;
 use std::io;
 use std::io::{ErrorKind, IsTerminal, Read, Write};
 use std::rt::{Stdin, Stdout};
+use std::str;
 use std::time::{SystemTime, UNIX_EPOCH};
 
 /// The name of the standard input in faults.
@@ -94,7 +95,7 @@ impl System<'_> {
     fn input(&self) -> Stdin {
         let input = self.rt.stdin();
         if input.is_terminal() {
-            tell(self.rt, &Source::Input, WAITING, "\n");
+            tell(self.rt, &Source::Input, WAITING);
         }
         input
     }
@@ -144,11 +145,17 @@ impl Host for System<'_> {
     }
 
     fn tell_hint(&self, source: &Source, text: &str) {
-        tell(self.rt, source, text, "\n");
+        tell(self.rt, source, text);
     }
 
-    fn tell_end(&self, source: &Source, line: &str) {
-        tell(self.rt, source, line, "");
+    fn tell_end(&self, source: &Source, lines: &[u8]) {
+        for line in lines.split(|octet| *octet == b'\n') {
+            if let Ok(line) = str::from_utf8(line) {
+                if !line.is_empty() {
+                    tell(self.rt, source, line);
+                }
+            }
+        }
     }
 
     fn tell_words(&self, text: &str) {
@@ -170,12 +177,12 @@ fn seconds_since_1970(time: SystemTime) -> u32 {
     }
 }
 
-/// Writes a text and its end after the name of a source to the standard error.
-fn tell(rt: &HostRuntime, source: &Source, text: &str, end: &str) {
+/// Writes a text after the name of a source, as a line, to the standard error.
+fn tell(rt: &HostRuntime, source: &Source, text: &str) {
     let _ = match source {
-        Source::Input => eprint!(rt; "krbls: {INPUT}: {text}{end}"),
+        Source::Input => eprintln!(rt; "krbls: {INPUT}: {text}"),
         Source::File(file) | Source::Directory(file) => {
-            eprint!(rt; "krbls: {}: {text}{end}", FileName(file.name.as_slice()))
+            eprintln!(rt; "krbls: {}: {text}", FileName(file.name.as_slice()))
         }
     };
 }

@@ -9,6 +9,7 @@ pub mod Messages
 mod FirstOctets
 mod Walks
 mod Zeros
+mod Tickets
 mod Measures
 mod Searches
 mod ReadLemmas

@@ -6,6 +6,7 @@ pub mod Unencrypted
 pub mod Masked
 pub mod AllKinds
 pub mod Lines
+pub mod Tickets
 pub mod Reordered
 pub mod OtherCase
 pub mod Laws

@@ -1,8 +1,8 @@
 //! Kerberos V5 messages (RFC 4120) as JSON (RFC 8259), in the manner of ITU-T X.697: an object of
 //! one member for each message, whose members have the names of RFC 4120, appendix A.
 //!
-//! - [`put_text`] appends the JSON of a message to octets, from its DER. The text determines the
-//!   message wholly, and so has its encrypted octets, too.
+//! - [`put_text`] appends the JSON of a message to octets, from its DER, and [`put_ticket_text`] that
+//!   of a Ticket. The text determines the message wholly, and so has its encrypted octets, too.
 //! - [`read_line`] returns the DER of the message that a line spells, or the line's first fault
 //!   ([`LineFault`]). Members may come in any order; what `put_text` writes comes back. The memory
 //!   in which it reads ([`Scratch`]) is the caller's, who keeps it from line to line.
@@ -23,6 +23,7 @@ mod line_fault;
 mod members;
 mod reading;
 mod scalars;
+mod ticket;
 mod value_fault;
 mod writing;
 mod wrong;
@@ -31,5 +32,6 @@ pub use encryption::unencrypted_path;
 pub use json::Scratch;
 pub use line_fault::{Fault, LineFault};
 pub use reading::read_line;
+pub use ticket::put_ticket_text;
 pub use writing::put_text;
 pub use wrong::Wrong;

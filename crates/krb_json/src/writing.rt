@@ -65,7 +65,7 @@ fn put_message(alloc: Global, out: &mut Writer, kind: Kind, octets: &[u8]) -> Re
 
 /// Appends the JSON of the value of an item that has these contents. Digits are made in the room.
 #[cycle(put)]
-fn put_contents(
+pub(crate) fn put_contents(
     alloc: Global,
     room: &mut Vec<u8>,
     out: &mut Writer,

@@ -6,6 +6,7 @@ use crate::fakes::{Asked, Full, Watched};
 use krb_convert::{
     DecodeEnd, EncodeEnd, run_decode, run_decode_unframed, run_encode, run_encode_unframed,
 };
+use krb_decode::run_decode_input;
 use krb_file_run::{run_ccache, run_keytab};
 use krb_record::Label;
 use krb_run::{RunEnd, RunFault, status};
@@ -23,24 +24,19 @@ enum Run {
     Ccache,
     Decode,
     DecodeUnframed,
+    DecodeInput,
     Encode,
     EncodeUnframed,
 }
 
 /// Returns how a decoding ended, without what was refused.
 fn decoded(end: Result<DecodeEnd, RunFault>) -> Result<RunEnd, RunFault> {
-    match end? {
-        DecodeEnd::Clean => Ok(RunEnd::Clean),
-        _ => Ok(RunEnd::Refused),
-    }
+    Ok(end?.run_end())
 }
 
 /// Returns how an encoding ended, without what was at fault.
 fn encoded(end: Result<EncodeEnd, RunFault>) -> Result<RunEnd, RunFault> {
-    match end? {
-        EncodeEnd::Clean => Ok(RunEnd::Clean),
-        _ => Ok(RunEnd::Refused),
-    }
+    Ok(end?.run_end())
 }
 
 /// Runs it.
@@ -70,6 +66,7 @@ fn list<R: Read, W: Write>(
             writer,
             Limit::DEFAULT,
         )),
+        Run::DecodeInput => Ok(run_decode_input(alloc, Profile::Lenient, reader, writer)?.end),
         Run::Encode => encoded(run_encode(alloc, Profile::Lenient, reader, writer, Limit::DEFAULT)),
         Run::EncodeUnframed => encoded(run_encode_unframed(
             alloc,
@@ -94,9 +91,9 @@ const FRAME: &[u8] =
     b"\x00\x00\x00\x1F\x6F\x1D\x30\x1B\xA0\x03\x02\x01\x05\xA1\x03\x02\x01\x0F\xA2\x0F\x30\x0D\xA0\x03\x02\x01\x12\xA2\x06\x04\x04\xDE\xAD\xBE\xEF";
 
 /// Two of these frames, a message in hexadecimal, two of them in lines, a keytab with an entry and
-/// a hole, a cache of u@A with no credential, and then the frames and the message decoded, and
-/// their lines encoded.
-const EXAMPLES: [Example; 9] = [
+/// a hole, a cache of u@A with no credential, and then the frames, the message and a Ticket in
+/// hexadecimal decoded, and lines of the first encoded.
+const EXAMPLES: [Example; 10] = [
     Example(
         Run::Stream,
         b"\x00\x00\x00\x1F\x6F\x1D\x30\x1B\xA0\x03\x02\x01\x05\xA1\x03\x02\x01\x0F\xA2\x0F\x30\x0D\xA0\x03\x02\x01\x12\xA2\x06\x04\x04\xDE\xAD\xBE\xEF\x00\x00\x00\x1F\x6F\x1D\x30\x1B\xA0\x03\x02\x01\x05\xA1\x03\x02\x01\x0F\xA2\x0F\x30\x0D\xA0\x03\x02\x01\x12\xA2\x06\x04\x04\xDE\xAD\xBE\xEF",
@@ -171,6 +168,12 @@ const EXAMPLES: [Example; 9] = [
         b"\x6F\x1D\x30\x1B\xA0\x03\x02\x01\x05\xA1\x03\x02\x01\x0F\xA2\x0F\x30\x0D\xA0\x03\x02\x01\x12\xA2\x06\x04\x04\xDE\xAD\xBE\xEF",
         b"{\"AP-REP\":{\"pvno\":5,\"msg-type\":15,\"enc-part\":{\"etype\":18,\"cipher\":\"deadbeef\"}}}\n",
         [(31, b""), (31, b"")],
+    ),
+    Example(
+        Run::DecodeInput,
+        b"612B3029A003020105A1031B0141A20E300CA003020102A10530031B0168A30D300BA003020112A2040402BEEF",
+        b"{\"Ticket\":{\"tkt-vno\":5,\"realm\":\"A\",\"sname\":{\"name-type\":2,\"name-string\":[\"h\"]},\"enc-part\":{\"etype\":18,\"cipher\":\"beef\"}}}\n",
+        [(0, b""), (0, b"")],
     ),
     Example(
         Run::Encode,

@@ -1,14 +1,17 @@
 -- What is done with a source by a command: the run of its command, with the label of the source and by the profile, the limit and the numbers of the command.
 use Rattle.std.specs.Prelude.{ℕ, ◌≡◌, ◌⊎◌, List, [], ◌∷◌, Option, Some, None, IfOk, IfErr}
 use Rattle.std.specs.Option.{option_and_then}
+use Rattle.krb_der.specs.declared.profile.Profile.{Profile}
 use Rattle.krb_input.specs.Hints.{hint_for}
 use Rattle.krb_input.specs.Sources.{command_for}
 use Rattle.krb_input.specs.declared.hint.Hint.{Hint}
 use Rattle.krb_input.specs.declared.hint.Hint.TheVariants as hint
+use Rattle.krb_input.specs.declared.source_kind.SourceKind.{SourceKind}
+use Rattle.krb_input.specs.declared.source_kind.SourceKind.TheVariants as kind
 use Rattle.krb_record.specs.Labels.{Label}
 use Rattle.krb_capture_run.specs.Captures.{IsCaptureRest, capture_listing}
 use Rattle.krb_convert.specs.Conversions.{DecodesBy, EncodesBy, FailsToDecodeBy, is_framed}
-use Rattle.krb_convert.specs.Ends.{decode_end_line, encode_end_line}
+use Rattle.krb_convert.specs.Ends.{decode_end_line, decode_run_end, encode_end_line, encode_run_end}
 use Rattle.krb_convert.specs.Encoding.{FailsToEncode}
 use Rattle.krb_run.specs.Records.{ListsRecords}
 use Rattle.krb_file_run.specs.Files.{IsCcacheRest, IsKeytabRest, ccache_listing, keytab_listing}
@@ -20,25 +23,26 @@ use Rattle.krb_tool.specs.Messages.{IsMessageListing}
 use Rattle.krb_items_run.specs.Items.{IsItemsListing}
 use Rattle.krb_run.specs.Sources.{Run}
 use Rattle.krb_run.specs.declared.run.RunEnd.{RunEnd}
-use Rattle.krb_run.specs.declared.run.RunEnd.TheVariants as run
 use Rattle.krb_run.specs.declared.run.RunFault.{RunFault}
 use Rattle.krb_run.specs.declared.run.RunFault.TheVariants as fault
 use Rattle.krb_words.specs.Tasks.{kind_used, listing_for}
 use Rattle.krb_words.specs.declared.words.AfterRefusal.TheVariants as after
+use Rattle.krb_words.specs.declared.words.Framing.TheVariants as framing
 use Rattle.krb_words.specs.declared.words.Inputs.TheVariants as inputs
 use Rattle.krb_words.specs.declared.words.Command.{Command}
 use Rattle.krb_words.specs.declared.words.Command.TheVariants as commands
 
--- The standard error has a line of a source if it was not turned into another form to its end, and then the run has refused something.
-abbrev pub TellsEnd : (IsTold : List ℕ → Type 0) → (line : List ℕ) → RunEnd → Type 0
-TellsEnd IsTold [] ended = ended ≡ run.Clean
-TellsEnd IsTold (octet ∷ line) ended = (ended ≡ run.Refused) × IsTold (octet ∷ line)
+-- What is said of a source is told, if something is.
+abbrev pub TellsSaid : (IsTold : List ℕ → Type 0) → (said : List ℕ) → Type 0
+TellsSaid IsTold [] = Unit {0}
+TellsSaid IsTold (octet ∷ said) = IsTold (octet ∷ said)
 
--- A source was turned into another form up to an end, of which the standard error has the line.
-pub record Turns {E : Type 0} (TurnsTo : E → Type 0) (line : E → List ℕ) (IsTold : List ℕ → Type 0) (ended : RunEnd) : Type 0 where
+-- A source was turned into another form up to an end, of which the line is told.
+pub record Turns {E : Type 0} (TurnsTo : E → Type 0) (line : E → List ℕ) (run_end : E → RunEnd) (IsTold : List ℕ → Type 0) (ended : RunEnd) : Type 0 where
   pub end : E
   pub turned : TurnsTo end
-  pub told : TellsEnd IsTold (line end) ended
+  pub told : TellsSaid IsTold (line end)
+  pub ended_so : ended ≡ run_end end
 
 -- It failed, or memory ran out for the line of its end.
 abbrev pub FailsToTurn : {E : Type 0} → (TurnsTo : E → Type 0) → (Fails : RunFault → Type 0) → RunFault → Type 0
@@ -50,6 +54,16 @@ abbrev pub chosen : Command → (first : List ℕ) → Command
 chosen (commands.List when) first = listing_for (command_for first) when
 chosen named first = named
 
+-- the profile of a command that decodes each source as its first octets say
+abbrev pub decoding_of : Command → Option Profile
+decoding_of (commands.Decode limit profile framing.Framed) = Some profile
+decoding_of _ = None
+
+-- the kind of the sources that a command reads, if hints are told of them
+abbrev pub kind_read : Command → Option SourceKind
+kind_read (commands.Decode limit profile framing.Framed) = Some kind.Stream
+kind_read used = kind_used used
+
 -- from HTTP headers are taken that are read line by line, which `items` does not do
 abbrev pub unless_http : Option Hint → Option Hint
 unless_http (Some hint.Http) = None
@@ -59,9 +73,9 @@ abbrev pub fitting : Command → Option Hint → Option Hint
 fitting (commands.Items profile) found = unless_http found
 fitting used found = found
 
--- the hint for a source that is listed by a command, by its first octets
+-- the hint for a source that is read by a command, by its first octets
 abbrev pub hint_by : Command → (first : List ℕ) → Option Hint
-hint_by used first = fitting used (option_and_then (λ kind. hint_for kind first) (kind_used used))
+hint_by used first = fitting used (option_and_then (λ kind. hint_for kind first) (kind_read used))
 
 -- ---- a command over a reader that had octets and has others left, and what is written
 abbrev pub Does : (IsTold : List ℕ → Type 0) → Label → (now : Option ℕ) → Command → (had left : Option (List ℕ)) → Run
@@ -83,10 +97,10 @@ Does IsTold label now (commands.Capture limit profile port) had left written_bef
     (file : List ℕ) → had ≡ Some file → ListsRecords (capture_listing (record { label = label; profile = profile; limit = limit; port = port }) file)
     (IsCaptureRest (record { label = label; profile = profile; limit = limit; port = port }) file) written_before written_after outcome
 Does IsTold label now (commands.Decode limit profile how) had left written_before written_after outcome =
-    IfOk outcome (Turns (DecodesBy how profile limit had left written_before written_after) (decode_end_line how) IsTold)
+    IfOk outcome (Turns (DecodesBy how profile limit had left written_before written_after) (decode_end_line how) decode_run_end IsTold)
     × IfErr outcome (FailsToTurn (DecodesBy how profile limit had left written_before written_after) (FailsToDecodeBy how profile limit had left written_before written_after))
 Does IsTold label now (commands.Encode limit profile how) had left written_before written_after outcome =
-    IfOk outcome (Turns (EncodesBy how profile limit had left written_before written_after) encode_end_line IsTold)
+    IfOk outcome (Turns (EncodesBy how profile limit had left written_before written_after) encode_end_line encode_run_end IsTold)
     × IfErr outcome (FailsToTurn (EncodesBy how profile limit had left written_before written_after) (FailsToEncode (is_framed how) profile limit had left written_before written_after))
 Does IsTold label now (commands.List when) had left written_before written_after outcome = written_after ≡ written_before
 Does IsTold label now (commands.Help text) had left written_before written_after outcome = written_after ≡ written_before

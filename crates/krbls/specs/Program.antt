@@ -1,9 +1,16 @@
 -- What the program does by its words: to the standard output, to the standard error, and its status.
-use Rattle.std.specs.Prelude.{ℕ, ◌≡◌, ◌++◌, ◌⊎◌, ◌&&◌, max, Bool, true, false, if◌then◌else◌, List, length, map, Option, Some, None, Result, Ok, Err, IfOk, codes, string_bytes}
+use Rattle.std.specs.Prelude.{ℕ, ◌≡◌, ◌++◌, ◌⊎◌, ◌&&◌, max, Bool, true, false, if◌then◌else◌, List, length, map, Option, Some, None, Result, Ok, Err, IfOk, OnErr, codes, string_bytes}
 use Rattle.std.specs.Io.KnownBytes.{Appends, Keeps}
 use Rattle.std.specs.List.{list_any}
-use Rattle.krb_input.specs.Hints.{hint_text}
+use Rattle.krb_decode.specs.Hints.{keytab_text}
+use Rattle.krb_decode.specs.Runs.{DecodesInput, FailsToDecodeInput}
+use Rattle.krb_decode.specs.declared.input.InputEnd.{InputEnd}
+use Rattle.krb_der.specs.declared.profile.Profile.{Profile}
+use Rattle.krb_input.specs.Hints.{hint_for, hint_text}
+use Rattle.krb_input.specs.Sources.{command_for}
 use Rattle.krb_input.specs.declared.hint.Hint.{Hint}
+use Rattle.krb_input.specs.declared.source_kind.SourceKind.{SourceKind}
+use Rattle.krb_input.specs.declared.source_kind.SourceKind.TheVariants as kind
 use Rattle.krb_record.specs.Labels.{Label}
 use Rattle.krb_record.specs.declared.form.Form.{Form}
 use Rattle.krb_record.specs.declared.form.Form.TheVariants as forms
@@ -18,10 +25,9 @@ use Rattle.krb_run.specs.declared.run.RunEnd.{RunEnd}
 use Rattle.krb_run.specs.declared.run.RunEnd.TheVariants as run
 use Rattle.krb_run.specs.declared.run.RunFault.{RunFault}
 use Rattle.krb_run.specs.declared.run.RunFault.TheVariants as fault
-use Rattle.krb_words.specs.CacheTypes.{other_cache}
 use Rattle.krb_words.specs.Shell.{shell_word}
 use Rattle.krb_words.specs.Sources.{place_of}
-use Rattle.krb_words.specs.Tasks.{is_conversion, name_used, names_caches, octets_awaited, text_of, when_of, writes_messages}
+use Rattle.krb_words.specs.Tasks.{is_conversion, name_used, octets_awaited, said_unopened, text_of, when_of, writes_messages}
 use Rattle.krb_words.specs.Words.{IsFaultIn, IsCommandLineIn}
 use Rattle.krb_words.specs.declared.sources.Source.{Source}
 use Rattle.krb_words.specs.declared.sources.Source.TheVariants as source
@@ -35,7 +41,7 @@ use Rattle.krb_words.specs.declared.words.WordsFault.{WordsFault}
 use Rattle.krb_words.specs.declared.words.WordsFault.TheVariants as words_fault
 use Rattle.krb_host.specs.Around.{Around}
 use Rattle.krb_host.specs.Expanded.{Expands}
-use Rattle.krbls.specs.Commands.{Does, chosen, hint_by}
+use Rattle.krbls.specs.Commands.{Does, TellsSaid, chosen, decoding_of, hint_by}
 
 -- the name of a source, as it was given
 abbrev pub name_of : Source → List ℕ
@@ -78,6 +84,40 @@ pub record ListsBy (around : Around) (label : Label) (now : Option ℕ) (command
   pub ends : (outcome ≡ result) ⊎ (outcome ≡ Err fault.Memory)
   pub hinted : IfOk outcome (Hints around s (name_used command) (hint_by used first))
 
+-- ---- a source that is decoded as its first octets say
+abbrev pub ended_of : Result InputEnd RunFault → Outcome
+ended_of (Ok end) = Ok end.end
+ended_of (Err fault) = Err fault
+
+-- One message that an input spells was decoded: its lines were written, what is left out is told, and a hint if it is refused.
+pub record DecodesSpelled (around : Around) (command : Command) (profile : Profile) (s : Source) (first : List ℕ) (had written_before written_after : Option (List ℕ)) (outcome : Outcome) : Type 0 where
+  pub left : Option (List ℕ)
+  pub result : Result InputEnd RunFault
+  pub decoded : IfOk result (DecodesInput profile had left written_before written_after)
+  pub failed : OnErr result (FailsToDecodeInput profile had left written_before written_after)
+  pub told : IfOk result (λ end. TellsSaid (around.IsEndTold s) end.said.items)
+  pub ends : (outcome ≡ ended_of result) ⊎ (outcome ≡ Err fault.Memory)
+  pub hinted : IfOk outcome (Hints around s (name_used command) (hint_for kind.Message first))
+
+-- Of a keytab, which has no messages, that is told, and which command lists it.
+pub record TellsKeytab (around : Around) (s : Source) (written_before written_after : Option (List ℕ)) (outcome : Outcome) : Type 0 where
+  pub told : IfOk outcome (λ _. around.IsHintTold s (keytab_text (shell_word (name_of s))))
+  pub ends : (outcome ≡ Ok run.Refused) ⊎ (outcome ≡ Err fault.Memory)
+  pub unwritten : written_after ≡ written_before
+
+-- It is one message or a keytab if its first octets say so, and else a stream.
+abbrev pub DecodesBegun : SourceKind → Around → Label → Option ℕ → Command → Profile → Source → (first : List ℕ) → (had written_before written_after : Option (List ℕ)) → Outcome → Type 0
+DecodesBegun kind.Message around label now command profile s first had written_before written_after outcome = DecodesSpelled around command profile s first had written_before written_after outcome
+DecodesBegun kind.Keytab around label now command profile s first had written_before written_after outcome = TellsKeytab around s written_before written_after outcome
+DecodesBegun other around label now command profile s first had written_before written_after outcome = ListsBy around label now command s (chosen command first) first had written_before written_after outcome
+
+abbrev pub BegunBy : Option Profile → Around → Label → Option ℕ → Command → Source → (first : List ℕ) → (had written_before written_after : Option (List ℕ)) → Outcome → Type 0
+BegunBy (Some profile) around label now command s first had written_before written_after outcome = DecodesBegun (command_for first) around label now command profile s first had written_before written_after outcome
+BegunBy None around label now command s first had written_before written_after outcome = ListsBy around label now command s (chosen command first) first had written_before written_after outcome
+
+abbrev pub DoesBegun : Around → Label → Option ℕ → Command → Source → (first : List ℕ) → (had written_before written_after : Option (List ℕ)) → Outcome → Type 0
+DoesBegun around label now command s first had written_before written_after outcome = BegunBy (decoding_of command) around label now command s first had written_before written_after outcome
+
 -- octets that are known begin with these
 abbrev pub BeginsWith : (first : List ℕ) → Option (List ℕ) → Type 0
 BeginsWith first None = Unit {0}
@@ -92,7 +132,7 @@ pub record DoesOpened (around : Around) (label : Label) (now : Option ℕ) (comm
   pub enough : IsEnough follows (octets_awaited command) (length first)
   pub whole : follows ≡ End → had ≡ Some first
   pub same : Keeps (around.octets s) had
-  pub lists : ListsBy around label now command s (chosen command first) first had written_before written_after outcome
+  pub lists : DoesBegun around label now command s first had written_before written_after outcome
 
 -- a source was opened, or it could not be
 abbrev pub DoesFrom : Around → Label → Option ℕ → Command → Source → Run
@@ -117,17 +157,13 @@ labels_of command_line = labels_by command_line.naming command_line.sources.item
 abbrev pub names_for : CommandLine → ℕ → Named
 names_for command_line count = if is_conversion command_line.command then unnamed else names_of (labels_of command_line) command_line.form count
 
--- what a name is, of a command that takes the names of caches, if it is that of a cache that is no file
-abbrev pub other_named : Command → (name : List ℕ) → Option (List ℕ)
-other_named command name = if names_caches command then other_cache name else None
-
 abbrev pub IsTold : Around → Source → Option (List ℕ) → Type 0
 IsTold around s None = Unit {0}
 IsTold around s (Some text) = around.IsHintTold s text
 
--- The fault by which the run over a source ended is told; and of a cache that is no file, and so cannot be opened, what it is.
+-- The fault by which the run over a source ended is told; and of a name that could not be opened, what it is.
 abbrev pub IsFaultReported : Around → Command → Source → RunFault → Type 0
-IsFaultReported around command s (fault.Read error) = around.IsFaultTold s (fault.Read error) × IsTold around s (other_named command (name_of s))
+IsFaultReported around command s (fault.Read error) = around.IsFaultTold s (fault.Read error) × IsTold around s (said_unopened command (name_of s))
 IsFaultReported around command s (fault.Write error) = around.IsFaultTold s (fault.Write error)
 IsFaultReported around command s fault.Memory = around.IsFaultTold s fault.Memory
 

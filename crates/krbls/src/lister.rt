@@ -5,12 +5,12 @@ ghost use Rattle.std.specs.Option.{option_and_then};
 ghost use Rattle.krb_run.specs.Begun.{begun_remaining, first_of};
 ghost use Rattle.krb_convert.specs.Encoding.{FailsToEncode};
 ghost use Rattle.krb_words.specs.Shell.{shell_word};
-ghost use Rattle.krb_words.specs.Tasks.{name_used};
+ghost use Rattle.krb_words.specs.Tasks.{name_used, said_unopened};
 ghost use Rattle.krb_convert.specs.Conversions.{DecodesBy, EncodesBy, FailsToDecodeBy, is_framed};
-ghost use Rattle.krb_convert.specs.Ends.{decode_end_line, encode_end_line};
+ghost use Rattle.krb_convert.specs.Ends.{decode_end_line, decode_run_end, encode_end_line, encode_run_end};
 ghost use Rattle.krb_input.specs.Hints.{hint_for};
-ghost use Rattle.krbls.specs.Commands.{Does, FailsToTurn, TellsEnd, Turns, chosen, fitting as fitting_hint, hint_by, unless_http as hint_unless_http};
-ghost use Rattle.krbls.specs.Program.{DoesFrom, IsFaultReported, IsHinted, IsTold, ListsBy, name_of, other_named};
+ghost use Rattle.krbls.specs.Commands.{Does, FailsToTurn, TellsSaid, Turns, chosen, fitting as fitting_hint, hint_by, kind_read, unless_http as hint_unless_http};
+ghost use Rattle.krbls.specs.Program.{DoesFrom, IsFaultReported, IsHinted, IsTold, ListsBy, name_of};
 
 use krb_capture_run::run_capture;
 use krb_convert::{decode, encode, put_decode_end, put_encode_end};
@@ -21,7 +21,7 @@ use krb_items_run::run_items_in;
 use krb_record::{Label, TextBuffer};
 use krb_run::{Begun, ListSource, RunEnd, RunFault};
 use krb_tool::{Limit, Profile, run_lines_in, run_message_in, run_stream_in};
-use krb_words::{AfterRefusal, Command, Framing, Inputs, ShellWord, Source, other_cache};
+use krb_words::{AfterRefusal, Command, Framing, Inputs, ShellWord, Source};
 use std::alloc::{AllocError, Global};
 use std::io::{Read, Write};
 
@@ -87,13 +87,15 @@ impl<H: Host> Lister<'_, H> {
         writer: &mut W,
         limit: Limit,
     ) -> Result<RunEnd, RunFault>
-        ensures turned { IfOk result (Turns (DecodesBy framing profile limit (R.remaining reader.old) (R.remaining reader.new) (W.contents writer.old) (W.contents writer.new)) (decode_end_line framing) ((H.around self.now.host.now).IsEndTold source.now)) }
+        ensures turned { IfOk result (Turns (DecodesBy framing profile limit (R.remaining reader.old) (R.remaining reader.new) (W.contents writer.old) (W.contents writer.new)) (decode_end_line framing) decode_run_end ((H.around self.now.host.now).IsEndTold source.now)) }
         ensures fault { IfErr result (FailsToTurn (DecodesBy framing profile limit (R.remaining reader.old) (R.remaining reader.new) (W.contents writer.old) (W.contents writer.new)) (FailsToDecodeBy framing profile limit (R.remaining reader.old) (R.remaining reader.new) (W.contents writer.old) (W.contents writer.new))) }
     {
         let end = decode(self.alloc, framing, profile, reader, writer, limit)?;
         let mut line = TextBuffer::new(self.alloc);
         put_decode_end(&mut line, framing, &end)?;
-        Ok(self.tell_end(source, line))
+        let line = line.into_string();
+        self.tell_said(source, line.as_bytes());
+        Ok(end.run_end())
     }
 
     /// Turns lines of JSON into messages, and tells why that ended before all was read.
@@ -106,26 +108,35 @@ impl<H: Host> Lister<'_, H> {
         writer: &mut W,
         limit: Limit,
     ) -> Result<RunEnd, RunFault>
-        ensures turned { IfOk result (Turns (EncodesBy framing profile limit (R.remaining reader.old) (R.remaining reader.new) (W.contents writer.old) (W.contents writer.new)) encode_end_line ((H.around self.now.host.now).IsEndTold source.now)) }
+        ensures turned { IfOk result (Turns (EncodesBy framing profile limit (R.remaining reader.old) (R.remaining reader.new) (W.contents writer.old) (W.contents writer.new)) encode_end_line encode_run_end ((H.around self.now.host.now).IsEndTold source.now)) }
         ensures fault { IfErr result (FailsToTurn (EncodesBy framing profile limit (R.remaining reader.old) (R.remaining reader.new) (W.contents writer.old) (W.contents writer.new)) (FailsToEncode (is_framed framing) profile limit (R.remaining reader.old) (R.remaining reader.new) (W.contents writer.old) (W.contents writer.new))) }
     {
         let end = encode(self.alloc, framing, profile, reader, writer, limit)?;
         let mut line = TextBuffer::new(self.alloc);
         put_encode_end(&mut line, &end)?;
-        Ok(self.tell_end(source, line))
+        let line = line.into_string();
+        self.tell_said(source, line.as_bytes());
+        Ok(end.run_end())
     }
 
-    /// Tells the line of a source, if there is one, and returns how its run ended. All that was
-    /// written before is on the standard output, which has no buffer.
-    fn tell_end(&self, source: &Source, line: TextBuffer) -> RunEnd
-        ensures { TellsEnd ((H.around self.now.host.now).IsEndTold source.now) line result }
+    /// Tells what is said of a source, if something is. All that was written before is on the standard
+    /// output, which has no buffer.
+    pub(crate) fn tell_said(&self, source: &Source, lines: &[u8])
+        ensures { TellsSaid ((H.around self.now.host.now).IsEndTold source.now) lines.now }
     {
-        let line = line.into_string();
-        if line.is_empty() {
-            return RunEnd::Clean;
+        if !lines.is_empty() {
+            self.host.tell_end(source, lines);
         }
-        self.host.tell_end(source, line.as_str());
-        RunEnd::Refused
+    }
+}
+
+/// Returns the kind of the sources that a command reads, if hints are told of them.
+fn kind_read(command: &Command) -> Option<SourceKind>
+    ensures { result ≡ kind_read command.now }
+{
+    match command {
+        Command::Decode(_, _, Framing::Framed) => Some(SourceKind::Stream),
+        _ => command.kind(),
     }
 }
 
@@ -159,16 +170,16 @@ fn hint_by_kind(kind: Option<SourceKind>, first: &[u8]) -> Option<Hint>
     }
 }
 
-/// Returns the hint for a source that begins with these octets and is listed by a command.
+/// Returns the hint for a source that begins with these octets and is read by a command.
 fn hint_by(command: &Command, first: &[u8]) -> Option<Hint>
     ensures { result ≡ hint_by command.now first.now }
 {
-    fitting(command, hint_by_kind(command.kind(), first))
+    fitting(command, hint_by_kind(kind_read(command), first))
 }
 
 impl<H: Host> Lister<'_, H> {
     /// Tells what a source is, if that is known.
-    fn tell_hint(&self, source: &Source, hint: Option<Hint>) -> Result<(), AllocError>
+    pub(crate) fn tell_hint(&self, source: &Source, hint: Option<Hint>) -> Result<(), AllocError>
         ensures { OnOk result (IsHinted (H.around self.now.host.now) source.now (name_used self.now.command.now) hint) }
     {
         let Some(hint) = hint else {
@@ -201,7 +212,7 @@ impl<H: Host> Lister<'_, H> {
     }
 
     /// Does the command with what a reader reads of a source.
-    fn list_begun<R: Read, W: Write>(
+    pub(crate) fn list_begun<R: Read, W: Write>(
         &self,
         source: &Source,
         label: &Label,
@@ -221,22 +232,19 @@ impl<H: Host> Lister<'_, H> {
 }
 
 impl<H: Host> Lister<'_, H> {
-    /// Tells how to get a file of a credential cache that is none, if the command reads caches and the
-    /// name of a source is that of such a cache.
-    fn tell_other_cache(&self, source: &Source)
-        ensures { IsTold (H.around self.now.host.now) source.now (other_named self.now.command.now (name_of source.now)) }
+    /// Tells what the name of a source that could not be opened is, if it is that of a command or of a
+    /// credential cache that is no file.
+    fn tell_unopened(&self, source: &Source)
+        ensures { IsTold (H.around self.now.host.now) source.now (said_unopened self.now.command.now (name_of source.now)) }
     {
-        if !self.command.names_caches() {
-            return;
-        }
-        if let Some(text) = other_cache(octets_name(source)) {
+        if let Some(text) = self.command.said_unopened(octets_name(source)) {
             self.host.tell_hint(source, text);
         }
     }
 }
 
 /// Returns the name of a source as a word of a shell.
-fn name_word(alloc: Global, source: &Source) -> Result<String, AllocError>
+pub(crate) fn name_word(alloc: Global, source: &Source) -> Result<String, AllocError>
     ensures { IfOk result (λ name. string_bytes name ≡ shell_word (name_of source.now)) }
 {
     format!(in alloc; "{}", ShellWord(octets_name(source)))
@@ -272,7 +280,7 @@ impl<H: Host> ListSource<Source> for Lister<'_, H> {
         match self.host.open(source) {
             Ok(reader) => {
                 let mut begun = Begun::begin(self.alloc, reader, self.command.octets_awaited())?;
-                self.list_begun(source, label, &mut begun, writer)
+                self.do_begun(source, label, &mut begun, writer)
             }
             Err(error) => Err(RunFault::Read(error)),
         }
@@ -281,7 +289,7 @@ impl<H: Host> ListSource<Source> for Lister<'_, H> {
     fn report(&self, source: &Source, fault: &RunFault) {
         self.host.tell_fault(source, fault);
         if matches!(fault, RunFault::Read(_)) {
-            self.tell_other_cache(source);
+            self.tell_unopened(source);
         }
     }
 }

@@ -18,6 +18,7 @@
 //! and its standard error.
 #![tactic(auto)]
 
+mod decoding;
 mod lister;
 mod program;
 

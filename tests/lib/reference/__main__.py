@@ -33,8 +33,8 @@ def convert(words, given):
     output, end = reference.converted(" ".join(words), given)
     sys.stdout.buffer.write(output)
     sys.stdout.flush()
-    if end is not None:
-        print(f"krbls: standard input: {end}", file=sys.stderr)
+    for line in [] if end is None else end.split("\n"):
+        print(f"krbls: standard input: {line}", file=sys.stderr)
     return int(end is not None)
 
 

@@ -3,23 +3,33 @@
 from .der import der
 from .documents import NotJson, document
 from .frames import LIMIT, found_in_by
-from .grammar import MESSAGES
+from .grammar import MESSAGES, STRICT_MESSAGES
+from .hints import command_for, hint
+from .inputs import spelled
 from .judging import Refused, judge, whole
+from .messages import TICKETS, message
 from .objects import Wrong, message_of, text_of, unencrypted
 from .records import named_line, refused, without_extent
+from .tokens import Token
 from .values import count
 
 BLANKS = b" \t\r"
+
+NOT_ENCRYPTED = "not encrypted, and so not printed"
 
 
 class Ends(Exception):
     """What ends a source, in words."""
 
 
+class RefusedAtOnce(Ends):
+    """The same of a refusal with no message before it."""
+
+
 def line_of(name, item, value, before=""):
     """The line of a message, unless some of it is not encrypted."""
     for path in unencrypted(item, value, name):
-        raise Ends(f"{before}{path}: not encrypted, and so not printed")
+        raise Ends(f"{before}{path}: {NOT_ENCRYPTED}")
     return text_of(name, item, value).encode("ascii") + b"\n"
 
 
@@ -49,10 +59,54 @@ def lines_of(octets, limit, messages, unframed):
     lines = []
     for found in found_in_by(lambda octets, n: [message_or_refusal(octets, n, messages)], octets, limit):
         if isinstance(found, Refused):
-            raise Ends(named_line(without_extent(refused(found, {"messages": count(lines)}))))
+            raise (Ends if lines else RefusedAtOnce)(named_line(without_extent(refused(found, {"messages": count(lines)}))))
         name, value = found
         lines.append(name)
         yield line_of(name, messages[name], value, f"message {len(lines)}: ")
+
+
+def ticket_line(value):
+    """The line of a Ticket by itself."""
+    return text_of("Ticket", TICKETS[0], value).encode("ascii") + b"\n"
+
+
+def tickets_of(name, value):
+    """The paths and the values of the Tickets of a KRB-CRED whose EncryptedData is not encrypted; None of any other message."""
+    if name != "KRB-CRED" or value["enc-part"]["etype"] != 0:
+        return None
+    return [(f"KRB-CRED.tickets[{index}].enc-part", ticket) for index, ticket in enumerate(value["tickets"])]
+
+
+def parts_of(octets, messages):
+    """What is decoded of octets that spell a message or a Ticket: lines, and what is said of what has none."""
+    token = Token(octets)
+    inside = token.open()
+    origin = f"via={','.join(token.via)} " if token.via else ""
+    if inside.kind == "Ticket":
+        found = [("Ticket.enc-part", whole(inside.octets, {"Ticket": TICKETS[messages is STRICT_MESSAGES]})[1])]
+        last = None
+    else:
+        kinds = messages if inside.kind == "message" else {inside.kind: messages[inside.kind]}
+        name, value = whole(inside.octets, kinds)
+        found, last = tickets_of(name, value), "KRB-CRED.enc-part"
+        if found is None:
+            paths = list(unencrypted(messages[name], value, name))
+            if paths:
+                return [], [f"{origin}{paths[0]}: {NOT_ENCRYPTED}"]
+            return [line_of(name, messages[name], value)], []
+    lines = [ticket_line(ticket) for _, ticket in found if ticket["enc-part"]["etype"] != 0]
+    left_out = [path for path, ticket in found if ticket["enc-part"]["etype"] == 0] + ([last] if last else [])
+    return lines, [f"{origin}{path}: {NOT_ENCRYPTED}" for path in left_out]
+
+
+def decoded_input(octets, messages):
+    """The lines of an input that spells a message, a Ticket or a token, and what is said of it, or None."""
+    [record], status = message(octets, messages)
+    if status:
+        help_of = hint(octets, "message", "decode", "-")
+        return b"", "\n".join(filter(None, (named_line(record), help_of)))
+    lines, said = parts_of(spelled(octets)[1], messages)
+    return b"".join(lines), "\n".join(said) or None
 
 
 def frame(octets, unframed):
@@ -106,11 +160,18 @@ WRITTEN = {"decode": lines_of, "encode": frames_of}
 
 
 def written(command, octets, limit=LIMIT, messages=MESSAGES, unframed=False):
-    """What a command writes of the octets of a source, and what it says where it ends early, or None."""
+    """What a command writes of the octets of a source, and what it says of what it left out, in lines, or None."""
+    chooses = command == "decode" and not unframed
+    kind = command_for(octets) if chooses else None
+    if kind == "message":
+        return decoded_input(octets, messages)
+    if kind == "keytab":
+        return b"", "this is a keytab, which has no messages: krbls keytab -"
     found = []
     try:
         for part in WRITTEN[command](octets, limit, messages, unframed):
             found.append(part)
     except Ends as end:
-        return b"".join(found), str(end)
+        help_of = hint(octets, "stream", "decode", "-") if chooses and isinstance(end, RefusedAtOnce) else None
+        return b"".join(found), "\n".join(filter(None, (str(end), help_of)))
     return b"".join(found), None

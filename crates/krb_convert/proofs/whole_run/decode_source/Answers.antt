@@ -1,8 +1,8 @@
 use Rattle.std.proofs.Common.{◌≡◌, ◌+◌, rules, subst}
 use Rattle.std.specs.Io.KnownBytes.{Appends}
-use Rattle.krb_convert.specs.Decoding.{decoded_whole}
+use Rattle.krb_convert.specs.Decoding.{decoded_whole, ReadsMost}
 use Rattle.krb_run.specs.Records.{AppendsPrefix}
-use Rattle.krb_convert.specs.inner.WholeRuns.{ReadsMost, converted_of}
+use Rattle.krb_convert.specs.inner.WholeRuns.{converted_of}
 use Rattle.krb_convert.proofs.WholeRuns.{DecodesWhole-made, no_write, whole-unwritten, whole-written}
 use Rattle.krb_convert.proofs.whole_run.decode_source.Goals as goal
 

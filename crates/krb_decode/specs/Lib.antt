@@ -1,0 +1,4 @@
+pub mod Decoded
+pub mod Hints
+pub mod Runs
+pub mod inner

@@ -1,0 +1,84 @@
+//! What is decoded of a source: the lines that are written, and those that are said.
+
+ghost use Rattle.std.specs.Prelude.{◌≡◌, ◌^◌, ◌<◌, ◌++◌, [], length, OnOk};
+ghost use Rattle.krb_msg.specs.Grammar.{ticket};
+ghost use Rattle.krb_msg.specs.Term.{Fits, Value, der};
+ghost use Rattle.krb_msg.specs.Views.{message_der, IsInProfile};
+ghost use Rattle.krb_msg.specs.declared.message.Message.{Message};
+ghost use Rattle.krb_json.specs.Lines.{line_of};
+ghost use Rattle.krb_decode.specs.Decoded.{decoded_message, not_encrypted, printed, said, ticket_line};
+ghost use Rattle.krb_decode.specs.inner.Adding.{Adds};
+
+use krb_der::{Memory, Profile};
+use krb_json::{put_text, put_ticket_text, unencrypted_path};
+use krb_record::TextBuffer;
+use std::alloc::Global;
+use std::mem;
+
+/// What is decoded of a source.
+#[derive(Drop)]
+pub(crate) struct Parts {
+    pub(crate) alloc: Global,
+    /// The lines of messages.
+    pub(crate) lines: Vec<u8>,
+    /// What is said of what is left out, each in a line.
+    pub(crate) said: TextBuffer,
+}
+
+impl Parts {
+    /// Returns nothing.
+    pub(crate) fn new(alloc: Global) -> Parts
+        ensures lines { result.lines.items ≡ [] }
+        ensures said { result.said ≡ [] }
+    {
+        Parts {
+            alloc,
+            lines: Vec::new(alloc),
+            said: TextBuffer::new(alloc),
+        }
+    }
+
+    /// Adds the line of the Ticket whose DER octets are.
+    pub(crate) fn put_ticket(&mut self, octets: &[u8]) -> Result<(), Memory>
+        requires { length octets.now < 2 ^ 31 }
+        ensures { OnOk result ((value : Value ticket) → Fits ticket value → der ticket value ≡ octets.now → Adds (printed (ticket_line value)) self.old self.new) }
+    {
+        let lines = mem::replace(&mut self.lines, Vec::new(self.alloc));
+        self.lines = put_ticket_text(self.alloc, lines, octets)?;
+        self.lines.push(b'\n')?;
+        Ok(())
+    }
+
+    /// Adds that what has a path, after an origin, is not encrypted.
+    pub(crate) fn put_unencrypted(&mut self, origin: &str, path: &str) -> Result<(), Memory>
+        ensures { OnOk result (Adds (said (not_encrypted origin.now path.now)) self.old self.new) }
+    {
+        self.said.push_str(origin)?;
+        self.said.push_str(path)?;
+        self.said.push_str(": not encrypted, and so not printed\n")?;
+        Ok(())
+    }
+
+    /// Adds the line of the message whose DER octets are, or, after an origin, that it has something
+    /// that is not encrypted.
+    pub(crate) fn put_message(&mut self, origin: &str, octets: &[u8]) -> Result<(), Memory>
+        requires { length octets.now < 2 ^ 31 }
+        ensures { OnOk result ((m : Message) → IsInProfile Profile.Lenient m → message_der m ≡ octets.now → Adds (decoded_message origin.now m) self.old self.new) }
+    {
+        match unencrypted_path(self.alloc, octets)? {
+            Some(path) => self.put_unencrypted(origin, path.as_str()),
+            None => self.put_line(octets),
+        }
+    }
+
+    /// Adds the line of the message whose DER octets are.
+    fn put_line(&mut self, octets: &[u8]) -> Result<(), Memory>
+        requires { length octets.now < 2 ^ 31 }
+        ensures { OnOk result ((m : Message) → IsInProfile Profile.Lenient m → message_der m ≡ octets.now → Adds (printed (line_of m)) self.old self.new) }
+    {
+        let lines = mem::replace(&mut self.lines, Vec::new(self.alloc));
+        self.lines = put_text(self.alloc, lines, octets)?;
+        self.lines.push(b'\n')?;
+        Ok(())
+    }
+}
