@@ -1,6 +1,8 @@
 //! What is in the items of messages, with the names of fields (RFC 4120, appendix A).
 
 ghost use Rattle.std.specs.Prelude.{◌≡◌, ◌≤◌, length, map};
+ghost use Rattle.krb_judge.specs.FieldNames.{names_of_kind};
+ghost use Rattle.krb_judge.specs.declared.locating.names.Names.TheVariants.{Ticket};
 ghost use Rattle.krb_msg.specs.Grammar.{ticket as ticket_term};
 ghost use Rattle.krb_msg.specs.Views.{kind_term};
 ghost use Rattle.krb_items.specs.Shapes.{field_of, fields_of, item_of, message_of, sequence_type, ticket, type_of};
@@ -311,7 +313,7 @@ fn of_sequence(of: Sequence) -> ItemType
 /// Returns the type of a Ticket (RFC 4120, 5.3).
 pub(crate) fn ticket_type() -> ItemType
     ensures ticket { type_of result ≡ ticket }
-    ensures grammar { IsOf (type_of result) ticket_term }
+    ensures grammar { IsOf (type_of result) Ticket ticket_term }
 {
     ItemType {
         tags: &[Tag::Application(1), Tag::Sequence],
@@ -331,7 +333,7 @@ macro_rules! message {
 /// Returns the type of the messages of a kind.
 pub(crate) fn message_type(kind: Kind) -> ItemType
     ensures message { type_of result ≡ message_of kind }
-    ensures grammar { IsOf (type_of result) (kind_term kind) }
+    ensures grammar { IsOf (type_of result) (names_of_kind kind) (kind_term kind) }
 {
     match kind {
         Kind::AsReq => message!(10 KdcReq),

@@ -14,7 +14,7 @@ stands_alone word = bytes_eq word (codes "-h") || bytes_eq word (codes "--help")
 -- the name of a command
 abbrev pub is_command : List ℕ → Bool
 is_command name =
-    bytes_eq name (codes "list") || bytes_eq name (codes "stream") || bytes_eq name (codes "message") || bytes_eq name (codes "keytab")
+    bytes_eq name (codes "list") || bytes_eq name (codes "stream") || bytes_eq name (codes "message") || bytes_eq name (codes "items") || bytes_eq name (codes "keytab")
     || bytes_eq name (codes "ccache") || bytes_eq name (codes "capture") || bytes_eq name (codes "decode") || bytes_eq name (codes "encode")
 
 -- The words as those of a command: `list` comes before a first word that is no name and does not stand alone, and `--help` after the words in place of `help` before them.

@@ -34,6 +34,7 @@ pub(crate) fn is_command(name: &[u8]) -> bool
     is(name, "list")
         | is(name, "stream")
         | is(name, "message")
+        | is(name, "items")
         | is(name, "keytab")
         | is(name, "ccache")
         | is(name, "capture")
