@@ -114,9 +114,9 @@ pub fn run_keytab<R: Read, W: Write>(
 
 /// Lists a keytab of format 0x0502: writes a record for each one of the file, each with a label, and
 /// then that of the end or of the refusal. A field of more than 16777216 octets is refused. The reader is asked
-/// at most 2^40 times, for 64 KiB or the octets of a field, and not again after its end or an
-/// error. Each line is written as its record ends, but the lines of a reader that returns all that
-/// it is asked for are written together.
+/// at most 2^40 times, for 4 KiB first, then for 64 KiB or the octets of a field, and not again after
+/// its end or an error. Lines are written together, but those of a slow reader before a record for
+/// which it may have to be waited for.
 pub fn run_keytab_in<R: Read, W: Write>(
     alloc: Global,
     label: &Label,

@@ -2,6 +2,7 @@ pub mod Transfers
 pub mod FirstOctets
 pub mod FilePaths
 pub mod Records
+pub mod PieceReads
 pub mod BegunReaders
 pub mod SourceLineParts
 pub mod StreamRuns

@@ -1,17 +1,18 @@
 -- What is left of a reader whose first octets were read.
-use Rattle.std.specs.Prelude.{ℕ, ◌≡◌, ◌<◌, ◌≤◌, min, List, [], length, take, drop, Option, Some, ◌++◌, None}
-use Rattle.std.specs.Io.KnownBytes.{Consumes, IsAtEnd, prepend_known}
+use Rattle.std.specs.Prelude.{ℕ, ◌≡◌, ◌≤◌, min, List, [], length, take, drop, Option, Some, ◌++◌, None}
+use Rattle.std.specs.Io.KnownBytes.{prepend_known}
 use Rattle.krb_run.specs.declared.begun.Begun.{Begun}
 use Rattle.krb_run.specs.declared.begun.Then.{Then}
+use Rattle.krb_run.specs.declared.piece.Piece.{Piece}
 use Rattle.krb_run.specs.declared.begun.Then.TheVariants.{Others, End, Fault}
 
--- the first of the octets that were read, which tell what it is
-abbrev pub first_of : {R : Type 0} → Begun R → List ℕ
-first_of begun = take 16 begun.octets.items
+-- octets that were read and are to be given
+abbrev pub octets_of : Piece → List ℕ
+octets_of piece = drop piece.given (take piece.filled piece.room.items)
 
--- those that are still to be read again
-abbrev pub left_of : {R : Type 0} → Begun R → List ℕ
-left_of begun = drop begun.given begun.octets.items
+-- the first of those that a reader has, which tell what it is
+abbrev pub first_of : {R : Type 0} → Begun R → List ℕ
+first_of begun = take 16 (octets_of begun.piece)
 
 -- what follows them
 abbrev pub others_of : Then → Option (List ℕ) → Option (List ℕ)
@@ -20,11 +21,7 @@ others_of End others = Some []
 others_of (Fault error) others = others
 
 abbrev pub begun_remaining : {R : Type 0} → (R → Option (List ℕ)) → Begun R → Option (List ℕ)
-begun_remaining remaining begun = prepend_known (left_of begun) (others_of begun.then (remaining begun.reader))
-
--- octets were given of those that were read first
-abbrev pub Gives : (had left : Option (List ℕ)) → (count : ℕ) → (buffer : List ℕ) → Type 0
-Gives had left count buffer = Consumes had left (take count buffer) × (count ≡ 0 → 0 < length buffer → IsAtEnd left)
+begun_remaining remaining begun = prepend_known (octets_of begun.piece) (others_of begun.then (remaining begun.reader))
 
 -- what a reader has begins with octets, as far as it is known
 abbrev pub BeginsWith : (first : List ℕ) → Option (List ℕ) → Type 0

@@ -1,9 +1,10 @@
 //! Readers that were begun.
 
-ghost use Rattle.std.specs.Prelude.{◌≡◌, ◌<◌, ◌≤◌, length, IfOk, Some};
+ghost use Rattle.std.specs.Prelude.{◌≡◌, length, IfOk, Some};
 ghost use Rattle.std.specs.Io.KnownBytes.{Keeps};
 
-use crate::run::piece_buffer;
+use crate::piece::Piece;
+use crate::run::PIECE_OCTETS;
 use std::alloc::{AllocError, Global};
 use std::io;
 use std::io::{Error, Read};
@@ -28,12 +29,8 @@ enum Then {
 #[derive(Drop)]
 pub struct Begun<R> {
     reader: R,
-    /// The octets that were read.
-    octets: Vec<u8>,
-    /// How many of them were read again.
-    given: usize,
+    piece: Piece,
     then: Then,
-    pub ghost in_order: { given ≤ length octets.items },
 }
 
 impl<R> Begun<R> {
@@ -43,8 +40,8 @@ impl<R> Begun<R> {
     pub fn first(&self) -> &[u8]
         ensures { result.now ≡ first_of self.now }
     {
-        let end = self.octets.len().min(FIRST_OCTETS);
-        &self.octets[..end]
+        let octets = self.piece.octets();
+        &octets[..octets.len().min(FIRST_OCTETS)]
     }
 }
 
@@ -52,7 +49,7 @@ impl<R: Read + Drop> Begun<R> {
     ghost use Rattle.krb_run.specs.Begun.{BeginsWith, IsEnough, begun_remaining, first_of};
 
     /// Reads the first pieces of a reader, until there are at least `least` octets, or 16, or it ends
-    /// or a read fails. It is asked for 64 KiB at once, as by a run: what keeps records, as a socket
+    /// or a read fails. It is asked for 64 KiB at once, now and later: what keeps records, as a socket
     /// of messages does, gives one at each read, and loses what is not asked for. The error is
     /// running out of memory.
     pub fn begin(alloc: Global, reader: R, least: usize) -> Result<Begun<R>, AllocError>
@@ -63,46 +60,27 @@ impl<R: Read + Drop> Begun<R> {
     {
         let least = least.min(FIRST_OCTETS);
         let mut reader = reader;
-        let mut piece = piece_buffer(alloc)?;
-        let mut octets = Vec::new(alloc);
-        'reads: while octets.len() < least {
-            match reader.read(piece.as_mut_slice()) {
-                Ok(0) => return Ok(begun_reader(reader, octets, Then::End)),
-                Ok(count) => octets.extend_from_slice(&piece[..count])?,
-                Err(error) => return Ok(begun_reader(reader, octets, Then::Fault(error))),
+        let mut piece = Piece::new(alloc, PIECE_OCTETS)?;
+        'reads: while piece.octets().len() < least {
+            match piece.read_more(&mut reader) {
+                Ok(0) => return Ok(begun_reader(reader, piece, Then::End)),
+                Ok(_) => {}
+                Err(error) => return Ok(begun_reader(reader, piece, Then::Fault(error))),
             }
         }
-        Ok(begun_reader(reader, octets, Then::Others))
-    }
-}
-
-impl<R: Read> Begun<R> {
-    ghost use Rattle.krb_run.specs.Begun.{Gives, begun_remaining};
-
-    /// Gives some of the octets that were read first.
-    fn give(&mut self, buffer: &mut [u8]) -> usize
-        requires { self.old.given < length self.old.octets.items }
-        ensures bound { result ≤ length buffer.new }
-        ensures bytes { Gives (begun_remaining R.remaining self.old) (begun_remaining R.remaining self.new) result buffer.new }
-    {
-        let count = (self.octets.len() - self.given).min(buffer.len());
-        buffer[..count].copy_from_slice(&self.octets[self.given..self.given + count]);
-        self.given += count;
-        count
+        Ok(begun_reader(reader, piece, Then::Others))
     }
 }
 
 /// Returns a reader whose first octets were read.
-fn begun_reader<R>(reader: R, octets: Vec<u8>, then: Then) -> Begun<R>
+fn begun_reader<R>(reader: R, piece: Piece, then: Then) -> Begun<R>
     ensures reader { result.reader ≡ reader }
-    ensures octets { result.octets ≡ octets }
-    ensures given { result.given ≡ 0 }
+    ensures piece { result.piece ≡ piece }
     ensures then { result.then ≡ then }
 {
     Begun {
         reader,
-        octets,
-        given: 0,
+        piece,
         then,
     }
 }
@@ -113,11 +91,11 @@ impl<R: Read> Read for Begun<R> {
     ghost remaining = { begun_remaining R.remaining };
 
     fn read(&mut self, buffer: &mut [u8]) -> io::Result<usize> {
-        if self.given < self.octets.len() {
-            return Ok(self.give(buffer));
+        if !self.piece.octets().is_empty() {
+            return Ok(self.piece.give(buffer));
         }
         match self.then {
-            Then::Others => self.reader.read(buffer),
+            Then::Others => self.piece.read(&mut self.reader, buffer),
             Then::End => Ok(0),
             Then::Fault(error) => {
                 self.then = Then::Others;

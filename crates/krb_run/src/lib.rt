@@ -24,6 +24,7 @@ mod file_run;
 mod line;
 mod lines;
 mod naming;
+mod piece;
 mod record_lines;
 mod run;
 mod sources;

@@ -1,9 +1,9 @@
 //! Runs over files whose lines are written as their records end.
 
 ghost use Rattle.std.specs.Prelude.{◌≡◌, ◌++◌, ◌⊎◌, ℕ, suc, List, [], Some, IfErr, IfOk, OnErr, OnOk, string_bytes};
-ghost use Rattle.std.specs.Io.Buffered.{reader_remaining};
-ghost use Rattle.std.specs.Io.KnownBytes.{Appends};
+ghost use Rattle.std.specs.Io.KnownBytes.{Appends, prepend_known};
 ghost use Rattle.std.specs.Option.{option_map};
+ghost use Rattle.krb_run.specs.Begun.{octets_of};
 ghost use Rattle.krb_run.specs.Extents.{fault_line};
 ghost use Rattle.krb_run.specs.Faults.{IsFaultAt, IsRead, IsWrite};
 ghost use Rattle.krb_run.specs.Records.{AddsLine, AddsRefusal, AppendsPrefix, IsRefusal, ListsRecords, RecordListing, WasLeft, after_line, refused_in};
@@ -11,6 +11,7 @@ ghost use Rattle.krb_run.specs.inner.RecordRuns.{Moves, WritesBefore};
 
 use crate::extent::extent_of;
 use crate::field_path::file_path;
+use crate::piece::Piece;
 use crate::run::{PIECE_OCTETS, RunEnd, RunFault};
 use crate::transfer::{MOST_ASKS, too_many_reads, write_all};
 use krb_file::{FileFault, FileItem, FileRefusal};
@@ -18,13 +19,16 @@ use krb_record::{Label, TextBuffer, put_file_refusal};
 use std::alloc::Global;
 use std::cell::Cell;
 use std::io;
-use std::io::{BufReader, Read, Write};
+use std::io::{Read, Write};
+
+/// How many octets a reader is asked for first.
+const LEAST_OCTETS: usize = 1 << 12;
 
 /// What is known of a reader, and of the octets that it gave.
 #[derive(Drop)]
 pub struct Watch {
-    /// Whether its last read returned all the octets that it was asked for, as that of a fast file
-    /// does.
+    /// Whether its last read returned all the octets that it was asked for, a piece of 64 KiB, as that
+    /// of a fast file does.
     is_fast: Cell<bool>,
     /// The error of a read that failed.
     error: Cell<Option<io::Error>>,
@@ -89,7 +93,9 @@ impl<R: Read> Read for Watched<'_, R> {
     fn read(&mut self, octets: &mut [u8]) -> io::Result<usize> {
         match self.reader.read(octets) {
             Ok(count) => {
-                self.watch.is_fast.set(count == octets.len());
+                self.watch
+                    .is_fast
+                    .set((count == octets.len()) & (count >= PIECE_OCTETS));
                 Ok(count)
             }
             Err(error) => {
@@ -100,33 +106,35 @@ impl<R: Read> Read for Watched<'_, R> {
     }
 }
 
-/// A watched reader that is asked for large pieces.
+/// A watched reader that is asked for pieces: first for 4 KiB, which is all of a small file, and
+/// for 64 KiB once it returned as many.
 #[derive(Drop)]
-pub struct PieceReader<'a, R: Read> {
-    reader: BufReader<Watched<'a, R>>,
+pub struct PieceReader<'a, R> {
+    reader: Watched<'a, R>,
+    piece: Piece,
 }
 
 impl<R: Read> Read for PieceReader<'_, R> {
-    ghost remaining = { λ pieces. reader_remaining (λ watched. R.remaining watched.reader.now) pieces.reader };
+    ghost remaining = { λ pieces. prepend_known (octets_of pieces.piece) (R.remaining pieces.reader.reader.now) };
 
     fn read(&mut self, octets: &mut [u8]) -> io::Result<usize> {
-        let count = self.reader.read(octets)?;
-        let at_hand = self.reader.buffer().len();
-        self.reader.get_ref().watch.gave(count, at_hand);
+        let count = self.piece.read(&mut self.reader, octets)?;
+        let at_hand = self.piece.octets().len();
+        self.reader.watch.gave(count, at_hand);
         Ok(count)
     }
 }
 
-/// Returns a reader that asks this one for large pieces.
+/// Returns a reader that asks this one for pieces.
 pub fn in_pieces<'a, R: Read>(
     alloc: Global,
     reader: Watched<'a, R>,
 ) -> Result<PieceReader<'a, R>, RunFault>
-    ensures same { IfOk result (λ made. (file : List ℕ) → R.remaining reader.entry.reader.now ≡ Some file → reader_remaining (λ watched. R.remaining watched.reader.now) made.reader ≡ Some file) }
+    ensures same { IfOk result (λ made. (file : List ℕ) → R.remaining reader.entry.reader.now ≡ Some file → prepend_known (octets_of made.piece) (R.remaining made.reader.reader.now) ≡ Some file) }
     ensures fault { IfErr result (λ e. e ≡ RunFault.Memory) }
 {
-    match BufReader::with_capacity(alloc, PIECE_OCTETS, reader) {
-        Ok(reader) => Ok(PieceReader { reader }),
+    match Piece::new(alloc, LEAST_OCTETS) {
+        Ok(piece) => Ok(PieceReader { reader, piece }),
         Err(_) => Err(RunFault::Memory),
     }
 }

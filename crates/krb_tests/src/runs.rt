@@ -448,7 +448,7 @@ fn writes_the_lines_before_a_read_that_fails(rt: HostRuntime) -> Result<(), Fail
     let wanted = Given {
         outcome: None,
         lines: lines.as_slice(),
-        asks: 2,
+        asks: 3,
     };
     assert!(rt; gives(alloc, &Run::Keytab, keytab.as_slice(), 65536, true, &wanted));
     Ok(())
