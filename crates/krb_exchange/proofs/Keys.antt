@@ -5,7 +5,7 @@ use Rattle.std.specs.declared.cmp.Ordering.TheVariants.{Less, Equal, Greater}
 use Rattle.std.specs.Ordering.{is_eq, is_gt, is_le, is_lt, nat_cmp, ordering_reverse, ordering_then}
 use Rattle.std.specs.Map.{lookup}
 use Rattle.std.specs.BTreeMap.{get, is_at}
-use Rattle.std.proofs.lemmas.Bool.{both_ways, cases_eq, cases_lt, eq-eqb, false_from_ne_true, ne_eqb, true≢false}
+use Rattle.std.proofs.lemmas.Bool.{both_ways, cases_eq, cases_lt, eq-eqb, false_from_ne_true, ne_eqb, or_from, or_left, or_right, true≢false}
 use Rattle.std.proofs.lemmas.Cmp.{nat_cmp_total, tied_itself, ranked}
 use Rattle.krb_record.specs.contracts.told.RequestOrd.TheImpl as request_order
 use Rattle.krb_record.specs.contracts.told.RequestOrd.TheImpl.Laws as request_laws
@@ -209,7 +209,7 @@ module _ (kept : Open) where
 
   -- between two keys there is none, if the next is past the second, or the one before is before the first
   module _ (low high : Key) where
-    past-high : (first : Key) → IsFirstFrom low kept (Some first) → is_gt (key_cmp first high) ≡ true → (key : Key) → is_gt (key_cmp low key) ≡ false → is_gt (key_cmp key high) ≡ false → holds key ≡ false
+    pub past-high : (first : Key) → IsFirstFrom low kept (Some first) → is_gt (key_cmp first high) ≡ true → (key : Key) → is_gt (key_cmp low key) ≡ false → is_gt (key_cmp key high) ≡ false → holds key ≡ false
     past-high first f past key l h = false_from_ne_true (holds key) (λ has. both_ways (is_gt (key_cmp first high)) (not_gt-trans first key high (f.2 key l has) h) past)
 
     past-low : (last : Key) → IsLastUpTo high kept (Some last) → is_gt (key_cmp low last) ≡ true → (key : Key) → is_gt (key_cmp low key) ≡ false → is_gt (key_cmp key high) ≡ false → holds key ≡ false
@@ -327,3 +327,63 @@ module _ (kept : Open) (flow : Flow) where
           λ n b m. false_from_ne_true (has kept flow kind n) (λ it.
               both_ways (is_lt (key_cmp e (key_of flow kind n))) (f.2 (key_of flow kind n) (up_to-high n m) (there kind n it)) (ap is_lt (against e own n ∙ nat-less e.number n b))),
         )
+
+-- the first of a flow is the first of its kind, if none comes between that kind and the end of the flow
+module _ (kept : Open) (flow : Flow) (first : Key) (from : IsFirstFrom (flow-low kept flow) kept (Some first)) (few : is_gt (key_cmp first (high kept flow first.request)) ≡ false) (alone : (key : Key) → is_gt (key_cmp (high kept flow first.request) key) ≡ false → is_gt (key_cmp key (flow-high kept flow)) ≡ false → is_some (get key_cmp kept.keys key) ≡ false) where
+  own-flow : flow_key_cmp (flow_key flow) first.flow ≡ Equal
+  own-flow = (both-tied (flow_key_cmp (flow_key flow) first.flow) (flow_key_cmp first.flow (flow_key flow)) (ordering_then (request_cmp requests.AsReq first.request) (nat_cmp 0 first.number)) (ordering_then (request_cmp first.request first.request) (nat_cmp first.number (2 ^ 64 - 1))) (flow_key_laws.total-law.antisymm first.flow (flow_key flow)) from.0 few).0
+
+  own-kind : request_cmp first.request first.request ≡ Equal
+  own-kind = tied_itself request_laws.total-law first.request
+
+  low-first : is_gt (key_cmp (low kept flow first.request) first) ≡ false
+  low-first = ap is_gt (cmp-tied (flow_key flow) first.request 0 first.flow first.request first.number own-flow own-kind) ∙ not-greater 0 first.number (omega arith)
+
+  first-own : IsFirstFrom (low kept flow first.request) kept (Some first)
+  first-own = (low-first, from.1, λ key l h. from.2 key (not_gt-trans (flow-low kept flow) (low kept flow first.request) key (after-low kept flow first.request 0) l) h)
+
+  is-first : IsFirst (has kept flow first.request) (Some first.number)
+  is-first = first-some kept flow first.request first first-own few
+
+  -- one that comes before it is none
+  none-before : (kind : Request) (n : ℕ) → n < first.number → has kept flow kind n ≡ false
+  none-before kind n l = false_from_ne_true (has kept flow kind n) (λ h. by (is_gt (key_cmp last key)) refl h)
+    where
+      last : Key
+      last = high kept flow first.request
+
+      key : Key
+      key = key_of flow kind n
+
+      within : n < 2 ^ 64
+      within = omega (arith, is-first.0)
+
+      after : has kept flow kind n ≡ true → is_gt (key_cmp first key) ≡ false
+      after h = from.2 key (after-low kept flow kind n) (there kept flow kind n h)
+
+      before-last : is_gt (key_cmp last key) ≡ true → is_gt (key_cmp key last) ≡ false
+      before-last g = ap is_gt (key_laws.total-law.antisymm key last) ∙ turned (key_cmp last key) g
+        where
+          turned : (o : Ordering) → is_gt o ≡ true → is_gt (ordering_reverse o) ≡ false
+          turned Greater e = refl
+          turned Less e = absurd (true≢false (sym e))
+          turned Equal e = absurd (true≢false (sym e))
+
+      by : (b : Bool) → is_gt (key_cmp last key) ≡ b → has kept flow kind n ≡ true → ⊥
+      by false g h = both_ways (has kept flow kind n) (not-there kept flow kind n (alone key g (before-high kept flow kind n within))) h
+      by true g h =
+          let own = lane kept flow first.request key (not_gt-trans (low kept flow first.request) first key low-first (after h)) (before-last g) in
+          let same : key_cmp first key ≡ nat_cmp first.number n = sym (key_laws.total-law.congr (key_of flow first.request first.number) first key (cmp-tied (flow_key flow) first.request first.number first.flow first.request first.number own-flow own-kind ∙ tied_itself nat_cmp_total first.number)) ∙ cmp-tied (flow_key flow) first.request first.number (flow_key flow) kind n (tied_itself flow_key_laws.total-law (flow_key flow)) own.kinds in
+          both_ways (is_gt (key_cmp first key)) (after h) (ap is_gt (same ∙ nat-greater first.number n l))
+
+  any-of : (kind : Request) (n : ℕ) → has kept flow kind n ≡ true → has_any kept flow n ≡ true
+  any-of requests.AsReq n h = or_left (has kept flow requests.AsReq n) (has kept flow requests.TgsReq n || has kept flow requests.Kpasswd n) h
+  any-of requests.TgsReq n h = or_right (has kept flow requests.AsReq n) (has kept flow requests.TgsReq n || has kept flow requests.Kpasswd n) (or_left (has kept flow requests.TgsReq n) (has kept flow requests.Kpasswd n) h)
+  any-of requests.Kpasswd n h = or_right (has kept flow requests.AsReq n) (has kept flow requests.TgsReq n || has kept flow requests.Kpasswd n) (or_right (has kept flow requests.TgsReq n) (has kept flow requests.Kpasswd n) h)
+
+  pub first-of_one : IsFirst (has_any kept flow) (Some first.number)
+  first-of_one = (
+    is-first.0,
+    any-of first.request first.number is-first.1,
+    λ n l. or_from (has kept flow requests.AsReq n) (has kept flow requests.TgsReq n || has kept flow requests.Kpasswd n) (none-before requests.AsReq n l) (or_from (has kept flow requests.TgsReq n) (has kept flow requests.Kpasswd n) (none-before requests.TgsReq n l) (none-before requests.Kpasswd n l)),
+  )

@@ -1,8 +1,10 @@
 //! The numbers of the requests that are open.
 
-ghost use Rattle.std.specs.Prelude.{◌≡◌, ◌<◌, ◌^◌, ◌&&◌, ◌||◌, not, ℕ, Bool, false, OnErr, OnOk};
+ghost use Rattle.std.specs.Prelude.{◌≡◌, ◌&&◌, ◌||◌, not, ℕ, Bool, false, is_some, OnErr, OnOk};
+ghost use Rattle.std.specs.BTreeMap.{get};
+ghost use Rattle.std.specs.Ordering.{is_gt};
 ghost use Rattle.krb_exchange.specs.Happened.{fits};
-ghost use Rattle.krb_exchange.specs.inner.Numbers.{IsFirst, IsFirstFrom, IsLastUpTo, IsLatest, any_kind, has, has_any, has_if, key_of, same_key};
+ghost use Rattle.krb_exchange.specs.inner.Numbers.{IsFirst, IsFirstFrom, IsLastUpTo, IsLatest, any_kind, has, has_any, has_if, key_cmp, key_of, same_key};
 
 use crate::flow_key::FlowKey;
 use crate::parties::Reply;
@@ -136,12 +138,11 @@ impl Open {
         }
     }
 
-    /// Returns whether a request of a flow may be open.
-    fn has_flow(&self, flow: Flow) -> bool
-        ensures { result ≡ false → (kind : Request) (number : ℕ) → number < 2 ^ 64 → has self.now flow kind number ≡ false }
+    /// Returns whether there is a key that is not less than one and not greater than another.
+    fn has_between(&self, low: Key, high: Key) -> bool
+        ensures { result ≡ false → (key : Key) → is_gt (key_cmp low key) ≡ false → is_gt (key_cmp key high) ≡ false → is_some (get key_cmp self.now.keys key) ≡ false }
     {
-        let high = Key::new(flow, Request::Kpasswd, u64::MAX);
-        match self.first_from(Key::new(flow, Request::AsReq, 0)) {
+        match self.first_from(low) {
             Some(first) => first.cmp(&high).is_le(),
             None => false,
         }
@@ -151,9 +152,22 @@ impl Open {
     pub(crate) fn first(&self, flow: Flow) -> Option<u64>
         ensures { IsFirst (has_any self.now flow) result }
     {
-        if !self.has_flow(flow) {
+        let first = self.first_from(Key::new(flow, Request::AsReq, 0))?;
+        let high = Key::new(flow, Request::Kpasswd, u64::MAX);
+        if !first.cmp(&high).is_le() {
             return None;
         }
+        let last = Key::new(flow, first.request, u64::MAX);
+        if first.cmp(&last).is_le() && !self.has_between(last, high) {
+            return Some(first.number);
+        }
+        self.first_of_any(flow)
+    }
+
+    /// Returns the first request of a flow that has some of several kinds.
+    fn first_of_any(&self, flow: Flow) -> Option<u64>
+        ensures { IsFirst (has_any self.now flow) result }
+    {
         let of_as = self.first_of(flow, Request::AsReq);
         let of_tgs = self.first_of(flow, Request::TgsReq);
         let of_kpasswd = self.first_of(flow, Request::Kpasswd);
