@@ -1,15 +1,16 @@
 """Times bin/krbls on keytabs of entries that are made here, beside cat and, if it is installed, beside
 MIT's klist -k; and says how much memory each used. The runs of one alternate with those of the others.
-First a keytab of a tenth of the entries, so that the growth is seen."""
+First a keytab of a tenth of the entries, so that the growth is seen. And how many writes a small one takes."""
 
 import shutil
 import struct
 import sys
 import tempfile
 
-from timing import print_costs
+from timing import print_costs, writes_of
 
 KRBLS = ["bin/krbls", "keytab"]
+FEW = 500
 
 
 def counted(octets):
@@ -43,6 +44,9 @@ def keytab(entries):
 
 def main():
     most = int(sys.argv[1])
+    file, _ = keytab(FEW)
+    with file:
+        print(f"keytab of {FEW} entries: {writes_of(KRBLS, file.name)} writes")
     for entries in (most // 10, most):
         file, size = keytab(entries)
         with file:

@@ -1,6 +1,7 @@
 """What commands cost on a file: seconds, and memory."""
 
 import os
+import socket
 import subprocess
 import time
 
@@ -26,6 +27,18 @@ def output_of(command, path):
     """What a command prints of a file."""
     with open(path, "rb") as octets:
         return subprocess.run(command, stdin=octets, stdout=subprocess.PIPE, check=True).stdout
+
+
+def writes_of(command, path):
+    """How many writes a run of a command makes on a file: each is a record of a socket."""
+    ours, output = socket.socketpair(socket.AF_UNIX, socket.SOCK_SEQPACKET)
+    with ours, open(path, "rb") as octets:
+        with output:
+            run = subprocess.Popen(command, stdin=octets, stdout=output)
+        writes = sum(1 for _ in iter(lambda: ours.recv(1 << 20), b""))
+        if run.wait() != 0:
+            raise subprocess.CalledProcessError(run.returncode, command)
+    return writes
 
 
 def best_run(command, path):

@@ -1,7 +1,7 @@
 # bash completion for krbls
 _krbls() {
     local word=${COMP_WORDS[COMP_CWORD]} before=${COMP_WORDS[COMP_CWORD-1]} command=${COMP_WORDS[1]}
-    local commands="list stream message keytab ccache capture decode encode"
+    local commands="list stream message items keytab ccache capture decode encode"
     if [ "$COMP_CWORD" -eq 1 ]; then
         case $word in
             -*) command=list ;;
@@ -28,6 +28,7 @@ _krbls() {
             case $command in
                 stream) options="--limit --keep-going --strict $forms $options" ;;
                 message) options="--lines --strict $forms $options" ;;
+                items) options="--strict $forms $options" ;;
                 keytab) options="$forms $options" ;;
                 capture) options="--limit --port --strict $forms $options" ;;
                 decode|encode) options="--limit --strict --unframed $options" ;;

@@ -1,9 +1,10 @@
 # fish completion for krbls; without a command the words are those of list
 set -l first "test (count (commandline -opc)) -eq 1"
-set -l commands list stream message keytab ccache capture decode encode
+set -l commands list stream message items keytab ccache capture decode encode
 complete -c krbls -n $first -a list -d "Each file, as its first octets say"
 complete -c krbls -n $first -a stream -d "Framed messages"
 complete -c krbls -n $first -a message -d "A message, a Ticket or a token, as octets or text"
+complete -c krbls -n $first -a items -d "Where each field of a message is in its octets"
 complete -c krbls -n $first -a keytab -d "A keytab"
 complete -c krbls -n $first -a ccache -d "A credential cache"
 complete -c krbls -n $first -a capture -d "The messages in a capture"
@@ -20,8 +21,8 @@ complete -c krbls -n "__fish_seen_subcommand_from message" -l lines -d "An input
 complete -c krbls -n "not __fish_seen_subcommand_from help" -l file -r -d "Read this file first"
 complete -c krbls -n "__fish_seen_subcommand_from stream capture decode encode" -l limit -x -d "Refuse longer frames"
 complete -c krbls -n "__fish_seen_subcommand_from stream" -l keep-going -d "Go on after a refused frame"
-complete -c krbls -n "__fish_seen_subcommand_from stream message capture" -l strict -d "Refuse messages that have a note"
+complete -c krbls -n "__fish_seen_subcommand_from stream message items capture" -l strict -d "Refuse messages that have a note"
 complete -c krbls -n "__fish_seen_subcommand_from decode encode" -l strict -d "Refuse messages that krbls stream lists with a note"
-complete -c krbls -n "not __fish_seen_subcommand_from stream message keytab capture decode encode help" -l now -x -d "The time: now, a date, or seconds since 1970"
+complete -c krbls -n "not __fish_seen_subcommand_from stream message items keytab capture decode encode help" -l now -x -d "The time: now, a date, or seconds since 1970"
 complete -c krbls -n "__fish_seen_subcommand_from capture" -l port -x -d "The port of Kerberos"
 complete -c krbls -n "__fish_seen_subcommand_from decode encode" -l unframed -d "One message, with no length before it"

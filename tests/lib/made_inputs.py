@@ -103,6 +103,15 @@ def octets(dice, real):
     return made
 
 
+def damaged_octets(dice, real):
+    """The octets of a message, a Ticket, a frame or a token, mostly with something wrong, or in hexadecimal."""
+    maker = TokenMaker(dice, dice.choice(FAULTS), real)
+    made = dice.choice([maker.any_message, maker.any_message, maker.any_message, maker.ticket, maker.frame, maker.gss, maker.negotiation])()
+    for _ in range(dice.choice([0, 1, 1, 1, 2])):
+        made = changed(dice, made)
+    return made if dice.random() < 0.8 else made.hex().encode()
+
+
 def real_messages(streams):
     """The messages of streams, and their Tickets, each of which is one."""
     found = []

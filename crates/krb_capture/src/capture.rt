@@ -108,14 +108,15 @@ fn quoted_transport(protocol: QuotedProtocol) -> Transport
     }
 }
 
-/// Lists what a segment tells itself, if what happened is told.
+/// Lists what a segment tells itself, if it may tell something.
 #[inline(always)]
 fn put_told(segment: &Segment<'_>, last: Due, listing: &mut Listing<'_>) -> Result<(), Memory>
     ensures { OnOk result (listing.new ≡ with_found (origin_of last transports.Tcp segment.now.source segment.now.target) (Sent (header_of segment.now)) listing.old) }
 {
-    match &listing.happened {
-        None => Ok(()),
-        Some(_) => put_told_segment(segment, last, listing),
+    if listing.hears(header_of(segment)) {
+        put_told_segment(segment, last, listing)
+    } else {
+        Ok(())
     }
 }
 

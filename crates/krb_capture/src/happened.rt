@@ -1,6 +1,6 @@
 //! What happened in a capture: what is told of requests and of the replies to them.
 
-ghost use Rattle.std.specs.Prelude.{◌≡◌, ◌+◌, [], ◌∷◌, ◌++◌, IfNone, IfOk, OnOk};
+ghost use Rattle.std.specs.Prelude.{◌≡◌, ◌+◌, false, [], ◌∷◌, ◌++◌, IfNone, IfOk, OnOk};
 ghost use Rattle.krb_capture.specs.Happened.{again_counted, at_moment, end_news, error_heard, again_for, answer_counted, answer_for, answer_with, begun_heard, by_part, heard, kind_in, kind_role, kind_tells, message_event, missed, missed_record, moment_of, news_counted, news_line, news_origin, news_record, nothing_happened, part_count, password_event, request_heard, reply_heard, reset, segment_heard, span_between, telling, told_of, unread_event, waited};
 ghost use Rattle.krb_capture.specs.Told.{listed};
 ghost use Rattle.krb_record.specs.Captures.{captured};
@@ -445,6 +445,13 @@ impl Happened {
         ensures none { IfNone result (end_news self.old ≡ []) }
     {
         missed(self.sendings.end())
+    }
+
+    /// Returns whether a segment may tell or change something.
+    pub(crate) fn hears(&self, header: Header) -> bool
+        ensures { result ≡ false → (origin : CaptureOrigin) → segment_heard header origin self.now ≡ record { news = []; happened = self.now } }
+    {
+        self.sendings.hears(header)
     }
 
     /// Takes a segment. Returns at most three news, in order.

@@ -1,6 +1,6 @@
 //! What is listed of a capture.
 
-ghost use Rattle.std.specs.Prelude.{◌≡◌, ◌↔◌, ◌<◌, ◌^◌, IfOk, IsTrue, OnOk, drop, length, take};
+ghost use Rattle.std.specs.Prelude.{◌≡◌, ◌↔◌, ◌<◌, ◌^◌, IfOk, IsTrue, OnOk, drop, false, length, take};
 ghost use Rattle.std.specs.Option.{option_copied};
 ghost use Rattle.krb_capture.specs.Boxed.{happened_in};
 ghost use Rattle.krb_capture.specs.Ends.{IsEnded};
@@ -277,6 +277,17 @@ impl<'text> Listing<'text> {
         match &mut self.happened {
             None => None,
             Some(happened) => happened.next_ended(),
+        }
+    }
+
+    /// Returns whether a segment may tell or change something.
+    #[inline(always)]
+    pub(crate) fn hears(&self, header: Header) -> bool
+        ensures { result ≡ false → (origin : CaptureOrigin) → with_found origin (Sent header) self.now ≡ self.now }
+    {
+        match &self.happened {
+            None => false,
+            Some(happened) => happened.hears(header),
         }
     }
 

@@ -3,8 +3,7 @@
 //!
 //! - [`run_decode_input`] decodes one message, Ticket or token, as octets or as text. It writes the
 //!   lines, and returns what is said of what is left out ([`InputEnd`]).
-//! - [`decode_hint_text`] returns the hint for a source that was refused at once, and [`keytab_text`]
-//!   what is said of a keytab.
+//! - [`keytab_text`] returns what is said of a keytab.
 //!
 //! What is refused is said as `krb_tool` lists it with names. `krb_convert` decodes streams, and one
 //! message without its length.
@@ -15,5 +14,5 @@ mod hint;
 mod input;
 mod parts;
 
-pub use hint::{decode_hint_text, keytab_text};
+pub use hint::keytab_text;
 pub use input::{InputEnd, run_decode_input};

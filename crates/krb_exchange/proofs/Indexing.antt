@@ -1,11 +1,10 @@
 -- What an index says of sendings, when one is added, closed, or leaves.
-use Rattle.std.proofs.Common.{◌≡◌, ℕ, zero, suc, ◌+◌, ◌-◌, ◌<◌, ◌≤◌, ◌⊎◌, inl, inr, arith, Bool, true, false, not, cond, ◌&&◌, ◌||◌, ◌==◌, if◌then◌else◌, List, [], ◌∷◌, ◌++◌, length, set, slice_get, Option, Some, None, is_some, option_map, refl, sym, ◌∙◌, ap, subst, length-append}
+use Rattle.std.proofs.Common.{◌≡◌, ℕ, suc, ◌+◌, ◌-◌, ◌<◌, ◌≤◌, ◌⊎◌, inl, inr, arith, Bool, true, false, not, cond, ◌&&◌, ◌||◌, ◌==◌, if◌then◌else◌, List, [], ◌∷◌, ◌++◌, length, set, slice_get, Option, Some, None, refl, sym, ◌∙◌, ap, length-append}
 use Rattle.std.specs.Option.{option_or}
-use Rattle.std.specs.Cmp.{IsEquivalence}
-use Rattle.std.specs.Ordering.{is_eq, nat_cmp, ordering_then}
+use Rattle.std.specs.Ordering.{is_eq, nat_cmp}
 use Rattle.std.specs.Map.{lookup}
 use Rattle.std.specs.BTreeMap.{is_at}
-use Rattle.std.proofs.lemmas.Bool.{cases_eq, cases_lt, eq-eqb, ne_eqb, true≢false}
+use Rattle.std.proofs.lemmas.Bool.{cases_eq, cases_lt, eq-eqb, ne_eqb}
 use Rattle.std.proofs.lemmas.Cmp.{eq_by_cmp_equiv, nat_eq_equiv}
 use Rattle.krb_record.specs.contracts.flow.FlowOrd.TheImpl.Laws as flow_laws
 use Rattle.krb_record.specs.declared.flow.Flow.{Flow}
@@ -15,12 +14,11 @@ use Rattle.krb_exchange.specs.declared.fingerprint.Fingerprint.{Fingerprint}
 use Rattle.krb_exchange.specs.declared.index.Index.{Index}
 use Rattle.krb_exchange.specs.declared.sending.Sending.{Sending}
 use Rattle.krb_exchange.specs.declared.sending.State.{State}
-use Rattle.krb_exchange.specs.declared.sending.What.{What}
 use Rattle.krb_exchange.specs.declared.sending.What.TheVariants as whats
-use Rattle.krb_exchange.specs.Happened.{flow_cmp, has_octets, in_state, is_open, is_open_request, is_request, is_syn, is_syn_of, latest_place, passes, same_flow, same_kind, same_octets}
-use Rattle.krb_exchange.specs.inner.Indexes.{AddsRequest, Indexes, at_number, fingerprint_cmp, is_kept, numbered, with_octets}
-use Rattle.krb_exchange.specs.inner.Numbers.{has, same_key}
-use Rattle.krb_exchange.proofs.Keys.{is_eq-nat, is_eq-then}
+use Rattle.krb_exchange.specs.Happened.{has_octets, in_state, is_open, is_open_request, is_request, is_syn, is_syn_of, latest_place, passes, same_flow, same_kind, same_octets}
+use Rattle.krb_exchange.specs.inner.Indexes.{Indexes, at_number, fingerprint_cmp, is_kept, is_of, numbered, with_octets}
+use Rattle.krb_exchange.specs.inner.Numbers.{flow_key, has, same_key}
+use Rattle.krb_exchange.proofs.Keys.{is_eq-nat, is_eq-then, same_flow-is}
 use Rattle.krb_exchange.proofs.Numbers.{at_number-before, at_number-first, at_number-first_not, at_number-from, at_number-rest, numbered-next}
 use Rattle.krb_exchange.proofs.Places.{get-append, get-append_before, get-past, get-set, get-set_other, latest-append, latest-set, next}
 
@@ -46,7 +44,7 @@ octets-symmetric : (a b : Fingerprint) → same_octets a b ≡ same_octets b a
 octets-symmetric a b = ap (λ x. x && (a.length == b.length)) (nat_eq_equiv.symm a.hash b.hash) ∙ ap (λ x. (b.hash == a.hash) && x) (nat_eq_equiv.symm a.length b.length)
 
 -- ---- of a key at a number
-not-both : (a b c : Bool) → (not (a && (b && true)) && (c && (b && a))) ≡ false
+not-both : (a b c : Bool) → (not (c && (a && (b && true))) && (c && (b && a))) ≡ false
 not-both true true true = refl
 not-both true true false = refl
 not-both true false true = refl
@@ -56,10 +54,26 @@ not-both false true false = refl
 not-both false false true = refl
 not-both false false false = refl
 
-not-either : (a b c : Bool) → (not (a && (b && false)) && c) ≡ c
-not-either true true c = refl
-not-either true false c = refl
-not-either false b c = refl
+not-either : (o a b c : Bool) → (not (o && (a && (b && false))) && c) ≡ c
+not-either true true true c = refl
+not-either true true false c = refl
+not-either true false b c = refl
+not-either false a b c = refl
+
+-- a request is no more among those that are open: the others stay
+gone-at : (x : Sending) (kind : Request) (octets : Fingerprint) (number : ℕ) → x.what ≡ whats.Request kind octets → (f : Flow) (k : Request) (n : ℕ) (was : Bool) → n ≡ number → was ≡ is_open_request f (same_kind k) x → (not (is_open x.state && same_key x.flow kind number f k n) && was) ≡ false
+gone-at x kind octets number what f k n was e is =
+    ap (λ b. not (is_open x.state && (same_flow x.flow f && (same_kind kind k && b))) && was) (eq-eqb number n (sym e))
+    ∙ ap (λ b. not (is_open x.state && (same_flow x.flow f && (same_kind kind k && true))) && b) is
+    ∙ ap (λ w. not (is_open x.state && (same_flow x.flow f && (same_kind kind k && true))) && (is_open x.state && (is_request (same_kind k) w && same_flow f x.flow))) what
+    ∙ ap (λ b. not (is_open x.state && (same_flow x.flow f && (b && true))) && (is_open x.state && (same_kind k kind && same_flow f x.flow))) (kinds-symmetric kind k)
+    ∙ ap (λ b. not (is_open x.state && (b && (same_kind k kind && true))) && (is_open x.state && (same_kind k kind && same_flow f x.flow))) (flows-symmetric x.flow f)
+    ∙ not-both (same_flow f x.flow) (same_kind k kind) (is_open x.state)
+
+kept-at : (x : Sending) (kind : Request) (number : ℕ) (f : Flow) (k : Request) (n : ℕ) (was : Bool) → (n ≡ number → ⊥) → (not (is_open x.state && same_key x.flow kind number f k n) && was) ≡ was
+kept-at x kind number f k n was ne =
+    ap (λ b. not (is_open x.state && (same_flow x.flow f && (same_kind kind k && b))) && was) (ne_eqb number n (λ e. ne (sym e)))
+    ∙ not-either (is_open x.state) (same_flow x.flow f) (same_kind kind k) was
 
 length-one : (xs : List Sending) (x : Sending) → length (xs ++ x ∷ []) ≡ length xs + 1
 length-one xs x = length-append xs (x ∷ [])
@@ -109,25 +123,28 @@ module _ (old new : Index) (gone : ℕ) (xs : List Sending) (x : Sending) (h : I
   pub has-not_yet : (f : Flow) (k : Request) (n : ℕ) → n ≡ gone + length xs → has old.«open» f k n ≡ false
   has-not_yet f k n e = h.requests_open f k n ∙ ap (λ o. passes (is_open_request f (same_kind k)) o) (number-end gone xs n e)
 
+  -- ---- the latest that passes, when one is added
+  pub added-latest : (test : Sending → Bool) (own : Bool) (number : ℕ) (kept : Option ℕ) → own ≡ test x → number ≡ gone + length xs → kept ≡ numbered gone (latest_place test xs) → cond own (Some number) kept ≡ numbered gone (latest_place test (xs ++ x ∷ []))
+  added-latest test own number kept is number_is kept_is =
+      ap (λ o. cond own (Some number) o) kept_is
+      ∙ ap (λ b. cond b (Some number) (numbered gone (latest_place test xs))) is
+      ∙ by (test x)
+      ∙ sym (ap (λ o. numbered gone o) (latest-append test xs x))
+    where
+      by : (b : Bool) → cond b (Some number) (numbered gone (latest_place test xs)) ≡ numbered gone (if b then Some (length xs) else latest_place test xs)
+      by true = ap (λ n. Some n) number_is
+      by false = refl
+
+  pub added-latest_same : (test : Sending → Bool) (kept : Option ℕ) → test x ≡ false → kept ≡ numbered gone (latest_place test xs) → kept ≡ numbered gone (latest_place test (xs ++ x ∷ []))
+  added-latest_same test kept is kept_is = kept_is ∙ sym (ap (λ o. numbered gone o) (latest-append test xs x ∙ ap (λ b. if b then Some (length xs) else latest_place test xs) is))
+
   -- ---- a request is added
   module _ (kind : Request) (octets : Fingerprint) (number : ℕ) (what : x.what ≡ whats.Request kind octets) (is-open : is_open x.state ≡ true) (number_is : number ≡ gone + length xs) where
-    pub request-octets : ((q : Fingerprint) → lookup (is_at (fingerprint_cmp q)) new.requests.entries ≡ cond (is_at (fingerprint_cmp octets) q) (Some number) (lookup (is_at (fingerprint_cmp q)) old.requests.entries)) → (q : Fingerprint) → lookup (is_at (fingerprint_cmp q)) new.requests.entries ≡ numbered gone (latest_place (with_octets q) (xs ++ x ∷ []))
-    request-octets u q =
-        u q
-        ∙ ap (λ o. cond (is_at (fingerprint_cmp octets) q) (Some number) o) (h.requests q)
-        ∙ ap (λ b. cond b (Some number) (numbered gone (latest_place (with_octets q) xs))) (octets-are octets q ∙ octets-symmetric octets q ∙ sym (ap (λ w. has_octets q w) what))
-        ∙ by (with_octets q x)
-        ∙ sym (ap (λ o. numbered gone o) (latest-append (with_octets q) xs x))
-      where
-        by : (b : Bool) → cond b (Some number) (numbered gone (latest_place (with_octets q) xs)) ≡ numbered gone (if b then Some (length xs) else latest_place (with_octets q) xs)
-        by true = ap (λ n. Some n) number_is
-        by false = refl
+    pub request-octets : (q : Fingerprint) → cond (is_at (fingerprint_cmp octets) q) (Some number) (lookup (is_at (fingerprint_cmp q)) old.requests.entries) ≡ numbered gone (latest_place (with_octets q) (xs ++ x ∷ []))
+    request-octets q = added-latest (with_octets q) (is_at (fingerprint_cmp octets) q) number (lookup (is_at (fingerprint_cmp q)) old.requests.entries) (octets-are octets q ∙ octets-symmetric octets q ∙ sym (ap (λ w. has_octets q w) what)) number_is (h.requests q)
 
-    pub request-syns : new.syns.entries ≡ old.syns.entries → (q : Flow) → lookup (is_at (flow_cmp q)) new.syns.entries ≡ numbered gone (latest_place (is_syn_of q) (xs ++ x ∷ []))
-    request-syns e q =
-        ap (λ es. lookup (is_at (flow_cmp q)) es) e
-        ∙ h.syns q
-        ∙ sym (ap (λ o. numbered gone o) (latest-append (is_syn_of q) xs x ∙ ap (λ b. if b then Some (length xs) else latest_place (is_syn_of q) xs) (ap (λ w. is_syn w && same_flow q x.flow) what)))
+    pub request-syns : (q : Flow) → lookup (is_of q) old.syns.entries ≡ numbered gone (latest_place (is_syn_of q) (xs ++ x ∷ []))
+    request-syns q = added-latest_same (is_syn_of q) (lookup (is_of q) old.syns.entries) (ap (λ w. is_syn w && same_flow q x.flow) what) (h.syns q)
 
     pub request-open : ((f : Flow) (k : Request) (n : ℕ) → has new.«open» f k n ≡ (same_key x.flow kind number f k n || has old.«open» f k n)) → (f : Flow) (k : Request) (n : ℕ) → has new.«open» f k n ≡ passes (is_open_request f (same_kind k)) (at_number gone (xs ++ x ∷ []) n)
     request-open u f k n = u f k n ∙ by (cases_eq n number)
@@ -161,23 +178,11 @@ module _ (old new : Index) (gone : ℕ) (xs : List Sending) (x : Sending) (h : I
 
   -- ---- a SYN is added
   module _ (sequence number : ℕ) (what : x.what ≡ whats.Syn sequence) (number_is : number ≡ gone + length xs) where
-    pub syn-octets : new.requests.entries ≡ old.requests.entries → (q : Fingerprint) → lookup (is_at (fingerprint_cmp q)) new.requests.entries ≡ numbered gone (latest_place (with_octets q) (xs ++ x ∷ []))
-    syn-octets e q =
-        ap (λ es. lookup (is_at (fingerprint_cmp q)) es) e
-        ∙ h.requests q
-        ∙ sym (ap (λ o. numbered gone o) (latest-append (with_octets q) xs x ∙ ap (λ b. if b then Some (length xs) else latest_place (with_octets q) xs) (ap (λ w. has_octets q w) what)))
+    pub syn-octets : (q : Fingerprint) → lookup (is_at (fingerprint_cmp q)) old.requests.entries ≡ numbered gone (latest_place (with_octets q) (xs ++ x ∷ []))
+    syn-octets q = added-latest_same (with_octets q) (lookup (is_at (fingerprint_cmp q)) old.requests.entries) (ap (λ w. has_octets q w) what) (h.requests q)
 
-    pub syn-syns : ((q : Flow) → lookup (is_at (flow_cmp q)) new.syns.entries ≡ cond (is_at (flow_cmp x.flow) q) (Some number) (lookup (is_at (flow_cmp q)) old.syns.entries)) → (q : Flow) → lookup (is_at (flow_cmp q)) new.syns.entries ≡ numbered gone (latest_place (is_syn_of q) (xs ++ x ∷ []))
-    syn-syns u q =
-        u q
-        ∙ ap (λ o. cond (is_at (flow_cmp x.flow) q) (Some number) o) (h.syns q)
-        ∙ ap (λ b. cond b (Some number) (numbered gone (latest_place (is_syn_of q) xs))) (flows-symmetric x.flow q ∙ sym (ap (λ w. is_syn w && same_flow q x.flow) what))
-        ∙ by (is_syn_of q x)
-        ∙ sym (ap (λ o. numbered gone o) (latest-append (is_syn_of q) xs x))
-      where
-        by : (b : Bool) → cond b (Some number) (numbered gone (latest_place (is_syn_of q) xs)) ≡ numbered gone (if b then Some (length xs) else latest_place (is_syn_of q) xs)
-        by true = ap (λ n. Some n) number_is
-        by false = refl
+    pub syn-syns : (q : Flow) → cond (is_of x.flow (flow_key q)) (Some number) (lookup (is_of q) old.syns.entries) ≡ numbered gone (latest_place (is_syn_of q) (xs ++ x ∷ []))
+    syn-syns q = added-latest (is_syn_of q) (is_of x.flow (flow_key q)) number (lookup (is_of q) old.syns.entries) (same_flow-is x.flow q ∙ flows-symmetric x.flow q ∙ sym (ap (λ w. is_syn w && same_flow q x.flow) what)) number_is (h.syns q)
 
     pub syn-open : ((f : Flow) (k : Request) (n : ℕ) → has new.«open» f k n ≡ has old.«open» f k n) → (f : Flow) (k : Request) (n : ℕ) → has new.«open» f k n ≡ passes (is_open_request f (same_kind k)) (at_number gone (xs ++ x ∷ []) n)
     syn-open u f k n = u f k n ∙ h.requests_open f k n ∙ by (cases_eq n number)
@@ -220,11 +225,8 @@ module _ (old new : Index) (gone : ℕ) (xs : List Sending) (x : Sending) (place
   at-other : (test : Sending → Bool) → test (in_state state x) ≡ test x → (y : Sending) → slice_get xs place ≡ Some y → test (in_state state x) ≡ test y
   at-other test e y s = e ∙ ap (λ o. passes test o) (sym at ∙ s)
 
-  pub closed-octets : new.requests.entries ≡ old.requests.entries → (q : Fingerprint) → lookup (is_at (fingerprint_cmp q)) new.requests.entries ≡ numbered gone (latest_place (with_octets q) (set xs place (in_state state x)))
-  closed-octets e q = ap (λ es. lookup (is_at (fingerprint_cmp q)) es) e ∙ h.requests q ∙ sym (ap (λ o. numbered gone o) (latest-set (with_octets q) xs place (in_state state x) (at-other (with_octets q) refl)))
-
-  pub closed-syns : new.syns.entries ≡ old.syns.entries → (q : Flow) → lookup (is_at (flow_cmp q)) new.syns.entries ≡ numbered gone (latest_place (is_syn_of q) (set xs place (in_state state x)))
-  closed-syns e q = ap (λ es. lookup (is_at (flow_cmp q)) es) e ∙ h.syns q ∙ sym (ap (λ o. numbered gone o) (latest-set (is_syn_of q) xs place (in_state state x) (at-other (is_syn_of q) refl)))
+  pub closed-latest : (test : Sending → Bool) (kept : Option ℕ) → test (in_state state x) ≡ test x → kept ≡ numbered gone (latest_place test xs) → kept ≡ numbered gone (latest_place test (set xs place (in_state state x)))
+  closed-latest test kept same is = is ∙ sym (ap (λ o. numbered gone o) (latest-set test xs place (in_state state x) (at-other test same)))
 
   -- what is at a number then
   after-at : (f : Flow) (k : Request) (n : ℕ) → n ≡ number → passes (is_open_request f (same_kind k)) (at_number gone (set xs place (in_state state x)) n) ≡ false
@@ -240,22 +242,12 @@ module _ (old new : Index) (gone : ℕ) (xs : List Sending) (x : Sending) (place
   not-at f k n ne = h.requests_open f k n ∙ sym (ap (λ o. passes (is_open_request f (same_kind k)) o) (number-set_other gone xs place (in_state state x) n (λ e. ne (e ∙ sym number_is))))
 
   module _ (kind : Request) (octets : Fingerprint) (what : x.what ≡ whats.Request kind octets) where
-    pub closed-request : ((f : Flow) (k : Request) (n : ℕ) → has new.«open» f k n ≡ (not (same_key x.flow kind number f k n) && has old.«open» f k n)) → (f : Flow) (k : Request) (n : ℕ) → has new.«open» f k n ≡ passes (is_open_request f (same_kind k)) (at_number gone (set xs place (in_state state x)) n)
+    pub closed-request : ((f : Flow) (k : Request) (n : ℕ) → has new.«open» f k n ≡ (not (is_open x.state && same_key x.flow kind number f k n) && has old.«open» f k n)) → (f : Flow) (k : Request) (n : ℕ) → has new.«open» f k n ≡ passes (is_open_request f (same_kind k)) (at_number gone (set xs place (in_state state x)) n)
     closed-request u f k n = u f k n ∙ by (cases_eq n number)
       where
-        by : (n ≡ number) ⊎ (n ≡ number → ⊥) → (not (same_key x.flow kind number f k n) && has old.«open» f k n) ≡ passes (is_open_request f (same_kind k)) (at_number gone (set xs place (in_state state x)) n)
-        by (inl e) =
-            ap (λ b. not (same_flow x.flow f && (same_kind kind k && b)) && has old.«open» f k n) (eq-eqb number n (sym e))
-            ∙ ap (λ b. not (same_flow x.flow f && (same_kind kind k && true)) && b) (before-at f k n e)
-            ∙ ap (λ w. not (same_flow x.flow f && (same_kind kind k && true)) && (is_open x.state && (is_request (same_kind k) w && same_flow f x.flow))) what
-            ∙ ap (λ b. not (same_flow x.flow f && (b && true)) && (is_open x.state && (same_kind k kind && same_flow f x.flow))) (kinds-symmetric kind k)
-            ∙ ap (λ b. not (b && (same_kind k kind && true)) && (is_open x.state && (same_kind k kind && same_flow f x.flow))) (flows-symmetric x.flow f)
-            ∙ not-both (same_flow f x.flow) (same_kind k kind) (is_open x.state)
-            ∙ sym (after-at f k n e)
-        by (inr ne) =
-            ap (λ b. not (same_flow x.flow f && (same_kind kind k && b)) && has old.«open» f k n) (ne_eqb number n (λ e. ne (sym e)))
-            ∙ not-either (same_flow x.flow f) (same_kind kind k) (has old.«open» f k n)
-            ∙ not-at f k n ne
+        by : (n ≡ number) ⊎ (n ≡ number → ⊥) → (not (is_open x.state && same_key x.flow kind number f k n) && has old.«open» f k n) ≡ passes (is_open_request f (same_kind k)) (at_number gone (set xs place (in_state state x)) n)
+        by (inl e) = gone-at x kind octets number what f k n (has old.«open» f k n) e (before-at f k n e) ∙ sym (after-at f k n e)
+        by (inr ne) = kept-at x kind number f k n (has old.«open» f k n) ne ∙ not-at f k n ne
 
   module _ (sequence : ℕ) (what : x.what ≡ whats.Syn sequence) where
     pub closed-syn : ((f : Flow) (k : Request) (n : ℕ) → has new.«open» f k n ≡ has old.«open» f k n) → (f : Flow) (k : Request) (n : ℕ) → has new.«open» f k n ≡ passes (is_open_request f (same_kind k)) (at_number gone (set xs place (in_state state x)) n)
@@ -277,33 +269,29 @@ forgotten gone true (Some p) = ap (λ b. if b then None else Some (gone + suc p)
 forgotten gone false (Some p) = numbered-next gone (Some p)
 
 module _ (old new : Index) (number : ℕ) (first : Sending) (others : List Sending) (h : Indexes old number (first ∷ others)) where
-  pub left-octets : (octets : Fingerprint) (kind : Request) → first.what ≡ whats.Request kind octets → ((q : Fingerprint) → lookup (is_at (fingerprint_cmp q)) new.requests.entries ≡ (if is_at (fingerprint_cmp q) octets && is_kept number (lookup (is_at (fingerprint_cmp q)) old.requests.entries) then None else lookup (is_at (fingerprint_cmp q)) old.requests.entries)) → (q : Fingerprint) → lookup (is_at (fingerprint_cmp q)) new.requests.entries ≡ numbered (number + 1) (latest_place (with_octets q) others)
-  left-octets octets kind what u q =
-      u q
-      ∙ ap (λ o. if is_at (fingerprint_cmp q) octets && is_kept number o then None else o) (h.requests q)
-      ∙ ap (λ b. if b && is_kept number (numbered number (latest_place (with_octets q) (first ∷ others))) then None else numbered number (latest_place (with_octets q) (first ∷ others))) (octets-are q octets ∙ sym (ap (λ w. has_octets q w) what))
-      ∙ forgotten number (with_octets q first) (latest_place (with_octets q) others)
+  left-latest : (test : Sending → Bool) (own : Bool) (kept : Option ℕ) → own ≡ test first → kept ≡ numbered number (latest_place test (first ∷ others)) → (if own && is_kept number kept then None else kept) ≡ numbered (number + 1) (latest_place test others)
+  left-latest test own kept is kept_is =
+      ap (λ o. if own && is_kept number o then None else o) kept_is
+      ∙ ap (λ b. if b && is_kept number (numbered number (latest_place test (first ∷ others))) then None else numbered number (latest_place test (first ∷ others))) is
+      ∙ forgotten number (test first) (latest_place test others)
 
-  pub left-octets_same : (sequence : ℕ) → first.what ≡ whats.Syn sequence → new.requests.entries ≡ old.requests.entries → (q : Fingerprint) → lookup (is_at (fingerprint_cmp q)) new.requests.entries ≡ numbered (number + 1) (latest_place (with_octets q) others)
-  left-octets_same sequence what e q =
-      ap (λ es. lookup (is_at (fingerprint_cmp q)) es) e
-      ∙ h.requests q
-      ∙ ap (λ b. numbered number (option_or (next (latest_place (with_octets q) others)) (if b then Some 0 else None))) (ap (λ w. has_octets q w) what)
-      ∙ forgotten number false (latest_place (with_octets q) others)
+  left-latest_same : (test : Sending → Bool) (kept : Option ℕ) → test first ≡ false → kept ≡ numbered number (latest_place test (first ∷ others)) → kept ≡ numbered (number + 1) (latest_place test others)
+  left-latest_same test kept is kept_is =
+      kept_is
+      ∙ ap (λ b. numbered number (option_or (next (latest_place test others)) (if b then Some 0 else None))) is
+      ∙ forgotten number false (latest_place test others)
 
-  pub left-syns : (sequence : ℕ) → first.what ≡ whats.Syn sequence → ((q : Flow) → lookup (is_at (flow_cmp q)) new.syns.entries ≡ (if is_at (flow_cmp q) first.flow && is_kept number (lookup (is_at (flow_cmp q)) old.syns.entries) then None else lookup (is_at (flow_cmp q)) old.syns.entries)) → (q : Flow) → lookup (is_at (flow_cmp q)) new.syns.entries ≡ numbered (number + 1) (latest_place (is_syn_of q) others)
-  left-syns sequence what u q =
-      u q
-      ∙ ap (λ o. if same_flow q first.flow && is_kept number o then None else o) (h.syns q)
-      ∙ ap (λ b. if b && is_kept number (numbered number (latest_place (is_syn_of q) (first ∷ others))) then None else numbered number (latest_place (is_syn_of q) (first ∷ others))) (sym (ap (λ w. is_syn w && same_flow q first.flow) what))
-      ∙ forgotten number (is_syn_of q first) (latest_place (is_syn_of q) others)
+  pub left-octets : (octets : Fingerprint) (kind : Request) → first.what ≡ whats.Request kind octets → (q : Fingerprint) → (if is_at (fingerprint_cmp q) octets && is_kept number (lookup (is_at (fingerprint_cmp q)) old.requests.entries) then None else lookup (is_at (fingerprint_cmp q)) old.requests.entries) ≡ numbered (number + 1) (latest_place (with_octets q) others)
+  left-octets octets kind what q = left-latest (with_octets q) (is_at (fingerprint_cmp q) octets) (lookup (is_at (fingerprint_cmp q)) old.requests.entries) (octets-are q octets ∙ sym (ap (λ w. has_octets q w) what)) (h.requests q)
 
-  pub left-syns_same : (kind : Request) (octets : Fingerprint) → first.what ≡ whats.Request kind octets → new.syns.entries ≡ old.syns.entries → (q : Flow) → lookup (is_at (flow_cmp q)) new.syns.entries ≡ numbered (number + 1) (latest_place (is_syn_of q) others)
-  left-syns_same kind octets what e q =
-      ap (λ es. lookup (is_at (flow_cmp q)) es) e
-      ∙ h.syns q
-      ∙ ap (λ b. numbered number (option_or (next (latest_place (is_syn_of q) others)) (if b then Some 0 else None))) (ap (λ w. is_syn w && same_flow q first.flow) what)
-      ∙ forgotten number false (latest_place (is_syn_of q) others)
+  pub left-octets_same : (sequence : ℕ) → first.what ≡ whats.Syn sequence → (q : Fingerprint) → lookup (is_at (fingerprint_cmp q)) old.requests.entries ≡ numbered (number + 1) (latest_place (with_octets q) others)
+  left-octets_same sequence what q = left-latest_same (with_octets q) (lookup (is_at (fingerprint_cmp q)) old.requests.entries) (ap (λ w. has_octets q w) what) (h.requests q)
+
+  pub left-syns : (sequence : ℕ) → first.what ≡ whats.Syn sequence → (q : Flow) → (if is_of q (flow_key first.flow) && is_kept number (lookup (is_of q) old.syns.entries) then None else lookup (is_of q) old.syns.entries) ≡ numbered (number + 1) (latest_place (is_syn_of q) others)
+  left-syns sequence what q = left-latest (is_syn_of q) (is_of q (flow_key first.flow)) (lookup (is_of q) old.syns.entries) (same_flow-is q first.flow ∙ sym (ap (λ w. is_syn w && same_flow q first.flow) what)) (h.syns q)
+
+  pub left-syns_same : (kind : Request) (octets : Fingerprint) → first.what ≡ whats.Request kind octets → (q : Flow) → lookup (is_of q) old.syns.entries ≡ numbered (number + 1) (latest_place (is_syn_of q) others)
+  left-syns_same kind octets what q = left-latest_same (is_syn_of q) (lookup (is_of q) old.syns.entries) (ap (λ w. is_syn w && same_flow q first.flow) what) (h.syns q)
 
   left-at : (f : Flow) (k : Request) (n : ℕ) → n ≡ number → passes (is_open_request f (same_kind k)) (at_number (number + 1) others n) ≡ false
   left-at f k n e = ap (λ o. passes (is_open_request f (same_kind k)) o) (at_number-first_not number others n e)
@@ -314,22 +302,12 @@ module _ (old new : Index) (number : ℕ) (first : Sending) (others : List Sendi
   left-other : (f : Flow) (k : Request) (n : ℕ) → (n ≡ number → ⊥) → has old.«open» f k n ≡ passes (is_open_request f (same_kind k)) (at_number (number + 1) others n)
   left-other f k n ne = h.requests_open f k n ∙ ap (λ o. passes (is_open_request f (same_kind k)) o) (at_number-rest number first others n ne)
 
-  pub left-open : (kind : Request) (octets : Fingerprint) → first.what ≡ whats.Request kind octets → ((f : Flow) (k : Request) (n : ℕ) → has new.«open» f k n ≡ (not (same_key first.flow kind number f k n) && has old.«open» f k n)) → (f : Flow) (k : Request) (n : ℕ) → has new.«open» f k n ≡ passes (is_open_request f (same_kind k)) (at_number (number + 1) others n)
+  pub left-open : (kind : Request) (octets : Fingerprint) → first.what ≡ whats.Request kind octets → ((f : Flow) (k : Request) (n : ℕ) → has new.«open» f k n ≡ (not (is_open first.state && same_key first.flow kind number f k n) && has old.«open» f k n)) → (f : Flow) (k : Request) (n : ℕ) → has new.«open» f k n ≡ passes (is_open_request f (same_kind k)) (at_number (number + 1) others n)
   left-open kind octets what u f k n = u f k n ∙ by (cases_eq n number)
     where
-      by : (n ≡ number) ⊎ (n ≡ number → ⊥) → (not (same_key first.flow kind number f k n) && has old.«open» f k n) ≡ passes (is_open_request f (same_kind k)) (at_number (number + 1) others n)
-      by (inl e) =
-          ap (λ b. not (same_flow first.flow f && (same_kind kind k && b)) && has old.«open» f k n) (eq-eqb number n (sym e))
-          ∙ ap (λ b. not (same_flow first.flow f && (same_kind kind k && true)) && b) (was-at f k n e)
-          ∙ ap (λ w. not (same_flow first.flow f && (same_kind kind k && true)) && (is_open first.state && (is_request (same_kind k) w && same_flow f first.flow))) what
-          ∙ ap (λ b. not (same_flow first.flow f && (b && true)) && (is_open first.state && (same_kind k kind && same_flow f first.flow))) (kinds-symmetric kind k)
-          ∙ ap (λ b. not (b && (same_kind k kind && true)) && (is_open first.state && (same_kind k kind && same_flow f first.flow))) (flows-symmetric first.flow f)
-          ∙ not-both (same_flow f first.flow) (same_kind k kind) (is_open first.state)
-          ∙ sym (left-at f k n e)
-      by (inr ne) =
-          ap (λ b. not (same_flow first.flow f && (same_kind kind k && b)) && has old.«open» f k n) (ne_eqb number n (λ e. ne (sym e)))
-          ∙ not-either (same_flow first.flow f) (same_kind kind k) (has old.«open» f k n)
-          ∙ left-other f k n ne
+      by : (n ≡ number) ⊎ (n ≡ number → ⊥) → (not (is_open first.state && same_key first.flow kind number f k n) && has old.«open» f k n) ≡ passes (is_open_request f (same_kind k)) (at_number (number + 1) others n)
+      by (inl e) = gone-at first kind octets number what f k n (has old.«open» f k n) e (was-at f k n e) ∙ sym (left-at f k n e)
+      by (inr ne) = kept-at first kind number f k n (has old.«open» f k n) ne ∙ left-other f k n ne
 
   pub left-open_same : (sequence : ℕ) → first.what ≡ whats.Syn sequence → ((f : Flow) (k : Request) (n : ℕ) → has new.«open» f k n ≡ has old.«open» f k n) → (f : Flow) (k : Request) (n : ℕ) → has new.«open» f k n ≡ passes (is_open_request f (same_kind k)) (at_number (number + 1) others n)
   left-open_same sequence what u f k n = u f k n ∙ by (cases_eq n number)

@@ -1,6 +1,5 @@
 -- A window keeps its sendings, when one is closed, leaves or is added.
-use Rattle.std.proofs.Common.{◌≡◌, ℕ, ◌+◌, ◌<◌, ◌≤◌, ◌^◌, arith, List, [], ◌∷◌, ◌++◌, length, set, slice_get, Option, Some, None, refl, sym, ◌∙◌, ap, subst, length-append, length-set}
-use Rattle.krb_exchange.specs.declared.index.Index.{Index}
+use Rattle.std.proofs.Common.{◌≡◌, ℕ, ◌+◌, ◌<◌, ◌^◌, arith, List, [], ◌∷◌, ◌++◌, length, set, slice_get, Option, Some, None, sym, ◌∙◌, ap, subst, length-append, length-set}
 use Rattle.krb_exchange.specs.declared.sending.Sending.{Sending}
 use Rattle.krb_exchange.specs.declared.sending.State.{State}
 use Rattle.krb_exchange.specs.declared.window.Window.{Window}

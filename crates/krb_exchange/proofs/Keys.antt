@@ -1,27 +1,24 @@
 -- Keys of open requests, and which of them a map has.
-use Rattle.std.proofs.Common.{◌≡◌, ℕ, ◌+◌, ◌-◌, ◌<◌, ◌≤◌, ◌^◌, ◌⊎◌, inl, inr, arith, Bool, true, false, not, cond, ◌&&◌, ◌||◌, ◌==◌, List, [], ◌∷◌, ◌++◌, length, Option, Some, None, Result, Ok, Err, OnErr, OnOk, is_some, slice_get, refl, sym, ◌∙◌, ap, subst}
+use Rattle.std.proofs.Common.{◌≡◌, ℕ, ◌+◌, ◌-◌, ◌<◌, ◌≤◌, ◌^◌, ◌⊎◌, inl, inr, arith, Bool, true, false, not, cond, ◌&&◌, ◌||◌, ◌==◌, [], Option, Some, None, Result, Ok, Err, OnErr, OnOk, is_some, refl, sym, ◌∙◌, ap}
 use Rattle.std.specs.declared.cmp.Ordering.{Ordering}
 use Rattle.std.specs.declared.cmp.Ordering.TheVariants.{Less, Equal, Greater}
-use Rattle.std.specs.declared.ops.Bound.TheVariants.{Included}
-use Rattle.std.specs.Ordering.{is_eq, is_gt, is_lt, nat_cmp, ordering_reverse, ordering_then}
-use Rattle.std.specs.Cmp.{IsTotalOrder}
-use Rattle.std.specs.Option.{IfSome}
+use Rattle.std.specs.Ordering.{is_eq, is_gt, is_le, is_lt, nat_cmp, ordering_reverse, ordering_then}
 use Rattle.std.specs.Map.{lookup}
-use Rattle.std.specs.BTreeMap.{BTreeMap, get, is_at}
-use Rattle.std.specs.BTreeMap.Range.{IsRangeOf}
+use Rattle.std.specs.BTreeMap.{get, is_at}
 use Rattle.std.proofs.lemmas.Bool.{both_ways, cases_eq, cases_lt, eq-eqb, false_from_ne_true, ne_eqb, true≢false}
 use Rattle.std.proofs.lemmas.Cmp.{nat_cmp_total, tied_itself, ranked}
-use Rattle.krb_record.specs.contracts.flow.FlowOrd.TheImpl.Laws as flow_laws
 use Rattle.krb_record.specs.contracts.told.RequestOrd.TheImpl as request_order
 use Rattle.krb_record.specs.contracts.told.RequestOrd.TheImpl.Laws as request_laws
 use Rattle.krb_record.specs.declared.flow.Flow.{Flow}
 use Rattle.krb_record.specs.declared.told.Request.{Request}
 use Rattle.krb_record.specs.declared.told.Request.TheVariants as requests
+use Rattle.krb_exchange.specs.contracts.flow_key.FlowKeyOrd.TheImpl.Laws as flow_key_laws
 use Rattle.krb_exchange.specs.contracts.open.KeyOrd.TheImpl.Laws as key_laws
+use Rattle.krb_exchange.specs.declared.flow_key.FlowKey.{FlowKey}
 use Rattle.krb_exchange.specs.declared.open.Key.{Key}
 use Rattle.krb_exchange.specs.declared.open.Open.{Open}
 use Rattle.krb_exchange.specs.Happened.{flow_cmp, same_flow, same_kind}
-use Rattle.krb_exchange.specs.inner.Numbers.{IsFirst, IsLatest, has, has_any, key_cmp, key_of, same_key}
+use Rattle.krb_exchange.specs.inner.Numbers.{IsFirst, IsFirstFrom, IsLastUpTo, IsLatest, flow_key, flow_key_cmp, has, has_any, key_cmp, key_of, same_key}
 
 abbrev request_cmp : Request → Request → Ordering
 request_cmp = request_order.ghosts.cmp
@@ -64,12 +61,33 @@ same_kind-is requests.Kpasswd requests.AsReq = refl
 same_kind-is requests.Kpasswd requests.TgsReq = refl
 same_kind-is requests.Kpasswd requests.Kpasswd = refl
 
+-- flows are the same if their keys are: then their ports are, too
+then-equal : (a b p c : Ordering) → is_eq (ordering_then a (ordering_then (ordering_then b p) c)) ≡ true → is_eq p ≡ true
+then-equal Less b p c h = absurd (both_ways false refl h)
+then-equal Greater b p c h = absurd (both_ways false refl h)
+then-equal Equal Less p c h = absurd (both_ways false refl h)
+then-equal Equal Greater p c h = absurd (both_ways false refl h)
+then-equal Equal Equal Less c h = absurd (both_ways false refl h)
+then-equal Equal Equal Greater c h = absurd (both_ways false refl h)
+then-equal Equal Equal Equal c h = refl
+
+and-implied : (a b : Bool) → (b ≡ true → a ≡ true) → (a && b) ≡ b
+and-implied true b f = refl
+and-implied false true f = f refl
+and-implied false false f = refl
+
+pub same_flow-is : (f g : Flow) → is_at (flow_key_cmp (flow_key f)) (flow_key g) ≡ same_flow f g
+same_flow-is f g =
+    is_eq-then (nat_cmp f.source.port g.source.port) (flow_cmp f g)
+    ∙ and-implied (is_eq (nat_cmp f.source.port g.source.port)) (same_flow f g) (then-equal _ _ (nat_cmp f.source.port g.source.port) _)
+
 pub same_key-is : (f : Flow) (k : Request) (n : ℕ) (g : Flow) (l : Request) (m : ℕ) → is_at (key_cmp (key_of f k n)) (key_of g l m) ≡ same_key f k n g l m
 same_key-is f k n g l m =
-    is_eq-then (flow_cmp f g) (ordering_then (request_cmp k l) (nat_cmp n m))
-    ∙ ap (λ b. is_eq (flow_cmp f g) && b) (is_eq-then (request_cmp k l) (nat_cmp n m))
-    ∙ ap (λ b. is_eq (flow_cmp f g) && (b && is_eq (nat_cmp n m))) (same_kind-is k l)
-    ∙ ap (λ b. is_eq (flow_cmp f g) && (same_kind k l && b)) (is_eq-nat n m)
+    is_eq-then (flow_key_cmp (flow_key f) (flow_key g)) (ordering_then (request_cmp k l) (nat_cmp n m))
+    ∙ ap (λ b. b && is_eq (ordering_then (request_cmp k l) (nat_cmp n m))) (same_flow-is f g)
+    ∙ ap (λ b. same_flow f g && b) (is_eq-then (request_cmp k l) (nat_cmp n m))
+    ∙ ap (λ b. same_flow f g && (b && is_eq (nat_cmp n m))) (same_kind-is k l)
+    ∙ ap (λ b. same_flow f g && (same_kind k l && b)) (is_eq-nat n m)
 
 -- ---- a key that is added, or taken away
 some-put : {X : Type 0} (b : Bool) (v : X) (o : Option X) → is_some (cond b (Some v) o) ≡ (b || is_some o)
@@ -97,19 +115,6 @@ pub has-none : (kept : Open) → kept.keys.entries ≡ [] → (f : Flow) (k : Re
 unfolding has
 has-none kept e f k n = ap (λ es. is_some (lookup (is_at (key_cmp (key_of f k n))) es)) e
 
-no_entries : {A : Type 0} (entries : List A) → length entries ≡ 0 → entries ≡ []
-no_entries [] e = refl
-no_entries (x ∷ xs) e = absurd cc
-
--- of no flow, where none is kept
-pub none-kept : (kept : Open) (flow : Flow) (n : ℕ) → length kept.keys.entries ≡ 0 → has_any kept flow n ≡ false
-none-kept kept flow n e =
-    let none = has-none kept (no_entries kept.keys.entries e) flow in
-    let of_as : has kept flow requests.AsReq n ≡ false = none requests.AsReq n in
-    let of_tgs : has kept flow requests.TgsReq n ≡ false = none requests.TgsReq n in
-    let of_kpasswd : has kept flow requests.Kpasswd n ≡ false = none requests.Kpasswd n in
-    ap (λ b. b || (has kept flow requests.TgsReq n || has kept flow requests.Kpasswd n)) of_as ∙ ap (λ b. b || has kept flow requests.Kpasswd n) of_tgs ∙ of_kpasswd
-
 -- ---- the keys of a flow and a kind are next to each other
 both-tied : (a b c d : Ordering) → b ≡ ordering_reverse a → is_gt (ordering_then a c) ≡ false → is_gt (ordering_then b d) ≡ false → (a ≡ Equal) × (is_gt c ≡ false) × (is_gt d ≡ false)
 both-tied Less b c d e f g =
@@ -118,11 +123,33 @@ both-tied Less b c d e f g =
 both-tied Equal b c d e f g = (refl, f, ap (λ x. is_gt (ordering_then x d)) (sym e) ∙ g)
 both-tied Greater b c d e f g = absurd (true≢false f)
 
-cmp-tied : (f : Flow) (k : Request) (n : ℕ) (g : Flow) (l : Request) (m : ℕ) → flow_cmp f g ≡ Equal → request_cmp k l ≡ Equal → key_cmp (key_of f k n) (key_of g l m) ≡ nat_cmp n m
+abbrev key_at : FlowKey → Request → ℕ → Key
+key_at flow kind number = record { flow = flow; request = kind; number = number }
+
+cmp-tied : (f : FlowKey) (k : Request) (n : ℕ) (g : FlowKey) (l : Request) (m : ℕ) → flow_key_cmp f g ≡ Equal → request_cmp k l ≡ Equal → key_cmp (key_at f k n) (key_at g l m) ≡ nat_cmp n m
 cmp-tied f k n g l m e h = ap (λ x. ordering_then x (ordering_then (request_cmp k l) (nat_cmp n m))) e ∙ ap (λ x. ordering_then x (nat_cmp n m)) h
 
 cmp-lane : (f : Flow) (k : Request) (n m : ℕ) → key_cmp (key_of f k n) (key_of f k m) ≡ nat_cmp n m
-cmp-lane f k n m = cmp-tied f k n f k m (tied_itself flow_laws.total-law f) (tied_itself request_laws.total-law k)
+cmp-lane f k n m = cmp-tied (flow_key f) k n (flow_key f) k m (tied_itself flow_key_laws.total-law (flow_key f)) (tied_itself request_laws.total-law k)
+
+cmp-flow : (f : Flow) (k : Request) (n : ℕ) (l : Request) (m : ℕ) → key_cmp (key_of f k n) (key_of f l m) ≡ ordering_then (request_cmp k l) (nat_cmp n m)
+cmp-flow f k n l m = ap (λ x. ordering_then x (ordering_then (request_cmp k l) (nat_cmp n m))) (tied_itself flow_key_laws.total-law (flow_key f))
+
+-- ---- numbers
+nat-greater : (n m : ℕ) → m < n → nat_cmp n m ≡ Greater
+nat-greater n m l = by (nat_cmp n m) refl
+  where
+    by : (o : Ordering) → nat_cmp n m ≡ o → nat_cmp n m ≡ Greater
+    by Greater e = e
+    by Equal e =
+        let g : n ≡ m = ranked n m Equal (sym e) in
+        absurd (omega arith)
+    by Less e =
+        let g : n < m = ranked n m Less (sym e) in
+        absurd (omega arith)
+
+nat-less : (n m : ℕ) → n < m → nat_cmp n m ≡ Less
+nat-less n m l = nat_cmp_total.antisymm n m ∙ ap ordering_reverse (nat-greater m n l)
 
 not-greater : (n m : ℕ) → n ≤ m → is_gt (nat_cmp n m) ≡ false
 not-greater n m l = by (nat_cmp n m) refl
@@ -134,111 +161,169 @@ not-greater n m l = by (nat_cmp n m) refl
         let g : m < n = ranked n m Greater (sym e) in
         absurd (omega arith)
 
-is-greater : (n m : ℕ) → m < n → is_gt (nat_cmp n m) ≡ true
-is-greater n m l = by (nat_cmp n m) refl
-  where
-    by : (o : Ordering) → nat_cmp n m ≡ o → is_gt o ≡ true
-    by Greater e = refl
-    by Equal e =
-        let g : n ≡ m = ranked n m Equal (sym e) in
-        absurd (omega arith)
-    by Less e =
-        let g : n < m = ranked n m Less (sym e) in
-        absurd (omega arith)
-
 below : (n m : ℕ) → is_gt (nat_cmp n m) ≡ false → n < m + 1
 below n m e = by (cases_lt m n)
   where
     by : (m < n) ⊎ (n ≤ m) → n < m + 1
-    by (inl l) = absurd (both_ways (is_gt (nat_cmp n m)) e (is-greater n m l))
+    by (inl l) = absurd (both_ways (is_gt (nat_cmp n m)) e (ap is_gt (nat-greater n m l)))
     by (inr l) = omega arith
 
-is-less : (n m : ℕ) → n < m → is_lt (nat_cmp n m) ≡ true
-is-less n m l = by (nat_cmp n m) refl
+-- ---- keys that are not greater
+pub le-not_gt : (o : Ordering) → is_le o ≡ true → is_gt o ≡ false
+le-not_gt Less e = refl
+le-not_gt Equal e = refl
+le-not_gt Greater e = absurd (true≢false (sym e))
+
+pub not_le-gt : (o : Ordering) → is_le o ≡ false → is_gt o ≡ true
+not_le-gt Less e = absurd (true≢false e)
+not_le-gt Equal e = absurd (true≢false e)
+not_le-gt Greater e = refl
+
+-- from x <= y and y <= z, x <= z
+not_gt-trans : (x y z : Key) → is_gt (key_cmp x y) ≡ false → is_gt (key_cmp y z) ≡ false → is_gt (key_cmp x z) ≡ false
+not_gt-trans x y z f g = by (key_cmp x y) refl f
   where
-    by : (o : Ordering) → nat_cmp n m ≡ o → is_lt o ≡ true
-    by Less e = refl
-    by Equal e =
-        let g : n ≡ m = ranked n m Equal (sym e) in
-        absurd (omega arith)
-    by Greater e =
-        let g : m < n = ranked n m Greater (sym e) in
-        absurd (omega arith)
+    last : (o : Ordering) → key_cmp y z ≡ o → key_cmp x y ≡ Less → is_gt o ≡ false → is_gt (key_cmp x z) ≡ false
+    last Less d e h = ap is_gt (key_laws.total-law.trans x y z e d)
+    last Equal d e h = ap is_gt (key_laws.total-law.antisymm x z ∙ ap ordering_reverse (sym (key_laws.total-law.congr y z x d)) ∙ sym (key_laws.total-law.antisymm x y) ∙ e)
+    last Greater d e h = absurd (true≢false h)
 
--- the bounds of a range
-pub forward : (flow : Flow) (kind : Request) (low high : Key) → low ≡ key_of flow kind 0 → high ≡ key_of flow kind (2 ^ 64 - 1) → is_gt (key_cmp low high) ≡ false
-forward flow kind low high e f = ap (λ k. is_gt (key_cmp k high)) e ∙ ap (λ k. is_gt (key_cmp (key_of flow kind 0) k)) f ∙ ap is_gt (cmp-lane flow kind 0 (2 ^ 64 - 1)) ∙ not-greater 0 (2 ^ 64 - 1) (omega arith)
+    by : (o : Ordering) → key_cmp x y ≡ o → is_gt o ≡ false → is_gt (key_cmp x z) ≡ false
+    by Less e h = last (key_cmp y z) refl e g
+    by Equal e h = ap is_gt (key_laws.total-law.congr x y z e) ∙ g
+    by Greater e h = absurd (true≢false h)
 
-pub bounded : (kept : Open) (flow : Flow) (kind : Request) (low high : Key) (range : List (Key × Unit {0})) → low ≡ key_of flow kind 0 → high ≡ key_of flow kind (2 ^ 64 - 1) → IsRangeOf key_cmp (Included low) (Included high) kept.keys range → IsRangeOf key_cmp (Included (key_of flow kind 0)) (Included (key_of flow kind (2 ^ 64 - 1))) kept.keys range
-bounded kept flow kind low high range e f r =
-    let one : IsRangeOf key_cmp (Included (key_of flow kind 0)) (Included high) kept.keys range = subst (λ k. IsRangeOf key_cmp (Included k) (Included high) kept.keys range) e r in
-    subst (λ k. IsRangeOf key_cmp (Included (key_of flow kind 0)) (Included k) kept.keys range) f one
+-- not x < y is y <= x
+not_lt-turned : (x y : Key) → is_lt (key_cmp x y) ≡ false → is_gt (key_cmp y x) ≡ false
+not_lt-turned x y f = ap is_gt (key_laws.total-law.antisymm y x) ∙ by (key_cmp x y) f
+  where
+    by : (o : Ordering) → is_lt o ≡ false → is_gt (ordering_reverse o) ≡ false
+    by Less e = absurd (true≢false e)
+    by Equal e = refl
+    by Greater e = refl
 
-module _ (kept : Open) (flow : Flow) (kind : Request) where
-  abbrev pub low : Key
-  low = key_of flow kind 0
+-- ---- between two keys
+module _ (kept : Open) where
+  abbrev holds : Key → Bool
+  holds key = is_some (get key_cmp kept.keys key)
 
-  abbrev pub high : Key
-  high = key_of flow kind (2 ^ 64 - 1)
+  -- between two keys there is none, if the next is past the second, or the one before is before the first
+  module _ (low high : Key) where
+    past-high : (first : Key) → IsFirstFrom low kept (Some first) → is_gt (key_cmp first high) ≡ true → (key : Key) → is_gt (key_cmp low key) ≡ false → is_gt (key_cmp key high) ≡ false → holds key ≡ false
+    past-high first f past key l h = false_from_ne_true (holds key) (λ has. both_ways (is_gt (key_cmp first high)) (not_gt-trans first key high (f.2 key l has) h) past)
 
-  -- a key between these is of the flow and the kind
-  record Lane (e : Key) : Type 0 where
-    flows : flow_cmp flow e.flow ≡ Equal
-    kinds : request_cmp kind e.request ≡ Equal
-    few : e.number < 2 ^ 64
+    past-low : (last : Key) → IsLastUpTo high kept (Some last) → is_gt (key_cmp low last) ≡ true → (key : Key) → is_gt (key_cmp low key) ≡ false → is_gt (key_cmp key high) ≡ false → holds key ≡ false
+    past-low last f past key l h = false_from_ne_true (holds key) (λ has. both_ways (is_gt (key_cmp low last)) (not_gt-trans low key last l (not_lt-turned last key (f.2 key h has))) past)
 
-  lane : (e : Key) → is_gt (key_cmp low e) ≡ false → is_gt (key_cmp e high) ≡ false → Lane e
-  lane e f g =
-      let one = both-tied (flow_cmp flow e.flow) (flow_cmp e.flow flow) (ordering_then (request_cmp kind e.request) (nat_cmp 0 e.number)) (ordering_then (request_cmp e.request kind) (nat_cmp e.number (2 ^ 64 - 1))) (flow_laws.total-law.antisymm e.flow flow) f g in
-      let two = both-tied (request_cmp kind e.request) (request_cmp e.request kind) (nat_cmp 0 e.number) (nat_cmp e.number (2 ^ 64 - 1)) (request_laws.total-law.antisymm e.request kind) one.1 one.2 in
-      record { flows = one.0; kinds = two.0; few = below e.number (2 ^ 64 - 1) two.2 }
-
-  tied-to : (e : Key) → Lane e → key_cmp (key_of flow kind e.number) e ≡ Equal
-  tied-to e l = cmp-tied flow kind e.number e.flow e.request e.number l.flows l.kinds ∙ tied_itself nat_cmp_total e.number
-
-  against : (e : Key) → Lane e → (n : ℕ) → key_cmp e (key_of flow kind n) ≡ nat_cmp e.number n
-  against e l n = sym (key_laws.total-law.congr (key_of flow kind e.number) e (key_of flow kind n) (tied-to e l)) ∙ cmp-lane flow kind e.number n
-
-  -- one of the lane that is in the map
-  has-it : (e : Key) (v : Unit {0}) → Lane e → get key_cmp kept.keys e ≡ Some v → has kept flow kind e.number ≡ true
+module _ (kept : Open) (flow : Flow) where
+  there : (kind : Request) (n : ℕ) → has kept flow kind n ≡ true → is_some (get key_cmp kept.keys (key_of flow kind n)) ≡ true
   unfolding has
-  has-it e v l h =
-      let same : (x : Key) → is_eq (key_cmp (key_of flow kind e.number) x) ≡ is_eq (key_cmp e x) = λ x. ap is_eq (key_laws.total-law.congr (key_of flow kind e.number) e x (tied-to e l)) in
-      ap (λ t. is_some (lookup t kept.keys.entries)) (λ i x. same x i) ∙ ap (λ o. is_some o) h
+  there kind n h = h
 
-  module _ (range : List (Key × Unit {0})) (r : IsRangeOf key_cmp (Included low) (Included high) kept.keys range) where
-    between : (n : ℕ) → n < 2 ^ 64 → (is_gt (key_cmp low (key_of flow kind n)) ≡ false) × (is_gt (key_cmp (key_of flow kind n) high) ≡ false)
-    between n l = (ap is_gt (cmp-lane flow kind 0 n) ∙ not-greater 0 n (omega arith), ap is_gt (cmp-lane flow kind n (2 ^ 64 - 1)) ∙ not-greater n (2 ^ 64 - 1) (omega arith))
+  not-there : (kind : Request) (n : ℕ) → is_some (get key_cmp kept.keys (key_of flow kind n)) ≡ false → has kept flow kind n ≡ false
+  unfolding has
+  not-there kind n h = h
 
-    there : (n : ℕ) → has kept flow kind n ≡ true → is_some (get key_cmp kept.keys (key_of flow kind n)) ≡ true
+  -- ---- of a flow
+  abbrev pub flow-low : Key
+  flow-low = key_of flow requests.AsReq 0
+
+  abbrev pub flow-high : Key
+  flow-high = key_of flow requests.Kpasswd (2 ^ 64 - 1)
+
+  after-low : (kind : Request) (n : ℕ) → is_gt (key_cmp flow-low (key_of flow kind n)) ≡ false
+  after-low kind n = ap is_gt (cmp-flow flow requests.AsReq 0 kind n) ∙ by kind
+    where
+      by : (k : Request) → is_gt (ordering_then (request_cmp requests.AsReq k) (nat_cmp 0 n)) ≡ false
+      by requests.AsReq = not-greater 0 n (omega arith)
+      by requests.TgsReq = refl
+      by requests.Kpasswd = refl
+
+  before-high : (kind : Request) (n : ℕ) → n < 2 ^ 64 → is_gt (key_cmp (key_of flow kind n) flow-high) ≡ false
+  before-high kind n l = ap is_gt (cmp-flow flow kind n requests.Kpasswd (2 ^ 64 - 1)) ∙ by kind
+    where
+      by : (k : Request) → is_gt (ordering_then (request_cmp k requests.Kpasswd) (nat_cmp n (2 ^ 64 - 1))) ≡ false
+      by requests.AsReq = refl
+      by requests.TgsReq = refl
+      by requests.Kpasswd = not-greater n (2 ^ 64 - 1) (omega arith)
+
+  pub no-flow : IsFirstFrom flow-low kept None → (kind : Request) (n : ℕ) → has kept flow kind n ≡ false
+  no-flow f kind n = not-there kind n (ap (λ o. is_some o) (f (key_of flow kind n) (after-low kind n)))
+
+  pub past-flow : (first : Key) → IsFirstFrom flow-low kept (Some first) → is_gt (key_cmp first flow-high) ≡ true → (kind : Request) (n : ℕ) → n < 2 ^ 64 → has kept flow kind n ≡ false
+  past-flow first f past kind n l = not-there kind n (past-high kept flow-low flow-high first f past (key_of flow kind n) (after-low kind n) (before-high kind n l))
+
+  pub none-of_any : ((kind : Request) (n : ℕ) → n < 2 ^ 64 → has kept flow kind n ≡ false) → IsFirst (has_any kept flow) None
+  none-of_any none = λ n l.
+      ap (λ b. b || (has kept flow requests.TgsReq n || has kept flow requests.Kpasswd n)) (none requests.AsReq n l)
+      ∙ ap (λ b. b || has kept flow requests.Kpasswd n) (none requests.TgsReq n l)
+      ∙ none requests.Kpasswd n l
+
+  -- ---- of a flow and a kind
+  module _ (kind : Request) where
+    abbrev pub low : Key
+    low = key_of flow kind 0
+
+    abbrev pub high : Key
+    high = key_of flow kind (2 ^ 64 - 1)
+
+    -- a key between these is of the flow and the kind
+    record Lane (e : Key) : Type 0 where
+      flows : flow_key_cmp (flow_key flow) e.flow ≡ Equal
+      kinds : request_cmp kind e.request ≡ Equal
+      few : e.number < 2 ^ 64
+
+    lane : (e : Key) → is_gt (key_cmp low e) ≡ false → is_gt (key_cmp e high) ≡ false → Lane e
+    lane e f g =
+        let one = both-tied (flow_key_cmp (flow_key flow) e.flow) (flow_key_cmp e.flow (flow_key flow)) (ordering_then (request_cmp kind e.request) (nat_cmp 0 e.number)) (ordering_then (request_cmp e.request kind) (nat_cmp e.number (2 ^ 64 - 1))) (flow_key_laws.total-law.antisymm e.flow (flow_key flow)) f g in
+        let two = both-tied (request_cmp kind e.request) (request_cmp e.request kind) (nat_cmp 0 e.number) (nat_cmp e.number (2 ^ 64 - 1)) (request_laws.total-law.antisymm e.request kind) one.1 one.2 in
+        record { flows = one.0; kinds = two.0; few = below e.number (2 ^ 64 - 1) two.2 }
+
+    tied-to : (e : Key) → Lane e → key_cmp (key_of flow kind e.number) e ≡ Equal
+    tied-to e l = cmp-tied (flow_key flow) kind e.number e.flow e.request e.number l.flows l.kinds ∙ tied_itself nat_cmp_total e.number
+
+    against : (e : Key) → Lane e → (n : ℕ) → key_cmp e (key_of flow kind n) ≡ nat_cmp e.number n
+    against e l n = sym (key_laws.total-law.congr (key_of flow kind e.number) e (key_of flow kind n) (tied-to e l)) ∙ cmp-lane flow kind e.number n
+
+    -- one of the lane that is in the map
+    has-it : (e : Key) → Lane e → is_some (get key_cmp kept.keys e) ≡ true → has kept flow kind e.number ≡ true
     unfolding has
-    there n h = h
+    has-it e l h =
+        let same : (x : Key) → is_eq (key_cmp (key_of flow kind e.number) x) ≡ is_eq (key_cmp e x) = λ x. ap is_eq (key_laws.total-law.congr (key_of flow kind e.number) e x (tied-to e l)) in
+        ap (λ t. is_some (lookup t kept.keys.entries)) (λ i x. same x i) ∙ h
 
-    not-there : (n : ℕ) → get key_cmp kept.keys (key_of flow kind n) ≡ None → has kept flow kind n ≡ false
-    unfolding has
-    not-there n h = ap (λ o. is_some o) h
+    from-low : (n : ℕ) → is_gt (key_cmp low (key_of flow kind n)) ≡ false
+    from-low n = ap is_gt (cmp-lane flow kind 0 n) ∙ not-greater 0 n (omega arith)
 
-    pub none-in : range ≡ [] → (n : ℕ) → n < 2 ^ 64 → has kept flow kind n ≡ false
-    none-in e n l = not-there n (r.5 e (key_of flow kind n) (between n l))
+    up_to-high : (n : ℕ) → n < 2 ^ 64 → is_gt (key_cmp (key_of flow kind n) high) ≡ false
+    up_to-high n l = ap is_gt (cmp-lane flow kind n (2 ^ 64 - 1)) ∙ not-greater n (2 ^ 64 - 1) (omega arith)
 
-    pub first-in : (e : Key × Unit {0}) (rest : List (Key × Unit {0})) → range ≡ e ∷ rest → IsFirst (has kept flow kind) (Some e.0.number)
-    first-in e rest q =
-        let is : slice_get range 0 ≡ Some e = ap (λ es. slice_get es 0) q in
-        let it = subst (λ o. IfSome o (λ e. ((is_gt (key_cmp low e.0) ≡ false) × (is_gt (key_cmp e.0 high) ≡ false)) × (get key_cmp kept.keys e.0 ≡ Some e.1))) is r.1 in
-        let own = lane e.0 it.0.0 it.0.1 in (
+    pub first-none : IsFirstFrom low kept None → IsFirst (has kept flow kind) None
+    first-none f = λ n l. not-there kind n (ap (λ o. is_some o) (f (key_of flow kind n) (from-low n)))
+
+    pub first-past : (e : Key) → IsFirstFrom low kept (Some e) → is_gt (key_cmp e high) ≡ true → IsFirst (has kept flow kind) None
+    first-past e f past = λ n l. not-there kind n (past-high kept low high e f past (key_of flow kind n) (from-low n) (up_to-high n l))
+
+    pub first-some : (e : Key) → IsFirstFrom low kept (Some e) → is_gt (key_cmp e high) ≡ false → IsFirst (has kept flow kind) (Some e.number)
+    first-some e f h =
+        let own = lane e f.0 h in (
           own.few,
-          has-it e.0 e.1 own it.1,
-          λ n b. false_from_ne_true (has kept flow kind n) (λ h.
-              let least : is_gt (key_cmp e.0 (key_of flow kind n)) ≡ false = subst (λ o. IfSome o (λ e. is_gt (key_cmp e.0 (key_of flow kind n)) ≡ false)) is (r.2 (key_of flow kind n) (between n (omega (arith, own.few))) (there n h)) in
-              both_ways (is_gt (key_cmp e.0 (key_of flow kind n))) least (ap is_gt (against e.0 own n) ∙ is-greater e.0.number n b)),
+          has-it e own f.1,
+          λ n b. false_from_ne_true (has kept flow kind n) (λ it.
+              both_ways (is_gt (key_cmp e (key_of flow kind n))) (f.2 (key_of flow kind n) (from-low n) (there kind n it)) (ap is_gt (against e own n ∙ nat-greater e.number n b))),
         )
 
-    pub latest-in : (e : Key × Unit {0}) (rest : List (Key × Unit {0})) → range ≡ rest ++ e ∷ [] → IsLatest (has kept flow kind) (Some e.0.number)
-    latest-in e rest q =
-        let it = r.3 e rest q in
-        let own = lane e.0 it.0.0 it.0.1 in (
+    pub latest-none : IsLastUpTo high kept None → IsLatest (has kept flow kind) None
+    latest-none f = λ n l. not-there kind n (ap (λ o. is_some o) (f (key_of flow kind n) (up_to-high n l)))
+
+    pub latest-past : (e : Key) → IsLastUpTo high kept (Some e) → is_gt (key_cmp low e) ≡ true → IsLatest (has kept flow kind) None
+    latest-past e f past = λ n l. not-there kind n (past-low kept low high e f past (key_of flow kind n) (from-low n) (up_to-high n l))
+
+    pub latest-some : (e : Key) → IsLastUpTo high kept (Some e) → is_gt (key_cmp low e) ≡ false → IsLatest (has kept flow kind) (Some e.number)
+    latest-some e f h =
+        let own = lane e h f.0 in (
           own.few,
-          has-it e.0 e.1 own it.1,
-          λ n b m. false_from_ne_true (has kept flow kind n) (λ h.
-              both_ways (is_lt (key_cmp e.0 (key_of flow kind n))) (r.4 e rest q (key_of flow kind n) (between n m) (there n h)) (ap is_lt (against e.0 own n) ∙ is-less e.0.number n b)),
+          has-it e own f.1,
+          λ n b m. false_from_ne_true (has kept flow kind n) (λ it.
+              both_ways (is_lt (key_cmp e (key_of flow kind n))) (f.2 (key_of flow kind n) (up_to-high n m) (there kind n it)) (ap is_lt (against e own n ∙ nat-less e.number n b))),
         )

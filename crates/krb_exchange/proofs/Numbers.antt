@@ -1,5 +1,5 @@
 -- The first and the latest of the numbers that pass.
-use Rattle.std.proofs.Common.{◌≡◌, ℕ, zero, suc, ◌+◌, ◌-◌, ◌<◌, ◌≤◌, ◌^◌, ◌⊎◌, inl, inr, arith, Bool, true, false, ◌&&◌, ◌||◌, nat_lt, if◌then◌else◌, List, [], ◌∷◌, length, slice_get, Option, Some, None, option_map, refl, sym, ◌∙◌, ap, subst}
+use Rattle.std.proofs.Common.{◌≡◌, ℕ, suc, ◌+◌, ◌-◌, ◌<◌, ◌≤◌, ◌^◌, ◌⊎◌, inl, inr, arith, Bool, true, false, ◌||◌, nat_lt, if◌then◌else◌, List, [], ◌∷◌, length, slice_get, Option, Some, None, refl, sym, ◌∙◌, ap, subst}
 use Rattle.std.specs.Option.{option_or}
 use Rattle.std.proofs.lemmas.Bool.{both_ways, cases_order, lt-ltb, le-ltb, or_from, or_left, or_right}
 use Rattle.krb_exchange.specs.declared.sending.Sending.{Sending}
@@ -9,28 +9,30 @@ use Rattle.krb_exchange.specs.inner.Indexes.{at_number, numbered}
 use Rattle.krb_exchange.proofs.Places.{next}
 
 -- ---- there is one
+neither-less : (n m : ℕ) → (n < m → ⊥) → (m < n → ⊥) → Some n ≡ Some m
+neither-less n m f g = by (cases_order n m)
+  where
+    by : (n ≡ m) ⊎ ((n < m) ⊎ (m < n)) → Some n ≡ Some m
+    by (inl e) = ap (λ k. Some k) e
+    by (inr (inl l)) = absurd (f l)
+    by (inr (inr l)) = absurd (g l)
+
 module _ (test : ℕ → Bool) where
+  -- a number that passes, where none does
+  not-none : {A : Type 0} (n : ℕ) → ((m : ℕ) → m < 2 ^ 64 → test m ≡ false) → n < 2 ^ 64 → test n ≡ true → A
+  not-none n f l e = absurd (both_ways (test n) (f n l) e)
+
   pub one-first : (a b : Option ℕ) → IsFirst test a → IsFirst test b → a ≡ b
   one-first None None f g = refl
-  one-first None (Some m) f g = absurd (both_ways (test m) (f m g.0) g.1)
-  one-first (Some n) None f g = absurd (both_ways (test n) (g n f.0) f.1)
-  one-first (Some n) (Some m) f g = by (cases_order n m)
-    where
-      by : (n ≡ m) ⊎ ((n < m) ⊎ (m < n)) → Some n ≡ Some m
-      by (inl e) = ap (λ k. Some k) e
-      by (inr (inl l)) = absurd (both_ways (test n) (g.2 n l) f.1)
-      by (inr (inr l)) = absurd (both_ways (test m) (f.2 m l) g.1)
+  one-first None (Some m) f g = not-none m f g.0 g.1
+  one-first (Some n) None f g = not-none n g f.0 f.1
+  one-first (Some n) (Some m) f g = neither-less n m (λ l. both_ways (test n) (g.2 n l) f.1) (λ l. both_ways (test m) (f.2 m l) g.1)
 
   pub one-latest : (a b : Option ℕ) → IsLatest test a → IsLatest test b → a ≡ b
   one-latest None None f g = refl
-  one-latest None (Some m) f g = absurd (both_ways (test m) (f m g.0) g.1)
-  one-latest (Some n) None f g = absurd (both_ways (test n) (g n f.0) f.1)
-  one-latest (Some n) (Some m) f g = by (cases_order n m)
-    where
-      by : (n ≡ m) ⊎ ((n < m) ⊎ (m < n)) → Some n ≡ Some m
-      by (inl e) = ap (λ k. Some k) e
-      by (inr (inl l)) = absurd (both_ways (test m) (f.2 m l g.0) g.1)
-      by (inr (inr l)) = absurd (both_ways (test n) (g.2 n l f.0) f.1)
+  one-latest None (Some m) f g = not-none m f g.0 g.1
+  one-latest (Some n) None f g = not-none n g f.0 f.1
+  one-latest (Some n) (Some m) f g = neither-less n m (λ l. both_ways (test m) (f.2 m l g.0) g.1) (λ l. both_ways (test n) (g.2 n l f.0) f.1)
 
 -- ---- of tests that say the same
 module _ (test other : ℕ → Bool) (same : (n : ℕ) → test n ≡ other n) where

@@ -1,8 +1,8 @@
 -- Places of sendings, when one is added or changed.
-use Rattle.std.proofs.Common.{◌≡◌, ℕ, zero, suc, ◌<◌, ◌≤◌, arith, Bool, true, false, if◌then◌else◌, List, [], ◌∷◌, ◌++◌, length, set, slice_get, Option, Some, None, option_map, refl, sym, ◌∙◌, ap}
+use Rattle.std.proofs.Common.{◌≡◌, ℕ, zero, suc, ◌<◌, ◌≤◌, arith, Bool, true, false, if◌then◌else◌, List, [], ◌∷◌, ◌++◌, length, set, slice_get, Option, Some, None, option_map, refl, ap}
 use Rattle.std.specs.Option.{option_or}
 use Rattle.krb_exchange.specs.declared.sending.Sending.{Sending}
-use Rattle.krb_exchange.specs.Happened.{first_place, latest_place, passes}
+use Rattle.krb_exchange.specs.Happened.{latest_place}
 
 -- the place after one more
 abbrev pub next : Option ℕ → Option ℕ

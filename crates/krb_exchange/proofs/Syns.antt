@@ -1,14 +1,18 @@
 -- How many SYNs are open, when one is added, closed, or leaves.
-use Rattle.std.proofs.Common.{◌≡◌, ℕ, zero, suc, ◌+◌, ◌-◌, ◌<◌, arith, Bool, true, false, ◌&&◌, not, nat_lt, if◌then◌else◌, List, [], ◌∷◌, ◌++◌, length, set, slice_get, Option, Some, None, refl, sym, ◌∙◌, ap, cond}
+use Rattle.std.proofs.Common.{◌≡◌, ℕ, zero, suc, ◌+◌, ◌-◌, arith, Bool, true, false, ◌&&◌, nat_lt, if◌then◌else◌, List, [], ◌∷◌, ◌++◌, set, slice_get, Option, Some, None, refl, sym, ◌∙◌, ap}
 use Rattle.std.specs.Option.{option_or}
 use Rattle.std.proofs.lemmas.Bool.Decides.{nat_tests}
 use Rattle.krb_record.specs.declared.flow.Flow.{Flow}
 use Rattle.krb_record.specs.declared.told.Request.{Request}
 use Rattle.krb_exchange.specs.declared.fingerprint.Fingerprint.{Fingerprint}
+use Rattle.krb_exchange.specs.declared.parties.Header.{Header}
+use Rattle.krb_exchange.specs.declared.sending.Moment.{Moment}
 use Rattle.krb_exchange.specs.declared.sending.Sending.{Sending}
 use Rattle.krb_exchange.specs.declared.sending.State.{State}
+use Rattle.krb_exchange.specs.declared.sending.State.TheVariants as states
 use Rattle.krb_exchange.specs.declared.sending.What.TheVariants as whats
-use Rattle.krb_exchange.specs.Happened.{at_place, in_state, is_open, is_syn, is_syn_of, latest_place, latest_syn, open_syn, passes, same_flow}
+use Rattle.krb_exchange.specs.declared.sendings.SegmentTold.{SegmentTold}
+use Rattle.krb_exchange.specs.Happened.{After, at_place, in_state, is_asking, is_open, is_syn, is_syn_of, latest_syn, open_syn, passes, reversed, same_flow, segment_taken, syn_answered, syn_taken, told_of_reset, told_of_syn, with_state}
 use Rattle.krb_exchange.specs.inner.Indexes.{is_open_syn, one_if, open_syns_in}
 use Rattle.krb_exchange.proofs.Places.{next}
 
@@ -94,3 +98,24 @@ not-positive xs some is none = by (open_syns_in xs) (sym is ∙ none)
   where
     by : (n : ℕ) → nat_lt 0 n ≡ false → n ≡ 0
     by n e = grind (arith, nat_tests)
+
+-- then a segment that asks for no connection tells and changes nothing
+not-answered : (flow : Flow) (xs : List Sending) → open_syns_in xs ≡ 0 → syn_answered flow xs ≡ record { told = None; window = xs }
+not-answered flow xs none = ap (λ place. record { told = at_place place xs; window = with_state states.Ended place xs }) (sym (none-waits flow xs none))
+
+no-reset : (header : Header) → told_of_reset header None ≡ told_of_syn None None
+no-reset header = by header.rst
+  where
+    told : Bool → SegmentTold
+    told b = record { reset = (if b then None else None); silent = None; missed = None }
+
+    by : (b : Bool) → told b ≡ told_of_syn None None
+    by true = refl
+    by false = refl
+
+pub not-heard : (header : Header) (flow : Flow) (sent : Moment) (xs : List Sending) → is_asking header ≡ false → open_syns_in xs ≡ 0 → segment_taken header flow sent xs ≡ record { told = told_of_syn None None; window = xs }
+not-heard header flow sent xs asks none =
+    ap (λ b. if b then syn_taken header.sequence flow sent (syn_answered (reversed flow) xs).window else record { told = told_of_reset header (syn_answered (reversed flow) xs).told; window = (syn_answered flow (syn_answered (reversed flow) xs).window).window }) asks
+    ∙ ap (λ (back : After (Option Sending)). record { told = told_of_reset header back.told; window = (syn_answered flow back.window).window }) (not-answered (reversed flow) xs none)
+    ∙ ap (λ (after : After (Option Sending)). record { told = told_of_reset header None; window = after.window }) (not-answered flow xs none)
+    ∙ ap (λ told. record { told = told; window = xs }) (no-reset header)

@@ -8,6 +8,7 @@ ghost use Rattle.krb_exchange.specs.inner.Indexes.{AddsRequest, AddsSyn, Indexes
 ghost use Rattle.krb_exchange.specs.inner.Numbers.{has, same_key};
 
 use crate::fingerprint::Fingerprint;
+use crate::flow_key::FlowKey;
 use crate::open::Open;
 use crate::parties::Reply;
 use crate::sending::{Sending, State, What};
@@ -24,7 +25,7 @@ pub(crate) struct Index {
     /// The latest request of the same octets.
     requests: BTreeMap<Fingerprint, u64>,
     /// The latest SYN of each flow.
-    syns: BTreeMap<Flow, u64>,
+    syns: BTreeMap<FlowKey, u64>,
     /// How many SYNs are open: where none is, none is looked for.
     open_syns: u64,
 }
@@ -69,10 +70,10 @@ impl Index {
     }
 
     /// Returns the number of the latest SYN of a flow.
-    pub(crate) fn latest_syn(&self, flow: &Flow) -> Option<u64>
-        ensures { (gone : ℕ) (sendings : List Sending) → Indexes self.now gone sendings → result ≡ numbered gone (latest_place (is_syn_of flow.now) sendings) }
+    pub(crate) fn latest_syn(&self, flow: Flow) -> Option<u64>
+        ensures { (gone : ℕ) (sendings : List Sending) → Indexes self.now gone sendings → result ≡ numbered gone (latest_place (is_syn_of flow) sendings) }
     {
-        self.syns.get(flow).copied()
+        self.syns.get(&FlowKey::of(flow)).copied()
     }
 
     /// Returns the number of the first open request of a flow.
@@ -138,12 +139,22 @@ impl Index {
         let Some(open_syns) = self.open_syns.checked_add(1) else {
             return Err(Memory);
         };
-        self.syns.insert(flow, number)?;
+        self.syns.insert(FlowKey::of(flow), number)?;
         self.open_syns = open_syns;
         Ok(())
     }
 
-    /// Takes a SYN away from those that are open.
+    /// Takes a request away from those that are open, if it is.
+    fn close_request(&mut self, request: Request, sending: &Sending, number: u64)
+        ensures same { self.new ≡ record self.old { «open» = self.new.«open» } }
+        ensures closed { (f : Flow) (k : Request) (n : ℕ) → has self.new.«open» f k n ≡ (not (is_open sending.now.state && same_key sending.now.flow request number f k n) && has self.old.«open» f k n) }
+    {
+        if sending.state.is_open() {
+            self.open.remove(sending.flow, request, number);
+        }
+    }
+
+    /// Takes a SYN away from those that are open, if it is.
     fn close_syn(&mut self, syn: &Sending)
         ensures { self.new ≡ record self.old { open_syns = self.old.open_syns - one_if (is_open syn.now.state) } }
     {
@@ -157,7 +168,7 @@ impl Index {
         ensures { (gone : ℕ) (sendings : List Sending) (place : ℕ) (state : State) → Indexes self.old gone sendings → slice_get sendings place ≡ Some sending.now → place < length sendings → number ≡ gone + place → is_open state ≡ false → Indexes self.new gone (slice_set sendings place (in_state state sending.now)) }
     {
         match sending.what {
-            What::Request(request, _) => self.open.remove(sending.flow, request, number),
+            What::Request(request, _) => self.close_request(request, sending, number),
             What::Syn(_) => self.close_syn(sending),
         }
     }
@@ -168,11 +179,11 @@ impl Index {
     {
         match first.what {
             What::Request(request, octets) => {
-                self.open.remove(first.flow, request, number);
                 forget(&mut self.requests, &octets, number);
+                self.close_request(request, first, number);
             }
             What::Syn(_) => {
-                forget(&mut self.syns, &first.flow, number);
+                forget(&mut self.syns, &FlowKey::of(first.flow), number);
                 self.close_syn(first);
             }
         }

@@ -24,6 +24,7 @@
 #![tactic(auto)]
 
 mod fingerprint;
+mod flow_key;
 mod index;
 mod open;
 mod parties;

@@ -1,31 +1,31 @@
 //! The numbers of the requests that are open.
 
-ghost use Rattle.std.specs.Prelude.{◌≡◌, ◌&&◌, ◌||◌, not, ℕ, Bool, false, OnErr, OnOk};
+ghost use Rattle.std.specs.Prelude.{◌≡◌, ◌<◌, ◌^◌, ◌&&◌, ◌||◌, not, ℕ, Bool, false, OnErr, OnOk};
 ghost use Rattle.krb_exchange.specs.Happened.{fits};
-ghost use Rattle.krb_exchange.specs.inner.Numbers.{IsFirst, IsLatest, any_kind, has, has_any, has_if, same_key};
+ghost use Rattle.krb_exchange.specs.inner.Numbers.{IsFirst, IsFirstFrom, IsLastUpTo, IsLatest, any_kind, has, has_any, has_if, key_of, same_key};
 
+use crate::flow_key::FlowKey;
 use crate::parties::Reply;
 use krb_der::Memory;
 use krb_record::{Flow, Request};
 use std::alloc::Global;
 use std::collections::BTreeMap;
-use std::ops::Bound;
 
 /// A request that is open. Those of a flow are in the order of their kinds, and those of a kind in
 /// the order of their numbers.
 #[derive(Clone, Copy, PartialEq, Eq, PartialOrd, Ord)]
 struct Key {
-    flow: Flow,
+    flow: FlowKey,
     request: Request,
     number: u64,
 }
 
 impl Key {
     fn new(flow: Flow, request: Request, number: u64) -> Key
-        ensures { result ≡ record { flow = flow; request = request; number = number } }
+        ensures { result ≡ key_of flow request number }
     {
         Key {
-            flow,
+            flow: FlowKey::of(flow),
             request,
             number,
         }
@@ -90,19 +90,36 @@ impl Open {
         self.keys.remove(&Key::new(flow, request, number));
     }
 
+    /// Returns the first key that is not less than one.
+    fn first_from(&self, low: Key) -> Option<Key>
+        ensures { IsFirstFrom low self.now result }
+    {
+        match self.keys.range(low..).next() {
+            Some((key, _)) => Some(*key),
+            None => None,
+        }
+    }
+
+    /// Returns the last key that is not greater than one.
+    fn last_up_to(&self, high: Key) -> Option<Key>
+        ensures { IsLastUpTo high self.now result }
+    {
+        match self.keys.range(..=high).next_back() {
+            Some((key, _)) => Some(*key),
+            None => None,
+        }
+    }
+
     /// Returns the first request of a flow and a kind.
     fn first_of(&self, flow: Flow, request: Request) -> Option<u64>
         ensures { IsFirst (has self.now flow request) result }
     {
-        let low = Key::new(flow, request, 0);
+        let first = self.first_from(Key::new(flow, request, 0))?;
         let high = Key::new(flow, request, u64::MAX);
-        match self
-            .keys
-            .range((Bound::Included(low), Bound::Included(high)))
-            .next()
-        {
-            Some((key, _)) => Some(key.number),
-            None => None,
+        if first.cmp(&high).is_le() {
+            Some(first.number)
+        } else {
+            None
         }
     }
 
@@ -110,15 +127,23 @@ impl Open {
     pub(crate) fn latest_of(&self, flow: Flow, request: Request) -> Option<u64>
         ensures { IsLatest (has self.now flow request) result }
     {
+        let last = self.last_up_to(Key::new(flow, request, u64::MAX))?;
         let low = Key::new(flow, request, 0);
-        let high = Key::new(flow, request, u64::MAX);
-        match self
-            .keys
-            .range((Bound::Included(low), Bound::Included(high)))
-            .next_back()
-        {
-            Some((key, _)) => Some(key.number),
-            None => None,
+        if low.cmp(&last).is_le() {
+            Some(last.number)
+        } else {
+            None
+        }
+    }
+
+    /// Returns whether a request of a flow may be open.
+    fn has_flow(&self, flow: Flow) -> bool
+        ensures { result ≡ false → (kind : Request) (number : ℕ) → number < 2 ^ 64 → has self.now flow kind number ≡ false }
+    {
+        let high = Key::new(flow, Request::Kpasswd, u64::MAX);
+        match self.first_from(Key::new(flow, Request::AsReq, 0)) {
+            Some(first) => first.cmp(&high).is_le(),
+            None => false,
         }
     }
 
@@ -126,7 +151,7 @@ impl Open {
     pub(crate) fn first(&self, flow: Flow) -> Option<u64>
         ensures { IsFirst (has_any self.now flow) result }
     {
-        if self.keys.is_empty() {
+        if !self.has_flow(flow) {
             return None;
         }
         let of_as = self.first_of(flow, Request::AsReq);

@@ -88,14 +88,14 @@ impl State {
 pub struct Sending {
     /// From where to where.
     pub flow: Flow,
+    /// Whether something came back.
+    pub state: State,
     /// What it was.
     pub what: What,
     /// The packet that it was in.
     pub sent: Moment,
     /// The packet in which the same was sent first.
     pub first: Moment,
-    /// Whether something came back.
-    pub state: State,
 }
 
 /// Returns the flow the other way round.

@@ -1,8 +1,8 @@
 //! The events of a capture, and what is told of them.
 
-ghost use Rattle.std.specs.Prelude.{◌≡◌, ◌++◌, [], IfNone, IfOk, OnErr, OnOk};
+ghost use Rattle.std.specs.Prelude.{◌≡◌, ◌++◌, false, [], None, IfNone, IfOk, OnErr, OnOk};
 ghost use Rattle.std.specs.Option.{option_map};
-ghost use Rattle.krb_exchange.specs.Happened.{before_of, begun, error_taken, first_of, listed, open_in, replied, request_of, requested, reversed, segment_taken, syn_again, syn_anew, syn_answered, syn_of, syn_taken};
+ghost use Rattle.krb_exchange.specs.Happened.{before_of, begun, error_taken, first_of, listed, open_in, replied, request_of, requested, reversed, segment_taken, syn_again, syn_anew, syn_answered, syn_of, syn_taken, told_of_syn};
 
 use crate::fingerprint::Fingerprint;
 use crate::parties::{Header, Reply};
@@ -13,7 +13,7 @@ use krb_record::{Flow, Request};
 use std::alloc::Global;
 use std::marker::Model;
 
-/// The last 65536 sendings of a capture. It allocates for these alone, some 420 octets for each.
+/// The last 65536 sendings of a capture. It allocates for these alone, some 270 octets for each.
 #[derive(Drop)]
 pub struct Sendings {
     window: Window,
@@ -170,6 +170,17 @@ impl Sendings {
     {
         let first = self.window.first_open(flow);
         self.window.close(first, State::Ended)
+    }
+
+    /// Returns whether a segment may tell or change something: it asks for a connection, or a SYN is
+    /// open.
+    pub fn hears(&self, header: Header) -> bool
+        ensures { result ≡ false → (flow : Flow) (sent : Moment) → segment_taken header flow sent self.now ≡ record { told = told_of_syn None None; window = self.now } }
+    {
+        if header.is_asking() {
+            return true;
+        }
+        self.window.has_open_syn()
     }
 
     /// Takes a segment of TCP. It ends the SYNs that it answers, and one that asks for a connection

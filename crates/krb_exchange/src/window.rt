@@ -1,10 +1,10 @@
 //! The sendings that are kept, and how they are found.
 
-ghost use Rattle.std.specs.Prelude.{◌≡◌, ◌+◌, ◌++◌, ◌<◌, ◌^◌, ℕ, true, false, [], ◌∷◌, length, None, Option, Some, if◌then◌else◌, IfNone, IfOk, IfSome, OnErr, OnOk};
+ghost use Rattle.std.specs.Prelude.{◌≡◌, ◌+◌, ◌++◌, ◌<◌, ◌^◌, ℕ, true, false, [], ◌∷◌, length, None, Option, Some, nat_lt, if◌then◌else◌, IfNone, IfOk, IfSome, OnErr, OnOk};
 ghost use Rattle.std.specs.VecDeque.{deque_capacity, deque_len};
 ghost use Rattle.krb_exchange.specs.Happened.{added, answered_over, at_place, before_of, erred, first_place, fits, has_octets, is_open, is_open_request, is_request, later_place, latest_syn, listed, open_in, open_syn, passes, replaced, with_room, with_state};
 ghost use Rattle.krb_exchange.specs.declared.sending.State.TheVariants as states;
-ghost use Rattle.krb_exchange.specs.inner.Indexes.{Keeps, numbered};
+ghost use Rattle.krb_exchange.specs.inner.Indexes.{Keeps, numbered, open_syns_in};
 
 use crate::fingerprint::Fingerprint;
 use crate::index::Index;
@@ -161,7 +161,14 @@ impl Window {
     pub(crate) fn latest_syn(&self, flow: Flow) -> Option<usize>
         ensures { Keeps self.now None → result ≡ latest_syn flow self.now.sendings.items }
     {
-        self.place_of(self.index.latest_syn(&flow))
+        self.place_of(self.index.latest_syn(flow))
+    }
+
+    /// Returns whether a SYN is open, of any flow.
+    pub(crate) fn has_open_syn(&self) -> bool
+        ensures { Keeps self.now None → result ≡ nat_lt 0 (open_syns_in self.now.sendings.items) }
+    {
+        self.index.has_open_syn()
     }
 
     /// Returns the place of the latest SYN of a flow, if it is open.

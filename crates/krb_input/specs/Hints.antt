@@ -4,7 +4,6 @@ use Rattle.std.specs.List.{list_any, starts_with}
 use Rattle.std.specs.Option.{option_or}
 use Rattle.krb_input.specs.Octets.{first_no_text, is_tag}
 use Rattle.krb_input.specs.Signatures.{signed}
-use Rattle.krb_input.specs.Sources.{kind_name}
 use Rattle.krb_input.specs.TokenHints.{named_token, refused_by}
 use Rattle.krb_input.specs.declared.hint.Hint.{Hint}
 use Rattle.krb_input.specs.declared.hint.Hint.TheVariants as hint
@@ -89,9 +88,9 @@ hint_for used first =
 
 -- ---- what it says
 -- a command as it was given, and a blank, or nothing where a source was listed without one
-abbrev pub given_command : Option SourceKind → List ℕ
+abbrev pub given_command : Option (List ℕ) → List ℕ
 given_command None = []
-given_command (Some kind) = kind_name kind ++ codes " "
+given_command (Some command) = command ++ codes " "
 
 abbrev pub packed_text : (words given file : List ℕ) → List ℕ
 packed_text words given file = words ++ file ++ codes " | krbls " ++ given ++ codes "-"
@@ -102,7 +101,7 @@ converted_text words file = words ++ codes ": editcap -F pcap " ++ file ++ codes
 abbrev pub http_text : (file : List ℕ) → List ℕ
 http_text file = codes "this is HTTP; if a header has a token: grep -ai negotiate " ++ file ++ codes " | krbls message --lines -"
 
-abbrev pub hint_text : Hint → Option SourceKind → List ℕ → List ℕ
+abbrev pub hint_text : Hint → (given : Option (List ℕ)) → (file : List ℕ) → List ℕ
 hint_text hint.Gzip given file = packed_text (codes "this is a gzip file: zcat ") (given_command given) file
 hint_text hint.Xz given file = packed_text (codes "this is an xz file: xzcat ") (given_command given) file
 hint_text hint.Zstd given file = packed_text (codes "this is a zstd file: zstdcat ") (given_command given) file

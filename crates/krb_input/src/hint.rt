@@ -2,7 +2,7 @@
 
 ghost use Rattle.std.specs.Prelude.{◌≡◌, ◌++◌, take, IfOk, string_bytes};
 ghost use Rattle.krb_input.specs.Hints.{begins_message as is_tag_of_message, converted_text, given_command as command_given, guessed as guess, guessed_message as guess_of_message, hint_for, hint_text, holds_caches as may_hold_caches, http_text, is_frame as begins_as_frame, is_primary as names_a_cache, is_version_two as begins_as_version_two, leads_back, leads_to as command_of, packed_text, signed_or_old, unless_used as unless_it_was_used};
-ghost use Rattle.std.specs.Option.{option_or};
+ghost use Rattle.std.specs.Option.{option_copied, option_or};
 ghost use Rattle.krb_input.specs.Sources.{file_kind};
 
 use crate::octets::{first_no_text, is_tag};
@@ -223,13 +223,8 @@ impl Hint {
     /// Returns what it says of a file, whose name is written as a user has to write it: what it is,
     /// and the command for it. That for a packed file ends in the command that was given, if one
     /// was.
-    pub fn text(
-        self,
-        alloc: Global,
-        given: Option<SourceKind>,
-        file: &str,
-    ) -> Result<String, AllocError>
-        ensures { IfOk result (λ text. string_bytes text ≡ hint_text self given file.now) }
+    pub fn text(self, alloc: Global, given: Option<&str>, file: &str) -> Result<String, AllocError>
+        ensures { IfOk result (λ text. string_bytes text ≡ hint_text self (option_copied given.entry) file.now) }
     {
         match self {
             Hint::Gzip => packed(alloc, "this is a gzip file: zcat ", given, file),
@@ -314,18 +309,13 @@ fn before(alloc: Global, words: &str, file: &str) -> Result<String, AllocError>
 
 /// Returns what is said of a packed file, whose contents the command that was given reads, if one
 /// was.
-fn packed(
-    alloc: Global,
-    words: &str,
-    given: Option<SourceKind>,
-    file: &str,
-) -> Result<String, AllocError>
-    ensures { IfOk result (λ text. string_bytes text ≡ packed_text words.now (command_given given) file.now) }
+fn packed(alloc: Global, words: &str, given: Option<&str>, file: &str) -> Result<String, AllocError>
+    ensures { IfOk result (λ text. string_bytes text ≡ packed_text words.now (command_given (option_copied given.entry)) file.now) }
 {
     let mut text = before(alloc, words, file)?;
     text.push_str(" | krbls ")?;
-    if let Some(kind) = given {
-        text.push_str(kind.name())?;
+    if let Some(command) = given {
+        text.push_str(command)?;
         text.push_str(" ")?;
     }
     text.push_str("-")?;

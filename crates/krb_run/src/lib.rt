@@ -38,7 +38,7 @@ pub use line::line_length;
 pub use lines::{ReadLines, end_lines, feed_lines, is_blank_line};
 pub use naming::Naming;
 pub use record_lines::{
-    RecordLines, Watch, Watched, in_pieces, list_records, list_refusal, put_fault,
+    PieceReader, RecordLines, Watch, Watched, in_pieces, list_records, list_refusal, put_fault,
 };
 pub use run::{PIECE_OCTETS, RunEnd, RunFault, piece_buffer, status};
 pub use sources::{ListSource, run_sources, run_sources_unnamed};

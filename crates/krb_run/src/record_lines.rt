@@ -20,7 +20,7 @@ use std::cell::Cell;
 use std::io;
 use std::io::{BufReader, Read, Write};
 
-/// What is known of a reader.
+/// What is known of a reader, and of the octets that it gave.
 #[derive(Drop)]
 pub struct Watch {
     /// Whether its last read returned all the octets that it was asked for, as that of a fast file
@@ -28,6 +28,13 @@ pub struct Watch {
     is_fast: Cell<bool>,
     /// The error of a read that failed.
     error: Cell<Option<io::Error>>,
+    /// How many octets of the last read are in no record yet.
+    at_hand: Cell<usize>,
+    /// How many octets are in records, and how many were when that was asked last.
+    given: Cell<usize>,
+    told: Cell<usize>,
+    /// The octets of the longest record.
+    longest: Cell<usize>,
 }
 
 impl Watch {
@@ -36,6 +43,10 @@ impl Watch {
         Watch {
             is_fast: Cell::new(true),
             error: Cell::new(None),
+            at_hand: Cell::new(0),
+            given: Cell::new(0),
+            told: Cell::new(0),
+            longest: Cell::new(1),
         }
     }
 
@@ -45,6 +56,23 @@ impl Watch {
             Some(error) => error,
             None => too_many_reads(),
         }
+    }
+
+    /// Takes note that so many octets were given, and how many are left of the last read.
+    fn gave(&self, count: usize, at_hand: usize) {
+        self.given.set(self.given.get().wrapping_add(count));
+        self.at_hand.set(at_hand);
+    }
+
+    /// Returns whether the next record may have to be waited for, once one has ended: a slow reader
+    /// may be asked for its octets, since fewer are at hand than the longest record had.
+    fn may_wait(&self) -> bool {
+        let given = self.given.get();
+        let size = given.wrapping_sub(self.told.get());
+        let longest = self.longest.get().max(size);
+        self.told.set(given);
+        self.longest.set(longest);
+        !self.is_fast.get() & (self.at_hand.get() < longest)
     }
 }
 
@@ -72,13 +100,33 @@ impl<R: Read> Read for Watched<'_, R> {
     }
 }
 
+/// A watched reader that is asked for large pieces.
+#[derive(Drop)]
+pub struct PieceReader<'a, R: Read> {
+    reader: BufReader<Watched<'a, R>>,
+}
+
+impl<R: Read> Read for PieceReader<'_, R> {
+    ghost remaining = { λ pieces. reader_remaining (λ watched. R.remaining watched.reader.now) pieces.reader };
+
+    fn read(&mut self, octets: &mut [u8]) -> io::Result<usize> {
+        let count = self.reader.read(octets)?;
+        let at_hand = self.reader.buffer().len();
+        self.reader.get_ref().watch.gave(count, at_hand);
+        Ok(count)
+    }
+}
+
 /// Returns a reader that asks this one for large pieces.
-pub fn in_pieces<R: Read + Drop>(alloc: Global, reader: R) -> Result<BufReader<R>, RunFault>
-    ensures same { IfOk result (λ made. (file : List ℕ) → R.remaining reader ≡ Some file → reader_remaining R.remaining made ≡ Some file) }
+pub fn in_pieces<'a, R: Read>(
+    alloc: Global,
+    reader: Watched<'a, R>,
+) -> Result<PieceReader<'a, R>, RunFault>
+    ensures same { IfOk result (λ made. (file : List ℕ) → R.remaining reader.entry.reader.now ≡ Some file → reader_remaining (λ watched. R.remaining watched.reader.now) made.reader ≡ Some file) }
     ensures fault { IfErr result (λ e. e ≡ RunFault.Memory) }
 {
     match BufReader::with_capacity(alloc, PIECE_OCTETS, reader) {
-        Ok(reader) => Ok(reader),
+        Ok(reader) => Ok(PieceReader { reader }),
         Err(_) => Err(RunFault::Memory),
     }
 }
@@ -205,9 +253,10 @@ fn write_before<W: Write>(
     Err(fault)
 }
 
-/// Lists a file after a text that is not written yet. Lines are written before the next record is
-/// read, but those of a fast file are kept until they have 64 KiB, or a read fails. Then the text is
-/// written, and after it the lines of all records that were read.
+/// Lists a file after a text that is not written yet. Lines are written once they have 64 KiB, and
+/// before a record for which a slow reader may have to be waited for: one that returned less than it
+/// was asked for, of which fewer octets are at hand than the longest record had. If a read fails the
+/// text is written, and after it the lines of all records that were read.
 pub fn list_records<L: RecordLines, W: Write>(
     alloc: Global,
     lines: &mut L,
@@ -218,7 +267,7 @@ pub fn list_records<L: RecordLines, W: Write>(
     ensures listed { (source : L.Source) (left : RecordListing) → L.IsLeft lines.old 0 source left → ListsRecords (after_line text.old left) (WasLeft L.IsLeft L.Fails source lines.new) (W.contents writer.old) (W.contents writer.new) result }
 {
     'records: for count in 0..MOST_ASKS {
-        let is_due = text.octets().len() >= PIECE_OCTETS || !watch.is_fast.get();
+        let is_due = watch.may_wait() | (text.octets().len() >= PIECE_OCTETS);
         write_early(writer, text, is_due)?;
         match lines.put_next(alloc, count, text) {
             Ok(None) => {}

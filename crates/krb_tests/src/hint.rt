@@ -41,6 +41,7 @@ message#7F454C4602010100#message#-#-
 message#05020000005B0002000B434F52505553#message#-#this is a keytab: krbls keytab -
 message#0501#message#-#this is a keytab or credential cache of version 1, which krbls does not read
 stream#474554202F20485454502F312E310D0A#stream#-#this is HTTP; if a header has a token: grep -ai negotiate - | krbls message --lines -
+message#1F8B0800000000000003#items#-#this is a gzip file: zcat - | krbls items -
 stream#28B52FFD0400#stream#-#this is a zstd file: zstdcat - | krbls stream -
 stream#425A683931415926535980#stream#-#this is a bzip2 file: bzcat - | krbls stream -
 stream#30303030303030303A20366631642033#stream#-#this is text; if it is a message: krbls message -
@@ -137,12 +138,20 @@ fn kind_named(name: &str) -> Option<SourceKind> {
     }
 }
 
+/// Returns the command that was given, if one was.
+fn given_of(word: &str) -> Option<&str> {
+    match word {
+        "-" => None,
+        command => Some(command),
+    }
+}
+
 /// Returns what is said where a command refuses a source with these first octets.
 fn said(
     alloc: Global,
     used: SourceKind,
     octets: &[u8],
-    given: Option<SourceKind>,
+    given: Option<&str>,
     file: &str,
 ) -> Result<String, Fail> {
     match hint_of(used, octets) {
@@ -158,7 +167,7 @@ fn says_what_sources_are(rt: HostRuntime) -> Result<(), Fail> {
         let mut fields = row.split('#');
         let used = kind_named(fields.next().ok_or("used")?).ok_or("a command")?;
         let octets = octets_of(alloc, fields.next().ok_or("digits")?)?;
-        let given = kind_named(fields.next().ok_or("given")?);
+        let given = given_of(fields.next().ok_or("given")?);
         let file = fields.next().ok_or("a name")?;
         let text = said(alloc, used, octets.as_slice(), given, file)?;
         assert_eq!(rt;

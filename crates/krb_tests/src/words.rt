@@ -85,6 +85,8 @@ fn named(command: &Command) -> (&str, Option<u32>) {
             Some(limit.get()),
         ),
         Command::Message(profile, inputs) => (message_name(*profile, *inputs), None),
+        Command::Items(Profile::Lenient) => ("items", None),
+        Command::Items(Profile::Strict) => ("strict items", None),
         Command::Keytab => ("keytab", None),
         Command::Ccache(when) => timed("ccache", "ccache now", *when),
         Command::Capture(limit, profile, _) => (capture_name(*profile), Some(limit.get())),

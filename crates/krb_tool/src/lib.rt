@@ -7,7 +7,8 @@
 //!   [`run_lines_in`] messages that lines spell. [`run_stream_in`] and its like take the label of the
 //!   records ([`Label`](krb_record::Label)), which has their form ([`Form`]), and the profile of messages ([`Profile`]), and a stream whether it is gone
 //!   on with after refusals.
-//! - [`list_octets`] returns the line of a message that is in memory.
+//! - [`list_octets`] returns the line of a message that is in memory, and [`list_input`] that of what
+//!   an input in memory spells.
 //! - [`start_stream`] begins the decoder of a stream, and [`frame_path`] and [`refused_path`] return
 //!   the path of the field at fault in what is refused, for other runs over messages.
 //!
@@ -34,5 +35,5 @@ pub use krb_record::Form;
 pub use krb_run::FileText;
 pub use lines_run::run_lines_in;
 pub use listing::start_stream;
-pub use message_run::{list_octets, run_message, run_message_in};
+pub use message_run::{list_input, list_octets, run_message, run_message_in};
 pub use run::{run_stream, run_stream_in};

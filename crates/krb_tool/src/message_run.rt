@@ -3,7 +3,7 @@
 ghost use Rattle.std.specs.Prelude.{◌≡◌, IfErr, IfOk};
 ghost use Rattle.krb_record.specs.Labels.{no_label};
 ghost use Rattle.krb_run.specs.Files.{ListsFile, FailsFile, shown};
-ghost use Rattle.krb_tool.specs.Messages.{IsMessageListing, octets_listing};
+ghost use Rattle.krb_tool.specs.Messages.{IsMessageListing, message_listing, octets_listing};
 
 use crate::message_input::{MOST_INPUT, MessageInput};
 use krb_der::Profile;
@@ -33,6 +33,26 @@ pub fn list_octets(
     Ok(FileText { text, end })
 }
 
+/// Returns the record, with a label, of the message of a profile that an input spells, or of why it
+/// spells none: what [`run_message_in`] writes of it. The one error is running out of memory.
+#[tactic(auto, unfolding(crate::specs::Messages::message_listing))]
+pub fn list_input(
+    alloc: Global,
+    label: &Label,
+    profile: Profile,
+    input: &[u8],
+) -> Result<FileText, RunFault>
+    ensures listed { IfOk result (λ made. shown made ≡ message_listing label.now profile input.now) }
+    ensures fault { IfErr result (λ e. e ≡ RunFault.Memory) }
+{
+    let mut text = TextBuffer::new(alloc);
+    let whole = MessageInput::whole(label.form(), profile);
+    label.begin(&mut text)?;
+    let end = whole.put(alloc, &mut text, input)?;
+    label.end(&mut text)?;
+    Ok(FileText { text, end })
+}
+
 /// An input that spells a message of a profile, and the form of its listing.
 #[derive(Drop)]
 struct SpelledMessage<'a> {
@@ -47,14 +67,8 @@ impl FileFormat for SpelledMessage<'_> {
         Some(MOST_INPUT + 1)
     }
 
-    #[tactic(auto, unfolding(crate::specs::Messages::message_listing))]
     fn list(&self, alloc: Global, input: &[u8]) -> Result<FileText, RunFault> {
-        let mut text = TextBuffer::new(alloc);
-        let whole = MessageInput::whole(self.label.form(), self.profile);
-        self.label.begin(&mut text)?;
-        let end = whole.put(alloc, &mut text, input)?;
-        self.label.end(&mut text)?;
-        Ok(FileText { text, end })
+        list_input(alloc, self.label, self.profile, input)
     }
 }
 

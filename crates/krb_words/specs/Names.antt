@@ -11,6 +11,12 @@ is_name word = nat_lt 0 (length word) && list_all (λ octet. nat_le 97 octet && 
 abbrev pub stands_alone : List ℕ → Bool
 stands_alone word = bytes_eq word (codes "-h") || bytes_eq word (codes "--help") || bytes_eq word (codes "-V") || bytes_eq word (codes "--version")
 
+-- the name of a command
+abbrev pub is_command : List ℕ → Bool
+is_command name =
+    bytes_eq name (codes "list") || bytes_eq name (codes "stream") || bytes_eq name (codes "message") || bytes_eq name (codes "items") || bytes_eq name (codes "keytab")
+    || bytes_eq name (codes "ccache") || bytes_eq name (codes "capture") || bytes_eq name (codes "decode") || bytes_eq name (codes "encode")
+
 -- The words as those of a command: `list` comes before a first word that is no name and does not stand alone, and `--help` after the words in place of `help` before them.
 abbrev pub as_command : List (List ℕ) → List (List ℕ)
 as_command [] = codes "list" ∷ []

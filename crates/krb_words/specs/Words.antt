@@ -103,6 +103,9 @@ stream_app = with_files (with_output (with_rule (with_rule (with_rule (new_app (
 abbrev pub message_app : App
 message_app = with_files (with_output (with_rule (with_rule (new_app (codes "message")) lines_flag) strict_flag))
 
+abbrev pub items_app : App
+items_app = with_files (with_output (with_rule (new_app (codes "items")) strict_flag))
+
 abbrev pub keytab_app : App
 keytab_app = with_files (with_output (new_app (codes "keytab")))
 
@@ -123,7 +126,7 @@ abbrev pub krbls_top : App
 krbls_top = on_top (λ s. record s { no_binary_name = true; disable_help_subcommand = true; subcommand_required = true; has_version = true }) (new_app (codes "krbls"))
 
 abbrev pub krbls : App
-krbls = with_subcommand (with_subcommand (with_subcommand (with_subcommand (with_subcommand (with_subcommand (with_subcommand (with_subcommand krbls_top list_app.top) stream_app.top) message_app.top) keytab_app.top) ccache_app.top) capture_app.top) decode_app.top) encode_app.top
+krbls = with_subcommand (with_subcommand (with_subcommand (with_subcommand (with_subcommand (with_subcommand (with_subcommand (with_subcommand (with_subcommand krbls_top list_app.top) stream_app.top) message_app.top) items_app.top) keytab_app.top) ccache_app.top) capture_app.top) decode_app.top) encode_app.top
 
 -- ---- the command line
 -- the number that a text is, or the default if there is no text
@@ -181,6 +184,7 @@ abbrev pub IsCommand : Text → List Row → Command → Type 0
 IsCommand name rows (commands.List when) = (name ≡ codes "list") × IsWhenIf (first_of (codes "now") rows) when
 IsCommand name rows (commands.Stream limit chosen refused) = (name ≡ codes "stream") × IsNumberOr 16777216 (one_of (codes "limit") rows) limit × IsProfile (first_of (codes "strict") rows) chosen × IsAfter (first_of (codes "keep-going") rows) refused
 IsCommand name rows (commands.Message chosen each) = (name ≡ codes "message") × IsProfile (first_of (codes "strict") rows) chosen × IsInputs (first_of (codes "lines") rows) each
+IsCommand name rows (commands.Items chosen) = (name ≡ codes "items") × IsProfile (first_of (codes "strict") rows) chosen
 IsCommand name rows commands.Keytab = name ≡ codes "keytab"
 IsCommand name rows (commands.Ccache when) = (name ≡ codes "ccache") × IsWhenIf (first_of (codes "now") rows) when
 IsCommand name rows (commands.Capture limit chosen port) = (name ≡ codes "capture") × IsNumberOr 16777216 (one_of (codes "limit") rows) limit × IsProfile (first_of (codes "strict") rows) chosen × IsNumberOr 88 (one_of (codes "port") rows) port

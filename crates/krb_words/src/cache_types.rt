@@ -22,7 +22,7 @@ const MEMORY: &str =
 
 /// Returns what a name that cannot be opened is, and how to get a file of it, if it is that of a
 /// credential cache of a type that MIT's and Heimdal's libraries have and that is no file.
-pub fn other_cache(name: &[u8]) -> Option<&'static str>
+pub(crate) fn other_cache(name: &[u8]) -> Option<&'static str>
     ensures { option_map (λ text. text.now) result ≡ other_cache name.now }
 {
     if name.starts_with(b"KCM:") {

@@ -8,8 +8,8 @@ ghost use Rattle.krb_words.specs.inner.Makes.{Makes};
 ghost use Rattle.krb_words.specs.inner.Parts.{app_for, apps, rule_for, with_apps, with_rules};
 
 use crate::help::{
-    CAPTURE_HELP, CCACHE_HELP, CommandHelp, DECODE_HELP, ENCODE_HELP, KEYTAB_HELP, KRBLS_HELP,
-    LIST_HELP, MESSAGE_HELP, STREAM_HELP,
+    CAPTURE_HELP, CCACHE_HELP, CommandHelp, DECODE_HELP, ENCODE_HELP, ITEMS_HELP, KEYTAB_HELP,
+    KRBLS_HELP, LIST_HELP, MESSAGE_HELP, STREAM_HELP,
 };
 use clap::builder::ValueParser;
 use clap::{Arg, ArgAction, Command, value_parser};
@@ -322,7 +322,7 @@ pub(crate) struct Part {
 }
 
 /// The commands of the program.
-static PARTS: [Part; 8] = [
+static PARTS: [Part; 9] = [
     Part {
         name: "list",
         help: &LIST_HELP,
@@ -354,6 +354,18 @@ static PARTS: [Part; 8] = [
         help: &MESSAGE_HELP,
         parameters: &[
             Parameter::Lines,
+            Parameter::Strict,
+            Parameter::Names,
+            Parameter::Json,
+            Parameter::WithFilename,
+            Parameter::File,
+            Parameter::FileNames,
+        ],
+    },
+    Part {
+        name: "items",
+        help: &ITEMS_HELP,
+        parameters: &[
             Parameter::Strict,
             Parameter::Names,
             Parameter::Json,

@@ -103,6 +103,27 @@ Examples:
   krbls message --lines payloads.txt",
 };
 
+pub(crate) const ITEMS_HELP: CommandHelp = CommandHelp {
+    about: "Shows where each field of a message is in its octets",
+    usage: "krbls items [OPTIONS] [FILE]...",
+    below: "\
+Reads one message, Ticket or token, as `krbls message` does. Prints a line for
+each item of its octets, in order: the place of its first octet (`at`), in how
+many items it is (`depth`), its identifier and length octets (`heads`), where
+its contents begin and how many octets they are, and after `item` its path, its
+type and its value. What is inside of an OCTET STRING has no items, nor have the
+layers of a token, but for the message in it.
+
+The last line is `end items=N`, or the refusal of `krbls message`. Before a
+refusal come the items up to there, and `fault`: the item at fault, with the
+octets before it. If the first length is at fault, `believed` and the items of
+that length follow. Of a token's layer that is refused nothing is listed.
+
+Examples:
+  krbls items --names ticket.kirbi
+  krbls items reply | grep name=AS-REP.ticket",
+};
+
 pub(crate) const KEYTAB_HELP: CommandHelp = CommandHelp {
     about: "Lists a keytab",
     usage: "krbls keytab [OPTIONS] [FILE]...",
@@ -155,21 +176,24 @@ Examples:
 };
 
 pub(crate) const DECODE_HELP: CommandHelp = CommandHelp {
-    about: "Writes framed messages as JSON",
+    about: "Writes messages as JSON",
     usage: "krbls decode [OPTIONS] [FILE]...",
     below: "\
-Reads frames as `krbls stream` does, and writes a line for each message: a JSON
-object of one member, with the names of RFC 4120, appendix A. Octets are in
-hexadecimal. `krbls encode` makes the same frames of the lines again.
+Reads frames as `krbls stream` does, or, if the first octets of a file say so,
+one message, Ticket or token as `krbls message` does. Writes a line for each: a
+JSON object of one member, with the names of RFC 4120, appendix A. Octets are in
+hexadecimal. `krbls encode` makes the same frames of messages again.
 
 A refusal ends a file: the standard error says at which octet of the frame it
 is, why and in which field. So does anything that is not encrypted (encryption
 type 0): it could be a key. What is encrypted is printed; treat it as a secret,
-since weak passwords can be guessed from it. With --strict a message that has a
-note is refused, too: `krbls help stream` says which have one.
+since weak passwords can be guessed from it. Of a .kirbi file that is not
+encrypted the tickets are printed all the same. With --strict a message that has
+a note is refused, too: `krbls help stream` says which have one.
 
-Example:
-  krbls decode kdc.stream > kdc.jsonl",
+Examples:
+  krbls decode kdc.stream > kdc.jsonl
+  krbls decode ticket.kirbi",
 };
 
 pub(crate) const ENCODE_HELP: CommandHelp = CommandHelp {

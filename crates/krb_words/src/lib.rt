@@ -11,8 +11,8 @@
 //!   source of a kind.
 //! - [`When`] is the time that credentials are compared with: the clock's, which the program reads,
 //!   or a number of seconds.
-//! - [`ShellWord`] writes a name as a shell reads it, and [`other_cache`] says what a name is that no
-//!   file has.
+//! - [`ShellWord`] writes a name as a shell reads it, and [`Command::said_unopened`] says what a name
+//!   is that cannot be opened.
 //!
 //! Nothing here opens a file or prints a text: `krbls` does. What each command lists is in
 //! `krb_tool`.
@@ -29,7 +29,6 @@ mod tips;
 mod when;
 mod words;
 
-pub use cache_types::other_cache;
 pub use commands::VERSION;
 pub use krb_der::{Limit, Profile};
 pub use krb_record::Form;

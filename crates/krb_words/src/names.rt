@@ -3,7 +3,7 @@
 ghost use Rattle.std.specs.Prelude.{◌≡◌, ◌∷◌, ◌++◌, ◌≤◌, length, map, codes, string_bytes, IfOk, OnOk, IfSome, []};
 ghost use Rattle.std.specs.Str.{bytes_eq};
 ghost use Rattle.krb_record.specs.FileNames.{name_text};
-ghost use Rattle.krb_words.specs.Names.{as_command, digit_value, is_name, named, stands_alone};
+ghost use Rattle.krb_words.specs.Names.{as_command, digit_value, is_command, is_name, named, stands_alone};
 ghost use Rattle.krb_words.specs.inner.Names.{IsFirstNamed};
 
 use krb_record::FileName;
@@ -25,6 +25,21 @@ fn is_name(word: &[u8]) -> bool
         are_letters = are_letters && b'a' <= *octet && *octet <= b'z';
     }
     are_letters
+}
+
+/// Returns whether a name is that of a command.
+pub(crate) fn is_command(name: &[u8]) -> bool
+    ensures { result ≡ is_command name.now }
+{
+    is(name, "list")
+        | is(name, "stream")
+        | is(name, "message")
+        | is(name, "items")
+        | is(name, "keytab")
+        | is(name, "ccache")
+        | is(name, "capture")
+        | is(name, "decode")
+        | is(name, "encode")
 }
 
 /// Returns whether a word asks for help or for the version before any command.

@@ -1,13 +1,18 @@
 //! What a command says to do.
 
 ghost use Rattle.std.specs.Prelude.{◌≡◌};
-ghost use Rattle.std.specs.Option.{option_map};
-ghost use Rattle.krb_words.specs.Tasks.{is_conversion, kind_used, listing_for, names_caches, octets_awaited, text_of, when_of, writes_messages};
+ghost use Rattle.std.specs.Option.{option_copied, option_map};
+ghost use Rattle.krb_words.specs.Tasks.{is_conversion, kind_used, listing_for, name_used, octets_awaited, said_unopened, text_of, when_of, writes_messages};
 
+use crate::cache_types::other_cache;
+use crate::names::is_command;
 use crate::when::When;
-use crate::words::{AfterRefusal, Command, Inputs, USUAL_PORT};
+use crate::words::{AfterRefusal, Command, Framing, Inputs, USUAL_PORT};
 use krb_der::{Limit, Profile};
 use krb_input::SourceKind;
+
+/// What is said of a file of a command's name that cannot be opened.
+const COMMAND_FIRST: &str = "a command comes before options: krbls COMMAND [OPTIONS] [FILE]...";
 
 impl Command {
     /// Returns the command that lists a source of a kind, without options but a time.
@@ -49,11 +54,16 @@ impl Command {
         matches!(self, Command::Encode(..))
     }
 
-    /// Returns whether a name that the command is given may be that of a credential cache.
-    pub fn names_caches(&self) -> bool
-        ensures { result ≡ names_caches self.now }
+    /// Returns what is said of a name that the command was given and that cannot be opened, if it is
+    /// that of a command, which comes before options, or of a credential cache that is no file.
+    pub fn said_unopened(&self, name: &[u8]) -> Option<&'static str>
+        ensures { option_map (λ text. text.now) result ≡ said_unopened self.now name.now }
     {
-        matches!(self, Command::List(_) | Command::Ccache(_))
+        match self {
+            Command::List(_) if is_command(name) => Some(COMMAND_FIRST),
+            Command::List(_) | Command::Ccache(_) => other_cache(name),
+            _ => None,
+        }
     }
 
     /// Returns the kind of the sources that the command lists. `None` if it finds that out, or does
@@ -65,9 +75,23 @@ impl Command {
             Command::Keytab => Some(SourceKind::Keytab),
             Command::Ccache(_) => Some(SourceKind::Ccache),
             Command::Capture(..) => Some(SourceKind::Capture),
-            Command::Message(..) => Some(SourceKind::Message),
+            Command::Message(..) | Command::Items(_) => Some(SourceKind::Message),
             Command::Stream(..) => Some(SourceKind::Stream),
             _ => None,
+        }
+    }
+
+    /// Returns the name of the command, if hints give it again.
+    pub fn name(&self) -> Option<&'static str>
+        ensures { option_copied result ≡ name_used self.now }
+    {
+        match self {
+            Command::Items(_) => Some("items"),
+            Command::Decode(..) => Some("decode"),
+            _ => match self.kind() {
+                Some(kind) => Some(kind.name()),
+                None => None,
+            },
         }
     }
 
@@ -84,12 +108,12 @@ impl Command {
     /// Returns how many octets of a source are awaited before it is listed: those by which the
     /// command of the source or a hint is chosen, whatever the pieces are in which they come. No
     /// frame of a message is as short, so a live stream is still listed as it comes. Nothing is
-    /// chosen for `decode` and `encode`.
+    /// chosen for `encode`, nor for one message without its length.
     pub fn octets_awaited(&self) -> usize
         ensures { result ≡ octets_awaited self.now }
     {
         match self {
-            Command::Decode(..) | Command::Encode(..) => 1,
+            Command::Decode(_, _, Framing::Unframed) | Command::Encode(..) => 1,
             _ => 16,
         }
     }

@@ -66,6 +66,8 @@ pub enum Command {
     Stream(Limit, Profile, AfterRefusal),
     /// A message or a token of a profile, or one in each line.
     Message(Profile, Inputs),
+    /// The items of a message or a token of a profile.
+    Items(Profile),
     /// A keytab.
     Keytab,
     /// A credential cache, and the time at which credentials may have expired.
@@ -310,6 +312,7 @@ fn command_of(alloc: Global, name: &str, found: &ArgMatches<'_>) -> Result<Comma
             after_refusal_of(found),
         )),
         "message" => Ok(Command::Message(profile_of(found), inputs_of(found))),
+        "items" => Ok(Command::Items(profile_of(found))),
         "keytab" => Ok(Command::Keytab),
         "ccache" => Ok(Command::Ccache(when_of(alloc, found)?)),
         "capture" => Ok(Command::Capture(

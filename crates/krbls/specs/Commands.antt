@@ -1,11 +1,11 @@
 -- What is done with a source by a command: the run of its command, with the label of the source and by the profile, the limit and the numbers of the command.
-use Rattle.std.specs.Prelude.{ℕ, ◌≡◌, ◌⊎◌, List, [], ◌∷◌, Option, None, Some, IfOk, IfErr}
+use Rattle.std.specs.Prelude.{ℕ, ◌≡◌, ◌⊎◌, List, [], ◌∷◌, Option, Some, None, IfOk, IfErr}
 use Rattle.std.specs.Option.{option_and_then}
 use Rattle.krb_der.specs.declared.profile.Profile.{Profile}
-use Rattle.krb_decode.specs.Hints.{decode_hint_text}
-use Rattle.krb_input.specs.Hints.{hint_for, hint_text}
+use Rattle.krb_input.specs.Hints.{hint_for}
 use Rattle.krb_input.specs.Sources.{command_for}
 use Rattle.krb_input.specs.declared.hint.Hint.{Hint}
+use Rattle.krb_input.specs.declared.hint.Hint.TheVariants as hint
 use Rattle.krb_input.specs.declared.source_kind.SourceKind.{SourceKind}
 use Rattle.krb_input.specs.declared.source_kind.SourceKind.TheVariants as kind
 use Rattle.krb_record.specs.Labels.{Label}
@@ -20,6 +20,7 @@ use Rattle.krb_tool.specs.GoingOn.{FailsAll, ListsAll}
 use Rattle.krb_tool.specs.Listing.{Fails, Lists}
 use Rattle.krb_tool.specs.MessageLines.{FailsLines, ListsLines}
 use Rattle.krb_tool.specs.Messages.{IsMessageListing}
+use Rattle.krb_items_run.specs.Items.{IsItemsListing}
 use Rattle.krb_run.specs.Sources.{Run}
 use Rattle.krb_run.specs.declared.run.RunEnd.{RunEnd}
 use Rattle.krb_run.specs.declared.run.RunFault.{RunFault}
@@ -63,14 +64,18 @@ abbrev pub kind_read : Command → Option SourceKind
 kind_read (commands.Decode limit profile framing.Framed) = Some kind.Stream
 kind_read used = kind_used used
 
+-- from HTTP headers are taken that are read line by line, which `items` does not do
+abbrev pub unless_http : Option Hint → Option Hint
+unless_http (Some hint.Http) = None
+unless_http found = found
+
+abbrev pub fitting : Command → Option Hint → Option Hint
+fitting (commands.Items profile) found = unless_http found
+fitting used found = found
+
 -- the hint for a source that is read by a command, by its first octets
 abbrev pub hint_by : Command → (first : List ℕ) → Option Hint
-hint_by used first = option_and_then (λ kind. hint_for kind first) (kind_read used)
-
--- what a hint says of a file where a command was given
-abbrev pub hint_text_by : Command → Hint → (file : List ℕ) → List ℕ
-hint_text_by (commands.Decode limit profile how) hint file = decode_hint_text hint file
-hint_text_by command hint file = hint_text hint (kind_used command) file
+hint_by used first = fitting used (option_and_then (λ kind. hint_for kind first) (kind_read used))
 
 -- ---- a command over a reader that had octets and has others left, and what is written
 abbrev pub Does : (IsTold : List ℕ → Type 0) → Label → (now : Option ℕ) → Command → (had left : Option (List ℕ)) → Run
@@ -82,6 +87,8 @@ Does IsTold label now (commands.Message profile inputs.Whole) had left written_b
     IfOk outcome (ListsFile (IsMessageListing label profile) had left written_before written_after) × IfErr outcome (FailsFile (IsMessageListing label profile) had left written_before written_after)
 Does IsTold label now (commands.Message profile inputs.EachLine) had left written_before written_after outcome =
     IfOk outcome (ListsLines label profile had left written_before written_after) × IfErr outcome (FailsLines label profile had left written_before written_after)
+Does IsTold label now (commands.Items profile) had left written_before written_after outcome =
+    IfOk outcome (ListsFile (IsItemsListing label profile) had left written_before written_after) × IfErr outcome (FailsFile (IsItemsListing label profile) had left written_before written_after)
 Does IsTold label now commands.Keytab had left written_before written_after outcome =
     (file : List ℕ) → had ≡ Some file → ListsRecords (keytab_listing label file) (IsKeytabRest label file) written_before written_after outcome
 Does IsTold label now (commands.Ccache when) had left written_before written_after outcome =

@@ -6,7 +6,7 @@ use Rattle.krb_decode.specs.Hints.{keytab_text}
 use Rattle.krb_decode.specs.Runs.{DecodesInput, FailsToDecodeInput}
 use Rattle.krb_decode.specs.declared.input.InputEnd.{InputEnd}
 use Rattle.krb_der.specs.declared.profile.Profile.{Profile}
-use Rattle.krb_input.specs.Hints.{hint_for}
+use Rattle.krb_input.specs.Hints.{hint_for, hint_text}
 use Rattle.krb_input.specs.Sources.{command_for}
 use Rattle.krb_input.specs.declared.hint.Hint.{Hint}
 use Rattle.krb_input.specs.declared.source_kind.SourceKind.{SourceKind}
@@ -25,10 +25,9 @@ use Rattle.krb_run.specs.declared.run.RunEnd.{RunEnd}
 use Rattle.krb_run.specs.declared.run.RunEnd.TheVariants as run
 use Rattle.krb_run.specs.declared.run.RunFault.{RunFault}
 use Rattle.krb_run.specs.declared.run.RunFault.TheVariants as fault
-use Rattle.krb_words.specs.CacheTypes.{other_cache}
 use Rattle.krb_words.specs.Shell.{shell_word}
 use Rattle.krb_words.specs.Sources.{place_of}
-use Rattle.krb_words.specs.Tasks.{is_conversion, names_caches, octets_awaited, text_of, when_of, writes_messages}
+use Rattle.krb_words.specs.Tasks.{is_conversion, name_used, octets_awaited, said_unopened, text_of, when_of, writes_messages}
 use Rattle.krb_words.specs.Words.{IsFaultIn, IsCommandLineIn}
 use Rattle.krb_words.specs.declared.sources.Source.{Source}
 use Rattle.krb_words.specs.declared.sources.Source.TheVariants as source
@@ -42,7 +41,7 @@ use Rattle.krb_words.specs.declared.words.WordsFault.{WordsFault}
 use Rattle.krb_words.specs.declared.words.WordsFault.TheVariants as words_fault
 use Rattle.krb_host.specs.Around.{Around}
 use Rattle.krb_host.specs.Expanded.{Expands}
-use Rattle.krbls.specs.Commands.{Does, TellsSaid, chosen, decoding_of, hint_by, hint_text_by}
+use Rattle.krbls.specs.Commands.{Does, TellsSaid, chosen, decoding_of, hint_by}
 
 -- the name of a source, as it was given
 abbrev pub name_of : Source → List ℕ
@@ -67,12 +66,12 @@ IsUnread (Err (fault.Write error)) = ⊥
 IsUnread (Err fault.Memory) = Unit {0}
 
 -- a hint for a source is told, if there is one; it gives the command as it was given, and the name as a word of a shell
-abbrev pub IsHinted : Around → Source → (given : Command) → Option Hint → Type 0
+abbrev pub IsHinted : Around → Source → (given : Option (List ℕ)) → Option Hint → Type 0
 IsHinted around s given None = Unit {0}
-IsHinted around s given (Some hint) = around.IsHintTold s (hint_text_by given hint (shell_word (name_of s)))
+IsHinted around s given (Some hint) = around.IsHintTold s (hint_text hint given (shell_word (name_of s)))
 
--- a hint for a source is told if its run is refused at once: the first record of its listing is that of a refusal
-abbrev pub Hints : Around → Source → (given : Command) → Option Hint → RunEnd → Type 0
+-- a hint for a source is told if its run is refused at once: the first record of its listing is that of a refusal, by `items` the last
+abbrev pub Hints : Around → Source → (given : Option (List ℕ)) → Option Hint → RunEnd → Type 0
 Hints around s given hint run.Clean = Unit {0}
 Hints around s given hint run.Refused = Unit {0}
 Hints around s given hint run.RefusedAtOnce = IsHinted around s given hint
@@ -83,7 +82,7 @@ pub record ListsBy (around : Around) (label : Label) (now : Option ℕ) (command
   pub result : Outcome
   pub does : Does (around.IsEndTold s) label now used had left written_before written_after result
   pub ends : (outcome ≡ result) ⊎ (outcome ≡ Err fault.Memory)
-  pub hinted : IfOk outcome (Hints around s command (hint_by used first))
+  pub hinted : IfOk outcome (Hints around s (name_used command) (hint_by used first))
 
 -- ---- a source that is decoded as its first octets say
 abbrev pub ended_of : Result InputEnd RunFault → Outcome
@@ -98,7 +97,7 @@ pub record DecodesSpelled (around : Around) (command : Command) (profile : Profi
   pub failed : OnErr result (FailsToDecodeInput profile had left written_before written_after)
   pub told : IfOk result (λ end. TellsSaid (around.IsEndTold s) end.said.items)
   pub ends : (outcome ≡ ended_of result) ⊎ (outcome ≡ Err fault.Memory)
-  pub hinted : IfOk outcome (Hints around s command (hint_for kind.Message first))
+  pub hinted : IfOk outcome (Hints around s (name_used command) (hint_for kind.Message first))
 
 -- Of a keytab, which has no messages, that is told, and which command lists it.
 pub record TellsKeytab (around : Around) (s : Source) (written_before written_after : Option (List ℕ)) (outcome : Outcome) : Type 0 where
@@ -158,17 +157,13 @@ labels_of command_line = labels_by command_line.naming command_line.sources.item
 abbrev pub names_for : CommandLine → ℕ → Named
 names_for command_line count = if is_conversion command_line.command then unnamed else names_of (labels_of command_line) command_line.form count
 
--- what a name is, of a command that takes the names of caches, if it is that of a cache that is no file
-abbrev pub other_named : Command → (name : List ℕ) → Option (List ℕ)
-other_named command name = if names_caches command then other_cache name else None
-
 abbrev pub IsTold : Around → Source → Option (List ℕ) → Type 0
 IsTold around s None = Unit {0}
 IsTold around s (Some text) = around.IsHintTold s text
 
--- The fault by which the run over a source ended is told; and of a cache that is no file, and so cannot be opened, what it is.
+-- The fault by which the run over a source ended is told; and of a name that could not be opened, what it is.
 abbrev pub IsFaultReported : Around → Command → Source → RunFault → Type 0
-IsFaultReported around command s (fault.Read error) = around.IsFaultTold s (fault.Read error) × IsTold around s (other_named command (name_of s))
+IsFaultReported around command s (fault.Read error) = around.IsFaultTold s (fault.Read error) × IsTold around s (said_unopened command (name_of s))
 IsFaultReported around command s (fault.Write error) = around.IsFaultTold s (fault.Write error)
 IsFaultReported around command s fault.Memory = around.IsFaultTold s fault.Memory
 

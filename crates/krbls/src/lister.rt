@@ -1,24 +1,27 @@
 //! The runs over sources.
 
 ghost use Rattle.std.specs.Prelude.{◌≡◌, IfErr, IfOk, OnOk, string_bytes};
+ghost use Rattle.std.specs.Option.{option_and_then};
 ghost use Rattle.krb_run.specs.Begun.{begun_remaining, first_of};
 ghost use Rattle.krb_convert.specs.Encoding.{FailsToEncode};
 ghost use Rattle.krb_words.specs.Shell.{shell_word};
+ghost use Rattle.krb_words.specs.Tasks.{name_used, said_unopened};
 ghost use Rattle.krb_convert.specs.Conversions.{DecodesBy, EncodesBy, FailsToDecodeBy, is_framed};
 ghost use Rattle.krb_convert.specs.Ends.{decode_end_line, decode_run_end, encode_end_line, encode_run_end};
-ghost use Rattle.krbls.specs.Commands.{Does, FailsToTurn, TellsSaid, Turns, chosen, hint_by, hint_text_by, kind_read};
-ghost use Rattle.krbls.specs.Program.{DoesFrom, IsFaultReported, IsHinted, IsTold, ListsBy, name_of, other_named};
+ghost use Rattle.krb_input.specs.Hints.{hint_for};
+ghost use Rattle.krbls.specs.Commands.{Does, FailsToTurn, TellsSaid, Turns, chosen, fitting as fitting_hint, hint_by, kind_read, unless_http as hint_unless_http};
+ghost use Rattle.krbls.specs.Program.{DoesFrom, IsFaultReported, IsHinted, IsTold, ListsBy, name_of};
 
 use krb_capture_run::run_capture;
 use krb_convert::{decode, encode, put_decode_end, put_encode_end};
-use krb_decode::decode_hint_text;
 use krb_file_run::{run_ccache_in, run_keytab_in};
 use krb_host::Host;
 use krb_input::{Hint, SourceKind, hint_of, kind_of};
+use krb_items_run::run_items_in;
 use krb_record::{Label, TextBuffer};
 use krb_run::{Begun, ListSource, RunEnd, RunFault};
 use krb_tool::{Limit, Profile, run_lines_in, run_message_in, run_stream_in};
-use krb_words::{AfterRefusal, Command, Framing, Inputs, ShellWord, Source, other_cache};
+use krb_words::{AfterRefusal, Command, Framing, Inputs, ShellWord, Source};
 use std::alloc::{AllocError, Global};
 use std::io::{Read, Write};
 
@@ -58,6 +61,7 @@ impl<H: Host> Lister<'_, H> {
             Command::Message(profile, Inputs::EachLine) => {
                 run_lines_in(alloc, label, *profile, reader, writer)
             }
+            Command::Items(profile) => run_items_in(alloc, label, *profile, reader, writer),
             Command::Keytab => run_keytab_in(alloc, label, reader, writer),
             Command::Ccache(_) => run_ccache_in(alloc, label, reader, writer, self.time),
             Command::Capture(limit, profile, port) => {
@@ -136,42 +140,53 @@ fn kind_read(command: &Command) -> Option<SourceKind>
     }
 }
 
-/// Returns the hint for a source that begins with these octets and is read by a command.
-fn hint_by(command: &Command, first: &[u8]) -> Option<Hint>
-    ensures { result ≡ hint_by command.now first.now }
+/// Returns a hint, unless it is for HTTP.
+fn unless_http(hint: Option<Hint>) -> Option<Hint>
+    ensures { result ≡ hint_unless_http hint }
 {
-    match kind_read(command) {
+    match hint {
+        Some(Hint::Http) => None,
+        _ => hint,
+    }
+}
+
+/// Returns a hint, if it is one for a command: for HTTP lines are read, as `items` does not.
+fn fitting(command: &Command, hint: Option<Hint>) -> Option<Hint>
+    ensures { result ≡ fitting_hint command.now hint }
+{
+    match command {
+        Command::Items(_) => unless_http(hint),
+        _ => hint,
+    }
+}
+
+/// Returns the hint for a source that begins with these octets, if it was to be of a kind.
+fn hint_by_kind(kind: Option<SourceKind>, first: &[u8]) -> Option<Hint>
+    ensures { result ≡ option_and_then (λ kind. hint_for kind first.now) kind }
+{
+    match kind {
         Some(kind) => hint_of(kind, first),
         None => None,
     }
 }
 
-/// Returns what a hint says of a file, whose name is written as a user has to write it, where a
-/// command was given.
-fn hint_text_by(
-    alloc: Global,
-    command: &Command,
-    hint: Hint,
-    file: &str,
-) -> Result<String, AllocError>
-    ensures { IfOk result (λ text. string_bytes text ≡ hint_text_by command.now hint file.now) }
+/// Returns the hint for a source that begins with these octets and is read by a command.
+fn hint_by(command: &Command, first: &[u8]) -> Option<Hint>
+    ensures { result ≡ hint_by command.now first.now }
 {
-    match command {
-        Command::Decode(..) => decode_hint_text(alloc, hint, file),
-        _ => hint.text(alloc, command.kind(), file),
-    }
+    fitting(command, hint_by_kind(kind_read(command), first))
 }
 
 impl<H: Host> Lister<'_, H> {
     /// Tells what a source is, if that is known.
     pub(crate) fn tell_hint(&self, source: &Source, hint: Option<Hint>) -> Result<(), AllocError>
-        ensures { OnOk result (IsHinted (H.around self.now.host.now) source.now self.now.command.now hint) }
+        ensures { OnOk result (IsHinted (H.around self.now.host.now) source.now (name_used self.now.command.now) hint) }
     {
         let Some(hint) = hint else {
             return Ok(());
         };
         let name = name_word(self.alloc, source)?;
-        let text = hint_text_by(self.alloc, self.command, hint, name.as_str())?;
+        let text = hint.text(self.alloc, self.command.name(), name.as_str())?;
         self.host.tell_hint(source, text.as_str());
         Ok(())
     }
@@ -217,15 +232,12 @@ impl<H: Host> Lister<'_, H> {
 }
 
 impl<H: Host> Lister<'_, H> {
-    /// Tells how to get a file of a credential cache that is none, if the command reads caches and the
-    /// name of a source is that of such a cache.
-    fn tell_other_cache(&self, source: &Source)
-        ensures { IsTold (H.around self.now.host.now) source.now (other_named self.now.command.now (name_of source.now)) }
+    /// Tells what the name of a source that could not be opened is, if it is that of a command or of a
+    /// credential cache that is no file.
+    fn tell_unopened(&self, source: &Source)
+        ensures { IsTold (H.around self.now.host.now) source.now (said_unopened self.now.command.now (name_of source.now)) }
     {
-        if !self.command.names_caches() {
-            return;
-        }
-        if let Some(text) = other_cache(octets_name(source)) {
+        if let Some(text) = self.command.said_unopened(octets_name(source)) {
             self.host.tell_hint(source, text);
         }
     }
@@ -277,7 +289,7 @@ impl<H: Host> ListSource<Source> for Lister<'_, H> {
     fn report(&self, source: &Source, fault: &RunFault) {
         self.host.tell_fault(source, fault);
         if matches!(fault, RunFault::Read(_)) {
-            self.tell_other_cache(source);
+            self.tell_unopened(source);
         }
     }
 }

@@ -28,6 +28,7 @@ from .files import ccache, keytab
 from .frames import stream, stream_going_on
 from .grammar import MESSAGES, STRICT_MESSAGES
 from .hints import command_for
+from .items import items
 from .messages import lines, message
 from .records import file, json_line, line, named_line
 
@@ -40,6 +41,8 @@ RECORDS = {
     "message --strict": partial(message, messages=STRICT_MESSAGES),
     "message --lines": lines,
     "message --lines --strict": partial(lines, messages=STRICT_MESSAGES),
+    "items": items,
+    "items --strict": partial(items, messages=STRICT_MESSAGES),
     "keytab": keytab,
     "ccache": ccache,
     "capture": capture,

@@ -69,9 +69,12 @@ def is_text(octets):
 def hint(octets, used, given, name):
     """What is said of a source that is refused at once, by its first octets; or None.
 
-    A command was used, which is the one that was given unless that is `list`.
+    A command was used, which is the one that was given unless that is `list`. For `items` it is as for `message`, but that of HTTP
+    reads lines, as `items` does not.
     """
     first = octets[:FIRST]
+    if used == "items":
+        return None if first.startswith(HTTP) else hint(octets, "message", given, name)
     token = said_of_token(first)
     if token is not None:
         return token

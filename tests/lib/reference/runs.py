@@ -10,11 +10,16 @@ from .values import file_name
 
 COMMANDS = ("list", *dict.fromkeys(command.split()[0] for command in RECORDS))
 
+ALL_COMMANDS = (*COMMANDS, "decode", "encode")
+# What is said of a file that is not there and has the name of one of them, where none was given.
+COMMAND_FIRST = "a command comes before options: krbls COMMAND [OPTIONS] [FILE]..."
+
 # The options of each command, and those that have a value.
 COMMON = ("--names", "--json", "-H", "--with-filename", "--file")
 OPTIONS = {
     "stream": ("--limit", "--keep-going", "--strict"),
     "message": ("--lines", "--strict"),
+    "items": ("--strict",),
     "keytab": (),
     "ccache": ("--now",),
     "capture": ("--limit", "--port", "--strict"),
@@ -225,7 +230,9 @@ class Listing:
             self.lines.append(f"{shown(file(name), self.forms)}\n")
         if octets is None:
             self.fail(3, f"{said_of}: {source.why_unread or NO_FILE}")
-            if self.command in OF_DIRECTORIES:
+            if self.command == "list" and name.decode(errors="replace") in ALL_COMMANDS:
+                self.errors.append(f"krbls: {said_of}: {COMMAND_FIRST}\n")
+            elif self.command in OF_DIRECTORIES:
                 for prefix, said in OTHER_CACHES.items():
                     if name.startswith(prefix):
                         self.errors.append(f"krbls: {said_of}: {said}\n")
@@ -235,8 +242,10 @@ class Listing:
         named = [self.with_name(record, name) for record in found]
         self.lines += [f"{line}\n" for line in lines_of(named, self.forms)]
         self.status = max(self.status, status)
+        # What `items` lists before a refusal is of what `message` refuses at once.
+        is_refused = found[-1 if used == "items" else 0].kind == "refused"
         said = hint(octets, used, self.command, shell_word(name))
-        if found[0].kind == "refused" and said is not None:
+        if is_refused and said is not None:
             self.errors.append(f"krbls: {said_of}: {said}\n")
 
     def with_name(self, record, name):

@@ -14,7 +14,7 @@ use krb_file::FileFault;
 use krb_files::ccache::{CcacheFault, ccache_lines};
 use krb_files::keytab::{KeytabFault, keytab_lines};
 use krb_frame::{Decoder, Framed, Limit, Status};
-use krb_input::{Hint, InputFault, SourceKind, read_input};
+use krb_input::{Hint, InputFault, read_input};
 use krb_keytab::{Keytab, Record, Stop};
 use krb_list::{cache_end_line, cache_line, credential_line, keytab_end_line, record_line};
 use krb_msg::Message;
@@ -329,7 +329,7 @@ impl Text {
                 credential,
                 None,
             ),
-            (Text::Hint(hint), ..) => Ok(hint.text(alloc, Some(SourceKind::Capture), "x")?),
+            (Text::Hint(hint), ..) => Ok(hint.text(alloc, Some("capture"), "x")?),
             _ => Ok(String::new(alloc)),
         }
     }

@@ -8,14 +8,19 @@ use Rattle.krb_record.specs.declared.flow.Flow.{Flow}
 use Rattle.krb_record.specs.declared.told.Request.{Request}
 use Rattle.krb_exchange.specs.contracts.fingerprint.FingerprintOrd.TheImpl as fingerprint_order
 use Rattle.krb_exchange.specs.declared.fingerprint.Fingerprint.{Fingerprint}
+use Rattle.krb_exchange.specs.declared.flow_key.FlowKey.{FlowKey}
 use Rattle.krb_exchange.specs.declared.index.Index.{Index}
 use Rattle.krb_exchange.specs.declared.sending.Sending.{Sending}
 use Rattle.krb_exchange.specs.declared.window.Window.{Window}
-use Rattle.krb_exchange.specs.Happened.{flow_cmp, has_octets, is_open, is_open_request, is_syn, is_syn_of, latest_place, passes, same_kind}
-use Rattle.krb_exchange.specs.inner.Numbers.{has, same_key}
+use Rattle.krb_exchange.specs.Happened.{has_octets, is_open, is_open_request, is_syn, is_syn_of, latest_place, passes, same_kind}
+use Rattle.krb_exchange.specs.inner.Numbers.{flow_key, flow_key_cmp, has, same_key}
 
 abbrev pub fingerprint_cmp : Fingerprint → Fingerprint → Ordering
 fingerprint_cmp = fingerprint_order.ghosts.cmp
+
+-- whether a key is that of a flow
+abbrev pub is_of : Flow → FlowKey → Bool
+is_of flow key = is_at (flow_key_cmp (flow_key flow)) key
 
 -- the number of a place
 abbrev pub numbered : ℕ → Option ℕ → Option ℕ
@@ -43,7 +48,7 @@ open_syns_in (one ∷ others) = one_if (is_open_syn one) + open_syns_in others
 -- what an index says of sendings, of which the first has a number
 pub record Indexes (index : Index) (gone : ℕ) (sendings : List Sending) : Type 0 where
   pub requests : (octets : Fingerprint) → lookup (is_at (fingerprint_cmp octets)) index.requests.entries ≡ numbered gone (latest_place (with_octets octets) sendings)
-  pub syns : (flow : Flow) → lookup (is_at (flow_cmp flow)) index.syns.entries ≡ numbered gone (latest_place (is_syn_of flow) sendings)
+  pub syns : (flow : Flow) → lookup (is_of flow) index.syns.entries ≡ numbered gone (latest_place (is_syn_of flow) sendings)
   pub open_syns : index.open_syns ≡ open_syns_in sendings
   pub requests_open : (flow : Flow) (kind : Request) (number : ℕ) → has index.«open» flow kind number ≡ passes (is_open_request flow (same_kind kind)) (at_number gone sendings number)
 
@@ -62,7 +67,7 @@ pub record AddsRequest (old new : Index) (flow : Flow) (kind : Request) (octets 
 -- and a SYN, which is open
 pub record AddsSyn (old new : Index) (flow : Flow) (number : ℕ) : Type 0 where
   pub requests : new.requests.entries ≡ old.requests.entries
-  pub syns : (q : Flow) → lookup (is_at (flow_cmp q)) new.syns.entries ≡ cond (is_at (flow_cmp flow) q) (Some number) (lookup (is_at (flow_cmp q)) old.syns.entries)
+  pub syns : (q : Flow) → lookup (is_of q) new.syns.entries ≡ cond (is_of flow (flow_key q)) (Some number) (lookup (is_of q) old.syns.entries)
   pub open_syns : new.open_syns ≡ old.open_syns + 1
   pub requests_open : (f : Flow) (k : Request) (n : ℕ) → has new.«open» f k n ≡ has old.«open» f k n
 

@@ -1,13 +1,15 @@
 -- The numbers of sendings: how many came before each.
-use Rattle.std.specs.Prelude.{ℕ, ◌≡◌, ◌==◌, ◌+◌, ◌-◌, ◌<◌, ◌≤◌, ◌^◌, ◌&&◌, ◌||◌, nat_lt, Bool, true, false, if◌then◌else◌, List, length, Option, Some, None, slice_get, is_some}
-use Rattle.std.specs.Option.{option_map}
-use Rattle.std.specs.BTreeMap.{is_at}
+use Rattle.std.specs.Prelude.{ℕ, ◌≡◌, ◌==◌, ◌<◌, ◌^◌, ◌&&◌, ◌||◌, Bool, true, false, Option, Some, None, is_some}
+use Rattle.std.specs.BTreeMap.{get, is_at}
 use Rattle.std.specs.Map.{lookup}
+use Rattle.std.specs.Ordering.{is_gt, is_lt}
 use Rattle.std.specs.declared.cmp.Ordering.{Ordering}
 use Rattle.krb_record.specs.declared.flow.Flow.{Flow}
 use Rattle.krb_record.specs.declared.told.Request.{Request}
 use Rattle.krb_record.specs.declared.told.Request.TheVariants as requests
+use Rattle.krb_exchange.specs.contracts.flow_key.FlowKeyOrd.TheImpl as flow_key_order
 use Rattle.krb_exchange.specs.contracts.open.KeyOrd.TheImpl as key_order
+use Rattle.krb_exchange.specs.declared.flow_key.FlowKey.{FlowKey}
 use Rattle.krb_exchange.specs.declared.open.Key.{Key}
 use Rattle.krb_exchange.specs.declared.open.Open.{Open}
 use Rattle.krb_exchange.specs.Happened.{same_flow, same_kind}
@@ -21,12 +23,29 @@ abbrev pub IsLatest : (ℕ → Bool) → Option ℕ → Type 0
 IsLatest test None = (n : ℕ) → n < 2 ^ 64 → test n ≡ false
 IsLatest test (Some number) = (number < 2 ^ 64) × (test number ≡ true) × ((n : ℕ) → number < n → n < 2 ^ 64 → test n ≡ false)
 
--- ---- the open requests that are kept
+-- ---- by what flows and open requests are found
+abbrev pub flow_key_cmp : FlowKey → FlowKey → Ordering
+flow_key_cmp = flow_key_order.ghosts.cmp
+
+abbrev pub flow_key : Flow → FlowKey
+flow_key flow = record { port = flow.source.port; flow = flow }
+
 abbrev pub key_cmp : Key → Key → Ordering
 key_cmp = key_order.ghosts.cmp
 
 abbrev pub key_of : Flow → Request → ℕ → Key
-key_of flow kind number = record { flow = flow; request = kind; number = number }
+key_of flow kind number = record { flow = flow_key flow; request = kind; number = number }
+
+-- ---- the open requests that are kept
+-- the first key that is not less than one
+abbrev pub IsFirstFrom : Key → Open → Option Key → Type 0
+IsFirstFrom low kept None = (key : Key) → is_gt (key_cmp low key) ≡ false → get key_cmp kept.keys key ≡ None
+IsFirstFrom low kept (Some first) = (is_gt (key_cmp low first) ≡ false) × (is_some (get key_cmp kept.keys first) ≡ true) × ((key : Key) → is_gt (key_cmp low key) ≡ false → is_some (get key_cmp kept.keys key) ≡ true → is_gt (key_cmp first key) ≡ false)
+
+-- the last key that is not greater than one
+abbrev pub IsLastUpTo : Key → Open → Option Key → Type 0
+IsLastUpTo high kept None = (key : Key) → is_gt (key_cmp key high) ≡ false → get key_cmp kept.keys key ≡ None
+IsLastUpTo high kept (Some last) = (is_gt (key_cmp last high) ≡ false) × (is_some (get key_cmp kept.keys last) ≡ true) × ((key : Key) → is_gt (key_cmp key high) ≡ false → is_some (get key_cmp kept.keys key) ≡ true → is_lt (key_cmp last key) ≡ false)
 
 unfoldable pub has : Open → Flow → Request → ℕ → Bool
 has kept flow kind number = is_some (lookup (is_at (key_cmp (key_of flow kind number))) kept.keys.entries)

@@ -17,7 +17,7 @@ IsNoneOf [] name = Unit {0}
 IsNoneOf (first ∷ others) name = (name ≡ first → ⊥) × IsNoneOf others name
 
 abbrev pub commands : List Text
-commands = codes "list" ∷ codes "stream" ∷ codes "message" ∷ codes "keytab" ∷ codes "ccache" ∷ codes "capture" ∷ codes "decode" ∷ codes "encode" ∷ []
+commands = codes "list" ∷ codes "stream" ∷ codes "message" ∷ codes "items" ∷ codes "keytab" ∷ codes "ccache" ∷ codes "capture" ∷ codes "decode" ∷ codes "encode" ∷ []
 
 -- the name of a command that is none of the program's, or a command that is unfit
 abbrev pub IsNoJob : Text → List Row → Type 0

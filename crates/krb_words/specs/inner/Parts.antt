@@ -1,7 +1,7 @@
 -- What the commands of the program make of a command for `clap`.
 use Rattle.std.specs.Prelude.{List, [], ◌∷◌}
 use Rattle.clap.specs.Words.{App, Rule, new_app, with_rule, with_subcommand}
-use Rattle.krb_words.specs.Words.{now_option, limit_option, port_option, keep_going_flag, strict_flag, lines_flag, unframed_flag, names_flag, json_flag, with_filename_flag, file_option, file_names, list_app, stream_app, message_app, keytab_app, ccache_app, capture_app, decode_app, encode_app}
+use Rattle.krb_words.specs.Words.{now_option, limit_option, port_option, keep_going_flag, strict_flag, lines_flag, unframed_flag, names_flag, json_flag, with_filename_flag, file_option, file_names, list_app, stream_app, message_app, items_app, keytab_app, ccache_app, capture_app, decode_app, encode_app}
 use Rattle.krb_words.specs.declared.commands.Parameter.{Parameter}
 use Rattle.krb_words.specs.declared.commands.Parameter.TheVariants as parameter
 use Rattle.krb_words.specs.declared.commands.Part.{Part}
@@ -35,4 +35,4 @@ with_apps whole [] = whole
 with_apps whole (app ∷ apps) = with_apps (with_subcommand whole app.top) apps
 
 abbrev pub apps : List App
-apps = list_app ∷ stream_app ∷ message_app ∷ keytab_app ∷ ccache_app ∷ capture_app ∷ decode_app ∷ encode_app ∷ []
+apps = list_app ∷ stream_app ∷ message_app ∷ items_app ∷ keytab_app ∷ ccache_app ∷ capture_app ∷ decode_app ∷ encode_app ∷ []

@@ -1,11 +1,23 @@
-use Rattle.krb_exchange.proofs.Keys.{bounded, first-in, forward, none-in}
+use Rattle.std.proofs.Common.{None, Some, sym, ◌∙◌, ap, subst}
+use Rattle.std.specs.Ordering.{is_gt}
+use Rattle.krb_exchange.specs.inner.Numbers.{IsFirst, IsFirstFrom, has, key_cmp, key_of}
+use Rattle.krb_exchange.proofs.Keys.{first-none, first-past, first-some, le-not_gt, not_le-gt}
 use Rattle.krb_exchange.proofs.open.Open.first_of.Goals as goal
 
-pub range-requires : goal.range-requires
-range-requires c = forward c.args.flow c.args.request c.new-low.result c.new-high.result c.new-low.ensures c.new-high.ensures
+pub returns-in_err-first : goal.returns-in_err-first
+returns-in_err-first c =
+    let kept = c.args.self.now in
+    let first : IsFirstFrom (key_of c.args.flow c.args.request 0) kept None = subst (λ low. IsFirstFrom low kept None) c.new.ensures c.in_err-first.ensures in
+    subst (λ number. IsFirst (has kept c.args.flow c.args.request) number) (sym c.from_residual.ensures) (first-none kept c.args.flow c.args.request first)
 
-pub returns-in-Some : goal.returns-in-Some
-returns-in-Some c = first-in c.args.self.now c.args.flow c.args.request c.range.result (bounded c.args.self.now c.args.flow c.args.request c.new-low.result c.new-high.result c.range.result c.new-low.ensures c.new-high.ensures (c.range.ensures.in_range tt)) (c.in-Some.key.now, c.in-Some.field-0-1.now) c.next.new.self c.in-Some.ensures.steps
+pub returns-then-is_le : goal.returns-then-is_le
+returns-then-is_le c =
+    let kept = c.args.self.now in
+    let first : IsFirstFrom (key_of c.args.flow c.args.request 0) kept (Some c.in_ok-first.first) = subst (λ low. IsFirstFrom low kept (Some c.in_ok-first.first)) c.new.ensures c.in_ok-first.ensures in
+    first-some kept c.args.flow c.args.request c.in_ok-first.first first (ap (λ high. is_gt (key_cmp c.in_ok-first.first high)) (sym c.new-high.ensures) ∙ ap is_gt (sym c.cmp.ensures) ∙ le-not_gt c.cmp.result (sym c.is_le.ensures ∙ c.if-is_le.true))
 
-pub returns-in-None : goal.returns-in-None
-returns-in-None c = none-in c.args.self.now c.args.flow c.args.request c.range.result (bounded c.args.self.now c.args.flow c.args.request c.new-low.result c.new-high.result c.range.result c.new-low.ensures c.new-high.ensures (c.range.ensures.in_range tt)) c.in-None.ensures.steps.0
+pub returns-else-is_le : goal.returns-else-is_le
+returns-else-is_le c =
+    let kept = c.args.self.now in
+    let first : IsFirstFrom (key_of c.args.flow c.args.request 0) kept (Some c.in_ok-first.first) = subst (λ low. IsFirstFrom low kept (Some c.in_ok-first.first)) c.new.ensures c.in_ok-first.ensures in
+    first-past kept c.args.flow c.args.request c.in_ok-first.first first (ap (λ high. is_gt (key_cmp c.in_ok-first.first high)) (sym c.new-high.ensures) ∙ ap is_gt (sym c.cmp.ensures) ∙ not_le-gt c.cmp.result (sym c.is_le.ensures ∙ c.if-is_le.false))

@@ -1,4 +1,4 @@
-use Rattle.std.proofs.Common.{◌≡◌, ℕ, ◌+◌, ◌<◌, ◌^◌, arith, List, length, Result, Ok, Err, OnErr, ap, sym, subst}
+use Rattle.std.proofs.Common.{◌≡◌, ◌+◌, ◌<◌, ◌^◌, arith, List, length, Result, Ok, Err, OnErr, ap, sym, subst}
 use Rattle.krb_exchange.specs.declared.sending.Sending.{Sending}
 use Rattle.krb_exchange.specs.declared.window.Window.{Window}
 use Rattle.krb_exchange.specs.inner.Indexes.{Indexes}

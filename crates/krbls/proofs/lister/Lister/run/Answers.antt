@@ -15,3 +15,6 @@ returns-in-Decode g c = of_job _ _ _ _ _ _ _ _ _ _ c.in-Decode.is (c.run_decode.
 
 pub returns-in-Encode : goal.returns-in-Encode
 returns-in-Encode g c = of_job _ _ _ _ _ _ _ _ _ _ c.in-Encode.is (c.run_encode.ensures.turned, c.run_encode.ensures.fault)
+
+pub returns-in-Items : goal.returns-in-Items
+returns-in-Items g c = of_job _ _ _ _ _ _ _ _ _ _ c.in-Items.is (c.run_items_in.ensures.listed, c.run_items_in.ensures.fault)

@@ -1,0 +1,4 @@
+pub mod Labels
+pub mod Listings
+pub mod Lists
+pub mod Walks

@@ -1,0 +1,103 @@
+use Rattle.std.proofs.Common.{◌≡◌, ◌+◌, ◌-◌, ℕ, List, Option, length, take, drop, map, sym, ap, ◌∙◌, arith, length-drop}
+use Rattle.std.specs.Option.{option_map}
+use denote.Ref.{Bor}
+use Rattle.std.proofs.lemmas.Result.{IfOk-weaker}
+use Rattle.krb_items.specs.Heads.{Begun, headed}
+use Rattle.krb_items.specs.Items.{Here, field_items, here_at, item_items}
+use Rattle.krb_items.specs.Names.{element_path}
+use Rattle.krb_items.specs.Seen.{begun_of, context_of, headed_of, here_of}
+use Rattle.krb_items.specs.Shapes.{field_of, type_of}
+use Rattle.krb_items.proofs.Walks.{element-bound, element-cut, element-none, element-then, fields-cut, fields-then, item-goes, listed-cut, listed-so, lists-same}
+use Rattle.krb_items.proofs.listing.Source.+items.Goals as goal
+use Rattle.krb_items.proofs.listing.Source.+items.Goals.{elements-then-elements-test+else-begin_as, elements-else-elements-test, fields-in-Cut, fields-in-Whole}
+
+-- the path of an item
+own-at : (own : Here) (name text path here : List ℕ) (place depth : ℕ) (in_path : List ℕ → List ℕ) → own ≡ here_at name place depth → name ≡ text → text ≡ in_path path → here ≡ path → own ≡ here_at (in_path here) place depth
+own-at own name text path here place depth in_path is named made-is same = is ∙ ap (λ (n : List ℕ). here_at n place depth) (named ∙ made-is ∙ ap in_path (sym same))
+
+pub elements-returns-in_default : goal.elements-returns-in_default
+elements-returns-in_default t c =
+    let size = length c.args.contents.octets.now in
+    let next = here_of c.elements.next in
+    c.elements.invariant.4 c.item.new.out _
+    (element-cut (context_of c.args.self) (item_items c.args.levels c.args.self.limit) (type_of c.args.of) (size - c.elements.index) (size - (c.elements.index + 1)) c.elements.index next (here_of c.named-own.result) c.elements.rest.room c.elements.rest.octets.now c.elements.out c.item.new.out c.in_ok-item.field-0
+    (omega arith)
+    (sym c.begin_as.ensures ∙ c.if-begin_as.true)
+    (own-at (here_of c.named-own.result) _ _ c.args.here.name.now next.name next.place next.depth (λ path. element_path path c.elements.index) c.named-own.ensures c.as_str.ensures.value c.in_ok-name.ensures c.elements.invariant.2)
+    c.in_ok-item.ensures
+    c.in_default.is)
+
+pub elements-elements-preserved : goal.elements-elements-preserved
+elements-elements-preserved t c =
+    let size = length c.args.contents.octets.now in
+    let next = here_of c.elements.next in (
+      omega (arith, ap (λ (h : Here). h.place) c.after-next.ensures, ap length c.after-rest.ensures.octets, length-drop c.count_of-count.result c.elements.rest.octets.now),
+      ap (λ (h : Here). h.depth) c.after-next.ensures ∙ c.elements.invariant.1,
+      ap (λ (h : Here). h.name) c.after-next.ensures ∙ c.elements.invariant.2,
+      omega arith,
+      λ new end listed. c.elements.invariant.4 new end
+          (element-then (context_of c.args.self) (item_items c.args.levels c.args.self.limit) (type_of c.args.of) (size - c.elements.index) (size - (c.elements.index + 1)) c.elements.index c.count_of-count.result next (here_of c.named-own.result) (here_of c.after-next.result) c.elements.rest.room c.after-rest.result.room c.elements.rest.octets.now c.after-rest.result.octets.now c.elements.out c.item.new.out new c.in_ok-item.field-0 end
+          (omega arith)
+          (sym c.begin_as.ensures ∙ c.if-begin_as.true)
+          (own-at (here_of c.named-own.result) _ _ c.args.here.name.now next.name next.place next.depth (λ path. element_path path c.elements.index) c.named-own.ensures c.as_str.ensures.value c.in_ok-name.ensures c.elements.invariant.2)
+          c.in_ok-item.ensures
+          c.in-Whole.is
+          c.count_of-count.ensures.count
+          c.after-next.ensures
+          c.after-rest.ensures.room
+          c.after-rest.ensures.octets
+          listed),
+    )
+
+pub elements-returns : goal.elements-returns
+elements-returns t c =
+    let item = item_items c.args.levels c.args.self.limit in
+    let left = length c.args.contents.octets.now - c.elements.index in
+    elim c.elements-test.branch [
+      | elements-then-elements-test+else-begin_as w ↦ IfOk-weaker c.ended.result _ _
+          (λ end listed. c.elements.invariant.4 c.ended.new.out end
+          (lists-same (context_of c.args.self) _ _ c.elements.out c.ended.new.out end (element-none item (type_of c.args.of) left c.elements.index (here_of c.elements.next) c.elements.rest.room c.elements.rest.octets.now (sym w.begin_as.ensures ∙ w.if-begin_as.false)) listed))
+          c.ended.ensures
+      | elements-else-elements-test w ↦ IfOk-weaker c.ended.result _ _
+          (λ end listed. c.elements.invariant.4 c.ended.new.out end
+          (lists-same (context_of c.args.self) _ _ c.elements.out c.ended.new.out end (element-bound item (type_of c.args.of) left c.elements.index (here_of c.elements.next) c.elements.rest.room c.elements.rest.octets.now (omega arith)) listed))
+          c.ended.ensures
+    ]
+
+pub fields-returns-then-begin_as : goal.fields-returns-then-begin_as
+fields-returns-then-begin_as t c =
+    let item = item_items c.args.levels c.args.self.limit in
+    let here = here_of c.args.here in
+    elim c.match-branch-3.branch [
+      | fields-in-Cut w ↦ listed-cut (context_of c.args.self) _ c.args.out.now c.item.new.out c.match-branch-3.out c.match-branch-3.result w.out-is w.result-is
+          (fields-cut (context_of c.args.self) item c.args.fields.now _ here (here_of c.named-own.result) c.args.rest.room c.args.rest.octets.now c.args.out.now c.item.new.out c.in_ok-item.field-0
+          c.in-len1-up.len_at_least
+          (sym c.begin_as.ensures ∙ c.if-begin_as.true)
+          (c.named-own.ensures ∙ ap (λ (n : List ℕ). here_at n here.place here.depth) (c.as_str.ensures.value ∙ c.in_ok-name.ensures))
+          c.in_ok-item.ensures
+          w.in-Cut.is)
+      | fields-in-Whole w ↦ listed-so (context_of c.args.self) (field_items item (here_of w.after.result) (map field_of (take (length c.args.fields.now - 1) (drop 1 c.args.fields.now))) w.after-in-Whole.result.room w.after-in-Whole.result.octets.now) _ c.args.out.now c.item.new.out w.fields.new.out c.match-branch-3.out w.fields.result c.match-branch-3.result w.out-is w.result-is w.fields.ensures
+          (λ end listed. fields-then (context_of c.args.self) item c.args.fields.now _ w.count_of-count.result here (here_of c.named-own.result) (here_of w.after.result) c.args.rest.room w.after-in-Whole.result.room c.args.rest.octets.now w.after-in-Whole.result.octets.now c.args.out.now c.item.new.out w.fields.new.out c.in_ok-item.field-0 end
+          c.in-len1-up.len_at_least
+          (sym c.begin_as.ensures ∙ c.if-begin_as.true)
+          (c.named-own.ensures ∙ ap (λ (n : List ℕ). here_at n here.place here.depth) (c.as_str.ensures.value ∙ c.in_ok-name.ensures))
+          c.in_ok-item.ensures
+          w.in-Whole.is
+          w.count_of-count.ensures.count
+          w.after.ensures
+          w.after-in-Whole.ensures.room
+          w.after-in-Whole.ensures.octets
+          listed)
+    ]
+
+pub item-contents-requires : goal.item-contents-requires
+item-contents-requires t c = (omega arith, (c.in_ok-read.ensures.near, (omega (arith, rw c.in-Some.is at c.in_ok-read.ensures.within), omega (arith, c.in_ok-read.ensures.depth, c.new-begun.ensures.depth))))
+
+pub item-returns : goal.item-returns
+item-returns t c = IfOk-weaker c.contents.result _ _
+    (λ end listed. item-goes (context_of c.args.self) c.args.levels (c.args.levels - 1) c.args.self.limit (here_of c.args.here) (type_of c.args.of) c.args.octets.now c.in-Some.contents.now (begun_of c.read.new.self) c.args.out.now c.contents.new.out end
+    (omega arith)
+    (ap (λ (b : Begun). headed c.args.self.limit b c.args.of.tags.now c.args.octets.now) (sym c.new-begun.ensures.begun) ∙ c.in_ok-read.ensures.headed
+    ∙ ap (λ (o : Option (Bor (List ℕ))). headed_of c.read.new.self (option_map (λ contents. contents.now) o)) c.in-Some.is)
+    listed)
+    c.contents.ensures

@@ -1,0 +1,8 @@
+use Rattle.std.proofs.Common.{◌≡◌, ◌++◌, codes, take}
+use Rattle.std.specs.List.{flat_map}
+use Rattle.krb_items.specs.Records.{quoted}
+use Rattle.krb_items.proofs.words.put_quoted_others.Given as goal
+
+-- the commas and words so far
+abbrev pub invariant-loop-word : goal.invariant-loop-word
+invariant-loop-word g l = l.out ≡ l.initial.out ++ flat_map (λ word. codes "," ++ quoted (g.W.Word.text word)) (take l.word-index l.words)

@@ -1,0 +1,92 @@
+-- What is listed of octets, by what they are, and by what is refused of them.
+use Rattle.std.specs.Prelude.{ℕ, ◌+◌, ◌^◌, ◌<◌, ◌&&◌, ◌==◌, nat_le, Bool, true, false, if◌then◌else◌, List, [], length, take, drop, Option, Some, None}
+use Rattle.krb_der.specs.declared.verdict.Refusal.{Refusal}
+use Rattle.krb_der.specs.declared.why.Why.{Why}
+use Rattle.krb_der.specs.declared.why.Why.TheVariants as why
+use Rattle.krb_source.specs.declared.layer.Layer.{Layer}
+use Rattle.krb_record.specs.Forms.{last_text}
+use Rattle.krb_record.specs.Labels.{Label, begin_text, with_label}
+use Rattle.krb_record.specs.Values.{printed}
+use Rattle.krb_items.specs.Heads.{head_in}
+use Rattle.krb_items.specs.Items.{Items, frame_items, frame_size, message_items, ticket_items}
+use Rattle.krb_items.specs.Records.{Context, listed_items, listed_part}
+use Rattle.krb_items.specs.declared.head.Head.{Head}
+use Rattle.krb_items.specs.declared.listing.Listed.{Listed}
+use Rattle.krb_items.specs.declared.reaching.FirstHead.{FirstHead}
+use Rattle.krb_items.specs.declared.reaching.Lies.{Lies}
+use Rattle.krb_items.specs.declared.reaching.Lies.TheVariants as lies
+
+-- the items of octets, of which so many are right
+abbrev pub items_as : Lies → (limit : ℕ) → List ℕ → Items
+items_as lies.Alone limit octets = message_items limit 0 0 octets
+items_as lies.Ticket limit octets = ticket_items limit octets
+items_as lies.Framed limit octets = frame_items limit octets
+items_as (lies.Within place depth) limit octets = message_items limit place depth (drop place octets)
+
+-- the octets up to and with one that is refused
+abbrev pub seen : Option Refusal → List ℕ → List ℕ
+seen None octets = octets
+seen (Some refusal) octets = take (refusal.place + 1) octets
+
+-- how many of them are right: where something is missing, all, since nothing is wrong with the last
+abbrev pub before_fault : Why → ℕ → ℕ
+before_fault why.Missing place = place + 1
+before_fault reason place = place
+
+abbrev pub right : Option Refusal → List ℕ → ℕ
+right None octets = length octets
+right (Some refusal) octets = before_fault refusal.why refusal.place
+
+abbrev pub listing_of : Context → Items → Listed → Listed
+listing_of context items listed = listed_part context items.cut (listed_items context items.items listed)
+
+-- what the label of records adds at the end of an object
+abbrev pub last_members : Label → List ℕ
+last_members label = last_text label.form (with_label label (printed [] [])).last
+
+abbrev pub context_by : Label → List Layer → List ℕ → Option Refusal → Context
+context_by label layers octets fault = record { form = label.form; begin = begin_text label; last = last_members label; layers = layers; octets = octets; fault = fault }
+
+-- What is listed after a text, of what lies in layers: the items of octets, up to the one at fault if something is refused
+unfoldable pub reached : Label → List ℕ → List Layer → Lies → List ℕ → Option Refusal → Listed
+reached label text layers lies octets fault =
+    listing_of (context_by label layers (seen fault octets) fault)
+    (items_as lies (right fault octets) (seen fault octets))
+    (record { text = text; count = 0; shown = record { from = 0; hides = false } })
+
+abbrev pub IsShallow : Lies → Type 0
+IsShallow (lies.Within place depth) = depth < 2 ^ 31
+IsShallow lies.Alone = Unit {0}
+IsShallow lies.Ticket = Unit {0}
+IsShallow lies.Framed = Unit {0}
+
+-- ---- the first length
+-- how many octets the first head has, and how many there are by its length, with it
+abbrev pub announced_by : Option Head → Option FirstHead
+announced_by None = None
+announced_by (Some head) = Some (record { header = head.header; all = head.header + head.size })
+
+abbrev pub announced_frame : Option ℕ → Option FirstHead
+announced_frame None = None
+announced_frame (Some size) = Some (record { header = 4; all = 4 + size })
+
+abbrev pub announced : Lies → List ℕ → Option FirstHead
+announced lies.Alone octets = announced_by (head_in octets)
+announced lies.Ticket octets = announced_by (head_in octets)
+announced lies.Framed octets = announced_frame (frame_size octets)
+announced (lies.Within place depth) octets = None
+
+-- octets were cut, or more follows
+abbrev pub is_of_length : Why → Bool
+is_of_length why.Overrun = true
+is_of_length why.Loose = true
+is_of_length reason = false
+
+abbrev pub believed_by : Refusal → Option FirstHead → Option ℕ
+believed_by refusal None = None
+believed_by refusal (Some announced) =
+    if is_of_length refusal.why && (announced.header == refusal.place + 1) && nat_le announced.all 2147483647 then Some announced.all else None
+
+-- the number of octets by the first length, if what is refused is its last octet, since it is not that number
+abbrev pub believed : Lies → List ℕ → Refusal → Option ℕ
+believed lies octets refusal = believed_by refusal (announced lies octets)

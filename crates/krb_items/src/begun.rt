@@ -1,0 +1,136 @@
+//! An item as far as its heads are read.
+
+ghost use Rattle.std.specs.Prelude.{◌≡◌, ◌+◌, ◌≤◌, ◌<◌, ◌^◌, length, None, OnOk, IfOk, IfSome};
+ghost use Rattle.std.specs.Option.{option_map};
+ghost use Rattle.krb_items.specs.Heads.{begun_at, headed, size_of, with_head, with_unknown};
+ghost use Rattle.krb_items.specs.Records.{contents_place};
+ghost use Rattle.krb_items.specs.Seen.{IsNear, begun_of, headed_of};
+
+use crate::head::{begins, front, part, read_head};
+use crate::tag::Tag;
+use std::alloc::{AllocError, Global};
+
+/// An item as far as its heads are read.
+#[derive(Drop)]
+pub struct Begun<'a> {
+    /// The place of its first octet.
+    pub at: u64,
+    /// In how many items it is.
+    pub depth: u64,
+    /// The place of the octet after the heads.
+    pub next: u64,
+    /// The octets of each head.
+    pub heads: Vec<&'a [u8]>,
+    /// The tag of each head, of those whose tag is right.
+    pub tags: Vec<Tag>,
+    /// How many octets the last head says its contents are, if it is all there.
+    pub size: Option<u64>,
+}
+
+impl<'a> Begun<'a> {
+    /// Returns an item of which no head is read.
+    pub(crate) fn new(alloc: Global, at: u64, depth: u64) -> Begun<'a>
+        ensures begun { begun_of result ≡ begun_at at depth }
+        ensures next { result.next ≡ at }
+        ensures size { result.size ≡ None }
+        ensures depth { result.depth ≡ depth }
+    {
+        Begun {
+            at,
+            depth,
+            next: at,
+            heads: Vec::new(alloc),
+            tags: Vec::new(alloc),
+            size: None,
+        }
+    }
+
+    /// Adds a head whose tag is right.
+    pub(crate) fn add(
+        &mut self,
+        tag: Tag,
+        octets: &'a [u8],
+        size: Option<u64>,
+    ) -> Result<(), AllocError>
+        requires near { self.old.next + length octets.now < 2 ^ 40 }
+        requires small { IfSome size (λ size. size < 2 ^ 40) }
+        ensures head { OnOk result (begun_of self.new ≡ with_head (begun_of self.old) tag octets.now size) }
+        ensures near { OnOk result (IsNear self.new) }
+        ensures next { OnOk result (self.new.next ≡ self.old.next + length octets.now) }
+        ensures depth { OnOk result (self.new.depth ≡ self.old.depth) }
+    {
+        self.heads.push(octets)?;
+        self.tags.push(tag)?;
+        self.next += octets.len() as u64;
+        self.size = size;
+        Ok(())
+    }
+
+    /// Adds the octet that is there in place of a tag, if one is.
+    pub(crate) fn add_unknown(&mut self, octets: &'a [u8]) -> Result<(), AllocError>
+        requires { IsNear self.old }
+        ensures unknown { OnOk result (begun_of self.new ≡ with_unknown (begun_of self.old) octets.now) }
+        ensures near { OnOk result (IsNear self.new) }
+        ensures depth { OnOk result (self.new.depth ≡ self.old.depth) }
+    {
+        if octets.is_empty() {
+            return Ok(());
+        }
+        self.heads.push(front(octets, 1))?;
+        self.size = None;
+        Ok(())
+    }
+
+    /// Reads heads with these tags, of which the first octets up to a place are right, and returns the
+    /// contents that are there, if all of the heads are right.
+    pub(crate) fn read(
+        &mut self,
+        limit: u64,
+        tags: &[Tag],
+        octets: &'a [u8],
+    ) -> Result<Option<&'a [u8]>, AllocError>
+        requires near { self.old.next + length octets.now < 2 ^ 40 }
+        requires small { IfSome self.old.size (λ size. size < 2 ^ 40) }
+        ensures headed { IfOk result (λ contents. headed limit (begun_of self.old) tags.now octets.now ≡ headed_of self.new (option_map (λ contents. contents.now) contents)) }
+        ensures near { OnOk result (IsNear self.new) }
+        ensures within { IfOk result (λ contents. IfSome contents (λ contents. self.new.next + length contents.now ≤ self.old.next + length octets.now)) }
+        ensures depth { OnOk result (self.new.depth ≡ self.old.depth) }
+    {
+        let [tag, others @ ..] = tags else {
+            return Ok(Some(octets));
+        };
+        if !begins(octets, tag.octet()) {
+            self.add_unknown(octets)?;
+            return Ok(None);
+        }
+        let Some(head) = read_head(octets) else {
+            self.add(*tag, octets, None)?;
+            return Ok(None);
+        };
+        self.add(*tag, front(octets, head.header), Some(head.size))?;
+        if self.next > limit {
+            return Ok(None);
+        }
+        self.read(limit, others, part(octets, head.header, head.size))
+    }
+
+    /// Returns the place of the contents, if the last length is known.
+    pub(crate) fn contents_place(&self) -> Option<u64>
+        ensures { result ≡ contents_place (begun_of self.now) self.now.size }
+    {
+        match self.size {
+            None => None,
+            Some(_) => Some(self.next),
+        }
+    }
+
+    /// Returns how many octets the last head says its contents are.
+    pub(crate) fn count(&self) -> u64
+        ensures { result ≡ size_of self.now.size }
+    {
+        match self.size {
+            None => 0,
+            Some(size) => size,
+        }
+    }
+}

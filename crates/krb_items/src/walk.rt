@@ -1,0 +1,371 @@
+//! The items of octets, listed in order.
+
+ghost use Rattle.std.specs.Prelude.{◌≡◌, ◌+◌, ◌-◌, ◌^◌, ◌<◌, ◌≤◌, Some, drop, length, map, IfOk, string_bytes};
+ghost use Rattle.std.specs.Option.{option_copied};
+ghost use Rattle.krb_items.specs.Heads.{count_in};
+ghost use Rattle.krb_items.specs.Items.{begins_as, contents_items, element_items, ended, field_items, here_at, item_items, leaf_items, message_items, missing, most_levels, ticket_items, unknown};
+ghost use Rattle.krb_items.specs.Names.{element_path, field_path};
+ghost use Rattle.krb_items.specs.Records.{Lists};
+ghost use Rattle.krb_items.specs.Seen.{IsNear, begun_of, context_of, cut_of, here_of};
+ghost use Rattle.krb_items.specs.Shapes.{field_of, type_of};
+
+use crate::begun::Begun;
+use crate::head::{begins, count_of, from};
+use crate::listing::{End, Item, Listed, Source};
+use crate::shape::{Field, ItemType, Leaf, Shape, message_type, ticket_type};
+use crate::tag::Tag;
+use itoa::Buffer;
+use krb_msg::Kind;
+use std::alloc::{AllocError, Global};
+
+/// How deep the items of a message nest at most.
+const LEVELS: u8 = 16;
+
+/// What the items that are left of a container have in common.
+#[derive(Clone, Copy)]
+pub struct Here<'n> {
+    /// Its path.
+    pub name: &'n str,
+    /// Where they begin.
+    pub place: u64,
+    /// In how many items they are.
+    pub depth: u64,
+}
+
+/// What is left of a container.
+#[derive(Clone, Copy)]
+struct Rest<'a> {
+    /// How many octets it may have.
+    room: u64,
+    /// Those that are there.
+    octets: &'a [u8],
+}
+
+impl<'a> Source<'a> {
+    /// Lists what is at fault.
+    pub(crate) fn cut(
+        self,
+        out: &mut Listed,
+        name: Option<&str>,
+        begun: &Begun<'a>,
+        counted: bool,
+    ) -> Result<End, AllocError>
+        requires { IsNear begun.now }
+        ensures { IfOk result (Lists (context_of self.entry) (cut_of (option_copied name.entry) begun.now counted) out.old out.new) }
+    {
+        self.list_fault(out, name, begun, counted)?;
+        Ok(End::Cut)
+    }
+
+    /// Lists that octets begin none of the items that may be there.
+    fn unknown(
+        self,
+        out: &mut Listed,
+        name: Option<&str>,
+        place: u64,
+        depth: u64,
+        octets: &'a [u8],
+    ) -> Result<End, AllocError>
+        requires { place < 2 ^ 40 }
+        ensures { IfOk result (Lists (context_of self.entry) (unknown (option_copied name.entry) place depth octets.now) out.old out.new) }
+    {
+        let mut begun = Begun::new(self.alloc, place, depth);
+        begun.add_unknown(octets)?;
+        self.cut(out, name, &begun, false)
+    }
+
+    /// Ends a container: if it has room for more, what is there is no item of it.
+    fn ended(self, out: &mut Listed, here: Here<'_>, rest: Rest<'a>) -> Result<End, AllocError>
+        requires { here.place < 2 ^ 40 }
+        ensures { IfOk result (Lists (context_of self.entry) (ended (here_of here.entry) rest.entry.room rest.entry.octets.now) out.old out.new) }
+    {
+        if rest.room == 0 {
+            return Ok(End::Whole);
+        }
+        self.unknown(out, Some(here.name), here.place, here.depth, rest.octets)
+    }
+
+    /// Lists that a field is missing.
+    fn missing(self, out: &mut Listed, here: Here<'_>, name: &str) -> Result<End, AllocError>
+        requires { here.place < 2 ^ 40 }
+        ensures { IfOk result (Lists (context_of self.entry) (missing (here_of here.entry) name.now) out.old out.new) }
+    {
+        let path = field_name(self.alloc, here.name, name)?;
+        let begun = Begun::new(self.alloc, here.place, here.depth);
+        self.cut(out, Some(path.as_str()), &begun, false)
+    }
+
+    /// Lists an item that holds none.
+    fn leaf(
+        self,
+        out: &mut Listed,
+        name: &str,
+        begun: &Begun<'a>,
+        leaf: Leaf,
+        octets: &'a [u8],
+    ) -> Result<End, AllocError>
+        requires { IsNear begun.now }
+        ensures { IfOk result (Lists (context_of self.entry) (leaf_items self.entry.limit name.now (begun_of begun.now) leaf octets.now) out.old out.new) }
+    {
+        if begun.next + begun.count() > self.limit {
+            return self.cut(out, Some(name), begun, leaf.is_counted());
+        }
+        let shown = Some((leaf, octets));
+        self.list(out, Item { name, begun, shown })?;
+        Ok(End::Whole)
+    }
+
+    /// Lists an item of a type and what is in it.
+    #[cycle(items)]
+    fn item(
+        self,
+        out: &mut Listed,
+        levels: u8,
+        here: Here<'_>,
+        of: ItemType,
+        octets: &'a [u8],
+    ) -> Result<End, AllocError>
+        requires near { here.place + length octets.now < 2 ^ 40 }
+        requires shallow { here.depth + levels < 2 ^ 32 }
+        ensures { IfOk result (Lists (context_of self.entry) (item_items levels self.entry.limit (here_of here.entry) (type_of of) octets.now) out.old out.new) }
+    {
+        if levels == 0 {
+            return Ok(End::Whole);
+        }
+        let mut begun = Begun::new(self.alloc, here.place, here.depth);
+        match begun.read(self.limit, of.tags, octets)? {
+            None => self.cut(out, Some(here.name), &begun, false),
+            Some(contents) => {
+                self.contents(out, levels - 1, here.name, of.shape, &begun, contents)
+            }
+        }
+    }
+
+    /// Lists an item whose heads are right, and what is in it.
+    #[cycle(items)]
+    fn contents(
+        self,
+        out: &mut Listed,
+        levels: u8,
+        name: &str,
+        shape: Shape,
+        begun: &Begun<'a>,
+        octets: &'a [u8],
+    ) -> Result<End, AllocError>
+        requires begun { IsNear begun.now }
+        requires near { begun.now.next + length octets.now < 2 ^ 40 }
+        requires shallow { begun.now.depth + levels + 1 < 2 ^ 32 }
+        ensures { IfOk result (Lists (context_of self.entry) (contents_items (item_items levels self.entry.limit) self.entry.limit name.now shape (begun_of begun.now) octets.now) out.old out.new) }
+    {
+        let here = Here {
+            name,
+            place: begun.next,
+            depth: begun.depth + 1,
+        };
+        let rest = Rest {
+            room: begun.count(),
+            octets,
+        };
+        let container = Item {
+            name,
+            begun,
+            shown: None,
+        };
+        match shape {
+            Shape::Leaf(leaf) => self.leaf(out, name, begun, leaf, octets),
+            Shape::Sequence(sequence) => {
+                self.list(out, container)?;
+                self.fields(out, levels, here, sequence.fields(), rest)
+            }
+            Shape::List(list) => {
+                self.list(out, container)?;
+                self.elements(out, levels, here, list.item(), rest)
+            }
+        }
+    }
+
+    /// Lists the fields that are left of a SEQUENCE.
+    #[cycle(items)]
+    fn fields(
+        self,
+        out: &mut Listed,
+        levels: u8,
+        here: Here<'_>,
+        fields: &[Field],
+        rest: Rest<'a>,
+    ) -> Result<End, AllocError>
+        requires near { here.place + length rest.octets.now < 2 ^ 40 }
+        requires shallow { here.depth + levels < 2 ^ 32 }
+        ensures { IfOk result (Lists (context_of self.entry) (field_items (item_items levels self.entry.limit) (here_of here.entry) (map field_of fields.now) rest.entry.room rest.entry.octets.now) out.old out.new) }
+    {
+        let [field, others @ ..] = fields else {
+            return self.ended(out, here, rest);
+        };
+        if begin_as(field.of.tags, rest.octets) {
+            let name = field_name(self.alloc, here.name, field.name)?;
+            let own = here.named(name.as_str());
+            return match self.item(out, levels, own, field.of, rest.octets)? {
+                End::Cut => Ok(End::Cut),
+                End::Whole => {
+                    let count = count_of(rest.octets);
+                    self.fields(out, levels, here.after(count), others, rest.after(count))
+                }
+            };
+        }
+        if rest.room == 0 {
+            if field.required {
+                return self.missing(out, here, field.name);
+            }
+            return self.fields(out, levels, here, others, rest);
+        }
+        if field.required {
+            return self.ended(out, here, rest);
+        }
+        if rest.octets.is_empty() {
+            return self.ended(out, here, rest);
+        }
+        self.fields(out, levels, here, others, rest)
+    }
+
+    /// Lists the items of a SEQUENCE OF.
+    #[cycle(items)]
+    fn elements(
+        self,
+        out: &mut Listed,
+        levels: u8,
+        here: Here<'_>,
+        of: ItemType,
+        contents: Rest<'a>,
+    ) -> Result<End, AllocError>
+        requires near { here.place + length contents.octets.now < 2 ^ 40 }
+        requires shallow { here.depth + levels < 2 ^ 32 }
+        ensures { IfOk result (Lists (context_of self.entry) (element_items (item_items levels self.entry.limit) (type_of of) (length contents.entry.octets.now) 0 (here_of here.entry) contents.entry.room contents.entry.octets.now) out.old out.new) }
+    {
+        let mut next = here;
+        let mut rest = contents;
+        let mut index = 0;
+        'elements: while index < contents.octets.len() && begin_as(of.tags, rest.octets) {
+            let name = element_name(self.alloc, here.name, index)?;
+            let own = next.named(name.as_str());
+            let End::Whole = self.item(out, levels, own, of, rest.octets)? else {
+                return Ok(End::Cut);
+            };
+            let count = count_of(rest.octets);
+            next = next.after(count);
+            rest = rest.after(count);
+            index += 1;
+        }
+        self.ended(out, next, rest)
+    }
+
+    /// Lists a message, of which the first octet is at a place.
+    pub(crate) fn list_message(
+        self,
+        out: &mut Listed,
+        place: u64,
+        depth: u64,
+        octets: &'a [u8],
+    ) -> Result<End, AllocError>
+        requires near { place + length octets.now < 2 ^ 40 }
+        requires shallow { depth < 2 ^ 31 }
+        ensures { IfOk result (Lists (context_of self.entry) (message_items self.entry.limit place depth octets.now) out.old out.new) }
+    {
+        let Some(first) = octets.first() else {
+            return self.unknown(out, None, place, depth, octets);
+        };
+        let Some(kind) = Kind::of_tag(*first) else {
+            return self.unknown(out, None, place, depth, octets);
+        };
+        let here = Here {
+            name: kind.name(),
+            place,
+            depth,
+        };
+        self.item(out, LEVELS, here, message_type(kind), octets)
+    }
+
+    /// Lists a Ticket, of which the first octet is at place 0.
+    pub(crate) fn list_ticket(self, out: &mut Listed, octets: &'a [u8]) -> Result<End, AllocError>
+        requires { length octets.now < 2 ^ 40 }
+        ensures { IfOk result (Lists (context_of self.entry) (ticket_items self.entry.limit octets.now) out.old out.new) }
+    {
+        let here = Here {
+            name: "Ticket",
+            place: 0,
+            depth: 0,
+        };
+        self.item(out, LEVELS, here, ticket_type(), octets)
+    }
+}
+
+impl<'n> Here<'n> {
+    /// Returns the same with the path of an item.
+    fn named<'p>(self, name: &'p str) -> Here<'p>
+        ensures { here_of result ≡ here_at name.entry.now self.entry.place self.entry.depth }
+    {
+        Here {
+            name,
+            place: self.place,
+            depth: self.depth,
+        }
+    }
+
+    /// Returns what follows so many octets.
+    fn after(self, count: u64) -> Here<'n>
+        requires { self.place + count < 2 ^ 40 }
+        ensures { here_of result ≡ here_at self.entry.name.now (self.entry.place + count) self.entry.depth }
+    {
+        Here {
+            name: self.name,
+            place: self.place + count,
+            depth: self.depth,
+        }
+    }
+}
+
+impl<'a> Rest<'a> {
+    /// Returns what follows so many octets.
+    fn after(self, count: u64) -> Rest<'a>
+        ensures room { result.room ≡ self.entry.room - count }
+        ensures octets { result.octets.now ≡ drop count self.entry.octets.now }
+    {
+        Rest {
+            room: self.room.saturating_sub(count),
+            octets: from(self.octets, count),
+        }
+    }
+}
+
+/// Returns whether octets begin with the first of tags.
+fn begin_as(tags: &[Tag], octets: &[u8]) -> bool
+    ensures { result ≡ begins_as tags.now octets.now }
+{
+    match tags.first() {
+        None => false,
+        Some(tag) => begins(octets, tag.octet()),
+    }
+}
+
+/// Returns the path of a field.
+fn field_name(alloc: Global, path: &str, name: &str) -> Result<String, AllocError>
+    ensures { IfOk result (λ text. string_bytes text ≡ field_path path.now name.now) }
+{
+    let mut text = String::new(alloc);
+    text.push_str(path)?;
+    text.push('.')?;
+    text.push_str(name)?;
+    Ok(text)
+}
+
+/// Returns the path of an item of a SEQUENCE OF.
+fn element_name(alloc: Global, path: &str, index: usize) -> Result<String, AllocError>
+    ensures { IfOk result (λ text. string_bytes text ≡ element_path path.now index) }
+{
+    let mut text = String::new(alloc);
+    let mut buffer = Buffer::new();
+    text.push_str(path)?;
+    text.push('[')?;
+    text.push_str(buffer.format(index))?;
+    text.push(']')?;
+    Ok(text)
+}

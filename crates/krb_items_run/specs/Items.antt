@@ -1,0 +1,140 @@
+-- The listing of the items of one message, by the input that spells its octets.
+use Rattle.std.specs.Prelude.{ℕ, pos, ◌+◌, ◌-◌, ◌≡◌, false, nat_lt, if◌then◌else◌, List, [], ◌∷◌, ◌++◌, length, take, drop, codes, Option, Some, None, Result, Ok, Err}
+use Rattle.std.specs.Option.{option_map}
+use Rattle.krb_der.specs.declared.profile.Profile.{Profile}
+use Rattle.krb_der.specs.declared.verdict.Refusal.{Refusal}
+use Rattle.krb_der.specs.declared.verdict.Verdict.{Verdict}
+use Rattle.krb_der.specs.declared.verdict.Verdict.TheVariants as verdict
+use Rattle.krb_der.specs.declared.why.Why.TheVariants as why
+use Rattle.krb_source.specs.declared.spelling.Spelling.{Spelling}
+use Rattle.krb_source.specs.declared.layer.Layer.{Layer}
+use Rattle.krb_source.specs.declared.layer.Layer.TheVariants as layer
+use Rattle.krb_input.specs.Inputs.{spelled}
+use Rattle.krb_msg.specs.Grammar.{ticket}
+use Rattle.krb_msg.specs.Judgement.{judgement, term_judgement}
+use Rattle.krb_msg.specs.Profiles.{profile_term}
+use Rattle.krb_judge.specs.Parses.{refusal_of, ticket_refusal}
+use Rattle.krb_record.specs.Labels.{Label, line_of}
+use Rattle.krb_record.specs.Values.{Number, Printed, the, printed}
+use Rattle.krb_token.specs.Opened.{Found, Message, Ticket as IsTicket, Ntlm, Refused, Opened}
+use Rattle.krb_token.specs.Tokens.{opened}
+use Rattle.krb_items.specs.Reached.{believed, reached}
+use Rattle.krb_items.specs.declared.listing.Listed.{Listed}
+use Rattle.krb_items.specs.declared.reaching.Lies.{Lies}
+use Rattle.krb_items.specs.declared.reaching.Lies.TheVariants as lies
+use Rattle.krb_run.specs.Files.{FileListing}
+use Rattle.krb_run.specs.declared.run.RunEnd.TheVariants as run
+use Rattle.krb_tool.specs.Messages.{input_limit, message_listing}
+
+-- ---- what octets are listed as, and what is refused of them
+pub record Listable : Type 0 where
+  pub layers : List Layer
+  pub lies : Lies
+  pub fault : Option Refusal
+
+-- in how many items a message in layers is: a token of SPNEGO has an OCTET STRING for it
+abbrev pub depth_in : List Layer → ℕ
+depth_in [] = 0
+depth_in (layer.Frame ∷ layers) = 1 + depth_in layers
+depth_in (layer.Gss ∷ layers) = 1 + depth_in layers
+depth_in (layer.Spnego ∷ layers) = 2 + depth_in layers
+
+-- a message by itself, in a frame, or in the layers of a token
+abbrev pub lies_in : List Layer → ℕ → Lies
+lies_in [] place = lies.Alone
+lies_in (layer.Frame ∷ layers) place = lies.Framed
+lies_in (layer.Gss ∷ layers) place = lies.Within place (depth_in (layer.Gss ∷ layers))
+lies_in (layer.Spnego ∷ layers) place = lies.Within place (depth_in (layer.Spnego ∷ layers))
+
+-- the refusal of octets of which the first is at a place
+abbrev pub at_place : ℕ → Refusal → Refusal
+at_place place refusal = record { place = place + refusal.place; why = refusal.why }
+
+-- of a layer that is refused: of those of a token nothing is listed
+abbrev pub refused_layer : List Layer → Refusal → Option Listable
+refused_layer [] refusal = None
+refused_layer (layer.Frame ∷ layers) refusal = Some (record { layers = layer.Frame ∷ layers; lies = lies.Framed; fault = Some refusal })
+refused_layer (layer.Gss ∷ layers) refusal = None
+refused_layer (layer.Spnego ∷ layers) refusal = None
+
+abbrev pub found_listable : Profile → List ℕ → List Layer → Found → Option Listable
+found_listable profile octets layers (Message part) =
+    Some (record { layers = layers; lies = lies_in layers part.place; fault = option_map (at_place part.place) (refusal_of profile part.octets) })
+found_listable profile octets layers IsTicket = Some (record { layers = layers; lies = lies.Ticket; fault = ticket_refusal profile octets })
+found_listable profile octets layers (Ntlm place) = None
+found_listable profile octets layers (Refused fault) = refused_layer layers (record { place = fault.place; why = fault.why })
+
+abbrev pub opened_listable : Profile → List ℕ → Opened → Option Listable
+opened_listable profile octets o = found_listable profile octets o.layers o.found
+
+abbrev pub listable : Profile → List ℕ → Option Listable
+listable profile octets = opened_listable profile octets (opened octets)
+
+-- ---- if the first length is believed
+-- what the first octets of that length are judged as; all of them are not there if the octets are fewer
+abbrev pub front_verdict : Profile → Lies → (size : ℕ) → List ℕ → Verdict
+front_verdict profile lies.Framed size octets = judgement profile (size - 4) (drop 4 octets)
+front_verdict profile lies.Ticket size octets = term_judgement (profile_term profile false ticket) size octets
+front_verdict profile lies.Alone size octets = judgement profile size octets
+front_verdict profile (lies.Within place depth) size octets = judgement profile size octets
+
+-- the place of the first octet of a message
+abbrev pub start_of : Lies → ℕ
+start_of lies.Framed = 4
+start_of lies.Ticket = 0
+start_of lies.Alone = 0
+start_of (lies.Within place depth) = 0
+
+abbrev pub fault_of : (start count : ℕ) → Verdict → Option Refusal
+fault_of start count verdict.Whole = None
+fault_of start count verdict.Open = Some (record { place = count; why = why.Truncated })
+fault_of start count (verdict.Refused refusal) = Some (at_place start refusal)
+
+abbrev pub front_fault : Profile → Lies → (size : ℕ) → List ℕ → Option Refusal
+front_fault profile lies size octets = fault_of (start_of lies) (length octets) (front_verdict profile lies size octets)
+
+abbrev pub believed_record : (size count : ℕ) → Printed
+believed_record size count = printed (codes "believed") (the (codes "length") (Number (pos size)) ∷ the (codes "octets") (Number (pos count)) ∷ [])
+
+-- a text, and after it what is listed of the octets of the length that is believed, if one is
+unfoldable pub believed_text : Label → Profile → Listable → List ℕ → List ℕ → Option ℕ → List ℕ
+believed_text label profile found octets text None = text
+believed_text label profile found octets text (Some size) =
+    (reached label (text ++ line_of label (believed_record size (length octets))) found.layers found.lies (take size octets) (front_fault profile found.lies size (take size octets))).text
+
+-- ---- the listing
+abbrev pub items_end_record : ℕ → Printed
+items_end_record count = printed (codes "end") (the (codes "items") (Number (pos count)) ∷ [])
+
+-- the items, and the record of the end
+abbrev pub whole_items : Label → Listed → FileListing
+whole_items label listed = record { text = listed.text ++ line_of label (items_end_record listed.count); end = run.Clean }
+
+-- a text, and the record of the refusal
+abbrev pub refused_after : List ℕ → FileListing → FileListing
+refused_after text refused = record { text = text ++ refused.text; end = refused.end }
+
+abbrev pub judged_items : Label → Profile → List ℕ → Listable → Listed → Option Refusal → FileListing → FileListing
+judged_items label profile octets found listed None refused = whole_items label listed
+judged_items label profile octets found listed (Some refusal) refused = refused_after (believed_text label profile found octets listed.text (believed found.lies octets refusal)) refused
+
+abbrev pub found_items : Label → Profile → List ℕ → Option Listable → FileListing → FileListing
+found_items label profile octets None refused = refused
+found_items label profile octets (Some found) refused = judged_items label profile octets found (reached label [] found.layers found.lies octets found.fault) found.fault refused
+
+-- the items of octets; of more than a message may have there are none
+unfoldable pub octets_items : Label → Profile → List ℕ → FileListing → FileListing
+octets_items label profile octets refused = if nat_lt 2147483647 (length octets) then refused else found_items label profile octets (listable profile octets) refused
+
+unfoldable pub spelled_items : Label → Profile → Result (Spelling × List ℕ) (Spelling × ℕ) → FileListing → FileListing
+spelled_items label profile (Ok made) refused = octets_items label profile made.1 refused
+spelled_items label profile (Err fault) refused = refused
+
+-- what is refused is so as a message is (`message_listing`), and after what is reached of it
+unfoldable pub items_listing : Label → Profile → List ℕ → FileListing
+items_listing label profile input =
+    if nat_lt input_limit (length input) then message_listing label profile input
+    else spelled_items label profile (spelled input) (message_listing label profile input)
+
+abbrev pub IsItemsListing : Label → Profile → List ℕ → FileListing → Type 0
+IsItemsListing label profile input listing = listing ≡ items_listing label profile input

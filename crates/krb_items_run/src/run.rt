@@ -1,0 +1,190 @@
+//! A run over one message, which an input spells, that lists its items.
+
+ghost use Rattle.std.specs.Prelude.{◌≡◌, ◌^◌, ◌<◌, Some, length, IfErr, IfOk};
+ghost use Rattle.krb_items.specs.Reached.{IsShallow, believed, reached};
+ghost use Rattle.krb_run.specs.Files.{FailsFile, ListsFile, shown};
+ghost use Rattle.krb_items_run.specs.Items.{IsItemsListing, believed_text, found_items, octets_items, refused_after, whole_items};
+ghost use Rattle.krb_items_run.specs.Seen.{listable_of};
+ghost use Rattle.krb_tool.specs.Messages.{message_listing};
+
+use crate::fronts::front_fault;
+use crate::listable::{Listable, find_listable};
+use crate::records::{put_believed, put_items_end};
+use krb_der::{Profile, Refusal};
+use krb_input::{InputFault, read_input};
+use krb_items::{Listed, believed, list_octets};
+use krb_record::{Label, TextBuffer};
+use krb_run::{CountedReader, FileFormat, FileText, RunEnd, RunFault, run_file};
+use krb_tool::list_input;
+use std::alloc::{AllocError, Global};
+use std::io::{Read, Write};
+
+/// The greatest number of octets of an input that spells a message.
+const MOST_INPUT: usize = 16777216;
+
+/// The greatest number of octets of a message.
+const MOST_OCTETS: usize = 2147483647;
+
+/// An input that spells a message of a profile, and the label of the listing of its items.
+#[derive(Clone, Copy)]
+struct SpelledItems<'a> {
+    label: &'a Label,
+    profile: Profile,
+}
+
+impl SpelledItems<'_> {
+    /// Returns a text and the records of octets after it.
+    fn reach(
+        self,
+        alloc: Global,
+        found: Listable,
+        text: TextBuffer,
+        octets: &[u8],
+        fault: Option<Refusal>,
+    ) -> Result<Listed, AllocError>
+        requires short { length octets.now < 2 ^ 32 }
+        requires shallow { IsShallow found.lies }
+        ensures { IfOk result (λ listed. listed ≡ reached self.entry.label.now text found.layers.now found.lies octets.now fault) }
+    {
+        let layers = found.layers;
+        list_octets(alloc, self.label, text, layers, found.lies, octets, fault)
+    }
+
+    /// Returns a text and, if the first length is believed, the records of the octets of that length.
+    fn believe(
+        self,
+        alloc: Global,
+        found: Listable,
+        text: TextBuffer,
+        octets: &[u8],
+        refusal: Refusal,
+    ) -> Result<TextBuffer, AllocError>
+        requires short { length octets.now < 2 ^ 31 }
+        requires shallow { IsShallow found.lies }
+        ensures { IfOk result (λ made. made ≡ believed_text self.entry.label.now self.entry.profile (listable_of found) octets.now text (believed found.lies octets.now refusal)) }
+    {
+        let Some(size) = believed(found.lies, octets, refusal) else {
+            return Ok(text);
+        };
+        let mut text = text;
+        put_believed(&mut text, self.label, size, octets.len())?;
+        let front = &octets[..octets.len().min(size as usize)];
+        let fault = front_fault(self.profile, found.lies, size, front);
+        Ok(self.reach(alloc, found, text, front, fault)?.text)
+    }
+
+    /// Returns what is listed of octets that an input spells, of which more than a message may have are
+    /// not looked at.
+    #[tactic(auto, unfolding(crate::specs::Items::octets_items))]
+    fn list_octets(self, alloc: Global, octets: &[u8], input: &[u8]) -> Result<FileText, RunFault>
+        ensures listed { IfOk result (λ made. shown made ≡ octets_items self.entry.label.now self.entry.profile octets.now (message_listing self.entry.label.now self.entry.profile input.now)) }
+        ensures fault { IfErr result (λ e. e ≡ RunFault.Memory) }
+    {
+        if octets.len() > MOST_OCTETS {
+            return self.list_refused(alloc, input);
+        }
+        match find_listable(self.profile, octets) {
+            None => self.list_refused(alloc, input),
+            Some(found) => self.list_found(alloc, found, octets, input),
+        }
+    }
+
+    /// Returns the listing of an input of which no items are listed.
+    fn list_refused(self, alloc: Global, input: &[u8]) -> Result<FileText, RunFault>
+        ensures listed { IfOk result (λ made. shown made ≡ message_listing self.entry.label.now self.entry.profile input.now) }
+        ensures fault { IfErr result (λ e. e ≡ RunFault.Memory) }
+    {
+        list_input(alloc, self.label, self.profile, input)
+    }
+
+    /// Returns what is listed of octets that something is found in.
+    fn list_found(
+        self,
+        alloc: Global,
+        found: Listable,
+        octets: &[u8],
+        input: &[u8],
+    ) -> Result<FileText, RunFault>
+        requires short { length octets.now < 2 ^ 31 }
+        requires shallow { IsShallow found.lies }
+        ensures listed { IfOk result (λ made. shown made ≡ found_items self.entry.label.now self.entry.profile octets.now (Some (listable_of found)) (message_listing self.entry.label.now self.entry.profile input.now)) }
+        ensures fault { IfErr result (λ e. e ≡ RunFault.Memory) }
+    {
+        let text = TextBuffer::new(alloc);
+        let listed = self.reach(alloc, found, text, octets, found.fault)?;
+        match found.fault {
+            None => self.list_whole(listed),
+            Some(refusal) => {
+                let text = self.believe(alloc, found, listed.text, octets, refusal)?;
+                self.list_fault(alloc, text, input)
+            }
+        }
+    }
+
+    /// Returns the listing of items and the record of the end after them.
+    fn list_whole(self, listed: Listed) -> Result<FileText, RunFault>
+        ensures listed { IfOk result (λ made. shown made ≡ whole_items self.entry.label.now listed) }
+        ensures fault { IfErr result (λ e. e ≡ RunFault.Memory) }
+    {
+        let mut text = listed.text;
+        put_items_end(&mut text, self.label, listed.count)?;
+        let end = RunEnd::Clean;
+        Ok(FileText { text, end })
+    }
+
+    /// Returns what is reached of an input, and the record of its refusal after it.
+    fn list_fault(self, alloc: Global, text: TextBuffer, input: &[u8]) -> Result<FileText, RunFault>
+        ensures listed { IfOk result (λ made. shown made ≡ refused_after text (message_listing self.entry.label.now self.entry.profile input.now)) }
+        ensures fault { IfErr result (λ e. e ≡ RunFault.Memory) }
+    {
+        let mut text = text;
+        let refused = self.list_refused(alloc, input)?;
+        let end = refused.end;
+        text.push_str(refused.text.into_string().as_str())?;
+        Ok(FileText { text, end })
+    }
+}
+
+impl FileFormat for SpelledItems<'_> {
+    ghost Lists = { λ format input listing. IsItemsListing format.label.now format.profile input listing };
+
+    fn most(&self) -> Option<usize> {
+        Some(MOST_INPUT + 1)
+    }
+
+    #[tactic(auto, unfolding(crate::specs::Items::items_listing, crate::specs::Items::spelled_items))]
+    fn list(&self, alloc: Global, input: &[u8]) -> Result<FileText, RunFault> {
+        if input.len() > MOST_INPUT {
+            return self.list_refused(alloc, input);
+        }
+        match read_input(alloc, input) {
+            Ok(made) => self.list_octets(alloc, made.octets.as_slice(), input),
+            Err(InputFault::Misspelled(_)) => self.list_refused(alloc, input),
+            Err(InputFault::Memory) => Err(RunFault::Memory),
+        }
+    }
+}
+
+/// Lists the items of one message of a profile with a label, which the input spells as
+/// [`run_message_in`](krb_tool::run_message_in) reads it: a record for each item in order of place,
+/// and then that of the end. If something is refused, the records are those of the items up to there,
+/// of the item at fault, of what is reached if the first length is believed, and then that of
+/// `run_message_in`. It is read first, as there.
+pub fn run_items_in<R: Read, W: Write>(
+    alloc: Global,
+    label: &Label,
+    profile: Profile,
+    reader: &mut R,
+    writer: &mut W,
+) -> Result<RunEnd, RunFault>
+    ensures listed { IfOk result (ListsFile (IsItemsListing label.now profile) (R.remaining reader.old) (R.remaining reader.new) (W.contents writer.old) (W.contents writer.new)) }
+    ensures fault { IfErr result (FailsFile (IsItemsListing label.now profile) (R.remaining reader.old) (R.remaining reader.new) (W.contents writer.old) (W.contents writer.new)) }
+{
+    let mut counted = CountedReader::new(reader);
+    run_file(
+        alloc,
+        &mut counted,
+        writer,
+        &SpelledItems { label, profile },
+    )
+}

@@ -1,0 +1,363 @@
+"""Where each item of a message is in its octets: the records of `krbls items`.
+
+A walk judges octets as `judging` does, and keeps each item once it is right: what holds others once its last length octet is, all
+else once its last octet is. An item and the explicit tags that it stands in are one. What is inside of an OCTET STRING is not
+gone into, and of a token only the message in it has items.
+"""
+
+from dataclasses import dataclass, field
+
+from .grammar import MESSAGES, STRICT_MESSAGES, Bits, Integer, ListOf, Sequence, Tagged, Time
+from .inputs import spelled
+from .judging import Ended, Judge, Refused
+from .records import Record, refused_input
+from .registries import ADDRESS_TYPES, AP_OPTIONS, CHECKSUM_TYPES, ENCRYPTION_TYPES, KDC_OPTIONS, NAME_TYPES, PA_DATA_TYPES
+from .messages import MOST_TEXT, TICKETS, octets_record
+from .spellings import Misspelled
+from .tokens import Ntlm, Token
+from .values import (
+    ABSENT,
+    error_code,
+    flags,
+    hexadecimal,
+    layers,
+    named,
+    number,
+    optional,
+    plain,
+    quoted,
+    reason,
+    string,
+    word,
+)
+
+# The registries of fields that are numbers, and of those that are flags.
+NUMBERS = {
+    "etype": ENCRYPTION_TYPES,
+    "padata-type": PA_DATA_TYPES,
+    "name-type": NAME_TYPES,
+    "addr-type": ADDRESS_TYPES,
+    "cksumtype": CHECKSUM_TYPES,
+}
+FLAGS = {"kdc-options": KDC_OPTIONS, "ap-options": AP_OPTIONS}
+
+TYPES = {0x02: "INTEGER", 0x03: "BIT-STRING", 0x04: "OCTET-STRING", 0x18: "GeneralizedTime", 0x1B: "GeneralString"}
+
+GREATEST = 2147483647
+MOST_BEFORE = 16
+
+
+def words(texts):
+    """A list of words: with commas between them in a line, or `-`, and an array in an object."""
+    return plain(",".join(texts) or "-", texts)
+
+
+def type_of(item):
+    """What the type of a tag is called."""
+    match item:
+        case Tagged():
+            return f"[APPLICATION-{item.tag - 0x60}]" if item.tag < 0x80 else f"[{item.tag - 0xA0}]"
+        case ListOf():
+            return "SEQUENCE-OF"
+        case Sequence():
+            return "SEQUENCE"
+    return TYPES[item.tag]
+
+
+@dataclass
+class Begun:
+    """An item, as far as its heads are read."""
+
+    at: int
+    depth: int
+    heads: list = field(default_factory=list)
+    types: list = field(default_factory=list)
+    # Where the head begins that is not read yet, where what follows the last one does, and the length that it has.
+    head: int = None
+    next: int = None
+    size: int = None
+
+
+class Walk(Judge):
+    """A judge of n octets, of which these are there, which keeps the records of items."""
+
+    def __init__(self, octets, n, place=0, depth=0, via=(), path=""):
+        super().__init__(octets)
+        self.n = n
+        self.place = place
+        self.depth = depth
+        self.via = list(via)
+        self.path = path
+        self.records = []
+        # The octets that are not shown, as where they begin and end.
+        self.hidden = []
+        # Whether the next item is in an explicit tag.
+        self.is_joined = False
+        self.begin()
+
+    def begin(self):
+        self.begun = Begun(self.place, self.depth)
+
+    def before(self, begun, heads):
+        shown = {"via": layers(list(self.via))} if self.via else {}
+        return {
+            **shown,
+            "at": number(begun.at),
+            "depth": number(begun.depth),
+            "heads": words([head.hex() for head in heads]),
+            "contents": ABSENT if begun.size is None else number(begun.next),
+            "length": optional(number, begun.size),
+        }
+
+    def list(self, value=ABSENT, name=None):
+        shown = {"name": word(name or self.path), "type": words(list(self.begun.types)), "value": value}
+        self.records.append(Record("item", shown, self.before(self.begun, self.begun.heads)))
+
+    # ---- heads
+
+    def item(self, choices, room, sole):
+        is_joined, self.is_joined = self.is_joined, False
+        if not is_joined:
+            self.begin()
+        begun, container = self.begun, self.path
+        begun.head = self.place
+        tag = self.next()
+        begun.size = None
+        index = next((index for index, (_, choice) in enumerate(choices) if choice.tag == tag), None)
+        if index is None:
+            self.refuse("Tag")
+        name, choice = choices[index]
+        self.path += name
+        begun.types.append(type_of(choice))
+        self.length(room, sole)
+        value = self.contents(choice, begun.size)
+        if not is_joined:
+            self.path, self.depth = container, begun.depth
+            self.begin()
+        return index, value
+
+    def length(self, room, sole):
+        begun = self.begun
+        if room == 1:
+            self.refuse("Overrun")
+        first = self.next()
+        size, count = first, 0
+        if first > 0x80:
+            count = first - 0x80
+        if first == 0x80:
+            self.refuse("Indefinite")
+        if count > 4:
+            self.refuse("LengthWide")
+        if count and room < 2 + count:
+            self.refuse("Overrun")
+        for k in range(count):
+            octet = self.next()
+            if k == 0 and (octet == 0 or (count == 1 and octet < 0x80)):
+                self.refuse("LengthNotMinimal")
+            size = octet if k == 0 else size * 256 + octet
+        begun.size, begun.next = size, self.place
+        if 2 + count + size > room:
+            self.refuse("Overrun")
+        if sole and 2 + count + size < room:
+            self.refuse("Loose")
+        begun.heads.append(self.octets[begun.head : self.place])
+        begun.head = None
+
+    # ---- contents
+
+    def contents(self, item, size):
+        match item:
+            case Tagged():
+                self.is_joined = size > 0
+                return super().contents(item, size)
+            case ListOf() | Sequence():
+                if isinstance(item, ListOf) and size == 0 and not item.empty:
+                    self.refuse("Size")
+                self.list()
+                return self.nested(item, size)
+        return self.leaf(item, size)
+
+    def nested(self, item, size):
+        self.depth = self.begun.depth + 1
+        self.begin()
+        return super().contents(item, size)
+
+    def last_name(self):
+        return self.path.split(".")[-1].split("[")[0]
+
+    def leaf(self, item, size):
+        start, name = self.place, self.last_name()
+        counted = item.tag == 0x04 and name != "address"
+        if counted:
+            self.hidden.append((start, start + size))
+        value = super().contents(item, size)
+        self.list(self.value(item, name, value, counted))
+        return value
+
+    def value(self, item, name, value, counted):
+        match item:
+            case Integer():
+                if name == "error-code":
+                    return error_code(value)
+                return named(value, NUMBERS[name]) if name in NUMBERS else number(value)
+            case Bits():
+                return flags(8 * len(value[1]) - value[0], value[1], FLAGS[name])
+            case Time():
+                return string(value)
+        if counted:
+            return number(len(value))
+        return hexadecimal(value) if name == "address" else quoted(value)
+
+    # ---- layers
+
+    def room(self):
+        return self.end_place - self.place
+
+    def all(self, messages, ticket):
+        """Lists what the octets are."""
+        self.end_place = self.n
+        first = self.octets[0] if self.octets else None
+        if first == 0x00:
+            return self.frame(messages)
+        return self.message({"Ticket": ticket} if first == 0x61 else messages)
+
+    def message(self, kinds):
+        """A message, in the room that is left."""
+        outer, self.path = self.path, ""
+        if self.place < len(self.octets):
+            self.outside = ""
+        else:
+            self.path = outer
+        self.item(list(kinds.items()), self.room(), True)
+        self.path = outer
+
+    def frame(self, messages):
+        self.via = ["frame"]
+        self.begun.head = 0
+        self.begun.types.append("frame")
+        if len(self.octets) < 4:
+            self.place = len(self.octets)
+            raise Refused(self.place, "Truncated")
+        self.place, announced = 4, int.from_bytes(self.octets[:4], "big")
+        self.begun.next, self.begun.size = 4, announced
+        for why, holds in (("Empty", announced == 0), ("Overrun", announced > self.n - 4), ("Loose", announced < self.n - 4)):
+            if holds:
+                raise Refused(3, why)
+        self.begun.head, self.begun.heads = None, [self.octets[:4]]
+        self.list(name="frame")
+        self.depth = 1
+        self.begin()
+        self.message(messages)
+
+    # ---- what is at fault
+
+    def fault(self, place, why):
+        """The record of the item at fault."""
+        begun = self.begun
+        heads = list(begun.heads)
+        if begun.head is not None and self.place > begun.head:
+            heads.append(self.octets[begun.head : self.place])
+        octet = self.octets[place : place + 1]
+        hidden = [(start, end) for start, end in self.hidden if start < end]
+        if any(start <= place < end for start, end in hidden):
+            octet = b""
+        from_place = max([0, place - MOST_BEFORE, *(min(end, place) for start, end in hidden if start < place)])
+        shown = {
+            "name": optional(word, self.path or None),
+            "type": words(list(begun.types)),
+            "place": number(place),
+            "why": reason(why),
+            "octet": hexadecimal(octet) if octet else ABSENT,
+            "before": hexadecimal(self.octets[from_place:place]) if from_place < place else ABSENT,
+        }
+        return Record("fault", shown, self.before(begun, heads))
+
+
+def walked(octets, n, messages):
+    """A walk over n octets, of which these are there, and whether and where it was refused."""
+    walk = Walk(octets, n)
+    return walk, refused_of(walk, lambda: walk.all(messages, TICKETS[messages is STRICT_MESSAGES]))
+
+
+def refused_of(walk, goes):
+    """Whether and where a walk is refused."""
+    try:
+        goes()
+    except Refused as refusal:
+        return refusal
+    except Ended:
+        return Refused(len(walk.octets), "Truncated")
+    return None
+
+
+def walked_in_token(octets, messages):
+    """A walk over the message in the layers of a token, or none if a layer is refused, the first octet of the message too."""
+    token = Token(octets)
+    try:
+        inside = token.open()
+    except (Ntlm, Refused):
+        return None
+    kinds = messages if inside.kind == "message" else {inside.kind: messages[inside.kind]}
+    if octets[inside.place] not in [kind.tag for kind in kinds.values()]:
+        return None
+    depth = sum(2 if layer == "SPNEGO" else 1 for layer in token.via)
+    walk = Walk(octets, len(octets), inside.place, depth, token.via)
+    walk.end_place = inside.place + len(inside.octets)
+    refused_of(walk, lambda: walk.message(messages))
+    return walk
+
+
+def first_length(octets):
+    """How many octets the first head has, and how many there are by its length, if that is right."""
+    if octets[0] == 0x00:
+        return 4, 4 + int.from_bytes(octets[:4], "big")
+    walk = Walk(octets, 2**40)
+    walk.begun.head = 0
+    walk.next()
+    try:
+        walk.length(2**40, False)
+    except (Refused, Ended):
+        return None
+    return walk.begun.next, walk.begun.next + walk.begun.size
+
+
+def believed(octets, place, why):
+    """The number of octets by the first length, if it is what is at fault."""
+    if why not in ("Overrun", "Loose"):
+        return None
+    found = first_length(octets)
+    if found is None or found[0] != place + 1 or found[1] > GREATEST:
+        return None
+    return found[1]
+
+
+def octets_items(octets, form, messages):
+    """The records of the items of octets, and the status of the program."""
+    last = octets_record(octets, form, 0, messages)
+    is_token = octets[:1] in (b"\x60", b"\xa0", b"\xa1")
+    walk = walked_in_token(octets, messages) if is_token else walked(octets, len(octets), messages)[0]
+    if last.kind != "refused":
+        return [*walk.records, Record("end", {"items": number(len(walk.records))})], 0
+    if walk is None or "input" in last.fields:
+        return [last], 1
+    place, why = last.fields["place"].member, last.fields["why"].second_member[1]
+    found = [*walk.records, walk.fault(place, why)]
+    size = None if is_token else believed(octets, place, why)
+    if size is not None:
+        found.append(Record("believed", {"length": number(size), "octets": number(len(octets))}))
+        walk, refusal = walked(octets[:size], size, messages)
+        found += walk.records
+        if refusal is not None:
+            found.append(walk.fault(refusal.place, refusal.why))
+    return [*found, last], 1
+
+
+def items(text, messages=MESSAGES):
+    """The records of the items of an input, and the status of the program."""
+    if len(text) > MOST_TEXT:
+        return [refused_input("length", None, 0)], 1
+    try:
+        form, octets = spelled(text)
+    except Misspelled as fault:
+        return [refused_input(fault.word, fault.place, 0)], 1
+    return octets_items(octets, form, messages)
