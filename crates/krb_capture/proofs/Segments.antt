@@ -49,17 +49,3 @@ segment-told header origin now old new reset silent missed w first second third 
     three-told reset silent missed now (segment_heard header origin old) w first second third (f ∙ ap (λ x. with_news_if reset now (record w { happened = Some x })) k) s t e
     ∙ ap (λ x. heard_in x (segment_heard header origin old) w) m
     ∙ ap (λ o. with_found origin (Sent header) (record w { happened = o })) (sym h)
-
--- ---- a segment that tells and changes nothing
-pub unheard : (header : Header) (origin : CaptureOrigin) (old : Happened) (w : Written) → w.happened ≡ Some old → segment_heard header origin old ≡ record { news = []; happened = old } → with_found origin (Sent header) w ≡ w
-unheard header origin old w h e =
-    ap (λ o. with_found origin (Sent header) (record w { happened = o })) h
-    ∙ ap (λ after. heard_in (moment_of origin) after w) e
-    ∙ ap (λ t. record w { text = t; happened = Some old }) (append-nil w.text)
-    ∙ ap (λ o. record w { happened = o }) (sym h)
-
-pub untold : (header : Header) (origin : CaptureOrigin) (w : Written) → w.happened ≡ None → with_found origin (Sent header) w ≡ w
-untold header origin w h =
-    ap (λ o. with_found origin (Sent header) (record w { happened = o })) h
-    ∙ ap (λ t. record w { text = t; happened = None }) (append-nil w.text)
-    ∙ ap (λ o. record w { happened = o }) (sym h)

@@ -13,7 +13,7 @@ use krb_record::{Flow, Request};
 use std::alloc::Global;
 use std::marker::Model;
 
-/// The last 65536 sendings of a capture. It allocates for these alone, some 250 octets for each.
+/// The last 65536 sendings of a capture. It allocates for these alone, some 270 octets for each.
 #[derive(Drop)]
 pub struct Sendings {
     window: Window,
