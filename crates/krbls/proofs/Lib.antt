@@ -1,2 +1,3 @@
 mod EachSource
 mod Commands
+mod Hinted
