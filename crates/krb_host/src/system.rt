@@ -10,11 +10,10 @@ use krb_run::RunFault;
 use krb_words::{NamedPath, Source};
 use std::fmt::Display;
 use std::fs::File;
-use std::io;
 use std::io::{ErrorKind, IsTerminal, Read, Write};
 use std::rt::{Stdin, Stdout};
-use std::str;
 use std::time::{SystemTime, UNIX_EPOCH};
+use std::{io, str};
 
 /// The name of the standard input in faults.
 const INPUT: &str = "standard input";
