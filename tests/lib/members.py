@@ -31,8 +31,14 @@ def is_truth(value):
     return type(value) is bool
 
 
+def with_parts(shape, parts):
+    """A shape of objects that have these members; `parts` has them for who names members of members."""
+    shape.parts = parts
+    return shape
+
+
 def or_null(shape):
-    return lambda value: value is None or shape(value)
+    return with_parts(lambda value: value is None or shape(value), getattr(shape, "parts", {}))
 
 
 def spelled(pattern):
@@ -45,10 +51,13 @@ def list_of(shape):
 
 def members(**shapes):
     """An object of these members in this order, of these types."""
-    return lambda value: (
-        type(value) is dict
-        and list(value) == list(shapes)
-        and all(shape(value[name]) for name, shape in shapes.items())
+    return with_parts(
+        lambda value: (
+            type(value) is dict
+            and list(value) == list(shapes)
+            and all(shape(value[name]) for name, shape in shapes.items())
+        ),
+        shapes,
     )
 
 
@@ -58,6 +67,7 @@ is_flags = members(bits=is_number, hex=is_hex, names=list_of(is_text))
 is_encrypted = members(etype=is_number, etype_name=is_name, kvno=or_null(is_number), size=is_number)
 is_refused_ticket = members(refused=members(place=is_number, why=is_number, why_name=is_text))
 
+is_ticket = with_parts(lambda value: is_encrypted(value) or is_refused_ticket(value), is_encrypted.parts | is_refused_ticket.parts)
 is_endpoint = members(address=is_text, port=is_number)
 
 # The type of the member that a value has.
@@ -83,7 +93,7 @@ SHAPES = {
     "flags": is_flags,
     "ticket flags": is_flags,
     "encrypted": is_encrypted,
-    "ticket": or_null(lambda value: is_encrypted(value) or is_refused_ticket(value)),
+    "ticket": or_null(is_ticket),
     "principal": members(
         text=is_text, type=is_number, type_name=is_name, components=list_of(is_text), realm=is_text
     ),
@@ -103,6 +113,25 @@ SECOND_MEMBERS = {
     "reason": ("_name", is_name),
     "list": ("_names", list_of(is_name)),
 }
+
+# The member of a ticket that is an object and no name by itself.
+NO_NAME = "refused"
+
+
+def endings_below(parts):
+    """What follows the name of a member in the names of the members in it."""
+    for name, shape in parts.items():
+        inner = getattr(shape, "parts", {})
+        if name != NO_NAME:
+            yield f".{name}"
+        yield from (f".{name}{ending}" for ending in endings_below(inner))
+
+
+def endings_of(value):
+    """What follows the name of a field in the names of its members, by its value; the first is the member of that name."""
+    value = value.removesuffix(OPTIONAL)
+    second = [SECOND_MEMBERS[value][0]] if value in SECOND_MEMBERS else []
+    return ["", *second, *endings_below(getattr(SHAPES[value], "parts", {}))]
 
 
 def cells(line):

@@ -7,7 +7,7 @@ use Rattle.krb_record.specs.Captures.{captured, lost_record, password_record, un
 use Rattle.krb_record.specs.Labels.{Label, line_of}
 use Rattle.krb_record.specs.Refusals.{extent_in, path_in, refusal_record}
 use Rattle.krb_record.specs.Values.{Printed, printed}
-use Rattle.krb_text.specs.Messages.{message_record}
+use Rattle.krb_text.specs.Messages.{shown_record}
 use Rattle.krb_record.specs.declared.capture.CaptureCounts.{CaptureCounts}
 use Rattle.krb_record.specs.declared.extent.Extent.{Extent}
 use Rattle.krb_record.specs.declared.form.Form.{Form}
@@ -33,7 +33,7 @@ pub data Found : Type 0 where
 
 -- its record, if it has one
 abbrev pub found_record : Form → Found → Option Printed
-found_record form (Whole octets) = Some (message_record (message_of_der octets))
+found_record form (Whole octets) = Some (shown_record form (message_of_der octets))
 found_record form (Faulty refusal path extent) = Some (refusal_record refusal (path_in form path ++ extent_in form extent))
 found_record form Begun = None
 found_record form Joined = Some (printed (codes "joined") [])

@@ -21,7 +21,7 @@ use Rattle.krb_record.specs.Time.{microseconds}
 use Rattle.krb_record.specs.declared.capture_origin.CaptureOrigin.{CaptureOrigin}
 use Rattle.krb_record.specs.declared.flow.Flow.{Flow}
 use Rattle.krb_record.specs.declared.form.Form.{Form}
-use Rattle.krb_record.specs.declared.form.Form.TheVariants as forms
+use Rattle.krb_record.specs.Forms.{is_plain_form}
 use Rattle.krb_record.specs.declared.told.Answer.{Answer}
 use Rattle.krb_record.specs.declared.told.Request.{Request}
 use Rattle.krb_record.specs.declared.told.Request.TheVariants as requests
@@ -249,9 +249,7 @@ end_news happened = map (λ sending. news.Missed sending) (open_in happened.send
 
 -- ---- lines without names have nothing of it
 abbrev pub told_at_first : Form → Option Happened
-told_at_first forms.Lines = None
-told_at_first forms.NamedLines = Some nothing_happened
-told_at_first forms.Json = Some nothing_happened
+told_at_first form = if is_plain_form form then None else Some nothing_happened
 
 abbrev pub end_lines : Label → Moment → Option Happened → List ℕ
 end_lines label now None = []

@@ -65,10 +65,10 @@ fn is_clean(totals: &CaptureCounts) -> bool
 fn nothing_happened(alloc: Global, form: Form) -> Result<Option<Box<Happened>>, Memory>
     ensures { IfOk result (λ happened. happened_in happened ≡ told_at_first form) }
 {
-    match form {
-        Form::Lines => Ok(None),
-        Form::NamedLines | Form::Json => Ok(Some(Box::new(alloc, Happened::new(alloc))?)),
+    if form.is_plain() {
+        return Ok(None);
     }
+    Ok(Some(Box::new(alloc, Happened::new(alloc))?))
 }
 
 /// Returns the header of a segment, as far as it matters here.

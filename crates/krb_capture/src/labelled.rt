@@ -4,7 +4,7 @@ ghost use Rattle.std.specs.Prelude.{◌≡◌, ◌++◌, IfOk, OnOk};
 ghost use Rattle.std.specs.Option.{option_copied};
 ghost use Rattle.krb_record.specs.Captures.{capture_end_record, capture_refused_record, captured, password_record};
 ghost use Rattle.krb_record.specs.Labels.{line_of};
-ghost use Rattle.krb_text.specs.Messages.{PutsMessage, message_record};
+ghost use Rattle.krb_text.specs.Messages.{PutsMessage, shown_record};
 ghost use Rattle.krb_capture.specs.Found.{Faulty, Joined, Missing, found_line};
 ghost use Rattle.krb_capture.specs.Found as found;
 
@@ -23,7 +23,7 @@ pub(crate) fn put_message(
     profile: Profile,
     octets: &[u8],
 ) -> Result<bool, Memory>
-    ensures { IfOk result (PutsMessage profile octets.now (λ message. line_of label.now (captured label.now.form origin.now (message_record message))) text.old text.new) }
+    ensures { IfOk result (PutsMessage profile octets.now (λ message. line_of label.now (captured label.now.form origin.now (shown_record label.now.form message))) text.old text.new) }
 {
     let size = text.size();
     label.begin(text)?;

@@ -7,12 +7,11 @@ use Rattle.krb_der.specs.declared.verdict.Refusal.{Refusal}
 use Rattle.krb_source.specs.Layers.{layer_name}
 use Rattle.krb_source.specs.declared.layer.Layer.{Layer}
 use Rattle.krb_registry.specs.declared.registry.Registry.{Registry}
-use Rattle.krb_record.specs.Forms.{closing, field, heading, labelled}
+use Rattle.krb_record.specs.Forms.{base_of, match_base, closing, field, heading, labelled}
 use Rattle.krb_record.specs.Origins.{message_origin}
 use Rattle.krb_record.specs.Text.{hex, joined, line_feed, list_text}
 use Rattle.krb_record.specs.Values.{Value, Absent, ErrorCode, Flags, Hex, Named, Number, Quoted, Reason, String, if_there}
 use Rattle.krb_record.specs.declared.form.Form.{Form}
-use Rattle.krb_record.specs.declared.form.Form.TheVariants as forms
 use Rattle.krb_items.specs.Heads.{Begun, size_of}
 use Rattle.krb_items.specs.Items.{Item, Items, Part, is_counted}
 use Rattle.krb_items.specs.declared.listing.Listed.{Listed}
@@ -55,9 +54,7 @@ quoted word = codes "\"" ++ word ++ codes "\""
 
 -- words in a line with commas between them, or `-` if there are none; in an object an array of strings
 unfoldable pub words_text : {A : Type 0} → Form → List ℕ → List ℕ → (A → List ℕ) → List A → List ℕ
-words_text forms.Lines label begin text words = label ++ joined (codes "-") (codes ",") text words
-words_text forms.NamedLines label begin text words = label ++ joined (codes "-") (codes ",") text words
-words_text forms.Json label begin text words = begin ++ codes "\":" ++ list_text (λ word. quoted (text word)) words
+words_text form label begin text words = match_base (base_of form) (label ++ joined (codes "-") (codes ",") text words) (begin ++ codes "\":" ++ list_text (λ word. quoted (text word)) words)
 
 abbrev pub words_field : {A : Type 0} → Form → List ℕ → (A → List ℕ) → List A → List ℕ
 words_field form name text words = words_text form (codes " " ++ name ++ codes "=") (codes ",\"" ++ name) text words
@@ -78,14 +75,10 @@ via_text [] = []
 via_text (first ∷ others) = codes "via=" ++ joined [] (codes ",") layer_name (first ∷ others) ++ codes " "
 
 unfoldable pub before_place : Form → List Layer → List ℕ → List ℕ
-before_place forms.Lines layers kind = via_text layers
-before_place forms.NamedLines layers kind = via_text layers
-before_place forms.Json layers kind = heading forms.Json (message_origin None layers) kind
+before_place form layers kind = match_base (base_of form) (via_text layers) (heading form (message_origin None layers) kind)
 
 unfoldable pub after_place : Form → List ℕ → List ℕ
-after_place forms.Lines kind = codes " " ++ kind
-after_place forms.NamedLines kind = codes " " ++ kind
-after_place forms.Json kind = []
+after_place form kind = match_base (base_of form) (codes " " ++ kind) []
 
 -- the place of the contents is known if the last length is
 abbrev pub contents_place : Begun → Option ℕ → Option ℕ

@@ -22,9 +22,10 @@ pub(crate) fn last_of(alloc: Global, label: &Label) -> Result<String, AllocError
     ensures { IfOk result (λ text. string_bytes text ≡ last_members label.now) }
 {
     match label.form() {
-        Form::Lines => Ok(String::new(alloc)),
-        Form::NamedLines => Ok(String::new(alloc)),
-        Form::Json => {
+        Form::Lines | Form::KeptLines => Ok(String::new(alloc)),
+        Form::NamedLines | Form::KeptNamedLines => Ok(String::new(alloc)),
+        Form::Rows(_) => Ok(String::new(alloc)),
+        Form::Json | Form::KeptJson => {
             let text = empty_object(alloc, label)?;
             String::from_str(alloc, members_of(text.as_str()))
         }

@@ -18,7 +18,7 @@ use crate::shape::Leaf;
 use crate::words::put_words;
 use krb_der::{Refusal, integer_value};
 use krb_record::{
-    ABSENT, ErrorCode, FlagBits, Form, HexText, MessageOrigin, Numbered, QuotedText, Reason, Text,
+    Base, ABSENT, ErrorCode, FlagBits, Form, HexText, MessageOrigin, Numbered, QuotedText, Reason, Text,
     TextBuffer, put_end, put_field, put_message_opening,
 };
 use krb_source::Layer;
@@ -130,9 +130,9 @@ fn put_before_place(
 ) -> Result<(), AllocError>
     ensures { OnOk result (text.new ≡ text.old ++ before_place form layers.now kind.now) }
 {
-    match form {
-        Form::Lines | Form::NamedLines => put_via(text, layers),
-        Form::Json => {
+    match form.base() {
+        Some(Base::Lines | Base::NamedLines) => put_via(text, layers),
+        Some(Base::Json) | None => {
             let origin = MessageOrigin { line: None, layers };
             put_message_opening(text, form, &origin, kind)
         }
@@ -144,12 +144,12 @@ fn put_before_place(
 fn put_after_place(text: &mut TextBuffer, form: Form, kind: &str) -> Result<(), AllocError>
     ensures { OnOk result (text.new ≡ text.old ++ after_place form kind.now) }
 {
-    match form {
-        Form::Lines | Form::NamedLines => {
+    match form.base() {
+        Some(Base::Lines | Base::NamedLines) => {
             text.push_str(" ")?;
             text.push_str(kind)
         }
-        Form::Json => Ok(()),
+        Some(Base::Json) | None => Ok(()),
     }
 }
 

@@ -6,7 +6,7 @@ ghost use Rattle.krb_record.specs.Text.{hex, joined, list_text};
 ghost use Rattle.krb_items.specs.Records.{number_of_tag, quoted, tag_word, type_word, words_text};
 
 use crate::tag::Tag;
-use krb_record::{Form, HexText, Shown, TextBuffer};
+use krb_record::{Base, Form, HexText, Shown, TextBuffer};
 use std::alloc::AllocError;
 
 /// A word that needs no escape.
@@ -149,12 +149,12 @@ pub(crate) fn put_words<W: Word>(
 ) -> Result<(), AllocError>
     ensures { OnOk result (out.new ≡ out.old ++ words_text form label.now begin.now W.text words.now) }
 {
-    match form {
-        Form::Lines | Form::NamedLines => {
+    match form.base() {
+        Some(Base::Lines | Base::NamedLines) => {
             out.push_str(label)?;
             put_joined(out, words)
         }
-        Form::Json => {
+        Some(Base::Json) | None => {
             out.push_str(begin)?;
             out.push_str("\":")?;
             put_list(out, words)

@@ -11,8 +11,8 @@ ghost use Rattle.krb_record.specs.Values.{Named, count, if_there, the};
 use krb_ccache::{FilePrincipal, Header};
 use krb_der::Memory;
 use krb_record::{
-    Form, Numbered, Principal, Shown, Strings, TextBuffer, put_begin, put_closing, put_field,
-    put_opening,
+    Form, Numbered, Path, Principal, Shown, Strings, TextBuffer, put_begin, put_closing, put_field,
+    put_no_cell, put_opening,
 };
 use krb_registry::Registry;
 use std::alloc::{AllocError, Global};
@@ -79,6 +79,16 @@ impl Shown for Offset {
     fn put_members(&self, object: &mut TextBuffer, begin: &str) -> Result<(), AllocError> {
         put_begin(object, begin)?;
         put_offset_object(object, self.0)
+    }
+
+    #[tactic(auto, unfolding(krb_record::specs::Forms::cell))]
+    fn put_cell(&self, text: &mut TextBuffer, path: Path) -> Result<(), AllocError> {
+        match path {
+            Path::Whole => self.put_text(text, true),
+            Path::Seconds => text.push_integer(self.0.0),
+            Path::Microseconds => text.push_integer(self.0.1),
+            _ => put_no_cell(text),
+        }
     }
 }
 

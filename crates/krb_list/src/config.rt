@@ -68,10 +68,8 @@ pub(crate) fn put_value(
 ) -> Result<(), AllocError>
     ensures { OnOk result (text.new ≡ text.old ++ fields_text form (told form (the (codes "value") (config_value credential.now) ∷ []))) }
 {
-    match form {
-        Form::Lines => Ok(()),
-        Form::NamedLines | Form::Json => {
-            put_field!(text, form, "value": &shown_value(credential))
-        }
+    if form.is_plain() {
+        return Ok(());
     }
+    put_field!(text, form, "value": &shown_value(credential))
 }

@@ -15,8 +15,8 @@ use krb_ccache::{Credential, TicketStateView, ticket_view_of};
 use krb_der::{Memory, Refusal, Why, why_number, why_text};
 use krb_msg::TicketView;
 use krb_record::{
-    FileTime, Form, Numbered, Plain, Principal, Shown, TextBuffer, TicketFlags, put_begin,
-    put_closing, put_field, put_opening, put_string,
+    FileTime, Form, Numbered, Path, Plain, Principal, Shown, TextBuffer, TicketFlags, put_begin,
+    put_closing, put_field, put_no_cell, put_opening, put_string,
 };
 use krb_registry::Registry;
 use krb_text::{ViewedStrings, encrypted_of};
@@ -183,6 +183,11 @@ impl Shown for WithoutTicket {
         put_begin(object, begin)?;
         object.push_str("null")
     }
+
+    #[tactic(auto, unfolding(krb_record::specs::Forms::cell))]
+    fn put_cell(&self, text: &mut TextBuffer, _path: Path) -> Result<(), AllocError> {
+        put_no_cell(text)
+    }
 }
 
 /// Appends `refused`, the place and the number of the reason, with `:` between.
@@ -253,6 +258,17 @@ impl Shown for RefusedOctets {
     fn put_members(&self, object: &mut TextBuffer, begin: &str) -> Result<(), AllocError> {
         put_begin(object, begin)?;
         put_refused_object(object, self.0)
+    }
+
+    #[tactic(auto, unfolding(krb_record::specs::Forms::cell))]
+    fn put_cell(&self, text: &mut TextBuffer, path: Path) -> Result<(), AllocError> {
+        match path {
+            Path::Whole => self.put_text(text, true),
+            Path::Place => text.push_integer(self.0.place),
+            Path::Why => text.push_integer(why_number(self.0.why)),
+            Path::WhyName => text.push_str(why_text(self.0.why)),
+            _ => put_no_cell(text),
+        }
     }
 }
 

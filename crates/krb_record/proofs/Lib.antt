@@ -1,6 +1,7 @@
 pub mod Ascii
 pub mod Copies
 pub mod Escapes
+pub mod Cells
 pub mod Lanes
 pub mod Hexadecimal
 pub mod JsonStrings

@@ -1,5 +1,5 @@
 -- Records of captures: what is found in a flow, with the packet, its time and the flow; and the last one.
-use Rattle.std.specs.Prelude.{ℕ, pos, List, [], ◌∷◌, ◌++◌, Option, codes}
+use Rattle.std.specs.Prelude.{ℕ, pos, List, [], ◌∷◌, ◌++◌, Option, codes, if◌then◌else◌}
 use Rattle.krb_der.specs.declared.verdict.Refusal.{Refusal}
 use Rattle.krb_source.specs.UnreadReasons.{unread_reason_name, unread_reason_number}
 use Rattle.krb_source.specs.declared.file_why.FileWhy.{FileWhy}
@@ -17,13 +17,13 @@ use Rattle.krb_record.specs.declared.extent.Extent.{Extent}
 use Rattle.krb_record.specs.declared.form.Form.{Form}
 use Rattle.krb_record.specs.declared.form.Form.TheVariants as forms
 use Rattle.krb_record.specs.declared.capture_origin.CaptureOrigin.{CaptureOrigin}
-use Rattle.krb_record.specs.Forms.{record_line}
+use Rattle.krb_record.specs.Forms.{is_plain_form, record_line}
 use Rattle.krb_record.specs.Unreachables.{code_name, error_of, how_name, type_name}
 use Rattle.krb_record.specs.declared.unreachable.How.{How}
 use Rattle.krb_record.specs.declared.unreachable.IcmpError.{IcmpError}
-use Rattle.krb_record.specs.Refusals.{extent_in, file_refused_record, path_in, refusal_record}
+use Rattle.krb_record.specs.Refusals.{extent_in, known_path, path_in, refusal_record, refused_file}
 use Rattle.krb_record.specs.Time.{microseconds, timestamp_text}
-use Rattle.krb_record.specs.Values.{Value, Called, Flow, Host, Number, Reason, Span, Word, Field, Printed, the, printed, with_last, with_origin, if_there}
+use Rattle.krb_record.specs.Values.{Value, Called, Flow, Host, Number, Reason, Span, Word, Field, Printed, the, printed, told_by, with_last, with_origin, if_there}
 
 -- ---- what is told of an exchange
 -- of a request, the packet with which the same octets were sent first, if they were sent before
@@ -53,6 +53,10 @@ unfoldable pub told_in : Form → Told → List Field
 told_in forms.Lines told = []
 told_in forms.NamedLines told = told_fields told
 told_in forms.Json told = []
+told_in forms.KeptLines told = []
+told_in forms.KeptNamedLines told = told_fields told
+told_in forms.KeptJson told = []
+told_in (forms.Rows wanted) told = []
 
 -- ---- the packet, its time and the flow
 abbrev pub origin_fields : Form → CaptureOrigin → List Field
@@ -130,14 +134,16 @@ error_type error = Called error.error_type (type_name error.version error.error_
 abbrev pub error_code : IcmpError → Value
 error_code error = Called error.code (code_name error.version error.error_type error.code)
 
-abbrev pub unreachable_record : How → Answer → Printed
-unreachable_record how answer =
-    printed (codes "unreachable")
-    (the (codes "how") (Word (how_name how))
+abbrev pub how_fields : How → List Field
+how_fields how =
+    the (codes "how") (Word (how_name how))
     ∷ the (codes "by") (if_there (λ error. Host error.by) (error_of how))
     ∷ the (codes "type") (if_there error_type (error_of how))
     ∷ the (codes "code") (if_there error_code (error_of how))
-    ∷ answer_fields answer)
+    ∷ []
+
+abbrev pub unreachable_record : How → Answer → Printed
+unreachable_record how answer = printed (codes "unreachable") (how_fields how ++ answer_fields answer)
 
 abbrev pub unreachable_line : Form → CaptureOrigin → How → Answer → List ℕ
 unreachable_line form origin how answer = captured_line form origin (unreachable_record how answer)
@@ -162,20 +168,22 @@ four_counts told =
     ∷ []
 
 unfoldable pub told_counts : Form → ToldCounts → List Field
-told_counts forms.Lines told = []
-told_counts forms.NamedLines told = four_counts told
-told_counts forms.Json told = four_counts told
+told_counts form told = if is_plain_form form then [] else four_counts told
 
 abbrev pub capture_end_record : Form → CaptureCounts → ToldCounts → Printed
-capture_end_record form counts told = printed (codes "end") (count_fields counts ++ told_counts form told)
+capture_end_record form counts told = told_by (printed (codes "end") (count_fields counts)) (printed (codes "end") (count_fields counts ++ told_counts form told))
 
 abbrev pub capture_end_line : Form → CaptureCounts → ToldCounts → List ℕ
 capture_end_line form counts told = record_line form (capture_end_record form counts told)
 
 -- a refused file, and what was counted before the fault
+abbrev pub refused_capture : Form → CaptureCounts → ToldCounts → ℕ → FileWhy → Option (List ℕ) → Extent → Printed
+refused_capture form counts told place reason path extent =
+    told_by (printed (codes "refused") (count_fields counts ++ (refused_file forms.NamedLines place reason path extent).fields))
+    (printed (codes "refused") (count_fields counts ++ ((refused_file form place reason path extent).fields ++ told_counts form told)))
+
 abbrev pub capture_refused_record : Form → CaptureCounts → ToldCounts → ℕ → FileWhy → Option (List ℕ) → Extent → Printed
-capture_refused_record form counts told place reason path extent =
-    printed (codes "refused") (count_fields counts ++ ((file_refused_record form place reason path extent).fields ++ told_counts form told))
+capture_refused_record form counts told place reason path extent = refused_capture form counts told place reason (known_path form path) extent
 
 abbrev pub capture_refused_line : Form → CaptureCounts → ToldCounts → ℕ → FileWhy → Option (List ℕ) → Extent → List ℕ
 capture_refused_line form counts told place reason path extent = record_line form (capture_refused_record form counts told place reason path extent)

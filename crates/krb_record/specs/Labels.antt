@@ -1,9 +1,10 @@
 -- Records that name their file, which tells them from those of other files.
 use Rattle.std.specs.Prelude.{ℕ, ◌≡◌, List, [], ◌∷◌, ◌++◌, Option, Some, None, codes}
 use Rattle.krb_record.specs.declared.form.Form.{Form}
-use Rattle.krb_record.specs.declared.form.Form.TheVariants as forms
-use Rattle.krb_record.specs.Forms.{labelled, record_line}
-use Rattle.krb_record.specs.Values.{FileName, Field, Printed, the, with_last, with_origin}
+use Rattle.krb_record.specs.declared.form.Base.{Base}
+use Rattle.krb_record.specs.declared.form.Base.TheVariants as bases
+use Rattle.krb_record.specs.Forms.{base_of, labelled, match_base, record_line}
+use Rattle.krb_record.specs.Values.{FileName, Field, Printed, the, with_first, with_last}
 
 -- in which form records are written, and the name of their file, if each of them has it
 pub record Label : Type 0 where
@@ -16,11 +17,15 @@ no_label form = record { form = form; file = None }
 abbrev pub file_field : List ℕ → Field
 file_field name = the (codes "file") (FileName name)
 
--- a line has the name first, and an object last
+-- a line and a row have the name first, and an object last
+abbrev pub on_json : {A : Type 0} → Option Base → (json other : A) → A
+on_json (Some bases.Lines) json other = other
+on_json (Some bases.NamedLines) json other = other
+on_json (Some bases.Json) json other = json
+on_json None json other = other
+
 abbrev pub with_file : Form → List ℕ → Printed → Printed
-with_file forms.Lines name r = with_origin (file_field name ∷ r.origin) r
-with_file forms.NamedLines name r = with_origin (file_field name ∷ r.origin) r
-with_file forms.Json name r = with_last (r.last ++ file_field name ∷ []) r
+with_file f name r = on_json (base_of f) (with_last (r.last ++ file_field name ∷ []) r) (with_first (file_field name) r)
 
 abbrev pub with_file_if : Form → Option (List ℕ) → Printed → Printed
 with_file_if form None r = r
@@ -36,9 +41,7 @@ line_of label r = record_line label.form (with_label label r)
 
 -- ---- how a label is written
 abbrev pub label_end : Form → List ℕ
-label_end forms.Lines = codes " "
-label_end forms.NamedLines = codes " "
-label_end forms.Json = []
+label_end f = match_base (base_of f) (codes " ") []
 
 -- `file=NAME ` or `,"file":"NAME"`
 unfoldable pub label_text : Form → List ℕ → List ℕ
@@ -46,9 +49,7 @@ label_text form name = labelled form (codes "file=") (codes ",\"file") (FileName
 
 abbrev pub begin_text_of : Form → Option (List ℕ) → List ℕ
 begin_text_of form None = []
-begin_text_of forms.Lines (Some name) = label_text forms.Lines name
-begin_text_of forms.NamedLines (Some name) = label_text forms.NamedLines name
-begin_text_of forms.Json (Some name) = []
+begin_text_of f (Some name) = on_json (base_of f) [] (label_text f name)
 
 -- what a line has before its record
 abbrev pub begin_text : Label → List ℕ

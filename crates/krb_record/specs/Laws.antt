@@ -15,9 +15,9 @@ use Rattle.krb_record.specs.declared.told.Request.{Request}
 use Rattle.krb_record.specs.declared.told.Told.TheVariants.{Nothing}
 use Rattle.krb_record.specs.declared.told.ToldCounts.{ToldCounts}
 use Rattle.krb_record.specs.declared.capture_origin.CaptureOrigin.{CaptureOrigin}
-use Rattle.krb_record.specs.declared.form.Form.{Form}
+use Rattle.krb_record.specs.declared.form.Base.{Base}
 use Rattle.krb_record.specs.declared.form.Form.TheVariants.{Lines, NamedLines}
-use Rattle.krb_record.specs.Forms.{record_line}
+use Rattle.krb_record.specs.Forms.{form_of, record_line}
 use Rattle.krb_record.specs.Text.{AllAreOctets, IsPrintable, escape, line_feed, principal_text}
 use Rattle.krb_record.specs.declared.extent.Extent.{Extent}
 use Rattle.krb_record.specs.declared.input.InputFault.{InputFault}
@@ -45,38 +45,38 @@ EscapeIsGraphic = (octets : List ℕ) → AreOctets octets → AllByRecursion (�
 abbrev pub DatesAreTheCalendars : Type 0
 DatesAreTheCalendars = (date : Date) (days : ℕ) → epoch_day date ≡ pos days → civil_date days ≡ the_date (unsigned_abs date.year) date.month date.day
 
--- ---- each record is one line, in each form
+-- ---- each record is one line, in each form that is printed
 -- blanks and graphic characters of ASCII, and the line feed after them
 abbrev pub IsOneLine : List ℕ → Type 0
 IsOneLine line = (text : List ℕ) × IsPrintable text × (line ≡ text ++ line_feed)
 
 -- that of a refused file
 abbrev pub FileRefusalIsOneLine : Type 0
-FileRefusalIsOneLine = (form : Form) (place : ℕ) (reason : FileWhy) (path : Option (List ℕ)) (extent : Extent) → IfSome path AreOctets → IsOneLine (file_refused_line form place reason path extent)
+FileRefusalIsOneLine = (base : Base) (place : ℕ) (reason : FileWhy) (path : Option (List ℕ)) (extent : Extent) → IfSome path AreOctets → IsOneLine (file_refused_line (form_of base) place reason path extent)
 
 -- that of octets that are no message
 abbrev pub MessageRefusalIsOneLine : Type 0
-MessageRefusalIsOneLine = (form : Form) (line : Option ℕ) (layers : List Layer) (refusal : Refusal) (path : Option (List ℕ)) (extent : Extent) (spelling : Spelling) → IfSome path AreOctets → IsOneLine (message_refused_line form (message_origin line layers) refusal path extent spelling)
+MessageRefusalIsOneLine = (base : Base) (line : Option ℕ) (layers : List Layer) (refusal : Refusal) (path : Option (List ℕ)) (extent : Extent) (spelling : Spelling) → IfSome path AreOctets → IsOneLine (message_refused_line (form_of base) (message_origin line layers) refusal path extent spelling)
 
 -- the same with the path alone
 abbrev pub UntoldMessageRefusalIsOneLine : Type 0
-UntoldMessageRefusalIsOneLine = (form : Form) (refusal : Refusal) (path : Option (List ℕ)) → IfSome path AreOctets → IsOneLine (untold_message_refused_line form refusal path)
+UntoldMessageRefusalIsOneLine = (base : Base) (refusal : Refusal) (path : Option (List ℕ)) → IfSome path AreOctets → IsOneLine (untold_message_refused_line (form_of base) refusal path)
 
 -- that of input that is not looked at as a message
 abbrev pub InputRefusalIsOneLine : Type 0
-InputRefusalIsOneLine = (form : Form) (line : Option ℕ) (layers : List Layer) (fault : InputFault) (place : Option ℕ) (extent : Extent) (spelling : Option Spelling) → IsOneLine (input_refused_line form (message_origin line layers) fault place extent spelling)
+InputRefusalIsOneLine = (base : Base) (line : Option ℕ) (layers : List Layer) (fault : InputFault) (place : Option ℕ) (extent : Extent) (spelling : Option Spelling) → IsOneLine (input_refused_line (form_of base) (message_origin line layers) fault place extent spelling)
 
 -- that of a refused frame with the path alone
 abbrev pub UntoldStreamRefusalIsOneLine : Type 0
-UntoldStreamRefusalIsOneLine = (form : Form) (messages place : ℕ) (reason : Why) (path : Option (List ℕ)) → IfSome path AreOctets → IsOneLine (untold_refused_line form messages place reason path)
+UntoldStreamRefusalIsOneLine = (base : Base) (messages place : ℕ) (reason : Why) (path : Option (List ℕ)) → IfSome path AreOctets → IsOneLine (untold_refused_line (form_of base) messages place reason path)
 
 -- the last of a stream that was gone on with after refusals
 abbrev pub CountedStreamEndIsOneLine : Type 0
-CountedStreamEndIsOneLine = (form : Form) (messages refused : ℕ) → IsOneLine (counted_end_line form messages refused)
+CountedStreamEndIsOneLine = (base : Base) (messages refused : ℕ) → IsOneLine (counted_end_line (form_of base) messages refused)
 
 -- that of a file's name
 abbrev pub FileNameIsOneLine : Type 0
-FileNameIsOneLine = (form : Form) (name : List ℕ) → AreOctets name → IsOneLine (file_line form name)
+FileNameIsOneLine = (base : Base) (name : List ℕ) → AreOctets name → IsOneLine (file_line (form_of base) name)
 
 -- ---- those of captures, too
 -- the seconds of its time and the addresses are as their types have them
@@ -87,35 +87,35 @@ pub record OriginIsInRange (origin : CaptureOrigin) : Type 0 where
 
 -- that of a refused message of a capture
 abbrev pub CapturedRefusalIsOneLine : Type 0
-CapturedRefusalIsOneLine = (form : Form) (origin : CaptureOrigin) (refusal : Refusal) (path : Option (List ℕ)) (extent : Extent) → OriginIsInRange origin → IfSome path AreOctets → IsOneLine (captured_refused_line form origin refusal path extent)
+CapturedRefusalIsOneLine = (base : Base) (origin : CaptureOrigin) (refusal : Refusal) (path : Option (List ℕ)) (extent : Extent) → OriginIsInRange origin → IfSome path AreOctets → IsOneLine (captured_refused_line (form_of base) origin refusal path extent)
 
 -- that of a direction whose first octets come without a SYN
 abbrev pub JoinedIsOneLine : Type 0
-JoinedIsOneLine = (form : Form) (origin : CaptureOrigin) → OriginIsInRange origin → IsOneLine (joined_line form origin)
+JoinedIsOneLine = (base : Base) (origin : CaptureOrigin) → OriginIsInRange origin → IsOneLine (joined_line (form_of base) origin)
 
 -- that of octets that are not in a capture
 abbrev pub LostIsOneLine : Type 0
-LostIsOneLine = (form : Form) (origin : CaptureOrigin) (place octets : ℕ) (path : Option (List ℕ)) → OriginIsInRange origin → IfSome path AreOctets → IsOneLine (lost_line form origin place octets path)
+LostIsOneLine = (base : Base) (origin : CaptureOrigin) (place octets : ℕ) (path : Option (List ℕ)) → OriginIsInRange origin → IfSome path AreOctets → IsOneLine (lost_line (form_of base) origin place octets path)
 
 -- that of a message that changes a password
 abbrev pub PasswordIsOneLine : Type 0
-PasswordIsOneLine = (form : Form) (origin : CaptureOrigin) (version ap rest : ℕ) → OriginIsInRange origin → IsOneLine (password_line form origin version ap rest)
+PasswordIsOneLine = (base : Base) (origin : CaptureOrigin) (version ap rest : ℕ) → OriginIsInRange origin → IsOneLine (password_line (form_of base) origin version ap rest)
 
 -- that of a request that no reply answered
 abbrev pub UnansweredIsOneLine : Type 0
-UnansweredIsOneLine = (form : Form) (origin : CaptureOrigin) (request : Request) (answer : Answer) → OriginIsInRange origin → IsOneLine (unanswered_line form origin request answer)
+UnansweredIsOneLine = (base : Base) (origin : CaptureOrigin) (request : Request) (answer : Answer) → OriginIsInRange origin → IsOneLine (unanswered_line (form_of base) origin request answer)
 
 -- that of somebody who could not be reached; the address of who said so is as its type has it
 abbrev pub UnreachableIsOneLine : Type 0
-UnreachableIsOneLine = (form : Form) (origin : CaptureOrigin) (how : How) (answer : Answer) → OriginIsInRange origin → IfSome (error_of how) (λ error. MatchIp error.by IsIpv4Addr IsIpv6Addr) → IsOneLine (unreachable_line form origin how answer)
+UnreachableIsOneLine = (base : Base) (origin : CaptureOrigin) (how : How) (answer : Answer) → OriginIsInRange origin → IfSome (error_of how) (λ error. MatchIp error.by IsIpv4Addr IsIpv6Addr) → IsOneLine (unreachable_line (form_of base) origin how answer)
 
 -- the last of a capture
 abbrev pub CaptureEndIsOneLine : Type 0
-CaptureEndIsOneLine = (form : Form) (counts : CaptureCounts) (told : ToldCounts) → IsOneLine (capture_end_line form counts told)
+CaptureEndIsOneLine = (base : Base) (counts : CaptureCounts) (told : ToldCounts) → IsOneLine (capture_end_line (form_of base) counts told)
 
 -- the last of a capture that is refused
 abbrev pub CaptureRefusalIsOneLine : Type 0
-CaptureRefusalIsOneLine = (form : Form) (counts : CaptureCounts) (told : ToldCounts) (place : ℕ) (reason : FileWhy) (path : Option (List ℕ)) (extent : Extent) → IfSome path AreOctets → IsOneLine (capture_refused_line form counts told place reason path extent)
+CaptureRefusalIsOneLine = (base : Base) (counts : CaptureCounts) (told : ToldCounts) (place : ℕ) (reason : FileWhy) (path : Option (List ℕ)) (extent : Extent) → IfSome path AreOctets → IsOneLine (capture_refused_line (form_of base) counts told place reason path extent)
 
 -- ---- what lines leave out
 -- one without names has nothing of what is inside

@@ -4,9 +4,10 @@ use Rattle.krb_der.specs.Reasons.{reason_number, reason_name}
 use Rattle.krb_der.specs.declared.why.Why.{Why}
 use Rattle.krb_record.specs.declared.extent.Extent.{Extent}
 use Rattle.krb_record.specs.declared.form.Form.{Form}
+use Rattle.krb_record.specs.declared.form.Form.TheVariants.{NamedLines}
 use Rattle.krb_record.specs.Forms.{record_line}
-use Rattle.krb_record.specs.Refusals.{extent_in, path_in}
-use Rattle.krb_record.specs.Values.{Number, Reason, Field, Printed, the, printed}
+use Rattle.krb_record.specs.Refusals.{extent_in, known_path, path_in}
+use Rattle.krb_record.specs.Values.{Number, Reason, Field, Printed, the, printed, told_by}
 
 -- a frame that is refused, after n messages, and what is told of it
 abbrev pub refused_frame : ℕ → ℕ → Why → List Field → Printed
@@ -17,13 +18,22 @@ refused_frame messages place reason fields =
     ∷ fields)
 
 -- with the path of the field at fault, if it has one, where the frame begins, and the length that it says
+abbrev pub refused_in : Form → ℕ → ℕ → Why → Option (List ℕ) → Extent → Printed
+refused_in form messages place reason path extent = refused_frame messages place reason (path_in form path ++ extent_in form extent)
+
+abbrev pub frame_refused : Form → ℕ → ℕ → Why → Option (List ℕ) → Extent → Printed
+frame_refused form messages place reason path extent = told_by (refused_in NamedLines messages place reason path extent) (refused_in form messages place reason path extent)
+
 abbrev pub refused_record : Form → ℕ → ℕ → Why → Option (List ℕ) → Extent → Printed
-refused_record form messages place reason path extent = refused_frame messages place reason (path_in form path ++ extent_in form extent)
+refused_record form messages place reason path extent = frame_refused form messages place reason (known_path form path) extent
 
 -- how a listing ends that goes on after refusals, after n messages
-abbrev pub counted_end_record : ℕ → ℕ → Printed
-counted_end_record messages refused =
+abbrev pub counted_end : ℕ → ℕ → Printed
+counted_end messages refused =
     printed (codes "end") (the (codes "messages") (Number (pos messages)) ∷ the (codes "refused") (Number (pos refused)) ∷ [])
+
+abbrev pub counted_end_record : ℕ → ℕ → Printed
+counted_end_record messages refused = told_by (counted_end messages refused) (counted_end messages refused)
 
 abbrev pub refused_line : Form → ℕ → ℕ → Why → Option (List ℕ) → Extent → List ℕ
 refused_line form messages place reason path extent = record_line form (refused_record form messages place reason path extent)

@@ -1,5 +1,5 @@
 -- What is printed, before it is text: records. A record is a kind and fields, and maybe an origin, which is fields, too; a field is a name and a value. The record of a message may have parts, which are records inside of it.
-use Rattle.std.specs.Prelude.{ℕ, ℤ, pos, Bool, List, [], Option, Some, None, length}
+use Rattle.std.specs.Prelude.{ℕ, ℤ, pos, Bool, List, [], ◌∷◌, Option, Some, None, length}
 use Rattle.std.specs.declared.net.ip_addr.IpAddr.{IpAddr}
 use Rattle.krb_der.specs.declared.verdict.Refusal.{Refusal}
 use Rattle.krb_source.specs.declared.endpoint.Endpoint.{Endpoint}
@@ -47,19 +47,26 @@ pub record Part : Type 0 where
   pub kind : List ℕ
   pub fields : List Field
 
--- `inside` is told, so lines without names have nothing of it; it is None of what has no parts, of which no form has anything. `last` is what an object has after all else, and no line has any of it.
+-- the line with names that tells of a record which may be the last one
+pub record LastLine : Type 0 where
+  pub origin : List Field
+  pub kind : List ℕ
+  pub fields : List Field
+
+-- `inside` is told, so lines without names have nothing of it; it is None of what has no parts, of which no form has anything. `last` is what an object has after all else, and no line has any of it. `aside` is what a choice tells of the record if it is the last one and not kept, and no form that is printed has anything of it.
 pub record Printed : Type 0 where
   pub origin : List Field
   pub kind : List ℕ
   pub fields : List Field
   pub inside : Option (List Part)
   pub last : List Field
+  pub aside : Option LastLine
 
 abbrev pub the : List ℕ → Value → Field
 the name value = record { name = name; value = value }
 
 abbrev pub printed : List ℕ → List Field → Printed
-printed kind fields = record { origin = []; kind = kind; fields = fields; inside = None; last = [] }
+printed kind fields = record { origin = []; kind = kind; fields = fields; inside = None; last = []; aside = None }
 
 abbrev pub part : List ℕ → List Field → Part
 part kind fields = record { kind = kind; fields = fields }
@@ -69,12 +76,24 @@ abbrev pub with_inside : Option (List Part) → Printed → Printed
 with_inside inside r = record r { inside = inside }
 
 -- the same with an origin
+abbrev pub line_from : List Field → Option LastLine → Option LastLine
+line_from origin None = None
+line_from origin (Some line) = Some (record line { origin = origin })
+
 abbrev pub with_origin : List Field → Printed → Printed
-with_origin origin r = record r { origin = origin }
+with_origin origin r = record r { origin = origin; aside = line_from origin r.aside }
+
+-- the same with a field before its origin, of which a choice tells nothing
+abbrev pub with_first : Field → Printed → Printed
+with_first field r = record r { origin = field ∷ r.origin }
 
 -- the same with what is last
 abbrev pub with_last : List Field → Printed → Printed
 with_last fields r = record r { last = fields }
+
+-- the same, of which a choice tells so much of another record, in a line with names
+abbrev pub told_by : Printed → Printed → Printed
+told_by named r = record r { aside = Some (record { origin = named.origin; kind = named.kind; fields = named.fields }) }
 
 -- that of what is optional
 abbrev pub if_there : {A : Type 0} → (A → Value) → Option A → Value

@@ -1,16 +1,19 @@
 //! Records of captures.
 
-ghost use Rattle.std.specs.Prelude.{◌≡◌, ◌++◌, OnOk};
+ghost use Rattle.std.specs.Prelude.{◌≡◌, ◌++◌, [], OnOk, codes};
 ghost use Rattle.std.specs.Option.{option_copied};
-ghost use Rattle.krb_record.specs.Captures.{capture_end_line, capture_refused_line, captured_refused_line, count_fields, joined_line, lost_line, password_line, unanswered_line, unreachable_line, unread_line};
-ghost use Rattle.krb_record.specs.Forms.{fields_text};
+ghost use Rattle.krb_record.specs.Captures.{capture_end_line, capture_refused_line, captured_refused_line, count_fields, how_fields, joined_line, lost_line, password_line, told_counts, unanswered_line, unreachable_line, unread_line};
+ghost use Rattle.krb_record.specs.declared.form.Form.TheVariants.{NamedLines};
+ghost use Rattle.krb_record.specs.Forms.{fields_text, opening};
+ghost use Rattle.krb_record.specs.Refusals.{refused_file};
 
 use crate::capture_origin::{CaptureOrigin, put_captured_end, put_captured_opening};
 use crate::extent::Extent;
-use crate::field::{put_end, put_opening};
+use crate::field::put_opening;
 use crate::form::Form;
+use crate::last::{Last, put_last};
 use crate::put_field;
-use crate::refusal::{Reason, put_fault_fields, put_path};
+use crate::refusal::{Reason, known_path, put_fault_fields, put_path};
 use crate::text_buffer::TextBuffer;
 use crate::told::{Answer, Request, ToldCounts, put_answer, put_told_counts};
 use crate::unreachable::How;
@@ -131,6 +134,16 @@ pub fn put_unanswered(
     put_captured_end(text, form, origin)
 }
 
+/// Appends the fields of how it is known that somebody could not be reached.
+fn put_how(text: &mut TextBuffer, form: Form, how: How) -> Result<(), AllocError>
+    ensures { OnOk result (text.new ≡ text.old ++ fields_text form (how_fields how)) }
+{
+    put_field!(text, form, "how": &how)?;
+    put_field!(text, form, "by": &how.by())?;
+    put_field!(text, form, "type": &how.kind())?;
+    put_field!(text, form, "code": &how.number())
+}
+
 /// Appends the line of somebody who could not be reached: how that is known, and the request or the
 /// SYN that it is about.
 #[tactic(auto, unfolding(crate::specs::Forms::record_text))]
@@ -144,10 +157,7 @@ pub fn put_unreachable(
     ensures { OnOk result (text.new ≡ text.old ++ unreachable_line form origin.now how answer.now) }
 {
     put_captured_opening(text, form, origin, "unreachable")?;
-    put_field!(text, form, "how": &how)?;
-    put_field!(text, form, "by": &how.by())?;
-    put_field!(text, form, "type": &how.kind())?;
-    put_field!(text, form, "code": &how.number())?;
+    put_how(text, form, how)?;
     put_answer(text, form, answer)?;
     put_captured_end(text, form, origin)
 }
@@ -178,6 +188,75 @@ fn put_counts(text: &mut TextBuffer, form: Form, counts: &CaptureCounts) -> Resu
     put_field!(text, form, "unread": &counts.unread)
 }
 
+/// What was counted and told in a capture that is read to its end.
+#[derive(Clone, Copy)]
+struct Totals<'a> {
+    counts: &'a CaptureCounts,
+    told: &'a ToldCounts,
+}
+
+impl<'a> Last for Totals<'a> {
+    ghost origin = { λ totals. [] };
+
+    ghost kind = { λ form totals. codes "end" };
+
+    ghost fields = { λ form totals. count_fields totals.counts.now ++ told_counts form totals.told.now };
+
+    ghost told = { λ totals. count_fields totals.counts.now };
+
+    fn put(&self, text: &mut TextBuffer, form: Form) -> Result<(), AllocError> {
+        put_opening(text, form, "end")?;
+        put_counts(text, form, self.counts)?;
+        put_told_counts(text, form, self.told)
+    }
+
+    fn put_told(&self, text: &mut TextBuffer) -> Result<(), AllocError> {
+        put_opening(text, Form::NamedLines, "end")?;
+        put_counts(text, Form::NamedLines, self.counts)
+    }
+}
+
+/// A capture that is refused, and what was counted and told before that.
+#[derive(Clone, Copy)]
+struct RefusedCapture<'a> {
+    totals: Totals<'a>,
+    place: u64,
+    why: FileWhy,
+    path: Option<&'a str>,
+    extent: Extent,
+}
+
+impl<'a> RefusedCapture<'a> {
+    /// Appends the record up to what is told.
+    fn put_untold(&self, text: &mut TextBuffer, form: Form) -> Result<(), AllocError>
+        ensures { OnOk result (text.new ≡ text.old ++ (opening form (codes "refused") ++ fields_text form (count_fields self.now.totals.counts.now ++ (refused_file form self.now.place self.now.why (option_copied self.now.path) self.now.extent).fields))) }
+    {
+        let reason = Reason::of_file(self.why);
+        put_opening(text, form, "refused")?;
+        put_counts(text, form, self.totals.counts)?;
+        put_fault_fields(text, form, self.place, &reason, self.path, self.extent)
+    }
+}
+
+impl<'a> Last for RefusedCapture<'a> {
+    ghost origin = { λ refused. [] };
+
+    ghost kind = { λ form refused. codes "refused" };
+
+    ghost fields = { λ form refused. count_fields refused.totals.counts.now ++ ((refused_file form refused.place refused.why (option_copied refused.path) refused.extent).fields ++ told_counts form refused.totals.told.now) };
+
+    ghost told = { λ refused. count_fields refused.totals.counts.now ++ (refused_file NamedLines refused.place refused.why (option_copied refused.path) refused.extent).fields };
+
+    fn put(&self, text: &mut TextBuffer, form: Form) -> Result<(), AllocError> {
+        self.put_untold(text, form)?;
+        put_told_counts(text, form, self.totals.told)
+    }
+
+    fn put_told(&self, text: &mut TextBuffer) -> Result<(), AllocError> {
+        self.put_untold(text, Form::NamedLines)
+    }
+}
+
 /// Appends the last line of a capture that is read to its end. A line without names has nothing of
 /// what was told.
 #[tactic(auto, unfolding(crate::specs::Forms::record_text))]
@@ -189,10 +268,7 @@ pub fn put_capture_end(
 ) -> Result<(), AllocError>
     ensures { OnOk result (text.new ≡ text.old ++ capture_end_line form counts.now told.now) }
 {
-    put_opening(text, form, "end")?;
-    put_counts(text, form, counts)?;
-    put_told_counts(text, form, told)?;
-    put_end(text, form)
+    put_last(text, form, &Totals { counts, told })
 }
 
 /// Appends the last line of a capture that is refused: what was counted before, the place of the
@@ -211,9 +287,12 @@ pub fn put_capture_refusal(
 ) -> Result<(), AllocError>
     ensures { OnOk result (text.new ≡ text.old ++ capture_refused_line form counts.now told.now place why (option_copied path.entry) extent) }
 {
-    put_opening(text, form, "refused")?;
-    put_counts(text, form, counts)?;
-    put_fault_fields(text, form, place, &Reason::of_file(why), path, extent)?;
-    put_told_counts(text, form, told)?;
-    put_end(text, form)
+    let refused = RefusedCapture {
+        totals: Totals { counts, told },
+        place,
+        why,
+        path: known_path(form, path),
+        extent,
+    };
+    put_last(text, form, &refused)
 }

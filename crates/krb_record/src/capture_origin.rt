@@ -3,14 +3,13 @@
 ghost use Rattle.std.specs.Prelude.{◌≡◌, ◌++◌, OnOk};
 ghost use Rattle.std.specs.Option.{option_map};
 ghost use Rattle.krb_record.specs.Captures.{last_fields, origin_fields};
-ghost use Rattle.krb_record.specs.Forms.{end_text, heading};
-ghost use Rattle.krb_record.specs.declared.form.Form.TheVariants as forms;
+ghost use Rattle.krb_record.specs.Forms.{closing, end_text, fields_text, heading};
 ghost use Rattle.krb_record.specs.Text.{line_feed};
 ghost use Rattle.krb_record.specs.Time.{microseconds as microseconds_of};
 
 use crate::field::put_closing;
 use crate::flow::Flow;
-use crate::form::Form;
+use crate::form::{Base, Form};
 use crate::origin::{Origin, put_opening_from};
 use crate::put_field;
 use crate::text_buffer::TextBuffer;
@@ -72,13 +71,14 @@ fn optional_microseconds(time: Option<Timestamp>) -> Option<u64>
 /// and its end.
 fn put_captured_object_end(
     object: &mut TextBuffer,
+    form: Form,
     origin: &CaptureOrigin,
 ) -> Result<(), AllocError>
-    ensures { OnOk result (object.new ≡ object.old ++ end_text forms.Json (last_fields origin.now)) }
+    ensures { OnOk result (object.new ≡ object.old ++ fields_text form (last_fields origin.now) ++ closing form) }
 {
-    put_field!(object, Form::Json, "t_us": &optional_microseconds(origin.time))?;
-    put_told(object, Form::Json, &origin.told)?;
-    put_closing(object, Form::Json)
+    put_field!(object, form, "t_us": &optional_microseconds(origin.time))?;
+    put_told(object, form, &origin.told)?;
+    put_closing(object, form)
 }
 
 /// Appends what ends a record of a capture, after its fields and what is inside of it: an object has
@@ -92,9 +92,9 @@ pub fn put_captured_closing(
 ) -> Result<(), AllocError>
     ensures { OnOk result (text.new ≡ text.old ++ end_text form (last_fields origin.now)) }
 {
-    match form {
-        Form::Lines | Form::NamedLines => Ok(()),
-        Form::Json => put_captured_object_end(text, origin),
+    match form.base() {
+        Some(Base::Lines | Base::NamedLines) => Ok(()),
+        Some(Base::Json) | None => put_captured_object_end(text, form, origin),
     }
 }
 

@@ -4,7 +4,9 @@ ghost use Rattle.std.specs.Prelude.{◌≡◌, ◌++◌, OnOk};
 ghost use Rattle.krb_record.specs.Errors.{code_suffix, code_text};
 ghost use Rattle.krb_record.specs.Values.{ErrorCode as IsErrorCode};
 
+use crate::cell::{put_no_cell, put_number_name};
 use crate::item::{put_name_member, put_named};
+use crate::path::Path;
 use crate::shown::{Shown, put_begin};
 use crate::text_buffer::TextBuffer;
 use krb_registry::Registry;
@@ -61,5 +63,14 @@ impl Shown for ErrorCode {
         put_begin(object, begin)?;
         object.push_signed(self.0)?;
         put_name_member(object, begin, Registry::ErrorCodes, self.0)
+    }
+
+    #[tactic(auto, unfolding(crate::specs::Forms::cell))]
+    fn put_cell(&self, text: &mut TextBuffer, path: Path) -> Result<(), AllocError> {
+        match path {
+            Path::Whole => text.push_signed(self.0),
+            Path::Name => put_number_name(text, Registry::ErrorCodes, self.0),
+            _ => put_no_cell(text),
+        }
     }
 }

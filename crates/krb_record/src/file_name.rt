@@ -1,15 +1,18 @@
 //! Names of files.
 
-ghost use Rattle.std.specs.Prelude.{◌≡◌, ◌++◌, ◌<◌, OnOk, Some, false};
+ghost use Rattle.std.specs.Prelude.{◌≡◌, ◌++◌, ◌<◌, OnOk, Some, codes, false};
 ghost use Rattle.std.specs.Fmt.{digit_glyph};
 ghost use Rattle.krb_record.specs.FileNames.{is_plain_in_name, name_octet, name_text};
-ghost use Rattle.krb_record.specs.Files.{file_line};
+ghost use Rattle.krb_record.specs.Files.{file_line, file_origin};
+ghost use Rattle.krb_record.specs.Forms.{heading};
 ghost use Rattle.krb_record.specs.Values.{FileName as IsFileName};
 
+use crate::cell::{put_name_cell, put_no_cell};
 use crate::escape::is_plain;
 use crate::field::{put_end, put_opening};
 use crate::form::Form;
 use crate::json::put_octets_string;
+use crate::path::Path;
 use crate::put_field;
 use crate::shown::{Shown, put_begin};
 use crate::text_buffer::TextBuffer;
@@ -82,6 +85,33 @@ impl<'a> Shown for FileName<'a> {
         put_begin(object, begin)?;
         put_octets_string(object, self.0)
     }
+
+    #[tactic(auto, unfolding(crate::specs::Forms::cell))]
+    fn put_cell(&self, text: &mut TextBuffer, path: Path) -> Result<(), AllocError> {
+        match path {
+            Path::Whole => put_name_cell(text, self.0),
+            _ => put_no_cell(text),
+        }
+    }
+}
+
+/// Appends what precedes the fields of that line; a row has the name as that of its file, too.
+#[tactic(auto, unfolding(crate::specs::Forms::opening_from))]
+fn put_file_opening(text: &mut TextBuffer, form: Form, name: &[u8]) -> Result<(), AllocError>
+    ensures { OnOk result (text.new ≡ text.old ++ heading form (file_origin form name.now) (codes "file")) }
+{
+    match form {
+        Form::Rows(_) => {
+            put_field!(text, form, first "file": &FileName(name))?;
+            put_opening(text, form, "file")
+        }
+        Form::Lines
+        | Form::NamedLines
+        | Form::Json
+        | Form::KeptLines
+        | Form::KeptNamedLines
+        | Form::KeptJson => put_opening(text, form, "file"),
+    }
 }
 
 /// Appends the line that precedes the listing of the file of a name, if several are listed.
@@ -89,7 +119,7 @@ impl<'a> Shown for FileName<'a> {
 pub fn put_file(text: &mut TextBuffer, form: Form, name: &[u8]) -> Result<(), AllocError>
     ensures { OnOk result (text.new ≡ text.old ++ file_line form name.now) }
 {
-    put_opening(text, form, "file")?;
+    put_file_opening(text, form, name)?;
     put_field!(text, form, "name": &FileName(name))?;
     put_end(text, form)
 }

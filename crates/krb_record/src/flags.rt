@@ -8,8 +8,10 @@ ghost use Rattle.krb_record.specs.Text.{hex, joined, list_text};
 ghost use Rattle.krb_record.specs.Values.{Flags};
 ghost use Rattle.krb_record.specs.inner.Flags.{are_plain, name_item, names_set};
 
+use crate::cell::{put_hex_cell, put_no_cell};
 use crate::escape::{eight_digits, put_hex};
 use crate::json::put_plain_string;
+use crate::path::Path;
 use crate::shown::{Shown, put_begin};
 use crate::text_buffer::TextBuffer;
 use krb_registry::{Registry, Row, rows};
@@ -26,7 +28,7 @@ pub(crate) enum NameForm {
 
 /// Returns octet k, or 0 after the last.
 #[tactic(auto, using(crate::proofs::Bits::octet_is, crate::proofs::Bits::octet_after))]
-fn octet_at(octets: &[u8], k: u64) -> u8
+pub(crate) fn octet_at(octets: &[u8], k: u64) -> u8
     ensures { result ≡ octet_at octets.now k }
 {
     if k < octets.len() as u64 {
@@ -212,6 +214,17 @@ fn put_name_list(
     object.push_str("]")
 }
 
+/// Appends the cell of the names of the bits that are set.
+pub(crate) fn put_names_cell(
+    text: &mut TextBuffer,
+    registry: Registry,
+    octets: &[u8],
+) -> Result<(), AllocError>
+    ensures { OnOk result (text.new ≡ text.old ++ joined (codes "[]") (codes ",") (λ name. name) (set_names registry octets.now)) }
+{
+    put_names(text, NameForm::Word, "[]", registry, octets)
+}
+
 /// Flags of a registry, bit 0 the highest of the first octet.
 #[derive(Clone, Copy)]
 pub struct FlagBits<'a> {
@@ -322,5 +335,16 @@ impl<'a> Shown for FlagBits<'a> {
     fn put_members(&self, object: &mut TextBuffer, begin: &str) -> Result<(), AllocError> {
         put_begin(object, begin)?;
         put_flags_object(object, self.registry, self.unused, self.octets)
+    }
+
+    #[tactic(auto, unfolding(crate::specs::Forms::cell, crate::specs::Forms::value_text))]
+    fn put_cell(&self, text: &mut TextBuffer, path: Path) -> Result<(), AllocError> {
+        match path {
+            Path::Whole => self.put_text(text, true),
+            Path::Bits => put_count(text, self.unused, self.octets),
+            Path::Hex => put_hex_cell(text, self.octets),
+            Path::Names => put_names_cell(text, self.registry, self.octets),
+            _ => put_no_cell(text),
+        }
     }
 }

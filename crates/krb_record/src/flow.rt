@@ -5,6 +5,8 @@ ghost use Rattle.std.specs.Net.Text.{ip_text, ipv4_text};
 ghost use Rattle.krb_record.specs.Flows.{endpoint_object, endpoint_text, flow_object, flow_text, host_text, transport_name};
 ghost use Rattle.krb_record.specs.Values.{Flow as IsFlow};
 
+use crate::cell::put_no_cell;
+use crate::path::Path;
 use crate::shown::{Shown, put_begin};
 use crate::text_buffer::TextBuffer;
 use krb_source::Endpoint;
@@ -145,5 +147,20 @@ impl Shown for Flow {
     fn put_members(&self, object: &mut TextBuffer, begin: &str) -> Result<(), AllocError> {
         put_begin(object, begin)?;
         put_flow_object(object, self)
+    }
+
+    #[tactic(auto, unfolding(crate::specs::Forms::cell))]
+    fn put_cell(&self, text: &mut TextBuffer, path: Path) -> Result<(), AllocError> {
+        match path {
+            Path::Whole => put_flow_text(text, self),
+            Path::Over => text.push_str(self.transport.name()),
+            Path::Source => put_endpoint(text, self.source),
+            Path::SourceAddress => put_address(text, self.source.address),
+            Path::SourcePort => text.push_number(u64::from(self.source.port)),
+            Path::Target => put_endpoint(text, self.target),
+            Path::TargetAddress => put_address(text, self.target.address),
+            Path::TargetPort => text.push_number(u64::from(self.target.port)),
+            _ => put_no_cell(text),
+        }
     }
 }

@@ -4,10 +4,11 @@ ghost use Rattle.std.specs.Prelude.{◌≡◌, ◌++◌, OnOk, codes};
 ghost use Rattle.krb_record.specs.Forms.{fields_text, heading};
 ghost use Rattle.krb_record.specs.Inputs.{input_kind, input_member, input_refused_line, input_told, input_word};
 ghost use Rattle.krb_record.specs.Origins.{message_origin};
+ghost use Rattle.krb_record.specs.declared.form.Form.TheVariants.{NamedLines};
 
 use crate::extent::Extent;
-use crate::field::put_end;
-use crate::form::Form;
+use crate::form::{Base, Form};
+use crate::last::{Last, put_last};
 use crate::message_origin::{MessageOrigin, put_message_opening};
 use crate::put_field;
 use crate::refusal::{NoReason, put_at_and_length, put_form_field};
@@ -65,16 +66,14 @@ fn put_input_told(
 ) -> Result<(), AllocError>
     ensures { OnOk result (text.new ≡ text.old ++ fields_text form (input_told form place extent spelling)) }
 {
-    match form {
-        Form::Lines => Ok(()),
-        Form::NamedLines | Form::Json => {
-            put_field!(text, form, "place": &place)?;
-            put_field!(text, form, "why": &NoReason)?;
-            put_field!(text, form, "in": &ABSENT)?;
-            put_at_and_length(text, form, extent)?;
-            put_form_field(text, form, spelling)
-        }
+    if form.is_plain() {
+        return Ok(());
     }
+    put_field!(text, form, "place": &place)?;
+    put_field!(text, form, "why": &NoReason)?;
+    put_field!(text, form, "in": &ABSENT)?;
+    put_at_and_length(text, form, extent)?;
+    put_form_field(text, form, spelling)
 }
 
 /// Appends the fields of refused input: its word, which a line has in its kind, and what is told.
@@ -88,9 +87,11 @@ fn put_input_fields(
 ) -> Result<(), AllocError>
     ensures { OnOk result (text.new ≡ text.old ++ fields_text form (input_member form fault ++ input_told form place extent spelling)) }
 {
-    match form {
-        Form::Lines | Form::NamedLines => put_input_told(text, form, place, extent, spelling),
-        Form::Json => {
+    match form.base() {
+        Some(Base::Lines | Base::NamedLines) => {
+            put_input_told(text, form, place, extent, spelling)
+        }
+        Some(Base::Json) | None => {
             let word = Plain::new(fault.word().as_bytes());
             put_field!(text, form, "input": &word)?;
             put_input_told(text, form, place, extent, spelling)
@@ -107,11 +108,47 @@ fn put_input_opening(
 ) -> Result<(), AllocError>
     ensures { OnOk result (text.new ≡ text.old ++ heading form (message_origin origin.now.line origin.now.layers.now) (input_kind form fault)) }
 {
-    match form {
-        Form::Lines | Form::NamedLines => {
+    match form.base() {
+        Some(Base::Lines | Base::NamedLines) => {
             put_message_opening(text, form, origin, fault.kind_in_line())
         }
-        Form::Json => put_message_opening(text, form, origin, "refused"),
+        Some(Base::Json) | None => put_message_opening(text, form, origin, "refused"),
+    }
+}
+
+/// Input of an origin that is not looked at as a message.
+#[derive(Clone, Copy)]
+struct RefusedInput<'a> {
+    origin: &'a MessageOrigin<'a>,
+    fault: InputFault,
+    place: Option<u64>,
+    extent: Extent,
+    spelling: Option<Spelling>,
+}
+
+impl<'a> Last for RefusedInput<'a> {
+    ghost origin = { λ input. message_origin input.origin.now.line input.origin.now.layers.now };
+
+    ghost kind = { λ form input. input_kind form input.fault };
+
+    ghost fields = { λ form input. input_member form input.fault ++ input_told form input.place input.extent input.spelling };
+
+    ghost told = { λ input. input_member NamedLines input.fault ++ input_told NamedLines input.place input.extent input.spelling };
+
+    fn put(&self, text: &mut TextBuffer, form: Form) -> Result<(), AllocError> {
+        put_input_opening(text, form, self.origin, self.fault)?;
+        put_input_fields(
+            text,
+            form,
+            self.fault,
+            self.place,
+            self.extent,
+            self.spelling,
+        )
+    }
+
+    fn put_told(&self, text: &mut TextBuffer) -> Result<(), AllocError> {
+        self.put(text, Form::NamedLines)
     }
 }
 
@@ -130,7 +167,12 @@ pub fn put_input_refusal(
 ) -> Result<(), AllocError>
     ensures { OnOk result (text.new ≡ text.old ++ input_refused_line form (message_origin origin.now.line origin.now.layers.now) fault place extent spelling) }
 {
-    put_input_opening(text, form, origin, fault)?;
-    put_input_fields(text, form, fault, place, extent, spelling)?;
-    put_end(text, form)
+    let input = RefusedInput {
+        origin,
+        fault,
+        place,
+        extent,
+        spelling,
+    };
+    put_last(text, form, &input)
 }

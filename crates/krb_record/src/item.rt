@@ -8,6 +8,7 @@ ghost use Rattle.krb_record.specs.declared.json.Escape.TheVariants as escapes;
 ghost use Rattle.krb_record.specs.Items.{number_item};
 ghost use Rattle.krb_record.specs.inner.Strings.{quoted};
 
+use crate::cell::put_number_name;
 use crate::escape::put_escaped;
 use crate::json::{Escape, put_octets_string, put_plain_string, put_quoted};
 use crate::text_buffer::TextBuffer;
@@ -23,6 +24,8 @@ pub enum NumberForm {
     Named(Registry),
     /// As in an object: its name, or null if it has none.
     Name(Registry),
+    /// As in a cell: its name, or `-` if it has none.
+    NameInCell(Registry),
 }
 
 /// How octets are written.
@@ -142,6 +145,7 @@ pub fn put_number_item(
     match form {
         NumberForm::Named(registry) => put_with_name(text, registry, number),
         NumberForm::Name(registry) => put_name_string(text, registry, number),
+        NumberForm::NameInCell(registry) => put_number_name(text, registry, number),
         NumberForm::Line => text.push_signed(number),
     }
 }

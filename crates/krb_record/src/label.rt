@@ -4,7 +4,7 @@ ghost use Rattle.std.specs.Prelude.{◌≡◌, ◌++◌, IfOk, None, OnOk, Some}
 ghost use Rattle.krb_record.specs.Labels.{AddsMembers, EndsRecord, begin_text, label_text};
 
 use crate::file_name::FileName;
-use crate::form::Form;
+use crate::form::{Base, Form};
 use crate::put_field;
 use crate::text_buffer::TextBuffer;
 use std::alloc::{AllocError, Global};
@@ -44,9 +44,9 @@ fn label_text(alloc: Global, form: Form, file: &[u8]) -> Result<TextBuffer, Allo
 {
     let mut text = TextBuffer::new(alloc);
     put_field!(&mut text, form, first "file": &FileName(file))?;
-    match form {
-        Form::Lines | Form::NamedLines => text.push_str(" ")?,
-        Form::Json => {}
+    match form.base() {
+        Some(Base::Lines | Base::NamedLines) => text.push_str(" ")?,
+        Some(Base::Json) | None => {}
     }
     Ok(text)
 }
@@ -99,9 +99,9 @@ impl Label {
     {
         match &self.named {
             None => Ok(()),
-            Some(named) => match self.form {
-                Form::Lines | Form::NamedLines => text.push_str(named.text.as_str()),
-                Form::Json => Ok(()),
+            Some(named) => match self.form.base() {
+                Some(Base::Lines | Base::NamedLines) | None => text.push_str(named.text.as_str()),
+                Some(Base::Json) => Ok(()),
             },
         }
     }
@@ -117,7 +117,11 @@ impl Label {
             Some(named) => match self.form {
                 Form::Lines => Ok(()),
                 Form::NamedLines => Ok(()),
+                Form::KeptLines => Ok(()),
+                Form::KeptNamedLines => Ok(()),
+                Form::Rows(_) => Ok(()),
                 Form::Json => insert_members(text, named.text.as_str()),
+                Form::KeptJson => insert_members(text, named.text.as_str()),
             },
         }
     }

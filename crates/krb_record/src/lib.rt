@@ -19,6 +19,7 @@
 
 mod capture;
 mod capture_origin;
+mod cell;
 mod error_code;
 mod escape;
 mod extent;
@@ -31,9 +32,11 @@ mod input;
 mod item;
 mod json;
 mod label;
+mod last;
 mod message_origin;
 mod number;
 mod origin;
+mod path;
 mod principal;
 mod refusal;
 mod shown;
@@ -50,6 +53,7 @@ pub use capture::{
     put_lost, put_password, put_unanswered, put_unreachable, put_unread,
 };
 pub use capture_origin::{CaptureOrigin, put_captured_closing, put_captured_opening};
+pub use cell::{put_no_cell, put_string_cell};
 pub use error_code::ErrorCode;
 pub use escape::put_escaped;
 pub use extent::Extent;
@@ -57,13 +61,14 @@ pub use field::{put_closing, put_end, put_field, put_opening};
 pub use file_name::{FileName, put_file};
 pub use flags::FlagBits;
 pub use flow::{Flow, Transport};
-pub use form::Form;
+pub use form::{Base, Form, Wanted};
 pub use input::{InputFault, put_input_refusal};
 pub use item::{NumberForm, put_number_item};
 pub use json::put_string;
 pub use label::Label;
 pub use message_origin::{MessageOrigin, put_message_opening};
 pub use number::{Address, Digest, Encrypted, Numbered};
+pub use path::Path;
 pub use principal::{Components, Principal, Strings, principal_text, put_principal};
 pub use refusal::{
     Reason, put_fault_fields, put_file_refusal, put_message_refusal, put_path,

@@ -8,10 +8,12 @@ ghost use Rattle.krb_record.specs.Text.{joined, list_text};
 ghost use Rattle.krb_record.specs.Values.{Layers as AreLayers};
 ghost use Rattle.krb_source.specs.Layers.{layer_name};
 
+use crate::cell::put_no_cell;
 use crate::field::put_opening;
 use crate::form::Form;
 use crate::json::put_string;
 use crate::origin::{Origin, put_opening_from};
+use crate::path::Path;
 use crate::put_field;
 use crate::shown::{Shown, put_begin};
 use crate::text_buffer::TextBuffer;
@@ -86,6 +88,19 @@ fn put_name_list(object: &mut TextBuffer, layers: &[Layer]) -> Result<(), AllocE
     object.push_str("]")
 }
 
+/// Appends the cell of layers.
+fn put_layers_cell(text: &mut TextBuffer, layers: &[Layer]) -> Result<(), AllocError>
+    ensures { OnOk result (text.new ≡ text.old ++ joined (codes "[]") (codes ",") layer_name layers.now) }
+{
+    match layers.split_first() {
+        None => text.push_str("[]"),
+        Some((first, others)) => {
+            text.push_str(first.name())?;
+            put_other_names(text, others)
+        }
+    }
+}
+
 /// The names with commas between them.
 impl<'a> Shown for Layers<'a> {
     ghost shown = { λ layers. AreLayers layers.0.now };
@@ -99,6 +114,14 @@ impl<'a> Shown for Layers<'a> {
     fn put_members(&self, object: &mut TextBuffer, begin: &str) -> Result<(), AllocError> {
         put_begin(object, begin)?;
         put_name_list(object, self.0)
+    }
+
+    #[tactic(auto, unfolding(crate::specs::Forms::cell))]
+    fn put_cell(&self, text: &mut TextBuffer, path: Path) -> Result<(), AllocError> {
+        match path {
+            Path::Whole => put_layers_cell(text, self.0),
+            _ => put_no_cell(text),
+        }
     }
 }
 

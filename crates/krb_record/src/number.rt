@@ -7,8 +7,10 @@ ghost use Rattle.krb_record.specs.Forms.{digest_object, address_object, name_str
 ghost use Rattle.krb_record.specs.Text.{or_dash};
 ghost use Rattle.krb_record.specs.Values.{Address as IsAddress, Digest as IsDigest, Encrypted as IsEncrypted, Named};
 
+use crate::cell::{put_hex_cell, put_no_cell, put_number_name};
 use crate::escape::put_hex;
 use crate::item::{put_name_member, put_name_string, put_named};
+use crate::path::Path;
 use crate::shown::{Shown, put_begin};
 use crate::text_buffer::TextBuffer;
 use krb_registry::Registry;
@@ -55,6 +57,15 @@ impl Shown for Numbered {
         object.push_signed(self.number)?;
         put_name_member(object, begin, self.registry, self.number)
     }
+
+    #[tactic(auto, unfolding(crate::specs::Forms::cell))]
+    fn put_cell(&self, text: &mut TextBuffer, path: Path) -> Result<(), AllocError> {
+        match path {
+            Path::Whole => text.push_signed(self.number),
+            Path::Name => put_number_name(text, self.registry, self.number),
+            _ => put_no_cell(text),
+        }
+    }
 }
 
 /// What is encrypted: its encryption type, the version of its key, and how many octets it has.
@@ -80,6 +91,16 @@ fn put_kvno(line: &mut TextBuffer, kvno: Option<i64>) -> Result<(), AllocError>
             line.push_signed(kvno)?;
             line.push_sign(":")
         }
+    }
+}
+
+/// Appends the cell of the version of a key.
+fn put_kvno_cell(text: &mut TextBuffer, kvno: Option<i64>) -> Result<(), AllocError>
+    ensures { OnOk result (text.new ≡ text.old ++ or_dash signed_decimal kvno) }
+{
+    match kvno {
+        None => put_no_cell(text),
+        Some(kvno) => text.push_signed(kvno),
     }
 }
 
@@ -150,6 +171,18 @@ impl Shown for Encrypted {
         put_begin(object, begin)?;
         put_encrypted_object(object, self)
     }
+
+    #[tactic(auto, unfolding(crate::specs::Forms::cell))]
+    fn put_cell(&self, text: &mut TextBuffer, path: Path) -> Result<(), AllocError> {
+        match path {
+            Path::Whole => self.put_text(text, true),
+            Path::Etype => text.push_signed(self.etype),
+            Path::EtypeName => put_number_name(text, Registry::EncryptionTypes, self.etype),
+            Path::Kvno => put_kvno_cell(text, self.kvno),
+            Path::Size => text.push_number(self.size),
+            _ => put_no_cell(text),
+        }
+    }
 }
 
 /// An address: its type and its octets.
@@ -194,6 +227,17 @@ impl<'a> Shown for Address<'a> {
         put_begin(object, begin)?;
         put_address_object(object, self)
     }
+
+    #[tactic(auto, unfolding(crate::specs::Forms::cell))]
+    fn put_cell(&self, text: &mut TextBuffer, path: Path) -> Result<(), AllocError> {
+        match path {
+            Path::Whole => self.put_text(text, true),
+            Path::Type => text.push_signed(self.addr_type),
+            Path::TypeName => put_number_name(text, Registry::AddressTypes, self.addr_type),
+            Path::Hex => put_hex_cell(text, self.octets),
+            _ => put_no_cell(text),
+        }
+    }
 }
 
 /// A checksum: its type, and how many octets it has.
@@ -235,5 +279,16 @@ impl Shown for Digest {
     fn put_members(&self, object: &mut TextBuffer, begin: &str) -> Result<(), AllocError> {
         put_begin(object, begin)?;
         put_checksum_object(object, self)
+    }
+
+    #[tactic(auto, unfolding(crate::specs::Forms::cell))]
+    fn put_cell(&self, text: &mut TextBuffer, path: Path) -> Result<(), AllocError> {
+        match path {
+            Path::Whole => self.put_text(text, true),
+            Path::Type => text.push_signed(self.cksumtype),
+            Path::TypeName => put_number_name(text, Registry::ChecksumTypes, self.cksumtype),
+            Path::Size => text.push_number(self.size),
+            _ => put_no_cell(text),
+        }
     }
 }

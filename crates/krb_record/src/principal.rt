@@ -10,10 +10,12 @@ ghost use Rattle.krb_record.specs.Values.{Principal as IsPrincipal};
 ghost use Rattle.krb_record.specs.declared.json.Escape.TheVariants.{Line};
 ghost use Rattle.krb_record.specs.inner.Strings.{quoted};
 
+use crate::cell::{InList, put_no_cell, put_number_name, put_string_cell};
 use crate::escape::put_escaped;
 use crate::item::{InLine, InObject, InString, OctetsForm};
 use crate::json::put_octets_string;
 use crate::number::put_number_and_name;
+use crate::path::Path;
 use crate::shown::{Shown, put_begin};
 use crate::text_buffer::TextBuffer;
 use krb_der::{KString, Memory};
@@ -184,6 +186,18 @@ impl<'a, C: Components> Shown for Principal<'a, C> {
     fn put_members(&self, object: &mut TextBuffer, begin: &str) -> Result<(), AllocError> {
         put_begin(object, begin)?;
         put_principal_object(object, self)
+    }
+
+    #[tactic(auto, unfolding(crate::specs::Forms::cell, crate::specs::Forms::value_text))]
+    fn put_cell(&self, text: &mut TextBuffer, path: Path) -> Result<(), AllocError> {
+        match path {
+            Path::Whole | Path::Text => self.put_text(text, true),
+            Path::Type => text.push_signed(self.name_type),
+            Path::TypeName => put_number_name(text, Registry::NameTypes, self.name_type),
+            Path::Components => put_components::<InList, C>(text, &self.components, "[]", ","),
+            Path::Realm => put_string_cell(text, self.realm),
+            _ => put_no_cell(text),
+        }
     }
 }
 

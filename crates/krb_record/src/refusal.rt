@@ -7,14 +7,18 @@ ghost use Rattle.krb_source.specs.FileReasons.{file_reason_name, file_reason_num
 ghost use Rattle.krb_source.specs.UnreadReasons.{unread_reason_name, unread_reason_number};
 ghost use Rattle.krb_record.specs.Forms.{field, fields_text};
 ghost use Rattle.krb_record.specs.Origins.{message_origin};
-ghost use Rattle.krb_record.specs.Refusals.{at_field, extent_in, fault_record, file_refused_line, form_field, length_field, message_refused_line, path_in, spelling_in, untold_message_refused_line};
+ghost use Rattle.krb_record.specs.Refusals.{at_field, extent_in, fault_record, file_refused_line, form_field, known_path, length_field, message_refused_line, path_in, refused_file, refused_message, spelling_in, untold_message_refused_line};
+ghost use Rattle.krb_record.specs.declared.form.Form.TheVariants.{NamedLines};
 ghost use Rattle.krb_record.specs.Values.{NoReason as IsNoReason, Number, Reason as IsReason};
 
+use crate::cell::{put_no_cell, put_string_cell};
 use crate::extent::Extent;
 use crate::field::{put_end, put_opening};
 use crate::form::Form;
 use crate::json::put_string;
+use crate::last::{Last, put_last};
 use crate::message_origin::{MessageOrigin, put_message_opening};
+use crate::path::Path;
 use crate::put_field;
 use crate::shown::{ABSENT, Plain, Shown, Text, put_begin};
 use crate::text_buffer::TextBuffer;
@@ -98,6 +102,15 @@ impl Shown for Reason {
         object.push_str("_name\":")?;
         put_string(object, self.name.as_bytes())
     }
+
+    #[tactic(auto, unfolding(crate::specs::Forms::cell))]
+    fn put_cell(&self, text: &mut TextBuffer, path: Path) -> Result<(), AllocError> {
+        match path {
+            Path::Whole => text.push_integer(self.number),
+            Path::Name => put_string_cell(text, self.name.as_bytes()),
+            _ => put_no_cell(text),
+        }
+    }
 }
 
 /// That there is no reason.
@@ -120,6 +133,11 @@ impl Shown for NoReason {
         object.push_str(begin)?;
         object.push_str("_name\":null")
     }
+
+    #[tactic(auto, unfolding(crate::specs::Forms::cell))]
+    fn put_cell(&self, text: &mut TextBuffer, _path: Path) -> Result<(), AllocError> {
+        put_no_cell(text)
+    }
 }
 
 /// Appends the path of the field at fault, if there is one; to a line only if numbers have their
@@ -131,10 +149,17 @@ pub fn put_path(text: &mut TextBuffer, form: Form, path: Option<&str>) -> Result
         None => None,
         Some(path) => Some(Text(path.as_bytes())),
     };
-    match form {
-        Form::Lines => Ok(()),
-        Form::NamedLines | Form::Json => put_field!(text, form, "in": &shown),
+    if form.is_plain() {
+        return Ok(());
     }
+    put_field!(text, form, "in": &shown)
+}
+
+/// Returns a path, if records of a form show it.
+pub(crate) fn known_path<'a>(form: Form, path: Option<&'a str>) -> Option<&'a str>
+    ensures { option_copied result ≡ known_path form (option_copied path.entry) }
+{
+    if form.shows_paths() { path } else { None }
 }
 
 /// Appends the fields of where the octets lie that are refused.
@@ -170,20 +195,20 @@ pub(crate) fn put_form_field(
 fn put_extent(text: &mut TextBuffer, form: Form, extent: Extent) -> Result<(), AllocError>
     ensures { OnOk result (text.new ≡ text.old ++ fields_text form (extent_in form extent)) }
 {
-    match form {
-        Form::Lines => Ok(()),
-        Form::NamedLines | Form::Json => put_at_and_length(text, form, extent),
+    if form.is_plain() {
+        return Ok(());
     }
+    put_at_and_length(text, form, extent)
 }
 
 /// Appends how the octets are spelled that are refused; to a line only if numbers have their names.
 fn put_spelling(text: &mut TextBuffer, form: Form, spelling: Spelling) -> Result<(), AllocError>
     ensures { OnOk result (text.new ≡ text.old ++ fields_text form (spelling_in form spelling)) }
 {
-    match form {
-        Form::Lines => Ok(()),
-        Form::NamedLines | Form::Json => put_form_field(text, form, Some(spelling)),
+    if form.is_plain() {
+        return Ok(());
     }
+    put_form_field(text, form, Some(spelling))
 }
 
 /// Appends the path of the field at fault, and where the octets lie that are refused; to a line only
@@ -244,6 +269,35 @@ pub fn put_fault_fields(
     put_located(text, form, path, extent)
 }
 
+/// A file that is refused.
+#[derive(Clone, Copy)]
+struct RefusedFile<'a> {
+    place: u64,
+    why: FileWhy,
+    path: Option<&'a str>,
+    extent: Extent,
+}
+
+impl<'a> Last for RefusedFile<'a> {
+    ghost origin = { λ file. [] };
+
+    ghost kind = { λ form file. codes "refused" };
+
+    ghost fields = { λ form file. (refused_file form file.place file.why (option_copied file.path) file.extent).fields };
+
+    ghost told = { λ file. (refused_file NamedLines file.place file.why (option_copied file.path) file.extent).fields };
+
+    fn put(&self, text: &mut TextBuffer, form: Form) -> Result<(), AllocError> {
+        let reason = Reason::of_file(self.why);
+        put_opening(text, form, "refused")?;
+        put_fault_fields(text, form, self.place, &reason, self.path, self.extent)
+    }
+
+    fn put_told(&self, text: &mut TextBuffer) -> Result<(), AllocError> {
+        self.put(text, Form::NamedLines)
+    }
+}
+
 /// Appends the line of a refused file: the place of the field at fault and what is wrong with it,
 /// and, to a line only if numbers have their names, its path and where the part lies that is
 /// refused.
@@ -258,9 +312,44 @@ pub fn put_file_refusal(
 ) -> Result<(), AllocError>
     ensures { OnOk result (text.new ≡ text.old ++ file_refused_line form place why (option_copied path.entry) extent) }
 {
-    put_opening(text, form, "refused")?;
-    put_fault_fields(text, form, place, &Reason::of_file(why), path, extent)?;
-    put_end(text, form)
+    let file = RefusedFile {
+        place,
+        why,
+        path: known_path(form, path),
+        extent,
+    };
+    put_last(text, form, &file)
+}
+
+/// Octets of an origin that are no message.
+#[derive(Clone, Copy)]
+struct RefusedMessage<'a> {
+    origin: &'a MessageOrigin<'a>,
+    refusal: Refusal,
+    path: Option<&'a str>,
+    extent: Extent,
+    spelling: Spelling,
+}
+
+impl<'a> Last for RefusedMessage<'a> {
+    ghost origin = { λ message. message_origin message.origin.now.line message.origin.now.layers.now };
+
+    ghost kind = { λ form message. codes "refused" };
+
+    ghost fields = { λ form message. (refused_message form message.refusal (option_copied message.path) message.extent message.spelling).fields };
+
+    ghost told = { λ message. (refused_message NamedLines message.refusal (option_copied message.path) message.extent message.spelling).fields };
+
+    fn put(&self, text: &mut TextBuffer, form: Form) -> Result<(), AllocError> {
+        let place = u64::from(self.refusal.place);
+        put_message_opening(text, form, self.origin, "refused")?;
+        put_place(text, form, place, &Reason::of(self.refusal.why))?;
+        put_located_and_spelled(text, form, self.path, self.extent, self.spelling)
+    }
+
+    fn put_told(&self, text: &mut TextBuffer) -> Result<(), AllocError> {
+        self.put(text, Form::NamedLines)
+    }
 }
 
 /// Appends the line of octets of an origin that are no message: the place of the octet at fault and
@@ -278,11 +367,14 @@ pub fn put_message_refusal(
 ) -> Result<(), AllocError>
     ensures { OnOk result (text.new ≡ text.old ++ message_refused_line form (message_origin origin.now.line origin.now.layers.now) refusal (option_copied path.entry) extent spelling) }
 {
-    let place = u64::from(refusal.place);
-    put_message_opening(text, form, origin, "refused")?;
-    put_place(text, form, place, &Reason::of(refusal.why))?;
-    put_located_and_spelled(text, form, path, extent, spelling)?;
-    put_end(text, form)
+    let message = RefusedMessage {
+        origin,
+        refusal,
+        path: known_path(form, path),
+        extent,
+        spelling,
+    };
+    put_last(text, form, &message)
 }
 
 /// Appends the line of octets that are no message, as [`put_message_refusal`] does without an

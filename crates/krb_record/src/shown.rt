@@ -2,11 +2,14 @@
 
 ghost use Rattle.std.specs.Prelude.{◌≡◌, ◌++◌, ℕ, pos, codes, OnOk};
 ghost use Rattle.std.specs.Str.{IsAscii};
+ghost use Rattle.krb_record.specs.Forms.{cell};
 ghost use Rattle.krb_record.specs.Forms.{members, value_text};
 ghost use Rattle.krb_record.specs.Values.{Value, Hex, Number, Quoted, String as Escaped, Word, YesNo, if_there};
 
+use crate::cell::{put_hex_cell, put_no_cell, put_string_cell};
 use crate::escape::{put_escaped, put_hex};
 use crate::json::{put_octets_string, put_string};
+use crate::path::Path;
 use crate::text_buffer::TextBuffer;
 use std::alloc::AllocError;
 use std::marker::Model;
@@ -24,6 +27,10 @@ pub trait Shown {
     /// then, if the value has names, that of the names. `begin` is `,"` and the name of the field.
     fn put_members(&self, object: &mut TextBuffer, begin: &str) -> Result<(), AllocError>
         ensures { OnOk result (object.new ≡ object.old ++ members begin.now (shown self.now)) };
+
+    /// Appends the cell of the value, or of one of its members: `-` if it has no such member.
+    fn put_cell(&self, text: &mut TextBuffer, path: Path) -> Result<(), AllocError>
+        ensures { OnOk result (text.new ≡ text.old ++ cell path (shown self.now)) };
 }
 
 /// What is not there.
@@ -60,6 +67,14 @@ impl Shown for i64 {
         put_begin(object, begin)?;
         object.push_signed(*self)
     }
+
+    #[tactic(auto, unfolding(crate::specs::Forms::cell))]
+    fn put_cell(&self, text: &mut TextBuffer, path: Path) -> Result<(), AllocError> {
+        match path {
+            Path::Whole => text.push_signed(*self),
+            _ => put_no_cell(text),
+        }
+    }
 }
 
 /// A number that is not negative, or how many there are.
@@ -77,6 +92,14 @@ impl Shown for u64 {
         put_begin(object, begin)?;
         object.push_number(*self)
     }
+
+    #[tactic(auto, unfolding(crate::specs::Forms::cell))]
+    fn put_cell(&self, text: &mut TextBuffer, path: Path) -> Result<(), AllocError> {
+        match path {
+            Path::Whole => text.push_number(*self),
+            _ => put_no_cell(text),
+        }
+    }
 }
 
 /// `yes` or `no` in a line.
@@ -93,6 +116,14 @@ impl Shown for bool {
     fn put_members(&self, object: &mut TextBuffer, begin: &str) -> Result<(), AllocError> {
         put_begin(object, begin)?;
         object.push_str(if *self { "true" } else { "false" })
+    }
+
+    #[tactic(auto, unfolding(crate::specs::Forms::cell))]
+    fn put_cell(&self, text: &mut TextBuffer, path: Path) -> Result<(), AllocError> {
+        match path {
+            Path::Whole => text.push_str(if *self { "true" } else { "false" }),
+            _ => put_no_cell(text),
+        }
     }
 }
 
@@ -113,6 +144,14 @@ impl<'a> Shown for Text<'a> {
     fn put_members(&self, object: &mut TextBuffer, begin: &str) -> Result<(), AllocError> {
         put_begin(object, begin)?;
         put_octets_string(object, self.0)
+    }
+
+    #[tactic(auto, unfolding(crate::specs::Forms::cell))]
+    fn put_cell(&self, text: &mut TextBuffer, path: Path) -> Result<(), AllocError> {
+        match path {
+            Path::Whole => put_string_cell(text, self.0),
+            _ => put_no_cell(text),
+        }
     }
 }
 
@@ -136,6 +175,14 @@ impl<'a> Shown for QuotedText<'a> {
         put_begin(object, begin)?;
         put_octets_string(object, self.0)
     }
+
+    #[tactic(auto, unfolding(crate::specs::Forms::cell))]
+    fn put_cell(&self, text: &mut TextBuffer, path: Path) -> Result<(), AllocError> {
+        match path {
+            Path::Whole => put_string_cell(text, self.0),
+            _ => put_no_cell(text),
+        }
+    }
 }
 
 /// Octets in hexadecimal, which an object has as a string.
@@ -157,6 +204,14 @@ impl<'a> Shown for HexText<'a> {
         object.push_str("\"")?;
         put_hex(object, self.0)?;
         object.push_str("\"")
+    }
+
+    #[tactic(auto, unfolding(crate::specs::Forms::cell))]
+    fn put_cell(&self, text: &mut TextBuffer, path: Path) -> Result<(), AllocError> {
+        match path {
+            Path::Whole => put_hex_cell(text, self.0),
+            _ => put_no_cell(text),
+        }
     }
 }
 
@@ -200,6 +255,14 @@ impl<'a> Shown for Plain<'a> {
         put_begin(object, begin)?;
         put_string(object, self.0)
     }
+
+    #[tactic(auto, unfolding(crate::specs::Forms::cell))]
+    fn put_cell(&self, text: &mut TextBuffer, path: Path) -> Result<(), AllocError> {
+        match path {
+            Path::Whole => put_string_cell(text, self.0),
+            _ => put_no_cell(text),
+        }
+    }
 }
 
 /// `-` in a line if there is none, and null in an object.
@@ -221,6 +284,14 @@ impl<T: Shown> Shown for Option<T> {
         match self {
             None => object.push_pair(begin, "\":null"),
             Some(value) => value.put_members(object, begin),
+        }
+    }
+
+    #[tactic(auto, unfolding(crate::specs::Forms::cell))]
+    fn put_cell(&self, text: &mut TextBuffer, path: Path) -> Result<(), AllocError> {
+        match self {
+            None => put_no_cell(text),
+            Some(value) => value.put_cell(text, path),
         }
     }
 }

@@ -7,8 +7,10 @@ ghost use Rattle.krb_record.specs.Forms.{four_octets, status_text};
 ghost use Rattle.krb_record.specs.Text.{hex, or_dash};
 ghost use Rattle.krb_record.specs.Values.{Status as IsStatus};
 
+use crate::cell::put_no_cell;
 use crate::escape::put_hex;
 use crate::item::put_name_member;
+use crate::path::Path;
 use crate::shown::{Shown, put_begin};
 use crate::text_buffer::TextBuffer;
 use krb_registry::{Registry, name_of};
@@ -63,5 +65,14 @@ impl Shown for Status {
         put_digits(object, self.0)?;
         object.push_str("\"")?;
         put_name_member(object, begin, Registry::Statuses, i64::from(self.0))
+    }
+
+    #[tactic(auto, unfolding(crate::specs::Forms::cell))]
+    fn put_cell(&self, text: &mut TextBuffer, path: Path) -> Result<(), AllocError> {
+        match path {
+            Path::Whole => put_digits(text, self.0),
+            Path::Name => put_name(text, self.0),
+            _ => put_no_cell(text),
+        }
     }
 }

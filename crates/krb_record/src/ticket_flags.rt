@@ -6,8 +6,10 @@ ghost use Rattle.krb_record.specs.Forms.{flags_object, four_octets, named_flags_
 ghost use Rattle.krb_record.specs.Values.{TicketFlags as IsTicketFlags};
 ghost use Rattle.krb_record.specs.TicketFlags.{eight_hex, flag_name, names_text, others_text, ticket_flags_text};
 
+use crate::cell::put_no_cell;
 use crate::escape::put_hex;
-use crate::flags::{put_flags_object, put_named_flags};
+use crate::flags::{put_flags_object, put_named_flags, put_names_cell};
+use crate::path::Path;
 use crate::shown::{Shown, put_begin};
 use crate::text_buffer::TextBuffer;
 use bitflags::{Flag, Flags, bitflag_items};
@@ -182,5 +184,16 @@ impl Shown for TicketFlags {
     fn put_members(&self, object: &mut TextBuffer, begin: &str) -> Result<(), AllocError> {
         put_begin(object, begin)?;
         put_object(object, self.0)
+    }
+
+    #[tactic(auto, unfolding(crate::specs::Forms::cell))]
+    fn put_cell(&self, text: &mut TextBuffer, path: Path) -> Result<(), AllocError> {
+        match path {
+            Path::Whole => put_all_names(text, self.0),
+            Path::Bits => text.push_number(32),
+            Path::Hex => put_eight_hex(text, self.0),
+            Path::Names => put_names_cell(text, Registry::TicketFlags, &self.0.to_be_bytes()),
+            _ => put_no_cell(text),
+        }
     }
 }

@@ -6,7 +6,9 @@ ghost use Rattle.krb_record.specs.Time.{civil_date, clock_text, date_text, file_
 ghost use Rattle.krb_record.specs.Values.{Word};
 ghost use Rattle.jiff_core.specs.Date.{epoch_day};
 
+use crate::cell::{put_no_cell, put_string_cell};
 use crate::json::put_string;
+use crate::path::Path;
 use crate::shown::{Shown, put_begin};
 use crate::text_buffer::TextBuffer;
 use jiff_core::civil::Date;
@@ -156,6 +158,15 @@ impl Shown for FileTime {
             put_string(object, &moment(self.0))
         }
     }
+
+    #[tactic(auto, unfolding(crate::specs::Forms::cell))]
+    fn put_cell(&self, text: &mut TextBuffer, path: Path) -> Result<(), AllocError> {
+        match path {
+            Path::Whole if self.0 == 0 => put_no_cell(text),
+            Path::Whole => put_string_cell(text, &moment(self.0)),
+            _ => put_no_cell(text),
+        }
+    }
 }
 
 /// The moment, with nine digits of nanoseconds.
@@ -171,5 +182,13 @@ impl Shown for Timestamp {
     fn put_members(&self, object: &mut TextBuffer, begin: &str) -> Result<(), AllocError> {
         put_begin(object, begin)?;
         put_string(object, &to_the_nanosecond(*self))
+    }
+
+    #[tactic(auto, unfolding(crate::specs::Forms::cell))]
+    fn put_cell(&self, text: &mut TextBuffer, path: Path) -> Result<(), AllocError> {
+        match path {
+            Path::Whole => put_string_cell(text, &to_the_nanosecond(*self)),
+            _ => put_no_cell(text),
+        }
     }
 }

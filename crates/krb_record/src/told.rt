@@ -7,8 +7,10 @@ ghost use Rattle.krb_record.specs.Forms.{fields_text, seconds_text, span_text};
 ghost use Rattle.krb_record.specs.Time.{last_digits};
 ghost use Rattle.krb_record.specs.Values.{Span as IsSpan, Word};
 
-use crate::form::Form;
+use crate::cell::{put_no_cell, put_string_cell};
+use crate::form::{Base, Form};
 use crate::json::put_string;
+use crate::path::Path;
 use crate::put_field;
 use crate::shown::{Shown, put_begin};
 use crate::text_buffer::TextBuffer;
@@ -69,6 +71,14 @@ impl Shown for Span {
         put_begin(object, begin)?;
         object.push_signed(self.microseconds)
     }
+
+    #[tactic(auto, unfolding(crate::specs::Forms::cell))]
+    fn put_cell(&self, text: &mut TextBuffer, path: Path) -> Result<(), AllocError> {
+        match path {
+            Path::Whole => text.push_signed(self.microseconds),
+            _ => put_no_cell(text),
+        }
+    }
 }
 
 /// What a message of the KDC or of a server of changes of passwords is asked by.
@@ -108,6 +118,14 @@ impl Shown for Request {
     fn put_members(&self, object: &mut TextBuffer, begin: &str) -> Result<(), AllocError> {
         put_begin(object, begin)?;
         put_string(object, self.name().as_bytes())
+    }
+
+    #[tactic(auto, unfolding(crate::specs::Forms::cell))]
+    fn put_cell(&self, text: &mut TextBuffer, path: Path) -> Result<(), AllocError> {
+        match path {
+            Path::Whole => put_string_cell(text, self.name().as_bytes()),
+            _ => put_no_cell(text),
+        }
     }
 }
 
@@ -190,9 +208,9 @@ pub(crate) fn put_told(text: &mut TextBuffer, form: Form, told: &Told) -> Result
 pub(crate) fn put_told_in(text: &mut TextBuffer, form: Form, told: &Told) -> Result<(), AllocError>
     ensures { OnOk result (text.new ≡ text.old ++ fields_text form (told_in form told.now)) }
 {
-    match form {
-        Form::Lines | Form::Json => Ok(()),
-        Form::NamedLines => put_told(text, form, told),
+    match form.base() {
+        Some(Base::NamedLines) => put_told(text, form, told),
+        Some(Base::Lines | Base::Json) | None => Ok(()),
     }
 }
 
@@ -215,8 +233,8 @@ pub(crate) fn put_told_counts(
 ) -> Result<(), AllocError>
     ensures { OnOk result (text.new ≡ text.old ++ fields_text form (told_counts form told.now)) }
 {
-    match form {
-        Form::Lines => Ok(()),
-        Form::NamedLines | Form::Json => put_four_counts(text, form, told),
+    if form.is_plain() {
+        return Ok(());
     }
+    put_four_counts(text, form, told)
 }

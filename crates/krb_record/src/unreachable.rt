@@ -6,11 +6,14 @@ ghost use Rattle.std.specs.Option.{option_copied};
 ghost use Rattle.std.specs.Str.{IsAscii};
 ghost use Rattle.krb_record.specs.Captures.{error_code, error_type};
 ghost use Rattle.krb_record.specs.Forms.{called_text, members};
+ghost use Rattle.krb_record.specs.Text.{or_dash};
 ghost use Rattle.krb_record.specs.Unreachables.{code_name, code_name4, code_name6, error_of, exceeded_code, exceeded_code6, how_name, parameter_code, parameter_code6, type_name, type_name4, type_name6, unreachable_code, unreachable_code6, version_name};
 ghost use Rattle.krb_record.specs.Values.{Called as IsCalled, Host as IsHost, Word, if_there};
 
+use crate::cell::{put_no_cell, put_string_cell};
 use crate::flow::put_address;
 use crate::json::put_string;
+use crate::path::Path;
 use crate::shown::{Shown, put_begin};
 use crate::text_buffer::TextBuffer;
 use std::alloc::AllocError;
@@ -299,6 +302,16 @@ fn put_called_members(
     }
 }
 
+/// Appends a name, or `-` if there is none.
+fn put_name_if(text: &mut TextBuffer, name: Option<&'static str>) -> Result<(), AllocError>
+    ensures { OnOk result (text.new ≡ text.old ++ or_dash (λ name. name) (option_copied name.entry)) }
+{
+    match name {
+        None => put_no_cell(text),
+        Some(name) => text.push_str(name),
+    }
+}
+
 /// Its word.
 impl Shown for How {
     ghost shown = { λ how. Word (how_name how) };
@@ -312,6 +325,14 @@ impl Shown for How {
     fn put_members(&self, object: &mut TextBuffer, begin: &str) -> Result<(), AllocError> {
         put_begin(object, begin)?;
         put_string(object, self.name().as_bytes())
+    }
+
+    #[tactic(auto, unfolding(crate::specs::Forms::cell))]
+    fn put_cell(&self, text: &mut TextBuffer, path: Path) -> Result<(), AllocError> {
+        match path {
+            Path::Whole => put_string_cell(text, self.name().as_bytes()),
+            _ => put_no_cell(text),
+        }
     }
 }
 
@@ -331,6 +352,14 @@ impl Shown for Sender {
     fn put_members(&self, object: &mut TextBuffer, begin: &str) -> Result<(), AllocError> {
         put_begin(object, begin)?;
         put_address_string(object, self.0.by)
+    }
+
+    #[tactic(auto, unfolding(crate::specs::Forms::cell))]
+    fn put_cell(&self, text: &mut TextBuffer, path: Path) -> Result<(), AllocError> {
+        match path {
+            Path::Whole => put_address(text, self.0.by),
+            _ => put_no_cell(text),
+        }
     }
 }
 
@@ -359,6 +388,15 @@ impl Shown for ErrorType {
     fn put_members(&self, object: &mut TextBuffer, begin: &str) -> Result<(), AllocError> {
         put_called_members(object, begin, self.0.error_type, self.0.type_name())
     }
+
+    #[tactic(auto, unfolding(crate::specs::Forms::cell))]
+    fn put_cell(&self, text: &mut TextBuffer, path: Path) -> Result<(), AllocError> {
+        match path {
+            Path::Whole => text.push_number(u64::from(self.0.error_type)),
+            Path::Name => put_name_if(text, self.0.type_name()),
+            _ => put_no_cell(text),
+        }
+    }
 }
 
 /// The code of an error.
@@ -376,5 +414,14 @@ impl Shown for ErrorNumber {
     #[tactic(auto, using(crate::proofs::Unreachables::code_ascii))]
     fn put_members(&self, object: &mut TextBuffer, begin: &str) -> Result<(), AllocError> {
         put_called_members(object, begin, self.0.code, self.0.code_name())
+    }
+
+    #[tactic(auto, unfolding(crate::specs::Forms::cell))]
+    fn put_cell(&self, text: &mut TextBuffer, path: Path) -> Result<(), AllocError> {
+        match path {
+            Path::Whole => text.push_number(u64::from(self.0.code)),
+            Path::Name => put_name_if(text, self.0.code_name()),
+            _ => put_no_cell(text),
+        }
     }
 }

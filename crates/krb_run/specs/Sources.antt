@@ -1,8 +1,10 @@
 -- What a run over several sources does to its writer, and the status that it returns.
-use Rattle.std.specs.Prelude.{ℕ, ◌≡◌, ◌⊎◌, ◌&&◌, max, nat_lt, Bool, true, false, List, [], ◌∷◌, Option, Some, Result, Ok, Err, IfErr}
+use Rattle.std.specs.Prelude.{ℕ, ◌≡◌, ◌⊎◌, ◌&&◌, max, nat_lt, not, Bool, true, false, List, [], ◌∷◌, Option, None, Some, Result, Ok, Err, IfErr}
 use Rattle.std.specs.Io.KnownBytes.{Appends}
 use Rattle.krb_record.specs.declared.form.Form.{Form}
-use Rattle.krb_record.specs.declared.form.Form.TheVariants as forms
+use Rattle.krb_record.specs.declared.form.Base.{Base}
+use Rattle.krb_record.specs.declared.form.Base.TheVariants as bases
+use Rattle.krb_record.specs.Forms.{base_of, is_marked}
 use Rattle.krb_record.specs.Files.{file_line}
 use Rattle.krb_record.specs.Labels.{Label, no_label}
 use Rattle.krb_run.specs.declared.naming.Naming.{Naming}
@@ -62,15 +64,17 @@ pub record Named : Type 0 where
 abbrev pub named_of : NamedByCode → Named
 named_of how = record { has_record = how.has_record; has_label = how.has_label }
 
-abbrev pub is_json : Form → Bool
-is_json forms.Lines = false
-is_json forms.NamedLines = false
-is_json forms.Json = true
+-- rows have the name of their file if it is wanted, and objects if there are several files
+abbrev pub has_label_by : Option Base → (sources : ℕ) → Bool
+has_label_by None sources = true
+has_label_by (Some bases.Lines) sources = false
+has_label_by (Some bases.NamedLines) sources = false
+has_label_by (Some bases.Json) sources = nat_lt 1 sources
 
--- of so many sources
+-- of so many sources; where records are chosen, what chooses writes those of the names
 abbrev pub names_of : Naming → Form → (sources : ℕ) → Named
-names_of namings.Several form sources = record { has_record = nat_lt 1 sources; has_label = is_json form && nat_lt 1 sources }
-names_of namings.Each form sources = record { has_record = true; has_label = is_json form && nat_lt 1 sources }
+names_of namings.Several form sources = record { has_record = nat_lt 1 sources && not (is_marked form); has_label = has_label_by (base_of form) sources }
+names_of namings.Each form sources = record { has_record = not (is_marked form); has_label = has_label_by (base_of form) sources }
 names_of namings.Labels form sources = record { has_record = false; has_label = true }
 
 abbrev pub unnamed : Named

@@ -2,7 +2,7 @@
 
 ghost use Rattle.std.specs.Prelude.{◌≡◌, IfErr, IfOk, string_bytes};
 ghost use Rattle.std.specs.Option.{option_map};
-ghost use Rattle.krb_record.specs.Refusals.{path_in};
+ghost use Rattle.krb_record.specs.Refusals.{known_path};
 ghost use Rattle.krb_run.specs.Paths.{file_path};
 
 use crate::run::RunFault;
@@ -18,7 +18,7 @@ pub fn file_path(
     item: FileItem,
     field: Option<FileField>,
 ) -> Result<Option<String>, RunFault>
-    ensures path { IfOk result (λ path. path_in form (option_map string_bytes path) ≡ path_in form (file_path item field)) }
+    ensures path { IfOk result (λ path. known_path form (option_map string_bytes path) ≡ known_path form (file_path item field)) }
     ensures fault { IfErr result (λ e. e ≡ RunFault.Memory) }
 {
     match field {

@@ -8,7 +8,7 @@ ghost use Rattle.krb_run.specs.Sources.{Run, FailsName, ListsAfter, ListsLabelle
 use crate::naming::Naming;
 use crate::run::{RunEnd, RunFault, status};
 use crate::transfer::write_all;
-use krb_record::{Form, Label, TextBuffer, put_file};
+use krb_record::{Base, Form, Label, TextBuffer, put_file};
 use std::alloc::{AllocError, Global};
 use std::io::Write;
 
@@ -65,15 +65,19 @@ struct Named {
 fn names_of(naming: Naming, form: Form, sources: usize) -> Named
     ensures { named_of result ≡ names_of naming form sources }
 {
-    let is_json = form == Form::Json;
+    let has_label = match form.base() {
+        None => true,
+        Some(Base::Json) => sources > 1,
+        Some(Base::Lines | Base::NamedLines) => false,
+    };
     match naming {
         Naming::Several => Named {
-            has_record: sources > 1,
-            has_label: is_json && sources > 1,
+            has_record: sources > 1 && !form.is_marked(),
+            has_label,
         },
         Naming::Each => Named {
-            has_record: true,
-            has_label: is_json && sources > 1,
+            has_record: !form.is_marked(),
+            has_label,
         },
         Naming::Labels => Named {
             has_record: false,

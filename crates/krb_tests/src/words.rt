@@ -136,6 +136,10 @@ fn form_name(form: Form) -> &'static str {
         Form::Lines => "",
         Form::NamedLines => " named",
         Form::Json => " json",
+        Form::KeptLines => " kept",
+        Form::KeptNamedLines => " kept named",
+        Form::KeptJson => " kept json",
+        Form::Rows(_) => " rows",
     }
 }
 
@@ -153,6 +157,10 @@ fn shown_command_line(alloc: Global, command_line: &CommandLine) -> Result<Strin
     shown.push_str(form_name(command_line.form))?;
     if command_line.naming == Naming::Each {
         shown.push_str(" labelled")?;
+    }
+    if let Some(header) = &command_line.header {
+        shown.push_str(" ")?;
+        shown.push_str(header.as_str())?;
     }
     for source in &command_line.sources {
         shown.push_str(", ")?;
@@ -216,6 +224,13 @@ stream --file a --strict => strict stream 16777216, a
 stream --keep-going => stream on 16777216, -
 stream --strict --keep-going a => strict stream on 16777216, a
 stream --names => stream 16777216 named, -
+stream --only KRB-ERROR,Ticket => stream 16777216 kept, -
+capture --only unanswered --names => capture 16777216 88 kept named, -
+--json --only end,end a => list kept json, a
+keytab --fields principal,kvno,kind => keytab rows, -
+ccache -H --header --fields ticket.refused.why_name,file => ccache rows labelled file\tticket.refused.why_name\tfile, -
+message --lines --fields line,PA-ETYPE-INFO2.salt --header => messages rows line\tPA-ETYPE-INFO2.salt, -
+list --only entry,AS-REQ --fields kvno,nonce a => list rows, a
 message --json --strict => strict message json, -
 keytab --names --json a => keytab json, a
 ccache --json --names --now 5 => ccache 5 json, -
@@ -296,6 +311,18 @@ ccache --now 2026-11-22T12:00:00
 ccache --now 2026-11-22t12:00:00Z
 ccache --now 10000-01-01T00:00:00Z
 ccache --now NOW
+stream --only KRB-EROR
+stream --only entry
+keytab --only entry,
+stream --fields salt
+keytab --fields nonce
+stream --fields code,ticket.etype
+ccache --fields ticket.refused
+stream --json --fields kind
+stream --header
+capture --only unanswered,unreachable
+stream --only end --only end
+decode --only end
 ccache --now -1";
 
 #[test]

@@ -7,11 +7,12 @@ use Rattle.std.specs.List.{flat_map}
 use Rattle.std.specs.Str.{IsUtf8}
 use Rattle.krb_record.specs.declared.form.Form.{Form}
 use Rattle.krb_record.specs.declared.form.Form.TheVariants as form
-use Rattle.krb_record.specs.Forms.{inside_text, part_text}
+use Rattle.krb_record.specs.declared.form.Wanted.{Wanted}
+use Rattle.krb_record.specs.Forms.{inside_text, nothing_wanted, part_text}
 use Rattle.krb_text.specs.Inside.{one_if}
-use Rattle.krb_record.specs.Text.{joined}
+use Rattle.krb_record.specs.Text.{joined, list_text}
 use Rattle.krb_record.specs.Values.{Part}
-use Rattle.krb_text.specs.inner.Parts.{Tells, counted, parts_after, separator, told_after}
+use Rattle.krb_text.specs.inner.Parts.{AreBetweenCommas, Tells, counted, parts_after, separator, told_after}
 
 -- ---- one after another
 pub parts_append : (f : Form) (told : Bool) (ps qs : List Part) → parts_after f told (ps ++ qs) ≡ parts_after f told ps ++ parts_after f (told_after told ps) qs
@@ -81,45 +82,77 @@ leaves_none {f} {parts} {others} {old_told} {told} {old} {text} left none = reco
 }
 
 -- ---- as the text of a record has them
-pub named_parts : (told : Bool) (parts : List Part) → parts_after form.NamedLines told parts ≡ flat_map (λ p. codes " " ++ part_text form.NamedLines p) parts
-unfolding separator
-named_parts told [] = refl
-named_parts told (p ∷ parts) = ap (λ rest. (codes " " ++ part_text form.NamedLines p) ++ rest) (named_parts true parts)
+-- of a form in which a blank precedes each
+abbrev pub AreAfterBlanks : Form → Type 0
+AreAfterBlanks f = (told : Bool) → separator f told ≡ codes " "
 
-other_objects : (parts : List Part) → parts_after form.Json true parts ≡ flat_map (λ p. codes "," ++ part_text form.Json p) parts
+pub named-blanks : AreAfterBlanks form.NamedLines
 unfolding separator
-other_objects [] = refl
-other_objects (p ∷ parts) = ap (λ rest. (codes "," ++ part_text form.Json p) ++ rest) (other_objects parts)
+named-blanks told = refl
 
-pub objects : (parts : List Part) → parts_after form.Json false parts ≡ joined [] (codes ",") (part_text form.Json) parts
+pub kept-blanks : AreAfterBlanks form.KeptNamedLines
 unfolding separator
-objects [] = refl
-objects (p ∷ parts) = ap (λ rest. part_text form.Json p ++ rest) (other_objects parts)
+kept-blanks told = refl
+
+named_parts : (f : Form) (told : Bool) (parts : List Part) → AreAfterBlanks f → parts_after f told parts ≡ flat_map (λ p. codes " " ++ part_text f p) parts
+named_parts f told [] blanks = refl
+named_parts f told (p ∷ parts) blanks = ap₂ (λ separated rest. (separated ++ part_text f p) ++ rest) (blanks told) (named_parts f true parts blanks)
+
+-- of a form in which commas are between them
+pub object-commas : AreBetweenCommas form.Json
+unfolding separator
+object-commas = record { first = refl; next = refl }
+
+pub kept-commas : AreBetweenCommas form.KeptJson
+unfolding separator
+kept-commas = record { first = refl; next = refl }
+
+other_objects : (f : Form) (parts : List Part) → AreBetweenCommas f → parts_after f true parts ≡ flat_map (λ p. codes "," ++ part_text f p) parts
+other_objects f [] commas = refl
+other_objects f (p ∷ parts) commas = ap₂ (λ separated rest. (separated ++ part_text f p) ++ rest) commas.next (other_objects f parts commas)
+
+objects : (f : Form) (parts : List Part) → AreBetweenCommas f → parts_after f false parts ≡ joined [] (codes ",") (part_text f) parts
+objects f [] commas = refl
+objects f (p ∷ parts) commas = ap₂ (λ separated rest. (separated ++ part_text f p) ++ rest) commas.first (other_objects f parts commas)
+
+-- of rows, with nothing between them
+pub marked_parts : (wanted : Wanted) (told : Bool) (parts : List Part) → parts_after (form.Rows wanted) told parts ≡ flat_map (part_text (form.Rows wanted)) parts
+unfolding separator
+marked_parts wanted told [] = refl
+marked_parts wanted told (p ∷ parts) = ap (λ rest. part_text (form.Rows wanted) p ++ rest) (marked_parts wanted true parts)
 
 -- each has an octet or more
-few_parts : (told : Bool) (parts : List Part) → length parts ≤ length (parts_after form.NamedLines told parts)
-unfolding separator
-few_parts told [] = omega arith
-few_parts told (p ∷ parts) = omega (arith, few_parts true parts, length-append (part_text form.NamedLines p) (parts_after form.NamedLines true parts))
+few_parts : (f : Form) (told : Bool) (parts : List Part) → AreAfterBlanks f → length parts ≤ length (parts_after f told parts)
+few_parts f told [] blanks = omega arith
+few_parts f told (p ∷ parts) blanks =
+    omega (arith, few_parts f true parts blanks, ap length (blanks told), length-append (separator f told ++ part_text f p) (parts_after f true parts), length-append (separator f told) (part_text f p))
 
 -- their number is inserted before them
-pub named_inside : (old : List ℕ) {l₁ l₂ l₃ : List ℕ} {place count : ℕ} (parts : List Part) → l₁ ≡ old ++ codes " inside=" → place ≡ length l₁ → Tells form.NamedLines parts 0 l₁ count l₂ → (l₃ ≡ (take place l₂ ++ decimal count) ++ drop place l₂) × (length l₃ < 2 ^ 64) → l₃ ≡ old ++ inside_text form.NamedLines parts
-unfolding inside_text
-named_inside old {l₁} {l₂} {l₃} {place} {count} parts h₁ at tells h₃ =
-    let rest = parts_after form.NamedLines false parts in
+pub named_inside : (f : Form) (old : List ℕ) {l₁ l₂ l₃ : List ℕ} {place count : ℕ} (parts : List Part) → AreAfterBlanks f → l₁ ≡ old ++ codes " inside=" → place ≡ length l₁ → Tells f parts 0 l₁ count l₂ → (l₃ ≡ (take place l₂ ++ decimal count) ++ drop place l₂) × (length l₃ < 2 ^ 64) → l₃ ≡ old ++ (codes " inside=" ++ decimal (length parts) ++ flat_map (λ p. codes " " ++ part_text f p) parts)
+named_inside f old {l₁} {l₂} {l₃} {place} {count} parts blanks h₁ at tells h₃ =
+    let rest = parts_after f false parts in
     let front : take place l₂ ≡ l₁ = rw (at, tells.text) (take-append_seam l₁ rest) in
     let back : drop place l₂ ≡ rest = rw (at, tells.text) (drop-append_seam l₁ rest) in
     let all : l₃ ≡ l₁ ++ (decimal count ++ rest) = h₃.0 ∙ append_assoc (take place l₂) (decimal count) (drop place l₂) ∙ ap₂ (λ (front back : List ℕ). front ++ (decimal count ++ back)) front back in
     let size : length l₃ ≡ length l₁ + (length (decimal count) + length rest) = ap length all ∙ length-append l₁ (decimal count ++ rest) ∙ ap (λ n. length l₁ + n) (length-append (decimal count) rest) in
-    let many : count ≡ length parts = tells.by_now ∙ counted_all 0 parts (omega (arith, few_parts false parts, h₃.1, size)) ∙ omega arith in
-    all ∙ rw (h₁, many, named_parts false parts) (simp append_assoc)
+    let many : count ≡ length parts = tells.by_now ∙ counted_all 0 parts (omega (arith, few_parts f false parts blanks, h₃.1, size)) ∙ omega arith in
+    all ∙ rw (h₁, many, named_parts f false parts blanks) (simp append_assoc)
 
 -- the place of the number has text before it
-pub before_parts : {parts : List Part} {place count : ℕ} (l₁ l₂ : List ℕ) → place ≡ length l₁ → IsUtf8 l₁ → Tells form.NamedLines parts 0 l₁ count l₂ → (place ≤ length l₂) × IsUtf8 (take place l₂)
-before_parts {parts} l₁ l₂ at utf8 tells =
-    let rest = parts_after form.NamedLines false parts in
+pub before_parts : {f : Form} {parts : List Part} {place count : ℕ} (l₁ l₂ : List ℕ) → place ≡ length l₁ → IsUtf8 l₁ → Tells f parts 0 l₁ count l₂ → (place ≤ length l₂) × IsUtf8 (take place l₂)
+before_parts {f} {parts} l₁ l₂ at utf8 tells =
+    let rest = parts_after f false parts in
     (omega (arith, at, ap length tells.text, length-append l₁ rest), subst IsUtf8 (sym (rw (at, tells.text) (take-append_seam l₁ rest))) utf8)
 
-pub object_inside : (old : List ℕ) {l₁ l₂ l₃ : List ℕ} {count : ℕ} (parts : List Part) → l₁ ≡ old ++ codes ",\"inside\":[" → Tells form.Json parts 0 l₁ count l₂ → l₃ ≡ l₂ ++ codes "]" → l₃ ≡ old ++ inside_text form.Json parts
+pub object_inside : (f : Form) (old : List ℕ) {l₁ l₂ l₃ : List ℕ} {count : ℕ} (parts : List Part) → AreBetweenCommas f → l₁ ≡ old ++ codes ",\"inside\":[" → Tells f parts 0 l₁ count l₂ → l₃ ≡ l₂ ++ codes "]" → l₃ ≡ old ++ (codes ",\"inside\":" ++ list_text (part_text f) parts)
+object_inside f old parts commas h₁ tells h₃ = rw (h₃, tells.text, h₁, objects f parts commas) (simp append_assoc)
+
+-- between marks
+pub marked_inside : (wanted : Wanted) (old : List ℕ) {l₁ l₂ l₃ : List ℕ} {count : ℕ} (parts : List Part) → l₁ ≡ old ++ 4 ∷ [] → Tells (form.Rows wanted) parts 0 l₁ count l₂ → l₃ ≡ l₂ ++ 7 ∷ [] → l₃ ≡ old ++ inside_text (form.Rows wanted) parts
 unfolding inside_text
-object_inside old parts h₁ tells h₃ = rw (h₃, tells.text, h₁, objects parts) (simp append_assoc)
+marked_inside wanted old parts h₁ tells h₃ = rw (h₃, tells.text, h₁, marked_parts wanted false parts) (simp append_assoc)
+
+-- the kinds alone
+pub kinds_inside : (old : List ℕ) {new : List ℕ} {count : ℕ} (parts : List Part) → Tells (form.Rows nothing_wanted) parts 0 old count new → new ≡ old ++ inside_text form.KeptLines parts
+unfolding inside_text
+kinds_inside old parts tells = tells.text ∙ ap (λ l. old ++ l) (marked_parts nothing_wanted false parts)

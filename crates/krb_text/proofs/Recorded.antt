@@ -16,16 +16,23 @@ use Rattle.krb_msg.proofs.Judged.{lenient_whole}
 use Rattle.krb_msg.proofs.StrictViews.{strict_kept, strict_whole}
 use Rattle.krb_record.specs.declared.form.Form.{Form}
 use Rattle.krb_text.specs.declared.record.Heading.{Heading}
-use Rattle.krb_record.specs.Forms.{end_text, field, fields_text, heading, parts_text, record_text}
+use Rattle.krb_record.specs.Forms.{end_text, heading, record_text, shows_kind}
 use Rattle.krb_text.specs.Inside.{inside_of}
-use Rattle.krb_text.specs.Messages.{fields_of, notes}
-use Rattle.krb_text.specs.inner.Records.{heading_last, heading_origin, is_kept, text_after}
-use Rattle.krb_text.proofs.Records.{message_fields, message_inside, message_kind}
+use Rattle.krb_text.specs.Messages.{fields_of, message_record, unless_hidden}
+use Rattle.krb_text.specs.inner.Records.{heading_last, heading_origin, is_kept, shown_text, text_after}
+use Rattle.krb_text.proofs.Records.{message_aside, message_fields, message_inside, message_kind}
+use Rattle.krb_record.specs.Values.{with_last, with_origin}
+use Rattle.std.proofs.lemmas.List.{append-nil}
 
 -- ---- the text
-pub text_of_parts : (form : Form) (from : Heading) (m : Message) (old : List ℕ) {l₁ l₂ l₃ l₄ l₅ : List ℕ} → l₁ ≡ old ++ heading form (heading_origin form from) (kind_name (kind_of m)) → l₂ ≡ l₁ ++ fields_text form (fields_of m) → l₃ ≡ l₂ ++ field form (codes "notes") (notes (notes_of m)) → l₄ ≡ l₃ ++ parts_text form (inside_of m) → l₅ ≡ l₄ ++ end_text form (heading_last from) → l₅ ≡ old ++ text_after form from m
+text_by : (is_shown : Bool) (form : Form) (from : Heading) (m : Message) (old : List ℕ) {l₁ l₂ l₃ : List ℕ} → l₁ ≡ old ++ heading form (heading_origin form from) (kind_name (kind_of m)) → l₂ ≡ l₁ ++ shown_text is_shown form (fields_of m) (notes_of m) (inside_of m) → l₃ ≡ l₂ ++ end_text form (heading_last from)
+    → l₃ ≡ old ++ record_text form (with_last (heading_last from) (with_origin (heading_origin form from) (unless_hidden is_shown (message_record m))))
 unfolding record_text
-text_of_parts form from m old h₁ h₂ h₃ h₄ h₅ = rw (h₅, h₄, h₃, h₂, h₁, message_kind m, message_fields form m, message_inside m) (simp append_assoc)
+text_by true form from m old h₁ h₂ h₃ = rw (h₃, h₂, h₁, message_kind m, message_fields form m, message_inside m, message_aside m) (simp (append_assoc, append-nil))
+text_by false form from m old h₁ h₂ h₃ = rw (h₃, h₂, h₁, message_kind m) (simp (append_assoc, append-nil))
+
+pub text_of_parts : (form : Form) (from : Heading) (m : Message) (old : List ℕ) {l₁ l₂ l₃ : List ℕ} → l₁ ≡ old ++ heading form (heading_origin form from) (kind_name (kind_of m)) → l₂ ≡ l₁ ++ shown_text (shows_kind form (kind_name (kind_of m))) form (fields_of m) (notes_of m) (inside_of m) → l₃ ≡ l₂ ++ end_text form (heading_last from) → l₃ ≡ old ++ text_after form from m
+text_of_parts form from m old h₁ h₂ h₃ = text_by (shows_kind form (kind_name (kind_of m))) form from m old h₁ h₂ h₃
 
 -- ---- the profile
 pub any_or_none : (n : Notes) → not (list_any (notes_have n) (1 ∷ 2 ∷ 3 ∷ 4 ∷ [])) ≡ are_none n

@@ -1,5 +1,5 @@
 -- The record of a message, part by part.
-use Rattle.std.proofs.Common.{◌≡◌, [], ◌∷◌, ◌++◌, refl, append_assoc, codes}
+use Rattle.std.proofs.Common.{◌≡◌, [], ◌∷◌, ◌++◌, None, refl, append_assoc, codes}
 use Rattle.std.proofs.lemmas.List.{append-nil}
 use Rattle.krb_msg.specs.Notes.{notes_of}
 use Rattle.krb_msg.specs.Views.{kind_name, kind_of}
@@ -23,3 +23,7 @@ message_fields form m = rw (fields_text_append form (fields_of m) (the (codes "n
 pub message_inside : (m : Message) → (message_record m).inside ≡ inside_of m
 unfolding message_record
 message_inside m = refl
+
+pub message_aside : (m : Message) → (message_record m).aside ≡ None
+unfolding message_record
+message_aside m = refl

@@ -10,6 +10,8 @@ use Rattle.krb_msg.specs.declared.ticket.Ticket.{Ticket}
 use Rattle.krb_msg.specs.Term.{Fits}
 use Rattle.krb_msg.specs.Views.{IsInProfile}
 use Rattle.krb_record.specs.Laws.{IsOneLine, OriginIsInRange}
+use Rattle.krb_record.specs.declared.form.Base.{Base}
+use Rattle.krb_record.specs.Forms.{form_of}
 use Rattle.krb_record.specs.declared.form.Form.{Form}
 use Rattle.krb_record.specs.declared.capture_origin.CaptureOrigin.{CaptureOrigin}
 use Rattle.krb_record.specs.declared.extent.Extent.{Extent}
@@ -22,23 +24,23 @@ use Rattle.krb_source.specs.declared.layer.Layer.{Layer}
 
 -- a message's
 abbrev pub MessageIsOneLine : Type 0
-MessageIsOneLine = (form : Form) (m : Message) → IsInProfile profiles.Lenient m → IsOneLine (message_line form m)
+MessageIsOneLine = (base : Base) (m : Message) → IsInProfile profiles.Lenient m → IsOneLine (message_line (form_of base) m)
 
 -- that of one that comes from a line, or lies in something
 abbrev pub MessageFromIsOneLine : Type 0
-MessageFromIsOneLine = (form : Form) (line : Option ℕ) (layers : List Layer) (m : Message) → IsInProfile profiles.Lenient m → IsOneLine (message_line_from form (message_origin line layers) m)
+MessageFromIsOneLine = (base : Base) (line : Option ℕ) (layers : List Layer) (m : Message) → IsInProfile profiles.Lenient m → IsOneLine (message_line_from (form_of base) (message_origin line layers) m)
 
 -- a Ticket's
 abbrev pub TicketIsOneLine : Type 0
-TicketIsOneLine = (form : Form) (line : Option ℕ) (layers : List Layer) (t : Ticket) → Fits ticket (ticket_value t) → IsOneLine (ticket_line form (message_origin line layers) t)
+TicketIsOneLine = (base : Base) (line : Option ℕ) (layers : List Layer) (t : Ticket) → Fits ticket (ticket_value t) → IsOneLine (ticket_line (form_of base) (message_origin line layers) t)
 
 -- the last of a stream, which may be that of its refusal
 abbrev pub StreamEndIsOneLine : Type 0
-StreamEndIsOneLine = (form : Form) (messages : ℕ) (end : End) (path : Option (List ℕ)) (extent : Extent) → IfSome path AreOctets → IsOneLine (end_line form messages end path extent)
+StreamEndIsOneLine = (base : Base) (messages : ℕ) (end : End) (path : Option (List ℕ)) (extent : Extent) → IfSome path AreOctets → IsOneLine (end_line (form_of base) messages end path extent)
 
 -- that of a message of a capture
 abbrev pub CapturedMessageIsOneLine : Type 0
-CapturedMessageIsOneLine = (form : Form) (origin : CaptureOrigin) (m : Message) → OriginIsInRange origin → IsInProfile profiles.Lenient m → IsOneLine (captured_message_line form origin m)
+CapturedMessageIsOneLine = (base : Base) (origin : CaptureOrigin) (m : Message) → OriginIsInRange origin → IsInProfile profiles.Lenient m → IsOneLine (captured_message_line (form_of base) origin m)
 
 -- ---- no octet of what is encrypted or opaque has a part in what is printed
 -- the record of a message, of which its line in each form is made

@@ -10,7 +10,7 @@ use Rattle.krb_msg.specs.Views.{kind_name, kind_of, message_of_der}
 use Rattle.krb_record.specs.declared.capture_origin.CaptureOrigin.{CaptureOrigin}
 use Rattle.krb_record.specs.declared.form.Form.{Form}
 use Rattle.krb_record.specs.Captures.{captured_line}
-use Rattle.krb_record.specs.Forms.{record_text, record_line}
+use Rattle.krb_record.specs.Forms.{record_text, record_line, shows_kind}
 use Rattle.krb_text.specs.Inside.{inside_of}
 use Rattle.krb_text.specs.MessageValues.{encrypted, principal}
 use Rattle.krb_record.specs.Values.{Field, Printed, the, printed, with_inside, with_origin}
@@ -19,12 +19,20 @@ pub use Rattle.krb_text.specs.MessageFields.{padata, notes, methods, kdc_req_fie
 unfoldable pub message_record : Message → Printed
 message_record m = with_inside (inside_of m) (printed (kind_name (kind_of m)) (fields_of m ++ the (codes "notes") (notes (notes_of m)) ∷ []))
 
+-- what a form shows of a message: rows have no fields of one whose kind they do not want
+abbrev pub unless_hidden : (is_shown : Bool) → Printed → Printed
+unless_hidden true r = r
+unless_hidden false r = printed r.kind []
+
+abbrev pub shown_record : Form → Message → Printed
+shown_record form m = unless_hidden (shows_kind form (kind_name (kind_of m))) (message_record m)
+
 -- a message in a form, without its line feed, and with it
 abbrev pub message_text : Form → Message → List ℕ
-message_text form m = record_text form (message_record m)
+message_text form m = record_text form (shown_record form m)
 
 unfoldable pub message_line : Form → Message → List ℕ
-message_line form m = record_line form (message_record m)
+message_line form m = record_line form (shown_record form m)
 
 -- ---- a Ticket alone
 unfoldable pub ticket_record : Ticket → Printed
@@ -36,10 +44,10 @@ ticket_record t =
 
 -- ---- with an origin
 abbrev pub message_line_from : Form → List Field → Message → List ℕ
-message_line_from form origin m = record_line form (with_origin origin (message_record m))
+message_line_from form origin m = record_line form (with_origin origin (shown_record form m))
 
 abbrev pub captured_message_line : Form → CaptureOrigin → Message → List ℕ
-captured_message_line form origin m = captured_line form origin (message_record m)
+captured_message_line form origin m = captured_line form origin (shown_record form m)
 
 abbrev pub ticket_line : Form → List Field → Ticket → List ℕ
 ticket_line form origin t = record_line form (with_origin origin (ticket_record t))

@@ -1,16 +1,18 @@
 //! What is inside of messages: their parts, after the fields of a record.
 
-ghost use Rattle.std.specs.Prelude.{◌≡◌, ◌++◌, Some, map, IfOk, List, OnOk};
+ghost use Rattle.std.specs.Prelude.{◌≡◌, ◌++◌, Bool, Some, codes, decimal, length, map, IfOk, List, OnOk};
+ghost use Rattle.std.specs.List.{flat_map};
 ghost use Rattle.std.specs.Option.{option_map};
 ghost use Rattle.krb_msg.specs.Grammar.{pa_data, ticket};
 ghost use Rattle.krb_msg.specs.Types.{IsValidKdcRep, IsValidKdcReq, IsValidKrbCred, IsValidKrbError, kdc_rep_of_view, kdc_req_of_view, krb_cred_of_view, krb_error_of_view, pa_data_of, ticket_of};
 ghost use Rattle.krb_msg.specs.Term.{IfPresent};
 ghost use Rattle.krb_msg.specs.Viewed.{AreViewed, items_of};
-ghost use Rattle.krb_record.specs.Forms.{parts_text};
+ghost use Rattle.krb_record.specs.Forms.{inside_text, part_text, parts_text};
+ghost use Rattle.krb_record.specs.Text.{list_text};
 ghost use Rattle.krb_text.specs.Inside.{each_if, kdc_req_parts, krb_error_parts, padata_parts, ticket_part};
 ghost use Rattle.krb_record.specs.Values.{Part};
 ghost use Rattle.krb_text.specs.declared.clear_type.Carrier.TheVariants as carriers;
-ghost use Rattle.krb_text.specs.inner.Parts.{Tells};
+ghost use Rattle.krb_text.specs.inner.Parts.{AreBetweenCommas, Tells, separator};
 
 use crate::clear_type::Carrier;
 use crate::error::asks_for_preauth;
@@ -18,7 +20,7 @@ use crate::error_data::put_data;
 use crate::padata::put_padata;
 use crate::part::{PartPlace, put_each};
 use krb_msg::{ItemsView, KdcRepView, KdcReqView, KrbCredView, KrbErrorView, Ticket};
-use krb_record::{Form, TextBuffer};
+use krb_record::{Form, TextBuffer, Wanted};
 use std::alloc::AllocError;
 
 /// A message that may have parts.
@@ -123,6 +125,59 @@ impl<'a> HasParts for KrbErrorView<'a> {
     }
 }
 
+/// Appends the parts of a message, after their number and a blank before each.
+fn put_counted<M: HasParts>(
+    text: &mut TextBuffer,
+    form: Form,
+    message: &M,
+) -> Result<(), AllocError>
+    requires valid { M.IsValid message.now }
+    requires blanks { (told : Bool) → separator form told ≡ codes " " }
+    ensures { OnOk result (text.new ≡ text.old ++ (codes " inside=" ++ decimal (length (M.parts message.now)) ++ flat_map (λ p. codes " " ++ part_text form p) (M.parts message.now))) }
+{
+    text.push_str(" inside=")?;
+    let place = text.size();
+    let count = message.put_parts(text, form)?;
+    text.insert_number(place, count)
+}
+
+/// Appends the member of the parts of a message.
+fn put_array<M: HasParts>(text: &mut TextBuffer, form: Form, message: &M) -> Result<(), AllocError>
+    requires valid { M.IsValid message.now }
+    requires commas { AreBetweenCommas form }
+    ensures { OnOk result (text.new ≡ text.old ++ (codes ",\"inside\":" ++ list_text (part_text form) (M.parts message.now))) }
+{
+    text.push_str(",\"inside\":[")?;
+    message.put_parts(text, form)?;
+    text.push_str("]")
+}
+
+/// Appends the parts of a message with marks, those of rows.
+fn put_marked<M: HasParts>(
+    text: &mut TextBuffer,
+    wanted: Wanted,
+    message: &M,
+) -> Result<(), AllocError>
+    requires { M.IsValid message.now }
+    ensures { OnOk result (text.new ≡ text.old ++ inside_text (Form.Rows wanted) (M.parts message.now)) }
+{
+    if !wanted.has_inside() {
+        return Ok(());
+    }
+    text.push_str("\x04")?;
+    message.put_parts(text, Form::Rows(wanted))?;
+    text.push_str("\x07")
+}
+
+/// Appends the kinds of the parts of a message with marks, and nothing else of them.
+fn put_kinds<M: HasParts>(text: &mut TextBuffer, message: &M) -> Result<(), AllocError>
+    requires { M.IsValid message.now }
+    ensures { OnOk result (text.new ≡ text.old ++ inside_text Form.KeptLines (M.parts message.now)) }
+{
+    message.put_parts(text, Form::Rows(Wanted::NOTHING))?;
+    Ok(())
+}
+
 /// Appends the parts of a message that may have some. A line without names has none.
 #[inline(always)]
 #[tactic(auto, unfolding(krb_record::specs::Forms::inside_text))]
@@ -136,16 +191,11 @@ pub(crate) fn put_list<M: HasParts>(
 {
     match form {
         Form::Lines => Ok(()),
-        Form::NamedLines => {
-            text.push_str(" inside=")?;
-            let place = text.size();
-            let count = message.put_parts(text, form)?;
-            text.insert_number(place, count)
-        }
-        Form::Json => {
-            text.push_str(",\"inside\":[")?;
-            message.put_parts(text, form)?;
-            text.push_str("]")
-        }
+        Form::NamedLines => put_counted(text, Form::NamedLines, message),
+        Form::Json => put_array(text, Form::Json, message),
+        Form::KeptLines => put_kinds(text, message),
+        Form::KeptNamedLines => put_counted(text, Form::KeptNamedLines, message),
+        Form::KeptJson => put_array(text, Form::KeptJson, message),
+        Form::Rows(wanted) => put_marked(text, wanted, message),
     }
 }

@@ -20,8 +20,10 @@ ghost use Rattle.krb_text.specs.inner.Items.{IsFirstNumber, item_number};
 use krb_der::Int32;
 use krb_msg::{ItemsView, PaData, View, next_item, next_type};
 use krb_padata::TypedDataItem;
-use krb_record::{NumberForm, Shown, TextBuffer, put_begin, put_names_begin, put_number_item};
-use krb_registry::Registry;
+use krb_record::{
+    NumberForm, Path, Shown, TextBuffer, put_begin, put_names_begin, put_no_cell, put_number_item,
+};
+use krb_registry::{Registry, name_of};
 use std::alloc::AllocError;
 use std::marker::Model;
 
@@ -174,6 +176,55 @@ fn put_numbers_members<'a, T: Listed<'a>>(
     put_name_list::<T>(object, registry, items)
 }
 
+/// Returns whether there is one item alone, and its number has no name.
+fn is_nameless<'a, T: Listed<'a>>(registry: Registry, items: ItemsView<'a>) -> bool
+    requires { AreViewed T.View.term items.octets.now }
+{
+    match T::next_number(items) {
+        None => false,
+        Some((first, others)) => {
+            name_of(registry, first).is_none() && T::next_number(others).is_none()
+        }
+    }
+}
+
+/// Appends the numbers of items with commas between them, or `[]` if there are none.
+#[inline(always)]
+fn put_items_cell<'a, T: Listed<'a>>(
+    text: &mut TextBuffer,
+    form: NumberForm,
+    items: ItemsView<'a>,
+) -> Result<(), AllocError>
+    requires { AreViewed T.View.term items.octets.now }
+{
+    match T::next_number(items) {
+        None => text.push_str("[]"),
+        Some((first, others)) => {
+            put_number_item(text, form, first)?;
+            put_other_numbers::<T>(text, form, others)
+        }
+    }
+}
+
+/// Appends the cell of numbers of a registry, or of their names.
+#[inline(never)]
+fn put_numbers_cell<'a, T: Listed<'a>>(
+    text: &mut TextBuffer,
+    path: Path,
+    registry: Registry,
+    items: ItemsView<'a>,
+) -> Result<(), AllocError>
+    requires { AreViewed T.View.term items.octets.now }
+    ensures { OnOk result (text.new ≡ text.old ++ cell path (Numbers registry (map (item_number T.View.term) (items_of T.View.term items.entry.octets.now)))) }
+{
+    match path {
+        Path::Whole => put_items_cell::<T>(text, NumberForm::Line, items),
+        Path::Names if is_nameless::<T>(registry, items) => text.push_str("[-]"),
+        Path::Names => put_items_cell::<T>(text, NumberForm::NameInCell(registry), items),
+        _ => put_no_cell(text),
+    }
+}
+
 /// Returns how many items there are.
 pub(crate) fn count_items<'a, T: View<'a>>(items: ItemsView<'a>) -> usize
     requires tags { has_octet_tags T.term ≡ true }
@@ -232,6 +283,10 @@ impl<'a> Shown for EncryptionTypes<'a> {
     fn put_members(&self, object: &mut TextBuffer, begin: &str) -> Result<(), AllocError> {
         put_numbers_members::<Int32>(object, begin, Registry::EncryptionTypes, self.0)
     }
+
+    fn put_cell(&self, text: &mut TextBuffer, path: Path) -> Result<(), AllocError> {
+        put_numbers_cell::<Int32>(text, path, Registry::EncryptionTypes, self.0)
+    }
 }
 
 /// The types of pre-authentication data that are viewed in octets. Contracts see the numbers.
@@ -275,6 +330,10 @@ impl<'a> Shown for PaDataTypes<'a> {
     fn put_members(&self, object: &mut TextBuffer, begin: &str) -> Result<(), AllocError> {
         put_numbers_members::<PaData>(object, begin, Registry::PreAuthenticationData, self.0)
     }
+
+    fn put_cell(&self, text: &mut TextBuffer, path: Path) -> Result<(), AllocError> {
+        put_numbers_cell::<PaData>(text, path, Registry::PreAuthenticationData, self.0)
+    }
 }
 
 /// The types of TYPED-DATA that is viewed in octets. Contracts see the numbers.
@@ -317,5 +376,9 @@ impl<'a> Shown for TypedDataTypes<'a> {
     #[inline(always)]
     fn put_members(&self, object: &mut TextBuffer, begin: &str) -> Result<(), AllocError> {
         put_numbers_members::<TypedDataItem>(object, begin, Registry::PreAuthenticationData, self.0)
+    }
+
+    fn put_cell(&self, text: &mut TextBuffer, path: Path) -> Result<(), AllocError> {
+        put_numbers_cell::<TypedDataItem>(text, path, Registry::PreAuthenticationData, self.0)
     }
 }

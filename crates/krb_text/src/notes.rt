@@ -8,7 +8,9 @@ ghost use Rattle.krb_record.specs.Text.{joined, list_text};
 ghost use Rattle.krb_record.specs.Items.{number_item};
 
 use krb_msg::Notes;
-use krb_record::{NumberForm, Shown, TextBuffer, put_begin, put_names_begin, put_number_item};
+use krb_record::{
+    NumberForm, Path, Shown, TextBuffer, put_begin, put_names_begin, put_no_cell, put_number_item,
+};
 use krb_registry::Registry;
 use std::alloc::AllocError;
 
@@ -67,6 +69,15 @@ fn put_number_list(text: &mut TextBuffer, form: NumberForm, notes: &Notes) -> Re
     }
 }
 
+/// Appends the cell of the numbers of the notes, or of their names.
+fn put_cell_of(text: &mut TextBuffer, form: NumberForm, notes: &Notes) -> Result<(), AllocError> {
+    if has_any(notes) {
+        put_numbers(text, form, notes)
+    } else {
+        text.push_str("[]")
+    }
+}
+
 /// Notes as a record shows them.
 #[derive(Clone, Copy)]
 pub(crate) struct ShownNotes<'a>(pub(crate) &'a Notes);
@@ -92,5 +103,14 @@ impl<'a> Shown for ShownNotes<'a> {
         put_number_list(object, NumberForm::Line, self.0)?;
         put_names_begin(object, begin)?;
         put_number_list(object, NumberForm::Name(Registry::Notes), self.0)
+    }
+
+    #[tactic(auto, unfolding(krb_record::specs::Forms::cell))]
+    fn put_cell(&self, text: &mut TextBuffer, path: Path) -> Result<(), AllocError> {
+        match path {
+            Path::Whole => put_cell_of(text, NumberForm::Line, self.0),
+            Path::Names => put_cell_of(text, NumberForm::NameInCell(Registry::Notes), self.0),
+            _ => put_no_cell(text),
+        }
     }
 }

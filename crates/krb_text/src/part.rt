@@ -11,7 +11,7 @@ ghost use Rattle.krb_record.specs.Values.{Part};
 ghost use Rattle.krb_text.specs.inner.Parts.{Tells, separator};
 
 use krb_msg::{ItemsView, View, next_item, view_whole};
-use krb_record::{Form, TextBuffer, put_opening};
+use krb_record::{Base, Form, TextBuffer, put_opening};
 use std::alloc::AllocError;
 
 /// Where a part is appended.
@@ -56,10 +56,10 @@ pub(crate) fn put_part_opening(
 ) -> Result<(), AllocError>
     ensures { OnOk result (text.new ≡ text.old ++ separator at.form (nat_lt 0 at.told) ++ opening at.form kind.now) }
 {
-    match at.form {
-        Form::Lines | Form::NamedLines => text.push_str(" ")?,
-        Form::Json if at.told != 0 => text.push_str(",")?,
-        Form::Json => (),
+    match at.form.base() {
+        Some(Base::Lines | Base::NamedLines) => text.push_str(" ")?,
+        Some(Base::Json) if at.told != 0 => text.push_str(",")?,
+        Some(Base::Json) | None => (),
     }
     put_opening(text, at.form, kind)
 }

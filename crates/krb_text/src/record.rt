@@ -3,11 +3,12 @@
 
 ghost use Rattle.std.specs.Prelude.{◌≡◌, ◌++◌, IfOk, List, MatchOption, OnOk, Option};
 ghost use Rattle.krb_msg.specs.ViewValues.{BeginAs, IsNoMessage};
-ghost use Rattle.krb_record.specs.Forms.{end_text, fields_text, heading, parts_text};
+ghost use Rattle.krb_record.specs.Forms.{end_text, fields_text, heading, parts_text, shows_kind};
 ghost use Rattle.krb_record.specs.Origins.{message_origin};
 ghost use Rattle.krb_text.specs.Messages.{PutsMessage, captured_message_line, message_line, message_line_from, message_text};
 ghost use Rattle.krb_record.specs.Values.{Field, Part};
-ghost use Rattle.krb_text.specs.inner.Records.{IsRecordedAs, heading_last, heading_origin, is_kept, line_after, text_after};
+ghost use Rattle.krb_text.specs.inner.Records.{IsRecordedAs, heading_last, heading_origin, is_kept, line_after, shown_text, text_after};
+ghost use Rattle.krb_msg.specs.Views.{kind_name};
 
 use crate::notes::{ShownNotes, has_any};
 use krb_der::{Memory, Profile};
@@ -98,6 +99,26 @@ fn is_kept(profile: Profile, notes: &Notes) -> bool
     }
 }
 
+/// Appends the fields of a message, and what is inside of it, if the form shows messages of the kind.
+#[inline(always)]
+fn put_shown<M: HasRecord>(
+    text: &mut TextBuffer,
+    form: Form,
+    kind: Kind,
+    view: &M,
+    notes: &Notes,
+) -> Result<(), AllocError>
+    requires { M.IsValid view.now }
+    ensures { OnOk result (text.new ≡ text.old ++ shown_text (shows_kind form (kind_name kind)) form (M.fields view.now) notes.now (M.inside view.now)) }
+{
+    if !form.shows_kind(kind.name()) {
+        return Ok(());
+    }
+    view.put_fields(text, form)?;
+    put_field!(text, form, "notes": &ShownNotes(notes))?;
+    view.put_inside(text, form)
+}
+
 /// Appends the record of a message of a kind without its line feed, if octets are one of a profile,
 /// and returns whether they are. They are viewed once, and the notes are looked for once.
 fn put_kind<'a, K: MessageKind<'a>>(
@@ -123,9 +144,7 @@ where
         return Ok(false);
     }
     put_heading(text, form, from, kind.name())?;
-    view.put_fields(text, form)?;
-    put_field!(text, form, "notes": &ShownNotes(&notes))?;
-    view.put_inside(text, form)?;
+    put_shown(text, form, kind, &view, &notes)?;
     put_last(text, form, from)?;
     Ok(true)
 }

@@ -19,7 +19,7 @@ use Rattle.krb_judge.specs.Paths.{ticket_path}
 use Rattle.krb_judge.proofs.Slices.{IsWholeSlice, whole_message, whole_not_refused}
 use Rattle.krb_record.specs.Origins.{message_origin}
 use Rattle.krb_text.specs.Messages.{PutsMessage, message_line_from, ticket_line}
-use Rattle.krb_record.specs.Refusals.{path_in, extent_in, spelling_in, refusal_record}
+use Rattle.krb_record.specs.Refusals.{known_path, message_refused}
 use Rattle.krb_record.specs.Labels.{Label}
 use Rattle.krb_record.specs.Values.{Field}
 use Rattle.krb_record.specs.declared.input.InputFault.TheVariants as faults
@@ -43,12 +43,11 @@ not_refused (Some r) never = absurd (never r refl)
 
 -- ---- a message
 -- a record of a refusal shows a path as the form does
-same-path : (input : MessageInput) (layered : Layered) (refusal : Refusal) (path other : Option (List ℕ)) → path_in input.form path ≡ path_in input.form other → refused_listing input layered refusal path ≡ refused_listing input layered refusal other
+same-path : (input : MessageInput) (layered : Layered) (refusal : Refusal) (path other : Option (List ℕ)) → known_path input.form path ≡ known_path input.form other → refused_listing input layered refusal path ≡ refused_listing input layered refusal other
 same-path input layered refusal path other same =
-    ap (λ (fields : List Field). refused_with (message_origin input.line layered.layers)
-    (refusal_record refusal (fields ++ extent_in input.form (extent_of input layered.all) ++ spelling_in input.form layered.spelling))) same
+    ap (λ (known : Option (List ℕ)). refused_with (message_origin input.line layered.layers) (message_refused input.form refusal known (extent_of input layered.all) layered.spelling)) same
 
-pub refused-message : (input : MessageInput) (layered : Layered) (place : ℕ) (octets : List ℕ) (refusal : Refusal) (path : Option (List ℕ)) → refusal_of input.profile octets ≡ Some refusal → path_in input.form path ≡ path_in input.form (refused_path input.profile octets refusal)
+pub refused-message : (input : MessageInput) (layered : Layered) (place : ℕ) (octets : List ℕ) (refusal : Refusal) (path : Option (List ℕ)) → refusal_of input.profile octets ≡ Some refusal → known_path input.form path ≡ known_path input.form (refused_path input.profile octets refusal)
     → refused_listing input layered (record { place = place + refusal.place; why = refusal.why }) path ≡ judged_listing input layered place octets (refusal_of input.profile octets)
 refused-message input layered place octets refusal path is same =
     same-path input layered (record { place = place + refusal.place; why = refusal.why }) path (refused_path input.profile octets refusal) same
@@ -87,7 +86,7 @@ puts-ticket input layered t line layers old new is_line is_layers none is put =
     subst (λ (found : Option Refusal). Puts input.form old new (ticket_listing input layered found) run.Clean) (sym none)
     (put ∙ (λ i. old ++ ticket_line input.form (message_origin (is_line i) (is_layers i)) (is i)), refl)
 
-pub refused-ticket : (input : MessageInput) (layered : Layered) (refusal : Refusal) (path : Option (List ℕ)) → ticket_refusal input.profile layered.all ≡ Some refusal → path_in input.form path ≡ path_in input.form (ticket_refused_path input.profile layered.all refusal)
+pub refused-ticket : (input : MessageInput) (layered : Layered) (refusal : Refusal) (path : Option (List ℕ)) → ticket_refusal input.profile layered.all ≡ Some refusal → known_path input.form path ≡ known_path input.form (ticket_refused_path input.profile layered.all refusal)
     → refused_listing input layered refusal path ≡ ticket_listing input layered (ticket_refusal input.profile layered.all)
 refused-ticket input layered refusal path is same =
     same-path input layered refusal path (ticket_refused_path input.profile layered.all refusal) same ∙ ap (ticket_listing input layered) (sym is)

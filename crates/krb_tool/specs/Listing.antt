@@ -8,7 +8,7 @@ use Rattle.krb_msg.specs.Grammar.{messages}
 use Rattle.krb_msg.specs.Views.{message_der}
 use Rattle.krb_msg.specs.Stream.{End, Boundary, Within, Refused, frames}
 use Rattle.krb_record.specs.Labels.{Label, line_of}
-use Rattle.krb_text.specs.Messages.{message_record}
+use Rattle.krb_text.specs.Messages.{shown_record}
 use Rattle.krb_text.specs.StreamEnds.{end_record}
 use Rattle.krb_record.specs.declared.extent.Extent.{Extent}
 use Rattle.krb_tool.specs.Paths.{end_extent, end_path}
@@ -24,7 +24,7 @@ end_of profile limit stream = (frames (messages profile) limit stream).end
 
 -- the line of a message, and the line of the end after n messages
 unfoldable pub message_line : Label → Message → List ℕ
-message_line label m = line_of label (message_record m)
+message_line label m = line_of label (shown_record label.form m)
 
 abbrev pub end_line : Label → ℕ → End → Option (List ℕ) → Extent → List ℕ
 end_line label messages end path extent = line_of label (end_record label.form messages end path extent)

@@ -13,7 +13,7 @@ use Rattle.krb_msg.specs.Views.{message_of_der}
 use Rattle.krb_msg.specs.declared.ticket.Ticket.{Ticket}
 use Rattle.krb_judge.specs.Parses.{refusal_of, ticket_refusal}
 use Rattle.krb_record.specs.Origins.{message_origin}
-use Rattle.krb_text.specs.Messages.{message_record, ticket_record}
+use Rattle.krb_text.specs.Messages.{shown_record, ticket_record}
 use Rattle.krb_record.specs.Inputs.{input_refused_record}
 use Rattle.krb_record.specs.Labels.{Label, line_of, no_label}
 use Rattle.krb_record.specs.Forms.{record_line}
@@ -68,7 +68,7 @@ refused_listing input layered refusal path =
 
 -- octets that are judged as a message, of which the first is at a place
 abbrev pub judged_listing : MessageInput → Layered → (place : ℕ) → List ℕ → Option Refusal → OneRecord
-judged_listing input layered place octets None = clean_with (message_origin input.line layered.layers) (message_record (message_of_der octets))
+judged_listing input layered place octets None = clean_with (message_origin input.line layered.layers) (shown_record input.form (message_of_der octets))
 judged_listing input layered place octets (Some refusal) =
     refused_listing input layered (record { place = place + refusal.place; why = refusal.why }) (refused_path input.profile octets refusal)
 

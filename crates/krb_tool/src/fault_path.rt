@@ -3,7 +3,7 @@
 ghost use Rattle.std.specs.Prelude.{◌≡◌, ◌<◌, ◌≤◌, ◌^◌, length, IfErr, IfOk, string_bytes};
 ghost use Rattle.std.specs.Option.{option_map};
 ghost use Rattle.krb_judge.specs.Paths.{message_path};
-ghost use Rattle.krb_record.specs.Refusals.{path_in};
+ghost use Rattle.krb_record.specs.Refusals.{known_path};
 ghost use Rattle.krb_tool.specs.Paths.{frame_extent, frame_path, refused_path};
 
 use krb_der::{Memory, Profile, Refusal};
@@ -27,7 +27,7 @@ fn shown_path(
 ) -> Result<Option<String>, Memory>
     requires short { size < 2 ^ 31 }
     requires present { length front.now ≤ size }
-    ensures { IfOk result (λ path. path_in form (option_map string_bytes path) ≡ path_in form (message_path profile size front.now)) }
+    ensures { IfOk result (λ path. known_path form (option_map string_bytes path) ≡ known_path form (message_path profile size front.now)) }
 {
     if !form.shows_paths() {
         return Ok(None);
@@ -43,7 +43,7 @@ pub fn frame_path(
     profile: Profile,
     decoder: &Decoder,
 ) -> Result<Option<String>, Memory>
-    ensures { IfOk result (λ path. path_in form (option_map string_bytes path) ≡ path_in form (frame_path profile decoder.now.octets)) }
+    ensures { IfOk result (λ path. known_path form (option_map string_bytes path) ≡ known_path form (frame_path profile decoder.now.octets)) }
 {
     match decoder.partial() {
         None => Ok(None),
@@ -72,7 +72,7 @@ pub fn refused_path(
     octets: &[u8],
     refusal: Refusal,
 ) -> Result<Option<String>, RunFault>
-    ensures path { IfOk result (λ path. path_in form (option_map string_bytes path) ≡ path_in form (refused_path profile octets.now refusal)) }
+    ensures path { IfOk result (λ path. known_path form (option_map string_bytes path) ≡ known_path form (refused_path profile octets.now refusal)) }
     ensures fault { IfErr result (λ e. e ≡ RunFault.Memory) }
 {
     if octets.len() > MOST_OCTETS {

@@ -4,7 +4,7 @@ ghost use Rattle.std.specs.Prelude.{◌≡◌, ◌+◌, ◌<◌, ◌^◌, length
 ghost use Rattle.std.specs.Option.{option_map};
 ghost use Rattle.krb_input.specs.Inputs.{IsFaultOf};
 ghost use Rattle.krb_judge.specs.Parses.{refusal_of, ticket_refusal};
-ghost use Rattle.krb_record.specs.Refusals.{path_in};
+ghost use Rattle.krb_record.specs.Refusals.{known_path};
 ghost use Rattle.krb_token.specs.Seen.{path_text};
 ghost use Rattle.krb_tool.specs.Messages.{Puts, extent_of, input_listing, input_octets_listing, judged_listing, layered_of, ntlm_listing, refused_listing, spelled_in, ticket_listing, too_long_listing, unread_listing, whole_input};
 ghost use Rattle.krb_tool.specs.Paths.{ticket_refused_path};
@@ -206,7 +206,7 @@ impl MessageInput {
         refusal: Refusal,
     ) -> Result<Option<String>, RunFault>
         requires short { length octets.now < 2 ^ 31 }
-        ensures path { IfOk result (λ path. path_in self.now.form (option_map string_bytes path) ≡ path_in self.now.form (ticket_refused_path self.now.profile octets.now refusal)) }
+        ensures path { IfOk result (λ path. known_path self.now.form (option_map string_bytes path) ≡ known_path self.now.form (ticket_refused_path self.now.profile octets.now refusal)) }
         ensures fault { IfErr result (λ e. e ≡ RunFault.Memory) }
     {
         if !self.form.shows_paths() {

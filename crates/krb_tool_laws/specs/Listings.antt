@@ -10,6 +10,8 @@ use Rattle.krb_file_run.specs.Files.{ccache_listing, keytab_listing}
 use Rattle.krb_laws.specs.JsonLaws.{IsJson}
 use Rattle.krb_record.specs.Labels.{Label}
 use Rattle.krb_record.specs.Text.{IsPrintable, line_feed}
+use Rattle.krb_record.specs.declared.form.Base.{Base}
+use Rattle.krb_record.specs.Forms.{form_of, is_marked}
 use Rattle.krb_record.specs.declared.form.Form.{Form}
 use Rattle.krb_record.specs.declared.form.Form.TheVariants as forms
 use Rattle.krb_run.specs.Records.{text_of}
@@ -27,9 +29,9 @@ pub record IsLineOf (form : Form) (line : List ℕ) : Type 0 where
 abbrev pub AreLinesOf : Form → List ℕ → Type 0
 AreLinesOf form text = (lines : List (List ℕ)) × AllByRecursion (IsLineOf form) lines × (text ≡ flat_map (λ line. line ++ line_feed) lines)
 
--- the name of a file is octets
+-- the form is one that is printed, without marks, and the name of a file is octets
 abbrev pub IsNamed : Label → Type 0
-IsNamed label = IfSome label.file AreOctets
+IsNamed label = (is_marked label.form ≡ false) × IfSome label.file AreOctets
 
 -- octets that a reader may have, fewer than 2^64
 abbrev pub AreRead : List ℕ → Type 0
@@ -44,7 +46,7 @@ pub record StreamsAreLines : Type 0 where
 
 -- the listing of one message, which octets are or an input spells, and that of messages that the lines of a text spell
 pub record MessagesAreLines : Type 0 where
-  pub of_octets : (form : Form) (profile : Profile) (octets : List ℕ) → AreRead octets → AreLinesOf form (octets_listing form profile octets).text
+  pub of_octets : (base : Base) (profile : Profile) (octets : List ℕ) → AreRead octets → AreLinesOf (form_of base) (octets_listing (form_of base) profile octets).text
   pub of_input : (label : Label) (profile : Profile) (input : List ℕ) → IsNamed label → AreRead input → AreLinesOf label.form (message_listing label profile input).text
   pub of_lines : (label : Label) (profile : Profile) (text : List ℕ) → IsNamed label → AreRead text → AreLinesOf label.form (lines_listed label profile text).text
 

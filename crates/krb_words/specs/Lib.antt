@@ -3,6 +3,7 @@ pub mod Names
 pub mod Shell
 pub mod Sources
 pub mod Times
+pub mod Chosen
 pub mod Words
 pub mod Tasks
 pub mod inner

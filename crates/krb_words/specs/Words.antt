@@ -1,5 +1,6 @@
 -- The command line, by `clap`'s own definitions: the options and words of each command, and the command line of the matches of words.
-use Rattle.std.specs.Prelude.{ℕ, pos, ◌≡◌, ◌≢◌, ◌≤◌, ◌⊎◌, Bool, true, false, List, [], ◌∷◌, Option, Some, None, codes, map}
+use Rattle.std.specs.Prelude.{ℕ, pos, ◌≡◌, ◌≢◌, ◌≤◌, ◌⊎◌, Bool, true, false, List, [], ◌∷◌, Option, Some, None, codes, map, string_bytes}
+use Rattle.std.specs.Option.{option_map}
 use Rattle.clap.specs.Words.{App, IsAmong, Kinds, Row, Rule, Text, fault_of, first_of, one_of, new_app, new_rule, subcommand_of, with_rule, with_subcommand}
 use Rattle.clap.specs.Simple.{on_top}
 use Rattle.clap.specs.declared.builder.action.ArgAction.TheVariants.{Set, SetTrue}
@@ -27,6 +28,9 @@ use Rattle.krb_words.specs.declared.words.WordsFault.{WordsFault}
 use Rattle.krb_words.specs.declared.words.WordsFault.TheVariants as fault
 use Rattle.krb_record.specs.FileNames.{name_text}
 use Rattle.krb_words.specs.Names.{as_command}
+use Rattle.krb_choice.specs.Choices.{Choice}
+use Rattle.krb_choice.specs.Wanted.{choice_form}
+use Rattle.krb_words.specs.Chosen.{IsChoiceFault, IsChosen, Options, listings_of}
 use Rattle.krb_words.specs.Sources.{place_of, sources_of}
 use Rattle.krb_words.specs.Times.{Spells, IsNoWhen, IsWhenIf}
 
@@ -74,6 +78,15 @@ names_flag = flag (codes "names")
 abbrev pub json_flag : Rule
 json_flag = flag (codes "json")
 
+abbrev pub only_option : Rule
+only_option = option (codes "only")
+
+abbrev pub fields_option : Rule
+fields_option = option (codes "fields")
+
+abbrev pub header_flag : Rule
+header_flag = flag (codes "header")
+
 -- `-H`, too
 abbrev pub with_filename_flag : Rule
 with_filename_flag = record (flag (codes "with-filename")) { short = Some 0x48 }
@@ -82,9 +95,12 @@ with_filename_flag = record (flag (codes "with-filename")) { short = Some 0x48 }
 abbrev pub file_names : Rule
 file_names = record (new_rule (codes "file names")) { range = Some (record { start_inclusive = 0; end_inclusive = usize_max }); value_names = 1 }
 
--- the options that choose how records are printed
+-- the options that choose which records are printed, and how; of items all are
+abbrev pub with_forms : App → App
+with_forms app = with_rule (with_rule app names_flag) json_flag
+
 abbrev pub with_output : App → App
-with_output app = with_rule (with_rule (with_rule app names_flag) json_flag) with_filename_flag
+with_output app = with_rule (with_rule (with_rule (with_rule (with_forms app) only_option) fields_option) header_flag) with_filename_flag
 
 -- the words and the option that name what is read
 abbrev pub with_files : App → App
@@ -104,7 +120,7 @@ abbrev pub message_app : App
 message_app = with_files (with_output (with_rule (with_rule (new_app (codes "message")) lines_flag) strict_flag))
 
 abbrev pub items_app : App
-items_app = with_files (with_output (with_rule (new_app (codes "items")) strict_flag))
+items_app = with_files (with_rule (with_forms (with_rule (new_app (codes "items")) strict_flag)) with_filename_flag)
 
 abbrev pub keytab_app : App
 keytab_app = with_files (with_output (new_app (codes "keytab")))
@@ -175,6 +191,33 @@ IsForm rows form.Json = IsGiven (first_of (codes "json") rows) true
 IsForm rows form.NamedLines = IsGiven (first_of (codes "json") rows) false × IsGiven (first_of (codes "names") rows) true
 IsForm rows form.Lines = IsGiven (first_of (codes "json") rows) false × IsGiven (first_of (codes "names") rows) false
 
+-- a fact of the options of a command that choose, by the form that is asked for and which records name their file
+pub record Chooses (command : Text) (rows : List Row) (listed : Form) (named : Naming) (Fact : Options → Type 0) : Type 0 where
+  pub has_header : Bool
+  pub given : IsGiven (first_of (codes "header") rows) has_header
+  pub fact : Fact (record { listings = listings_of command; only = first_of (codes "only") rows; fields = first_of (codes "fields") rows; has_header = has_header; form = listed; naming = named })
+
+-- a choice has a form in which records are listed for it
+abbrev pub form_chosen : Option Choice → Form → Form
+form_chosen None listed = listed
+form_chosen (Some choice) listed = choice_form choice
+
+-- What is chosen, and the form of records by that.
+pub record ChoosesBy (command : Text) (rows : List Row) (command_line : CommandLine) : Type 0 where
+  pub listed : Form
+  pub is_form : IsForm rows listed
+  pub chosen : Chooses command rows listed command_line.naming (λ options. IsChosen options command_line.choice (option_map string_bytes command_line.header))
+  pub form : command_line.form ≡ form_chosen command_line.choice listed
+
+-- the options choose nothing
+pub record ChoosesNothing (command : Text) (rows : List Row) : Type 0 where
+  pub listed : Form
+  pub named : Naming
+  pub is_form : IsForm rows listed
+  pub is_naming : IsNaming (first_of (codes "with-filename") rows) named
+  pub text : Text
+  pub chosen : Chooses command rows listed named (λ options. IsChoiceFault options text)
+
 -- a command has no source
 abbrev pub LacksFile : Text → List Row → Type 0
 LacksFile command rows = sources_of command rows ≡ []
@@ -193,11 +236,11 @@ IsCommand name rows (commands.Encode limit chosen framed) = (name ≡ codes "enc
 IsCommand name rows (commands.Help text) = ⊥
 IsCommand name rows (commands.Version text) = ⊥
 
--- The command line has the command that was found, the form of records, which of them name their file, and the sources, of which there is one at least.
+-- The command line has the command that was found, what is chosen and the form of records, which of them name their file, and the sources, of which there is one at least.
 abbrev pub IsCommandLineOf : Option (Text × List Row) → CommandLine → Type 0
 IsCommandLineOf None command_line = ⊥
 IsCommandLineOf (Some met) command_line =
-    IsCommand met.0 met.1 command_line.command × IsForm met.1 command_line.form × IsNaming (first_of (codes "with-filename") met.1) command_line.naming
+    IsCommand met.0 met.1 command_line.command × ChoosesBy met.0 met.1 command_line × IsNaming (first_of (codes "with-filename") met.1) command_line.naming
     × (map place_of command_line.sources.items ≡ sources_of met.0 met.1) × (LacksFile met.0 met.1 → ⊥)
 
 -- the command is to print the text of an error of `clap`
@@ -227,11 +270,11 @@ abbrev pub IsNoNumber : (least greatest : ℕ) → Option Text → Type 0
 IsNoNumber least greatest None = ⊥
 IsNoNumber least greatest (Some text) = (number : ℕ) → Spells text number → least ≤ number → number ≤ greatest → ⊥
 
--- an option with a value that is no number of its range, or no time, or a command without a source
+-- an option with a value that is no number of its range, or no time, options that choose nothing, or a command without a source
 abbrev pub IsUnfit : Text → List Row → Type 0
 IsUnfit command rows =
     IsNoNumber 1 2147483647 (one_of (codes "limit") rows) ⊎ (IsNoWhen (first_of (codes "now") rows)
-    ⊎ (IsNoNumber 1 65535 (one_of (codes "port") rows) ⊎ LacksFile command rows))
+    ⊎ (IsNoNumber 1 65535 (one_of (codes "port") rows) ⊎ (ChoosesNothing command rows ⊎ LacksFile command rows)))
 
 abbrev pub FindsUnfit : Option (Text × List Row) → Type 0
 FindsUnfit None = ⊥

@@ -3,7 +3,7 @@
 ghost use Rattle.std.specs.Prelude.{◌≡◌, false, map, IfOk};
 ghost use Rattle.clap.specs.Words.{app_of, new_app, rule_of, with_subcommand};
 ghost use Rattle.clap.specs.declared.builder.command.Command.TheViews.{out-Command};
-ghost use Rattle.krb_words.specs.Words.{now_option, option, number_option, limit_option, port_option, flag, file_names, file_option, json_flag, keep_going_flag, lines_flag, names_flag, strict_flag, unframed_flag, with_filename_flag, krbls_top, krbls};
+ghost use Rattle.krb_words.specs.Words.{now_option, option, number_option, limit_option, port_option, flag, file_names, file_option, json_flag, keep_going_flag, lines_flag, names_flag, only_option, fields_option, header_flag, strict_flag, unframed_flag, with_filename_flag, krbls_top, krbls};
 ghost use Rattle.krb_words.specs.inner.Makes.{Makes};
 ghost use Rattle.krb_words.specs.inner.Parts.{app_for, apps, rule_for, with_apps, with_rules};
 
@@ -135,6 +135,44 @@ fn json_flag<'a>(alloc: Global) -> Arg<'a>
     )
 }
 
+/// Returns the option `--only KIND,..`.
+fn only_option<'a>(alloc: Global) -> Arg<'a>
+    ensures rule { rule_of result ≡ only_option }
+    ensures local { result.global ≡ false }
+{
+    text_option(
+        alloc,
+        "only",
+        "KIND,..",
+        "Keeps records of these kinds, or with one of these inside",
+    )
+}
+
+/// Returns the option `--fields NAME,..`.
+fn fields_option<'a>(alloc: Global) -> Arg<'a>
+    ensures rule { rule_of result ≡ fields_option }
+    ensures local { result.global ≡ false }
+{
+    text_option(
+        alloc,
+        "fields",
+        "NAME,..",
+        "Prints these members of objects, with tabs between them",
+    )
+}
+
+/// Returns the option `--header`.
+fn header_flag<'a>(alloc: Global) -> Arg<'a>
+    ensures rule { rule_of result ≡ header_flag }
+    ensures local { result.global ≡ false }
+{
+    flag(
+        alloc,
+        "header",
+        "Prints the names of --fields as a first row",
+    )
+}
+
 /// Returns the option `-H`, `--with-filename`.
 fn with_filename_flag<'a>(alloc: Global) -> Arg<'a>
     ensures rule { rule_of result ≡ with_filename_flag }
@@ -263,6 +301,12 @@ pub(crate) enum Parameter {
     Names,
     /// `--json`.
     Json,
+    /// `--only KIND,..`.
+    Only,
+    /// `--fields NAME,..`.
+    Fields,
+    /// `--header`.
+    Header,
     /// `-H`, `--with-filename`.
     WithFilename,
     /// `--file PATH`.
@@ -288,6 +332,9 @@ impl Parameter {
             Parameter::Unframed => unframed_flag(alloc),
             Parameter::Names => names_flag(alloc),
             Parameter::Json => json_flag(alloc),
+            Parameter::Only => only_option(alloc),
+            Parameter::Fields => fields_option(alloc),
+            Parameter::Header => header_flag(alloc),
             Parameter::WithFilename => with_filename_flag(alloc),
             Parameter::File => file_option(alloc),
             Parameter::FileNames => file_names(alloc),
@@ -306,6 +353,9 @@ impl Parameter {
             Parameter::Unframed => name == "--unframed",
             Parameter::Names => name == "--names",
             Parameter::Json => name == "--json",
+            Parameter::Only => name == "--only",
+            Parameter::Fields => name == "--fields",
+            Parameter::Header => name == "--header",
             Parameter::WithFilename => name == "-H" || name == "--with-filename",
             Parameter::File => name == "--file",
             Parameter::FileNames => false,
@@ -330,6 +380,9 @@ static PARTS: [Part; 9] = [
             Parameter::Now,
             Parameter::Names,
             Parameter::Json,
+            Parameter::Only,
+            Parameter::Fields,
+            Parameter::Header,
             Parameter::WithFilename,
             Parameter::File,
             Parameter::FileNames,
@@ -344,6 +397,9 @@ static PARTS: [Part; 9] = [
             Parameter::Strict,
             Parameter::Names,
             Parameter::Json,
+            Parameter::Only,
+            Parameter::Fields,
+            Parameter::Header,
             Parameter::WithFilename,
             Parameter::File,
             Parameter::FileNames,
@@ -357,6 +413,9 @@ static PARTS: [Part; 9] = [
             Parameter::Strict,
             Parameter::Names,
             Parameter::Json,
+            Parameter::Only,
+            Parameter::Fields,
+            Parameter::Header,
             Parameter::WithFilename,
             Parameter::File,
             Parameter::FileNames,
@@ -380,6 +439,9 @@ static PARTS: [Part; 9] = [
         parameters: &[
             Parameter::Names,
             Parameter::Json,
+            Parameter::Only,
+            Parameter::Fields,
+            Parameter::Header,
             Parameter::WithFilename,
             Parameter::File,
             Parameter::FileNames,
@@ -392,6 +454,9 @@ static PARTS: [Part; 9] = [
             Parameter::Now,
             Parameter::Names,
             Parameter::Json,
+            Parameter::Only,
+            Parameter::Fields,
+            Parameter::Header,
             Parameter::WithFilename,
             Parameter::File,
             Parameter::FileNames,
@@ -406,6 +471,9 @@ static PARTS: [Part; 9] = [
             Parameter::Strict,
             Parameter::Names,
             Parameter::Json,
+            Parameter::Only,
+            Parameter::Fields,
+            Parameter::Header,
             Parameter::WithFilename,
             Parameter::File,
             Parameter::FileNames,

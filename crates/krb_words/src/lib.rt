@@ -19,6 +19,7 @@
 #![tactic(auto)]
 
 mod cache_types;
+mod choice;
 mod commands;
 mod help;
 mod names;

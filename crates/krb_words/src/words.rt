@@ -8,6 +8,7 @@ ghost use Rattle.krb_words.specs.Words.{IsTextBy, IsCommand, IsProfile, IsAfter,
 ghost use Rattle.krb_words.specs.declared.words.WordsFault.TheVariants as fault;
 ghost use Rattle.krb_words.specs.inner.NotRead.{FindsNoJob, IfWrong, IsNoJob, IsNoText};
 
+use crate::choice::{Chosen, choice_of};
 use crate::commands::krbls_command;
 use crate::names::command_words;
 use crate::sources::{Source, sources_of};
@@ -15,6 +16,7 @@ use crate::tips::with_tip;
 use crate::when::{When, read_when};
 use clap::error::ErrorKind;
 use clap::{ArgMatches, Error};
+use krb_choice::Choice;
 use krb_der::{Limit, Profile};
 use krb_record::Form;
 use std::alloc::{AllocError, Global};
@@ -94,6 +96,10 @@ pub struct CommandLine {
     pub form: Form,
     /// Which of them name their file.
     pub naming: Naming,
+    /// Which records are kept, and what rows are made of them, if that is chosen.
+    pub choice: Option<Choice>,
+    /// The names of the columns, if they are to be printed first.
+    pub header: Option<String>,
     /// The sources to read, in order. There are none if a text is to be printed.
     pub sources: Vec<Source>,
 }
@@ -120,7 +126,7 @@ impl From<AllocError> for WordsFault {
 pub const USUAL_PORT: u16 = 88;
 
 /// Returns the fault of words of which a text says what is wrong with them, if there is memory for it.
-fn wrong(text: Result<String, AllocError>) -> WordsFault {
+pub(crate) fn wrong(text: Result<String, AllocError>) -> WordsFault {
     match text {
         Ok(text) => WordsFault::Wrong(text),
         Err(_) => WordsFault::Memory,
@@ -211,7 +217,7 @@ fn when_of(alloc: Global, found: &ArgMatches<'_>) -> Result<Option<When>, WordsF
 }
 
 /// Returns whether a flag is given.
-fn is_given(found: &ArgMatches<'_>, name: &str) -> bool
+pub(crate) fn is_given(found: &ArgMatches<'_>, name: &str) -> bool
     ensures { IsGiven (first_of name.now (rows_of (found_of found.now))) result }
 {
     match found.get_str(name) {
@@ -351,6 +357,14 @@ fn some_sources_of(
     Ok(sources)
 }
 
+/// Returns the form in which records are listed: that of a choice, if there is one.
+fn form_chosen(chosen: &Chosen, form: Form) -> Form {
+    match &chosen.choice {
+        Some(choice) => choice.form(),
+        None => form,
+    }
+}
+
 /// Returns the command line of the matches.
 fn command_line_of(alloc: Global, matches: &ArgMatches<'_>) -> Result<CommandLine, WordsFault>
     ensures command_line { IfOk result (IsCommandLineOf (subcommand_rows_of matches.now)) }
@@ -360,11 +374,15 @@ fn command_line_of(alloc: Global, matches: &ArgMatches<'_>) -> Result<CommandLin
         None => Err(not_read(alloc)),
         Some((name, found)) => {
             let command = command_of(alloc, name, found)?;
+            let (form, naming) = (form_of(found), naming_of(found));
+            let chosen = choice_of(alloc, name, found, form, naming)?;
             let sources = some_sources_of(alloc, name, found)?;
             Ok(CommandLine {
                 command,
-                form: form_of(found),
-                naming: naming_of(found),
+                form: form_chosen(&chosen, form),
+                naming,
+                choice: chosen.choice,
+                header: chosen.header,
                 sources,
             })
         }
@@ -387,6 +405,8 @@ fn text_of(alloc: Global, error: &Error) -> Result<CommandLine, WordsFault>
         command,
         form: Form::Lines,
         naming: Naming::Before,
+        choice: None,
+        header: None,
         sources: Vec::new(alloc),
     })
 }

@@ -13,13 +13,14 @@ ghost use Rattle.krbls.specs.Commands.{Does, FailsToTurn, TellsSaid, Turns, chos
 ghost use Rattle.krbls.specs.Program.{DoesFrom, IsFaultReported, IsHinted, IsTold, ListsBy, name_of};
 
 use krb_capture_run::run_capture;
+use krb_choice::{Choice, Choosing};
 use krb_convert::{decode, encode, put_decode_end, put_encode_end};
 use krb_file_run::{run_ccache_in, run_keytab_in};
 use krb_host::Host;
 use krb_input::{Hint, SourceKind, hint_of, kind_of};
 use krb_items_run::run_items_in;
-use krb_record::{Label, TextBuffer};
-use krb_run::{Begun, ListSource, RunEnd, RunFault};
+use krb_record::{Label, TextBuffer, put_file};
+use krb_run::{Begun, ListSource, RunEnd, RunFault, write_all};
 use krb_tool::{Limit, Profile, run_lines_in, run_message_in, run_stream_in};
 use krb_words::{AfterRefusal, Command, Framing, Inputs, ShellWord, Source};
 use std::alloc::{AllocError, Global};
@@ -33,6 +34,10 @@ pub(crate) struct Lister<'a, H> {
     pub(crate) command: &'a Command,
     /// The time that credentials are compared with, in seconds since 1970, if there is one.
     pub(crate) time: Option<u32>,
+    /// Which records are kept, and what rows are made of them, if that is chosen.
+    pub(crate) choice: Option<&'a Choice>,
+    /// Whether a record with its name precedes the listing of each source from which is chosen.
+    pub(crate) names_sources: bool,
 }
 
 impl<H: Host> Lister<'_, H> {
@@ -130,6 +135,14 @@ impl<H: Host> Lister<'_, H> {
     }
 }
 
+/// Returns whether the listing of a command goes on after each refusal.
+fn goes_on(command: &Command) -> bool {
+    matches!(
+        command,
+        Command::Stream(_, _, AfterRefusal::GoesOn) | Command::Message(_, Inputs::EachLine)
+    )
+}
+
 /// Returns the kind of the sources that a command reads, if hints are told of them.
 fn kind_read(command: &Command) -> Option<SourceKind>
     ensures { result ≡ kind_read command.now }
@@ -191,6 +204,41 @@ impl<H: Host> Lister<'_, H> {
         Ok(())
     }
 
+    /// Lists what a reader reads of a source by a command: all of it, or what is chosen. If that was not
+    /// read as a whole, the last record is told unless it is kept.
+    fn run_chosen<R: Read, W: Write>(
+        &self,
+        source: &Source,
+        command: &Command,
+        label: &Label,
+        reader: &mut R,
+        writer: &mut W,
+    ) -> Result<RunEnd, RunFault> {
+        let Some(choice) = self.choice else {
+            return self.run(source, command, label, reader, writer);
+        };
+        let mut choosing = Choosing::new(self.alloc, choice, goes_on(command), writer)?;
+        let end = self.run(source, command, label, reader, &mut choosing)?;
+        if end != RunEnd::Clean {
+            self.tell_said(source, choosing.told());
+        }
+        Ok(end)
+    }
+
+    /// Writes the record with the name of a source, if there is one and it is kept.
+    fn write_name<W: Write>(&self, source: &Source, writer: &mut W) -> Result<(), RunFault> {
+        let Some(choice) = self.choice else {
+            return Ok(());
+        };
+        if !self.names_sources {
+            return Ok(());
+        }
+        let mut line = TextBuffer::new(self.alloc);
+        put_file(&mut line, choice.form(), octets_name(source))?;
+        let mut choosing = Choosing::new(self.alloc, choice, false, writer)?;
+        write_all(&mut choosing, line.octets())
+    }
+
     /// Lists what a reader reads of a source by a command, and tells a hint if its first record is that
     /// of a refusal.
     fn list_by<R: Read, W: Write>(
@@ -204,7 +252,7 @@ impl<H: Host> Lister<'_, H> {
         ensures { ListsBy (H.around self.now.host.now) label.now self.now.time self.now.command.now source.now command.now (first_of reader.old) (begun_remaining R.remaining reader.old) (W.contents writer.old) (W.contents writer.new) result }
     {
         let hint = hint_by(command, reader.first());
-        let end = self.run(source, command, label, reader, writer)?;
+        let end = self.run_chosen(source, command, label, reader, writer)?;
         if end == RunEnd::RefusedAtOnce {
             self.tell_hint(source, hint)?;
         }
@@ -277,6 +325,7 @@ impl<H: Host> ListSource<Source> for Lister<'_, H> {
         label: &Label,
         writer: &mut W,
     ) -> Result<RunEnd, RunFault> {
+        self.write_name(source, writer)?;
         match self.host.open(source) {
             Ok(reader) => {
                 let mut begun = Begun::begin(self.alloc, reader, self.command.octets_awaited())?;

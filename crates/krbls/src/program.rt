@@ -8,7 +8,7 @@ ghost use Rattle.krbls.specs.Program.{RunsCommand, DoesAny, DoesUnlessShown, IsT
 
 use crate::lister::Lister;
 use krb_host::{Host, expand};
-use krb_run::{Naming as Labels, RunFault, run_sources, run_sources_unnamed};
+use krb_run::{Naming as Labels, RunFault, run_sources, run_sources_unnamed, write_all};
 use krb_words::{Command, CommandLine, Naming, Source, When, WordsFault, read_words};
 use std::alloc::Global;
 use std::io::Write;
@@ -110,6 +110,15 @@ fn labels_of(command_line: &CommandLine) -> Labels
     }
 }
 
+/// Returns whether a record of its name precedes each of so many sources.
+fn names_sources(naming: Labels, sources: usize) -> bool {
+    match naming {
+        Labels::Labels => false,
+        Labels::Each => true,
+        Labels::Several => sources > 1,
+    }
+}
+
 /// Does the command with sources that can be opened, one after another, and returns the writer and the
 /// greatest of their statuses.
 fn list_each<H: Host, W: Write>(
@@ -122,28 +131,24 @@ fn list_each<H: Host, W: Write>(
 ) -> (W, u8)
     ensures { ListsSources (H.around host.now) command_line.now now sources.now (W.contents writer) (W.contents result.0) result.1 }
 {
+    let naming = labels_of(command_line);
     let lister = Lister {
         alloc,
         host,
         command: &command_line.command,
         time: now,
+        choice: command_line.choice.as_ref(),
+        names_sources: names_sources(naming, sources.len()),
     };
     if command_line.command.is_conversion() {
         run_sources_unnamed(alloc, &lister, sources, writer)
     } else {
-        run_sources(
-            alloc,
-            command_line.form,
-            labels_of(command_line),
-            &lister,
-            sources,
-            writer,
-        )
+        run_sources(alloc, command_line.form, naming, &lister, sources, writer)
     }
 }
 
 /// Does the command with each source, and returns the writer and the greatest of their statuses.
-fn do_each<H: Host, W: Write>(
+fn do_sources<H: Host, W: Write>(
     alloc: Global,
     host: &H,
     command_line: &CommandLine,
@@ -160,6 +165,32 @@ fn do_each<H: Host, W: Write>(
         }
         Err(_) => (writer, refuse(host, &WordsFault::Memory)),
     }
+}
+
+/// Prints the names of the columns, if they are wanted, and does the command with each source.
+fn do_each<H: Host, W: Write>(
+    alloc: Global,
+    host: &H,
+    command_line: &CommandLine,
+    writer: W,
+) -> (W, ExitCode) {
+    let Some(header) = &command_line.header else {
+        return do_sources(alloc, host, command_line, writer);
+    };
+    let mut writer = writer;
+    match write_row(&mut writer, header.as_bytes()) {
+        Ok(()) => do_sources(alloc, host, command_line, writer),
+        Err(fault) => {
+            host.tell_fault(&Source::Input, &fault);
+            (writer, ExitCode::from(FAULT))
+        }
+    }
+}
+
+/// Writes a row and a line feed.
+fn write_row<W: Write>(writer: &mut W, row: &[u8]) -> Result<(), RunFault> {
+    write_all(writer, row)?;
+    write_all(writer, b"\n")
 }
 
 /// Prints a text. If a write fails, that is told.

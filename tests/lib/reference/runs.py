@@ -4,7 +4,8 @@ import calendar
 import re
 from typing import NamedTuple
 
-from . import RECORDS, file, lines_of, records, shown
+from . import RECORDS, file, lines_of, records
+from .choosing import Wrong, choice_of, last_line
 from .hints import command_for, hint
 from .values import file_name
 
@@ -15,7 +16,7 @@ ALL_COMMANDS = (*COMMANDS, "decode", "encode")
 COMMAND_FIRST = "a command comes before options: krbls COMMAND [OPTIONS] [FILE]..."
 
 # The options of each command, and those that have a value.
-COMMON = ("--names", "--json", "-H", "--with-filename", "--file")
+COMMON = ("--names", "--json", "--only", "--fields", "--header", "-H", "--with-filename", "--file")
 OPTIONS = {
     "stream": ("--limit", "--keep-going", "--strict"),
     "message": ("--lines", "--strict"),
@@ -25,7 +26,7 @@ OPTIONS = {
     "capture": ("--limit", "--port", "--strict"),
     "list": ("--now",),
 }
-WITH_VALUES = ("--file", "--limit", "--port", "--now")
+WITH_VALUES = ("--file", "--limit", "--port", "--now", "--only", "--fields")
 
 # Of which commands a name may have a prefix that is no part of the file's name, and of which one for a directory of caches.
 OF_FILES = ("keytab", "ccache", "list")
@@ -177,8 +178,11 @@ def run(words, given, files, clock=0):
         if command == "list" and not named:
             raise WrongWords
         now = seconds(values["--now"], clock) if "--now" in values else None
+        choice = choice_of(command, values.get("--only"), values.get("--fields"), flags)
     except WrongWords:
         return Run("", None, 2)
+    except Wrong as wrong:
+        return Run("", f"error: {wrong}\n\nFor more information, try '--help'.\n", 2)
     encoded = [name.encode("utf-8", "surrogateescape") for name in named] or [b"-"]
     sources, errors, status = [], [], 0
     for name in encoded:
@@ -191,6 +195,9 @@ def run(words, given, files, clock=0):
         status = max(status, fault)
     listing = Listing(command, flags, values, now, len(sources) > 1, any(is_directory(command, name) for name in encoded))
     listing.errors, listing.status = errors, status
+    listing.choice = choice
+    if choice is not None:
+        listing.lines += choice.header
     for source in sources:
         if source.path is None:
             listing.take(source, given)
@@ -220,6 +227,7 @@ class Listing:
         # Each cache of a directory has its record, even if it is the only one.
         self.has_records = not self.has_names and (is_many or has_directory)
         self.lines, self.errors, self.status = [], [], 0
+        self.choice = None
 
     def take(self, source, octets):
         """One more source, of which there are octets unless it cannot be opened."""
@@ -227,7 +235,7 @@ class Listing:
         text = file_name(name).text
         said_of = "standard input" if name == b"-" else text
         if self.has_records:
-            self.lines.append(f"{shown(file(name), self.forms)}\n")
+            self.put(file(name), name)
         if octets is None:
             self.fail(3, f"{said_of}: {source.why_unread or NO_FILE}")
             if self.command == "list" and name.decode(errors="replace") in ALL_COMMANDS:
@@ -239,14 +247,23 @@ class Listing:
             return
         used = command_for(octets) if self.command == "list" else self.command
         found, status = records(" ".join([used, *self.options]), octets, self.now)
-        named = [self.with_name(record, name) for record in found]
-        self.lines += [f"{line}\n" for line in lines_of(named, self.forms)]
+        for number, record in enumerate(found, 1):
+            self.put(self.with_name(record, name), name, number == len(found))
+        if self.choice is not None and status == 1 and not self.choice.keeps(found[-1], True):
+            self.errors.append(f"krbls: {said_of}: {last_line(found[-1])}\n")
         self.status = max(self.status, status)
         # What `items` lists before a refusal is of what `message` refuses at once.
         is_refused = found[-1 if used == "items" else 0].kind == "refused"
         said = hint(octets, used, self.command, shell_word(name))
         if is_refused and said is not None:
             self.errors.append(f"krbls: {said_of}: {said}\n")
+
+    def put(self, record, source, ends=False):
+        """A record of a source, if it is kept; the last one ends the listing."""
+        if self.choice is None:
+            self.lines += [f"{line}\n" for line in lines_of([record], self.forms)]
+        elif self.choice.keeps(record, ends):
+            self.lines += self.choice.shown(record, source)
 
     def with_name(self, record, name):
         """A record with the name of its source, if it has that."""

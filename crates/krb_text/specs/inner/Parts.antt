@@ -11,6 +11,16 @@ separator form.Lines told = codes " "
 separator form.NamedLines told = codes " "
 separator form.Json false = []
 separator form.Json true = codes ","
+separator form.KeptLines told = codes " "
+separator form.KeptNamedLines told = codes " "
+separator form.KeptJson false = []
+separator form.KeptJson true = codes ","
+separator (form.Rows wanted) told = []
+
+-- of a form in which commas are between parts
+pub record AreBetweenCommas (f : Form) : Type 0 where
+  pub first : separator f false ≡ []
+  pub next : separator f true ≡ codes ","
 
 abbrev pub parts_after : Form → Bool → List Part → List ℕ
 parts_after f told [] = []

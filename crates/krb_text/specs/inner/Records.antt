@@ -1,5 +1,5 @@
 -- Records of messages by the views of their kinds.
-use Rattle.std.specs.Prelude.{◌≡◌, Bool, true, List, [], ◌++◌, ℕ, Option}
+use Rattle.std.specs.Prelude.{◌≡◌, Bool, true, false, List, [], ◌++◌, codes, ℕ, Option}
 use Rattle.krb_der.specs.declared.profile.Profile.{Profile}
 use Rattle.krb_der.specs.declared.profile.Profile.TheVariants as profiles
 use Rattle.krb_msg.specs.Notes.{are_none}
@@ -13,11 +13,11 @@ use Rattle.krb_record.specs.declared.form.Form.{Form}
 use Rattle.krb_text.specs.declared.record.Heading.{Heading}
 use Rattle.krb_text.specs.declared.record.Heading.TheVariants as headings
 use Rattle.krb_record.specs.Captures.{last_fields, origin_fields}
-use Rattle.krb_record.specs.Forms.{record_text}
+use Rattle.krb_record.specs.Forms.{field, fields_text, parts_text, record_text}
 use Rattle.krb_record.specs.Text.{line_feed}
 use Rattle.krb_text.specs.Inside.{inside_of}
 use Rattle.krb_record.specs.Origins.{message_origin}
-use Rattle.krb_text.specs.Messages.{fields_of, message_record}
+use Rattle.krb_text.specs.Messages.{fields_of, notes, shown_record}
 use Rattle.krb_record.specs.Values.{Field, Part, with_last, with_origin}
 
 -- what is recorded of a view of a kind is what is recorded of its message
@@ -37,9 +37,14 @@ heading_last headings.Alone = []
 heading_last (headings.Captured origin) = last_fields origin.now
 heading_last (headings.From origin) = []
 
+-- the fields of a message, with its notes, and what is inside of it, if that is shown
+abbrev pub shown_text : (is_shown : Bool) → Form → List Field → Notes → Option (List Part) → List ℕ
+shown_text false form fields n inside = []
+shown_text true form fields n inside = fields_text form fields ++ field form (codes "notes") (notes n) ++ parts_text form inside
+
 -- the record of a message from its origin, without its line feed, and with it
 abbrev pub text_after : Form → Heading → Message → List ℕ
-text_after form from m = record_text form (with_last (heading_last from) (with_origin (heading_origin form from) (message_record m)))
+text_after form from m = record_text form (with_last (heading_last from) (with_origin (heading_origin form from) (shown_record form m)))
 
 abbrev pub line_after : Form → Heading → Message → List ℕ
 line_after form from m = text_after form from m ++ line_feed

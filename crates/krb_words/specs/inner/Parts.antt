@@ -1,7 +1,7 @@
 -- What the commands of the program make of a command for `clap`.
 use Rattle.std.specs.Prelude.{List, [], ◌∷◌}
 use Rattle.clap.specs.Words.{App, Rule, new_app, with_rule, with_subcommand}
-use Rattle.krb_words.specs.Words.{now_option, limit_option, port_option, keep_going_flag, strict_flag, lines_flag, unframed_flag, names_flag, json_flag, with_filename_flag, file_option, file_names, list_app, stream_app, message_app, items_app, keytab_app, ccache_app, capture_app, decode_app, encode_app}
+use Rattle.krb_words.specs.Words.{now_option, limit_option, port_option, keep_going_flag, strict_flag, lines_flag, unframed_flag, names_flag, json_flag, only_option, fields_option, header_flag, with_filename_flag, file_option, file_names, list_app, stream_app, message_app, items_app, keytab_app, ccache_app, capture_app, decode_app, encode_app}
 use Rattle.krb_words.specs.declared.commands.Parameter.{Parameter}
 use Rattle.krb_words.specs.declared.commands.Parameter.TheVariants as parameter
 use Rattle.krb_words.specs.declared.commands.Part.{Part}
@@ -17,6 +17,9 @@ rule_for parameter.Lines = lines_flag
 rule_for parameter.Unframed = unframed_flag
 rule_for parameter.Names = names_flag
 rule_for parameter.Json = json_flag
+rule_for parameter.Only = only_option
+rule_for parameter.Fields = fields_option
+rule_for parameter.Header = header_flag
 rule_for parameter.WithFilename = with_filename_flag
 rule_for parameter.File = file_option
 rule_for parameter.FileNames = file_names

@@ -5,7 +5,7 @@ use Rattle.krb_msg.specs.Views.{message_of_der}
 use Rattle.krb_record.proofs.Labels.{ends-after}
 use Rattle.krb_record.specs.Labels.{begin_text}
 use Rattle.krb_record.specs.Captures.{captured}
-use Rattle.krb_text.specs.Messages.{PutsMessage, captured_message_line, message_record}
+use Rattle.krb_text.specs.Messages.{PutsMessage, captured_message_line, shown_record}
 use Rattle.krb_capture.proofs.labelled.put_message.Goals as goal
 
 -- the text is that before, and what its line has before a record
@@ -31,4 +31,4 @@ pub returns : goal.returns
 returns c =
     let found = subst (PutsMessage c.args.profile c.args.octets.now (captured_message_line c.form.result c.args.origin.now) c.begin.new.text c.put_captured_message.new.text) c.if-not-branch.false c.in_ok-put_captured_message.ensures in
     let put = rw c.form.ensures at found in
-    (put.0, ends-after c.args.label.now c.args.text.now c.begin.new.text c.put_captured_message.new.text c.end.new.text (captured c.args.label.now.form c.args.origin.now (message_record (message_of_der c.args.octets.now))) c.in_ok-end.ensures c.in_ok-begin.ensures put.1)
+    (put.0, ends-after c.args.label.now c.args.text.now c.begin.new.text c.put_captured_message.new.text c.end.new.text (captured c.args.label.now.form c.args.origin.now (shown_record c.args.label.now.form (message_of_der c.args.octets.now))) c.in_ok-end.ensures c.in_ok-begin.ensures put.1)

@@ -26,8 +26,6 @@ returns g c =
     m
     c.args.text.now
     (rw (c.name.ensures, ← same.same_kind) at c.in_ok-put_heading.ensures)
-    (rw (← same.same_fields) at c.in_ok-put_fields.ensures)
-    (rw c.notes-notes.ensures at c.in_ok-put_field.ensures)
-    (rw (← same.same_inside) at c.in_ok-put_inside.ensures)
+    (rw (← same.same_kind, ← same.same_fields, c.notes-notes.ensures, ← same.same_inside) at c.in_ok-put_shown.ensures)
     c.in_ok-put_last.ensures in
     (kept_whole c.args.profile c.args.octets.now _ c.if-not-view_into.ensures kept, subst (λ m. c.put_last.new.text ≡ c.args.text.now ++ text_after c.args.form c.args.from m) c.if-not-view_into.ensures.read text)

@@ -4,7 +4,7 @@ use Rattle.std.specs.Str.{IsUtf8}
 use Rattle.krb_msg.specs.Views.{message_of_der}
 use Rattle.krb_record.proofs.Labels.{ends-after}
 use Rattle.krb_record.specs.Labels.{begin_text}
-use Rattle.krb_text.specs.Messages.{PutsMessage, message_line as unlabelled_line, message_record}
+use Rattle.krb_text.specs.Messages.{PutsMessage, message_line as unlabelled_line, shown_record}
 use Rattle.krb_tool.specs.Listing.{message_line}
 use Rattle.krb_tool.proofs.labelled.put_message.Goals as goal
 
@@ -32,4 +32,4 @@ unfolding message_line unlabelled_line
 returns c =
     let found = subst (PutsMessage c.args.profile c.args.octets.now (unlabelled_line c.form.result) c.begin.new.text c.put_message_in.new.text) c.if-not-branch.false c.in_ok-put_message_in.ensures in
     let put = rw c.form.ensures at found in
-    (put.0, ends-after c.args.label.now c.args.text.now c.begin.new.text c.put_message_in.new.text c.end.new.text (message_record (message_of_der c.args.octets.now)) c.in_ok-end.ensures c.in_ok-begin.ensures put.1)
+    (put.0, ends-after c.args.label.now c.args.text.now c.begin.new.text c.put_message_in.new.text c.end.new.text (shown_record c.args.label.now.form (message_of_der c.args.octets.now)) c.in_ok-end.ensures c.in_ok-begin.ensures put.1)

@@ -1,0 +1,4 @@
+pub mod Choices
+pub mod Shown
+pub mod Wanted
+pub mod Marked

@@ -1,0 +1,144 @@
+//! A writer of marked listings.
+
+use crate::choice::Choice;
+use crate::row::{Record, put_whole};
+use memchr::memchr;
+use std::alloc::{AllocError, Global};
+use std::io;
+use std::io::{ErrorKind, Write};
+
+/// How many octets of rows are written at once, at least.
+const MANY: usize = 1 << 16;
+
+/// A writer that takes a listing for a choice, in any pieces, and writes what is chosen of it to another
+/// writer: each record that is kept once its end has come, and its rows as they are made.
+#[derive(Drop)]
+pub struct Choosing<'a, W> {
+    writer: &'a mut W,
+    choice: &'a Choice,
+    /// Whether a listing goes on after each refusal.
+    goes_on: bool,
+    /// The octets of a record whose end has not come.
+    begun: Vec<u8>,
+    record: Record,
+    /// What is not written yet.
+    out: Vec<u8>,
+    /// The line that tells of the last record, if that is not kept.
+    told: Vec<u8>,
+}
+
+/// Returns the error of a writer that is out of memory.
+fn out_of_memory(_error: AllocError) -> io::Error {
+    ErrorKind::OutOfMemory.into()
+}
+
+impl<'a, W: Write> Choosing<'a, W> {
+    /// Returns a writer to which nothing was given yet. It is told whether a listing goes on after each
+    /// refusal, so that none ends it.
+    pub fn new(
+        alloc: Global,
+        choice: &'a Choice,
+        goes_on: bool,
+        writer: &'a mut W,
+    ) -> Result<Choosing<'a, W>, AllocError> {
+        Ok(Choosing {
+            writer,
+            choice,
+            goes_on,
+            begun: Vec::new(alloc),
+            record: Record::new(alloc, choice)?,
+            out: Vec::new(alloc),
+            told: Vec::new(alloc),
+        })
+    }
+
+    /// Returns the line that tells of the record that was given last, if that may be the last one and was
+    /// not kept.
+    pub fn told(&self) -> &[u8] {
+        self.told.as_slice()
+    }
+
+    /// Writes what is not written yet.
+    fn write_out(&mut self) -> io::Result<()> {
+        self.writer.write_all(self.out.as_slice())?;
+        self.out.clear();
+        Ok(())
+    }
+
+    /// Writes the rows of a record.
+    fn write_rows(&mut self, text: &[u8]) -> io::Result<()> {
+        let count = self.record.count_rows(self.choice);
+        let mut row = 0;
+        'rows: while row < count {
+            self.record
+                .put_row(self.choice, text, row, &mut self.out)
+                .map_err(out_of_memory)?;
+            if MANY <= self.out.len() {
+                self.write_out()?;
+            }
+            row += 1;
+        }
+        Ok(())
+    }
+
+    /// Keeps the line that tells of a record, if it may be the last one and is not kept.
+    fn keep_told(&mut self, text: &[u8], is_kept: bool) -> Result<(), AllocError> {
+        self.told.clear();
+        if is_kept {
+            return Ok(());
+        }
+        if let Some(line) = self.record.aside(text) {
+            self.told.extend_from_slice(line)?;
+            self.told.extend_from_slice(b"\n")?;
+        }
+        Ok(())
+    }
+
+    /// Takes a record without its line feed.
+    fn take(&mut self, text: &[u8]) -> io::Result<()> {
+        self.record.find(self.choice, text).map_err(out_of_memory)?;
+        let is_last = self.record.may_be_last()
+            && !(self.goes_on && self.record.is_of(text, b"refused"));
+        let is_kept = self.record.is_kept(self.choice, text, is_last);
+        self.keep_told(text, is_kept).map_err(out_of_memory)?;
+        if !is_kept {
+            return Ok(());
+        }
+        if self.choice.has_rows() {
+            self.write_rows(text)
+        } else {
+            put_whole(text, &mut self.out).map_err(out_of_memory)
+        }
+    }
+
+    /// Takes the end of a record, of which the beginning may have come.
+    fn take_end(&mut self, end: &[u8]) -> io::Result<()> {
+        if self.begun.is_empty() {
+            return self.take(end);
+        }
+        self.begun.extend_from_slice(end).map_err(out_of_memory)?;
+        let alloc = *self.begun.allocator();
+        let mut text = std::mem::replace(&mut self.begun, Vec::new(alloc));
+        self.take(text.as_slice())?;
+        text.clear();
+        self.begun = text;
+        Ok(())
+    }
+}
+
+impl<'a, W: Write> Write for Choosing<'a, W> {
+    fn write(&mut self, buffer: &[u8]) -> io::Result<usize> {
+        let mut rest = buffer;
+        'records: while let Some(end) = memchr(b'\n', rest) {
+            self.take_end(&rest[..end])?;
+            rest = &rest[end + 1..];
+        }
+        self.begun.extend_from_slice(rest).map_err(out_of_memory)?;
+        self.write_out()?;
+        Ok(buffer.len())
+    }
+
+    fn flush(&mut self) -> io::Result<()> {
+        self.writer.flush()
+    }
+}

@@ -1,0 +1,6 @@
+mod Anys
+mod Apart
+mod Ends
+mod Once
+mod Rows
+mod Stripped

@@ -1,0 +1,8 @@
+use Rattle.std.proofs.Common.{◌≡◌, ◌++◌, map, string_bytes, take}
+use Rattle.std.specs.List.{list_any, flat_map}
+use Rattle.krb_fields.specs.Names.{each_once, listing_kinds}
+use Rattle.krb_fields.proofs.all.all_kinds.Given as goal
+
+-- the kinds of the listings so far are there
+abbrev pub invariant-loop-listing : goal.invariant-loop-listing
+invariant-loop-listing l = map string_bytes l.kinds.items ≡ each_once (flat_map listing_kinds (take l.listing-index l.listings))

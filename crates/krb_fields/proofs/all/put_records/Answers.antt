@@ -1,0 +1,21 @@
+use Rattle.std.proofs.Common.{OnOk, subst, ◌≡◌, ◌∙◌, ◌++◌, [], ◌∷◌, ap, ap₂, codes, if◌then◌else◌, map, string_bytes, sym}
+use Rattle.std.proofs.lemmas.List.Folds.{flat_map-map}
+use Rattle.std.proofs.lemmas.List.{append_assoc, map-id}
+use Rattle.std.specs.List.{flat_map}
+use Rattle.krb_fields.specs.Fields.{field_of, shape_of}
+use Rattle.krb_fields.specs.Names.{field_names, inside_names, inside_of, kind_text, listing_kinds, listing_names, member_names, shape_names, with_all, with_new, within_text}
+use Rattle.krb_fields.specs.Table.{endings, inside, origin, records}
+use Rattle.krb_fields.proofs.Once.{all_seen, before_each, flat_map_same, map_map, map_same, more_of, one_more, step_of, step_one, with_all-append, with_lists, with_three}
+use Rattle.krb_fields.proofs.all.put_records.Goals as goal
+
+pub loop-shape-preserved : goal.loop-shape-preserved
+loop-shape-preserved c =
+    step_of (map string_bytes c.put_shape.new.names.items) (map string_bytes c.loop-shape.names.items) (map string_bytes c.args.names.now.items) (λ s. map (λ name. [] ++ name) (shape_names (shape_of s))) c.records-shape-items.result.now c.loop-shape.shape-index _ c.loop-shape-test.true c.loop-shape.invariant c.in_ok-put_shape.ensures
+
+pub returns : goal.returns
+returns c =
+    all_seen (map string_bytes c.loop-shape.names.items) (map string_bytes c.args.names.now.items) (flat_map (λ s. map (λ name. [] ++ name) (shape_names (shape_of s)))) c.records-shape-items.result.now c.loop-shape.shape-index c.loop-shape-test.false c.loop-shape.invariant
+    ∙ ap (with_all (map string_bytes c.args.names.now.items)) (
+    flat_map_same (λ s. map (λ name. [] ++ name) (shape_names (shape_of s))) (λ s. shape_names (shape_of s)) (λ s. map-id (shape_names (shape_of s))) c.records-shape-items.result.now
+    ∙ sym (flat_map-map shape_names shape_of c.records-shape-items.result.now)
+    ∙ ap (flat_map shape_names) c.records-shape-items.ensures)

@@ -1,0 +1,9 @@
+use Rattle.std.proofs.Common.{◌≡◌, ◌∙◌, sym}
+use Rattle.std.specs.Str.{bytes_eq}
+use Rattle.krb_fields.proofs.Anys.{any_map, seen}
+use Rattle.krb_fields.proofs.having.is_among.Goals as goal
+
+pub returns : goal.returns
+returns c =
+    seen (λ other. bytes_eq c.args.text.now other.now) c.args.others.now c.loop-other.other-index c.loop-other.found c.loop-other-test.false c.loop-other.invariant
+    ∙ sym (any_map (bytes_eq c.args.text.now) (λ other. other.now) c.args.others.now)

@@ -1,0 +1,5 @@
+pub mod Fields
+pub mod Table
+pub mod Names
+pub mod Near
+pub mod inner
