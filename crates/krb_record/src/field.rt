@@ -109,6 +109,28 @@ fn put_kept<T: Shown>(
     }
 }
 
+/// Appends a field in any form, by one call where lines are compiled in place.
+#[inline(never)]
+#[tactic(auto, unfolding(crate::specs::Forms::labelled))]
+fn put_other_field<T: Shown>(
+    text: &mut TextBuffer,
+    form: Form,
+    label: &str,
+    begin: &str,
+    value: &T,
+) -> Result<(), AllocError>
+    ensures { OnOk result (text.new ≡ text.old ++ labelled form label.now begin.now (T.shown value.now)) }
+{
+    match form {
+        Form::Rows(wanted) => put_cells(text, wanted, begin, value),
+        Form::Json | Form::KeptJson => put_members(text, begin, value),
+        Form::Lines | Form::KeptLines => put_kept(text, Base::Lines, label, begin, value),
+        Form::NamedLines | Form::KeptNamedLines => {
+            put_kept(text, Base::NamedLines, label, begin, value)
+        }
+    }
+}
+
 /// Appends a field: in a line the label, ` NAME=`, and the text of the value; in an object the
 /// members that `begin`, which is `,"NAME`, begins; in rows its cells.
 #[inline(always)]
@@ -126,14 +148,7 @@ pub fn put_field<T: Shown>(
         text.push_str(label)?;
         return value.put_text(text, names);
     }
-    match form {
-        Form::Rows(wanted) => put_cells(text, wanted, begin, value),
-        Form::Json | Form::KeptJson => put_members(text, begin, value),
-        Form::Lines | Form::KeptLines => put_kept(text, Base::Lines, label, begin, value),
-        Form::NamedLines | Form::KeptNamedLines => {
-            put_kept(text, Base::NamedLines, label, begin, value)
-        }
-    }
+    put_other_field(text, form, label, begin, value)
 }
 
 /// Appends a kind between marks.
