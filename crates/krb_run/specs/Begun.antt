@@ -1,5 +1,5 @@
 -- What is left of a reader whose first octets were read.
-use Rattle.std.specs.Prelude.{ℕ, ◌≡◌, ◌≤◌, min, List, [], length, take, drop, Option, Some, ◌++◌, None}
+use Rattle.std.specs.Prelude.{ℕ, ◌≡◌, ◌≤◌, min, List, [], take, drop, Option, Some, ◌++◌, None}
 use Rattle.std.specs.Io.KnownBytes.{prepend_known}
 use Rattle.krb_run.specs.declared.begun.Begun.{Begun}
 use Rattle.krb_run.specs.declared.begun.Then.{Then}
