@@ -1,7 +1,7 @@
 -- Texts that are appended unless they are there, in a loop.
 use Rattle.std.proofs.Common.{ℕ, Bool, true, false, cond, ◌<◌, ◌≤◌, ◌+◌, ◌≡◌, ◌∙◌, ◌++◌, List, [], ◌∷◌, ap, get_or, length, map, refl, subst, sym, take}
 use Rattle.std.proofs.lemmas.Grind.{flat_map-append}
-use Rattle.std.proofs.lemmas.List.{append-nil, append_assoc, map-append, take_all, take_more}
+use Rattle.std.proofs.lemmas.List.{append-nil, map-append, take_all, take_more}
 use Rattle.std.specs.List.{filter, flat_map}
 use Rattle.krb_fields.specs.Fields.{Shape, shape_of}
 use Rattle.krb_fields.specs.Names.{kind_text, with_all, with_new}

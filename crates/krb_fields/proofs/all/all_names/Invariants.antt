@@ -1,5 +1,5 @@
-use Rattle.std.proofs.Common.{◌≡◌, ◌++◌, map, string_bytes, take}
-use Rattle.std.specs.List.{list_any, flat_map}
+use Rattle.std.proofs.Common.{◌≡◌, map, string_bytes, take}
+use Rattle.std.specs.List.{flat_map}
 use Rattle.krb_fields.specs.Names.{each_once, listing_names}
 use Rattle.krb_fields.proofs.all.all_names.Given as goal
 

@@ -1,5 +1,4 @@
-use Rattle.std.proofs.Common.{◌≡◌, ◌++◌, map, string_bytes, take}
-use Rattle.std.specs.List.{list_any, flat_map}
+use Rattle.std.proofs.Common.{◌≡◌, map, string_bytes, take}
 use Rattle.krb_fields.specs.Names.{with_all}
 use Rattle.krb_fields.proofs.all.put_kinds.Given as goal
 

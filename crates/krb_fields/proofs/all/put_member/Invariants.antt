@@ -1,7 +1,5 @@
-use Rattle.std.proofs.Common.{◌≡◌, ◌++◌, [], map, string_bytes, take}
-use Rattle.std.specs.List.{flat_map}
-use Rattle.krb_fields.specs.Fields.{field_of, shape_of}
-use Rattle.krb_fields.specs.Names.{inside_names, member_names, shape_names, with_all, within_text}
+use Rattle.std.proofs.Common.{◌≡◌, ◌++◌, map, string_bytes, take}
+use Rattle.krb_fields.specs.Names.{with_all, within_text}
 use Rattle.krb_fields.proofs.all.put_member.Given as goal
 
 -- the names so far are there

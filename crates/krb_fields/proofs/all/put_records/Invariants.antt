@@ -1,7 +1,7 @@
 use Rattle.std.proofs.Common.{◌≡◌, ◌++◌, [], map, string_bytes, take}
 use Rattle.std.specs.List.{flat_map}
-use Rattle.krb_fields.specs.Fields.{field_of, shape_of}
-use Rattle.krb_fields.specs.Names.{inside_names, member_names, shape_names, with_all, within_text}
+use Rattle.krb_fields.specs.Fields.{shape_of}
+use Rattle.krb_fields.specs.Names.{shape_names, with_all}
 use Rattle.krb_fields.proofs.all.put_records.Given as goal
 
 -- the names of the shapes so far are there

@@ -1,9 +1,6 @@
-use Rattle.std.proofs.Common.{rules, ◌≡◌, ◌∙◌, ap, sym, map, true, false}
-use Rattle.std.specs.List.{list_any, flat_map}
+use Rattle.std.proofs.Common.{◌∙◌, ap, sym}
 use Rattle.std.specs.Str.{bytes_eq}
-use Rattle.krb_fields.specs.Fields.{field_of, shape_of}
-use Rattle.krb_fields.specs.Names.{is_among, member_names, inside_names, shape_names, listing_names, listing_kinds}
-use Rattle.krb_fields.proofs.Anys.{any_flat_map, any_map, kinds_any, known_at, known_none, seen}
+use Rattle.krb_fields.proofs.Anys.{kinds_any, known_at, known_none}
 use Rattle.krb_fields.proofs.found.kind_among.Goals as goal
 
 pub returns-then-eq-clause-known : goal.returns-then-eq-clause-known

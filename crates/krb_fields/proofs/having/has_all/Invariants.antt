@@ -1,5 +1,5 @@
-use Rattle.std.proofs.Common.{◌≡◌, ◌&&◌, not, take}
-use Rattle.std.specs.List.{list_any, list_all}
+use Rattle.std.proofs.Common.{◌≡◌, take}
+use Rattle.std.specs.List.{list_all}
 use Rattle.krb_fields.specs.Fields.{shape_of}
 use Rattle.krb_fields.specs.Names.{has}
 use Rattle.krb_fields.proofs.having.has_all.Given as goal

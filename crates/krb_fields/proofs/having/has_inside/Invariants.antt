@@ -1,5 +1,5 @@
-use Rattle.std.proofs.Common.{◌≡◌, ◌&&◌, not, take}
-use Rattle.std.specs.List.{list_any, list_all}
+use Rattle.std.proofs.Common.{◌≡◌, take}
+use Rattle.std.specs.List.{list_any}
 use Rattle.krb_fields.specs.Names.{is_inside}
 use Rattle.krb_fields.proofs.having.has_inside.Given as goal
 

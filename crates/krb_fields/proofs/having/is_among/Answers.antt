@@ -1,4 +1,4 @@
-use Rattle.std.proofs.Common.{◌≡◌, ◌∙◌, sym}
+use Rattle.std.proofs.Common.{◌∙◌, sym}
 use Rattle.std.specs.Str.{bytes_eq}
 use Rattle.krb_fields.proofs.Anys.{any_map, seen}
 use Rattle.krb_fields.proofs.having.is_among.Goals as goal

@@ -1,4 +1,4 @@
-use Rattle.std.proofs.Common.{◌≡◌, ◌∙◌, ◌∷◌, [], ap, map}
+use Rattle.std.proofs.Common.{◌∙◌, ◌∷◌, [], ap, map}
 use Rattle.std.specs.List.{filter, flat_map, list_all}
 use Rattle.krb_fields.specs.Fields.{shape_of}
 use Rattle.krb_fields.specs.Names.{has, kind_text, with_all}
