@@ -260,7 +260,7 @@ impl Shown for RefusedOctets {
         put_refused_object(object, self.0)
     }
 
-    #[tactic(auto, unfolding(krb_record::specs::Forms::cell))]
+    #[tactic(auto, unfolding(krb_record::specs::Forms::cell, krb_record::specs::Forms::value_text))]
     fn put_cell(&self, text: &mut TextBuffer, path: Path) -> Result<(), AllocError> {
         match path {
             Path::Whole => self.put_text(text, true),

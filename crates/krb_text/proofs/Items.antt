@@ -10,7 +10,7 @@ use Rattle.krb_record.specs.Items.{number_item}
 use Rattle.krb_text.specs.inner.Items.{IsFirstNumber, item_number}
 use Rattle.krb_record.specs.Text.{joined, list_text}
 
-others-text : {A B : Type 0} (f : A → B) (separator : List ℕ) (text : B → List ℕ) (values : List A) → flat_map (λ v. separator ++ text v) (map f values) ≡ flat_map (λ v. separator ++ text (f v)) values
+pub others-text : {A B : Type 0} (f : A → B) (separator : List ℕ) (text : B → List ℕ) (values : List A) → flat_map (λ v. separator ++ text v) (map f values) ≡ flat_map (λ v. separator ++ text (f v)) values
 others-text f separator text [] = refl
 others-text f separator text (v ∷ vs) = ap (λ rest. (separator ++ text (f v)) ++ rest) (others-text f separator text vs)
 
@@ -52,9 +52,9 @@ module _ (term : Term) (form : NumberForm) where
       ∙ ap (λ items. text ++ flat_map (λ i. codes "," ++ number_item form (item_number term i)) items) (sym first.first.items)
 
   -- so it is of all items
-  pub numbers_put : (octets rest text one : List ℕ) (number : ℤ) → IsFirstNumber term octets number rest → one ≡ text ++ number_item form number →
-      one ++ flat_map (λ item. codes "," ++ number_item form (item_number term item)) (items_of term rest) ≡ text ++ joined [] (codes ",") (λ item. number_item form (item_number term item)) (items_of term octets)
-  numbers_put octets rest text one number first has_number =
+  pub numbers_put : (none octets rest text one : List ℕ) (number : ℤ) → IsFirstNumber term octets number rest → one ≡ text ++ number_item form number →
+      one ++ flat_map (λ item. codes "," ++ number_item form (item_number term item)) (items_of term rest) ≡ text ++ joined none (codes ",") (λ item. number_item form (item_number term item)) (items_of term octets)
+  numbers_put none octets rest text one number first has_number =
       ap (λ t. t ++ shown rest) (has_number ∙ ap (λ n. text ++ number_item form n) first.same)
       ∙ append_assoc text (number_item form (item_number term first.value)) (shown rest)
-      ∙ ap (λ items. text ++ joined [] (codes ",") (λ item. number_item form (item_number term item)) items) (sym first.first.items)
+      ∙ ap (λ items. text ++ joined none (codes ",") (λ item. number_item form (item_number term item)) items) (sym first.first.items)

@@ -1,3 +1,4 @@
+pub mod Cells
 pub mod Items
 pub mod Judged
 pub mod Parts

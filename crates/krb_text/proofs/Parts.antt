@@ -1,5 +1,5 @@
 -- Parts one after another, as they are appended and counted.
-use Rattle.std.proofs.Common.{◌≡◌, ◌+◌, ◌-◌, ◌^◌, ◌<◌, ◌≤◌, min, nat_lt, take, drop, subst, ap₂, Bool, true, false, ℕ, List, [], ◌∷◌, ◌++◌, length, Option, Some, None, refl, sym, ◌∙◌, ap, append_assoc, arith, codes, decimal, length-append}
+use Rattle.std.proofs.Common.{◌≡◌, ◌+◌, ◌-◌, ◌^◌, ◌<◌, ◌≤◌, min, nat_lt, take, drop, subst, ap₂, if◌then◌else◌, Bool, true, false, ℕ, List, [], ◌∷◌, ◌++◌, length, Option, Some, None, refl, sym, ◌∙◌, ap, append_assoc, arith, codes, decimal, length-append}
 use Rattle.std.proofs.lemmas.Bool.{lt-ltb}
 use Rattle.std.proofs.lemmas.List.{append-nil}
 use Rattle.std.proofs.Math.Seq.{drop-append_seam, take-append_seam}
@@ -8,7 +8,7 @@ use Rattle.std.specs.Str.{IsUtf8}
 use Rattle.krb_record.specs.declared.form.Form.{Form}
 use Rattle.krb_record.specs.declared.form.Form.TheVariants as form
 use Rattle.krb_record.specs.declared.form.Wanted.{Wanted}
-use Rattle.krb_record.specs.Forms.{inside_text, nothing_wanted, part_text}
+use Rattle.krb_record.specs.Forms.{has_inside, inside_text, nothing_wanted, part_text}
 use Rattle.krb_text.specs.Inside.{one_if}
 use Rattle.krb_record.specs.Text.{joined, list_text}
 use Rattle.krb_record.specs.Values.{Part}
@@ -147,10 +147,25 @@ before_parts {f} {parts} l₁ l₂ at utf8 tells =
 pub object_inside : (f : Form) (old : List ℕ) {l₁ l₂ l₃ : List ℕ} {count : ℕ} (parts : List Part) → AreBetweenCommas f → l₁ ≡ old ++ codes ",\"inside\":[" → Tells f parts 0 l₁ count l₂ → l₃ ≡ l₂ ++ codes "]" → l₃ ≡ old ++ (codes ",\"inside\":" ++ list_text (part_text f) parts)
 object_inside f old parts commas h₁ tells h₃ = rw (h₃, tells.text, h₁, objects f parts commas) (simp append_assoc)
 
--- between marks
-pub marked_inside : (wanted : Wanted) (old : List ℕ) {l₁ l₂ l₃ : List ℕ} {count : ℕ} (parts : List Part) → l₁ ≡ old ++ 4 ∷ [] → Tells (form.Rows wanted) parts 0 l₁ count l₂ → l₃ ≡ l₂ ++ 7 ∷ [] → l₃ ≡ old ++ inside_text (form.Rows wanted) parts
+-- between marks, if they are wanted
+if_wanted : (b : Bool) (text : List ℕ) → b ≡ true → (if b then text else []) ≡ text
+if_wanted true text e = refl
+if_wanted false text e = absurd cc
+
+unless_wanted : (b : Bool) (text : List ℕ) → b ≡ false → (if b then text else []) ≡ []
+unless_wanted true text e = absurd cc
+unless_wanted false text e = refl
+
+pub marked_inside : (wanted : Wanted) (old : List ℕ) {l₁ l₂ l₃ : List ℕ} {count : ℕ} (parts : List Part) → has_inside wanted ≡ true → l₁ ≡ old ++ 4 ∷ [] → Tells (form.Rows wanted) parts 0 l₁ count l₂ → l₃ ≡ l₂ ++ 7 ∷ [] → l₃ ≡ old ++ inside_text (form.Rows wanted) parts
 unfolding inside_text
-marked_inside wanted old parts h₁ tells h₃ = rw (h₃, tells.text, h₁, marked_parts wanted false parts) (simp append_assoc)
+marked_inside wanted old {l₁} {l₂} {l₃} parts is h₁ tells h₃ =
+    let text : l₃ ≡ old ++ (4 ∷ flat_map (part_text (form.Rows wanted)) parts ++ 7 ∷ []) = rw (h₃, tells.text, h₁, marked_parts wanted false parts) (simp append_assoc) in
+    text ∙ ap (λ l. old ++ l) (sym (if_wanted (has_inside wanted) (4 ∷ flat_map (part_text (form.Rows wanted)) parts ++ 7 ∷ []) is))
+
+pub unmarked_inside : (wanted : Wanted) (old : List ℕ) (parts : List Part) → has_inside wanted ≡ false → old ≡ old ++ inside_text (form.Rows wanted) parts
+unfolding inside_text
+unmarked_inside wanted old parts is =
+    sym (append-nil old) ∙ ap (λ l. old ++ l) (sym (unless_wanted (has_inside wanted) (4 ∷ flat_map (part_text (form.Rows wanted)) parts ++ 7 ∷ []) is))
 
 -- the kinds alone
 pub kinds_inside : (old : List ℕ) {new : List ℕ} {count : ℕ} (parts : List Part) → Tells (form.Rows nothing_wanted) parts 0 old count new → new ≡ old ++ inside_text form.KeptLines parts

@@ -180,7 +180,7 @@ fn put_kinds<M: HasParts>(text: &mut TextBuffer, message: &M) -> Result<(), Allo
 
 /// Appends the parts of a message that may have some. A line without names has none.
 #[inline(always)]
-#[tactic(auto, unfolding(krb_record::specs::Forms::inside_text))]
+#[tactic(auto, unfolding(krb_record::specs::Forms::inside_text, crate::specs::inner::Parts::separator))]
 pub(crate) fn put_list<M: HasParts>(
     text: &mut TextBuffer,
     form: Form,

@@ -8,14 +8,14 @@ ghost use Rattle.krb_msg.specs.Shape.{is_unambiguous, has_octet_tags};
 ghost use Rattle.krb_msg.specs.Viewed.{AreViewed, items_of};
 ghost use Rattle.krb_msg.specs.Types.{pa_data_of};
 ghost use Rattle.std.specs.Fmt.{signed_decimal};
-ghost use Rattle.krb_record.specs.Forms.{members, name_string, value_text};
+ghost use Rattle.krb_record.specs.Forms.{cell, members, name_string, value_text};
 ghost use Rattle.krb_text.specs.Messages.{padata};
 ghost use Rattle.krb_record.specs.Text.{joined, list_text};
 ghost use Rattle.krb_record.specs.Values.{Numbers};
 ghost use Rattle.krb_record.specs.Items.{number_item};
 ghost use Rattle.krb_padata.specs.Grammar.{typed_data_item};
 ghost use Rattle.krb_padata.specs.Types.{typed_data_item_of};
-ghost use Rattle.krb_text.specs.inner.Items.{IsFirstNumber, item_number};
+ghost use Rattle.krb_text.specs.inner.Items.{IsFirstNumber, is_nameless, item_number};
 
 use krb_der::Int32;
 use krb_msg::{ItemsView, PaData, View, next_item, next_type};
@@ -179,6 +179,7 @@ fn put_numbers_members<'a, T: Listed<'a>>(
 /// Returns whether there is one item alone, and its number has no name.
 fn is_nameless<'a, T: Listed<'a>>(registry: Registry, items: ItemsView<'a>) -> bool
     requires { AreViewed T.View.term items.octets.now }
+    ensures { result ≡ is_nameless registry (map (item_number T.View.term) (items_of T.View.term items.entry.octets.now)) }
 {
     match T::next_number(items) {
         None => false,
@@ -196,6 +197,7 @@ fn put_items_cell<'a, T: Listed<'a>>(
     items: ItemsView<'a>,
 ) -> Result<(), AllocError>
     requires { AreViewed T.View.term items.octets.now }
+    ensures { OnOk result (text.new ≡ text.old ++ joined (codes "[]") (codes ",") (λ item. number_item form (item_number T.View.term item)) (items_of T.View.term items.entry.octets.now)) }
 {
     match T::next_number(items) {
         None => text.push_str("[]"),
@@ -208,6 +210,7 @@ fn put_items_cell<'a, T: Listed<'a>>(
 
 /// Appends the cell of numbers of a registry, or of their names.
 #[inline(never)]
+#[tactic(auto, unfolding(krb_record::specs::Forms::cell))]
 fn put_numbers_cell<'a, T: Listed<'a>>(
     text: &mut TextBuffer,
     path: Path,

@@ -70,7 +70,10 @@ fn put_number_list(text: &mut TextBuffer, form: NumberForm, notes: &Notes) -> Re
 }
 
 /// Appends the cell of the numbers of the notes, or of their names.
-fn put_cell_of(text: &mut TextBuffer, form: NumberForm, notes: &Notes) -> Result<(), AllocError> {
+#[tactic(auto, using(crate::proofs::Cells::some_cells, crate::proofs::Cells::no_cells))]
+fn put_cell_of(text: &mut TextBuffer, form: NumberForm, notes: &Notes) -> Result<(), AllocError>
+    ensures { OnOk result (text.new ≡ text.old ++ joined (codes "[]") (codes ",") (λ number. number_item form (pos number)) (filter (notes_have notes.now) (1 ∷ 2 ∷ 3 ∷ 4 ∷ []))) }
+{
     if has_any(notes) {
         put_numbers(text, form, notes)
     } else {

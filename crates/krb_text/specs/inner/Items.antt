@@ -1,5 +1,8 @@
 -- The numbers of lists as records show them.
-use Rattle.std.specs.Prelude.{ℕ, ℤ, ◌≡◌, pos, List}
+use Rattle.std.specs.Prelude.{ℕ, ℤ, ◌≡◌, pos, Bool, false, List, [], ◌∷◌}
+use Rattle.std.specs.Option.{is_none}
+use Rattle.krb_registry.specs.Rows.{name_of}
+use Rattle.krb_registry.specs.declared.registry.Registry.{Registry}
 use Rattle.krb_msg.specs.Term.{Term, Integer, Sequence, Tagged, Required, Value}
 use Rattle.krb_msg.specs.Viewed.{IsFirstItem}
 
@@ -15,3 +18,9 @@ pub record IsFirstNumber (term : Term) (octets : List ℕ) (number : ℤ) (rest 
   pub value : Value term
   pub first : IsFirstItem term octets value rest
   pub same : number ≡ item_number term value
+
+-- whether there is one number alone, and it has no name
+abbrev pub is_nameless : Registry → List ℤ → Bool
+is_nameless registry [] = false
+is_nameless registry (number ∷ []) = is_none (name_of registry number)
+is_nameless registry (first ∷ second ∷ others) = false
