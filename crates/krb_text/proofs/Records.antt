@@ -1,5 +1,5 @@
 -- The record of a message, part by part.
-use Rattle.std.proofs.Common.{◌≡◌, [], ◌∷◌, ◌++◌, None, refl, append_assoc, codes}
+use Rattle.std.proofs.Common.{◌≡◌, ℕ, List, [], ◌∷◌, ◌++◌, None, refl, sym, ap, ◌∙◌, append_assoc, codes}
 use Rattle.std.proofs.lemmas.List.{append-nil}
 use Rattle.krb_msg.specs.Notes.{notes_of}
 use Rattle.krb_msg.specs.Views.{kind_name, kind_of}
@@ -27,3 +27,7 @@ message_inside m = refl
 pub message_aside : (m : Message) → (message_record m).aside ≡ None
 unfolding message_record
 message_aside m = refl
+
+-- a record of which nothing is told aside
+pub nothing_aside : (old opening fields closing feed : List ℕ) {new : List ℕ} → new ≡ old ++ (opening ++ fields ++ closing ++ feed) → new ≡ old ++ (opening ++ fields ++ [] ++ closing ++ feed)
+nothing_aside old opening fields closing feed e = e ∙ ap (λ text. old ++ (text ++ closing ++ feed)) (sym (append-nil (opening ++ fields)))

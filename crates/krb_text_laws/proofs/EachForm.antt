@@ -15,14 +15,14 @@ use Rattle.krb_registry.specs.Rows.{rows, name_of}
 use Rattle.krb_registry.specs.declared.registry.Registry.{Registry}
 use Rattle.krb_registry.specs.declared.registry.Registry.TheVariants as registries
 use Rattle.krb_registry.proofs.Names.{all_plain, each_octet, name_is_plain, plain_octet}
-use Rattle.krb_record.specs.declared.form.Form.{Form}
-use Rattle.krb_record.specs.declared.form.Form.TheVariants as form
+use Rattle.krb_record.specs.declared.form.Base.{Base}
+use Rattle.krb_record.specs.declared.form.Base.TheVariants as bases
 use Rattle.krb_record.specs.Errors.{code_name, code_suffix, code_text}
 use Rattle.krb_record.specs.FileNames.{is_plain_in_name, name_octet, name_text}
-use Rattle.krb_record.specs.Forms.{four_octets, called_text, plus_text, unnamed, unnamed_from, named_in, is_set, set_names, named_flags_text, number_text, status_text, flags_text, refused_ticket_text, seconds_text, span_text, value_text, json_character, json_string, shown_octet, octets_string, or_null, name_string, flags_object, encrypted_object, principal_object, address_object, digest_object, offset_object, refused_object, true_or_false, json_value, names_member, members, labelled, field, opening, closing, fields_text, origin_text, opening_from, heading, part_text, inside_text, parts_text, in_object as in_object_alone, last_text, ending, record_text}
+use Rattle.krb_record.specs.Forms.{four_octets, called_text, plus_text, unnamed, unnamed_from, named_in, is_set, set_names, named_flags_text, number_text, status_text, flags_text, refused_ticket_text, seconds_text, span_text, value_text, json_character, json_string, shown_octet, octets_string, or_null, name_string, flags_object, encrypted_object, principal_object, address_object, digest_object, offset_object, refused_object, true_or_false, json_value, names_member, members, labelled, field, opening, closing, fields_text, origin_text, opening_from, heading, part_text, inside_text, parts_text, unless_line, last_text, ending, form_of, aside_text, record_text}
 use Rattle.krb_record.specs.Text.{AllAreOctets, IsPrintable, principal_text, two_hex, yes_or_no}
 use Rattle.krb_record.specs.TicketFlags.{flag_name, set_flags, names_text, other_flags, eight_hex, others_text, ticket_flags_text}
-use Rattle.krb_record.specs.Values.{Value, Absent, NoTicket, Number, Named, Numbers, ErrorCode, Status, Reason, NoReason, String, Quoted, FileName, Word, Hex, Flags, TicketFlags, Encrypted, Principal, Address, Digest, YesNo, Offset, RefusedTicket, Flow, Layers, Span, Called, Host, Field, Part, Printed}
+use Rattle.krb_record.specs.Values.{Value, Absent, NoTicket, Number, Named, Numbers, ErrorCode, Status, Reason, NoReason, String, Quoted, FileName, Word, Hex, Flags, TicketFlags, Encrypted, Principal, Address, Digest, YesNo, Offset, RefusedTicket, Flow, Layers, Span, Called, Host, Field, LastLine, Part, Printed}
 use Rattle.krb_record.specs.inner.Flags.{names_set}
 use Rattle.krb_source.specs.Layers.{layer_name}
 use Rattle.krb_source.specs.declared.layer.Layer.{Layer}
@@ -353,15 +353,15 @@ after_value begin (Numbers registry ns) before h = join (join before (word (code
 after_value begin value before h = word [] refl
 
 -- ---- fields and records
-pub labelled_field : (f : Form) (label begin : List ℕ) (value : Value) → Prints label → Prints begin → IsShown value → Prints (labelled f label begin value)
+pub labelled_field : (base : Base) (label begin : List ℕ) (value : Value) → Prints label → Prints begin → IsShown value → Prints (labelled (form_of base) label begin value)
 unfolding labelled members
-labelled_field form.Lines label begin value l b h = join l (in_line false value h)
-labelled_field form.NamedLines label begin value l b h = join l (in_line true value h)
-labelled_field form.Json label begin value l b h = join (join (join b (word (codes "\":") refl)) (in_object value h)) (after_value begin value b h)
+labelled_field bases.Lines label begin value l b h = join l (in_line false value h)
+labelled_field bases.NamedLines label begin value l b h = join l (in_line true value h)
+labelled_field bases.Json label begin value l b h = join (join (join b (word (codes "\":") refl)) (in_object value h)) (after_value begin value b h)
 
-pub one_field : (f : Form) (name : List ℕ) (value : Value) → list_all is_printable name ≡ true → IsShown value → Prints (field f name value)
-one_field f name value e h =
-    labelled_field f (codes " " ++ name ++ codes "=") (codes ",\"" ++ name) value (join (join (word (codes " ") refl) (word name e)) (word (codes "=") refl)) (join (word (codes ",\"") refl) (word name e)) h
+pub one_field : (base : Base) (name : List ℕ) (value : Value) → list_all is_printable name ≡ true → IsShown value → Prints (field (form_of base) name value)
+one_field base name value e h =
+    labelled_field base (codes " " ++ name ++ codes "=") (codes ",\"" ++ name) value (join (join (word (codes " ") refl) (word name e)) (word (codes "=") refl)) (join (word (codes ",\"") refl) (word name e)) h
 
 abbrev pub AreShown : List Field → Type 0
 AreShown fields = AllByRecursion (λ (this : Field). IsShown this.value) fields
@@ -369,42 +369,42 @@ AreShown fields = AllByRecursion (λ (this : Field). IsShown this.value) fields
 abbrev pub names_are_plain : List Field → Bool
 names_are_plain fields = list_all (λ (this : Field). list_all is_printable this.name) fields
 
-pub all_fields : (f : Form) (fields : List Field) → names_are_plain fields ≡ true → AreShown fields → Prints (fields_text f fields)
-all_fields f [] e h = word [] refl
-all_fields f (first ∷ others) e h =
+pub all_fields : (base : Base) (fields : List Field) → names_are_plain fields ≡ true → AreShown fields → Prints (fields_text (form_of base) fields)
+all_fields base [] e h = word [] refl
+all_fields base (first ∷ others) e h =
     let names = and_parts (list_all is_printable first.name) (names_are_plain others) e in
-    join (one_field f first.name first.value names.0 h.0) (all_fields f others names.1 h.1)
+    join (one_field base first.name first.value names.0 h.0) (all_fields base others names.1 h.1)
 
-pub begins : (f : Form) (kind : List ℕ) → list_all is_printable kind ≡ true → Prints (opening f kind)
+pub begins : (base : Base) (kind : List ℕ) → list_all is_printable kind ≡ true → Prints (opening (form_of base) kind)
 unfolding opening
-begins form.Lines kind e = word kind e
-begins form.NamedLines kind e = word kind e
-begins form.Json kind e = join (join (word (codes "{\"kind\":\"") refl) (word kind e)) (word (codes "\"") refl)
+begins bases.Lines kind e = word kind e
+begins bases.NamedLines kind e = word kind e
+begins bases.Json kind e = join (join (word (codes "{\"kind\":\"") refl) (word kind e)) (word (codes "\"") refl)
 
-pub ends : (f : Form) → Prints (closing f)
+pub ends : (base : Base) → Prints (closing (form_of base))
 unfolding closing
-ends form.Lines = word [] refl
-ends form.NamedLines = word [] refl
-ends form.Json = word (codes "}") refl
+ends bases.Lines = word [] refl
+ends bases.NamedLines = word [] refl
+ends bases.Json = word (codes "}") refl
 
 -- the fields of an origin, and what precedes the fields of a record
-comes_from : (f : Form) (origin : List Field) → names_are_plain origin ≡ true → AreShown origin → Prints (origin_text f origin)
-comes_from f [] e h = word [] refl
-comes_from f (first ∷ others) e h =
+comes_from : (base : Base) (origin : List Field) → names_are_plain origin ≡ true → AreShown origin → Prints (origin_text (form_of base) origin)
+comes_from base [] e h = word [] refl
+comes_from base (first ∷ others) e h =
     let names = and_parts (list_all is_printable first.name) (names_are_plain others) e in
     join
-    (labelled_field f (first.name ++ codes "=") (codes ",\"" ++ first.name) first.value (join (word first.name names.0) (word (codes "=") refl)) (join (word (codes ",\"") refl) (word first.name names.0)) h.0)
-    (all_fields f others names.1 h.1)
+    (labelled_field base (first.name ++ codes "=") (codes ",\"" ++ first.name) first.value (join (word first.name names.0) (word (codes "=") refl)) (join (word (codes ",\"") refl) (word first.name names.0)) h.0)
+    (all_fields base others names.1 h.1)
 
-begins_from : (f : Form) (origin : List Field) (kind : List ℕ) → names_are_plain origin ≡ true → AreShown origin → list_all is_printable kind ≡ true → Prints (opening_from f origin kind)
+begins_from : (base : Base) (origin : List Field) (kind : List ℕ) → names_are_plain origin ≡ true → AreShown origin → list_all is_printable kind ≡ true → Prints (opening_from (form_of base) origin kind)
 unfolding opening_from
-begins_from form.Lines origin kind e h k = join (join (comes_from form.Lines origin e h) (word (codes " ") refl)) (word kind k)
-begins_from form.NamedLines origin kind e h k = join (join (comes_from form.NamedLines origin e h) (word (codes " ") refl)) (word kind k)
-begins_from form.Json origin kind e h k = join (begins form.Json kind k) (comes_from form.Json origin e h)
+begins_from bases.Lines origin kind e h k = join (join (comes_from bases.Lines origin e h) (word (codes " ") refl)) (word kind k)
+begins_from bases.NamedLines origin kind e h k = join (join (comes_from bases.NamedLines origin e h) (word (codes " ") refl)) (word kind k)
+begins_from bases.Json origin kind e h k = join (begins bases.Json kind k) (comes_from bases.Json origin e h)
 
-heads : (f : Form) (origin : List Field) (kind : List ℕ) → names_are_plain origin ≡ true → AreShown origin → list_all is_printable kind ≡ true → Prints (heading f origin kind)
-heads f [] kind e h k = begins f kind k
-heads f (first ∷ others) kind e h k = begins_from f (first ∷ others) kind e h k
+heads : (base : Base) (origin : List Field) (kind : List ℕ) → names_are_plain origin ≡ true → AreShown origin → list_all is_printable kind ≡ true → Prints (heading (form_of base) origin kind)
+heads base [] kind e h k = begins base kind k
+heads base (first ∷ others) kind e h k = begins_from base (first ∷ others) kind e h k
 
 -- ---- what is inside
 -- the kind and the names of a part are plain, and its values are shown
@@ -416,37 +416,45 @@ pub record IsPlainPart (p : Part) : Type 0 where
 abbrev pub ArePlainParts : List Part → Type 0
 ArePlainParts parts = AllByRecursion IsPlainPart parts
 
-a_part : (f : Form) (p : Part) → IsPlainPart p → Prints (part_text f p)
+a_part : (base : Base) (p : Part) → IsPlainPart p → Prints (part_text (form_of base) p)
 unfolding part_text
-a_part f p h = join (join (begins f p.kind h.kind) (all_fields f p.fields h.names h.fields)) (ends f)
+a_part base p h = join (join (begins base p.kind h.kind) (all_fields base p.fields h.names h.fields)) (ends base)
 
-parts_print : (f : Form) (parts : List Part) → ArePlainParts parts → Prints (inside_text f parts)
+parts_print : (base : Base) (parts : List Part) → ArePlainParts parts → Prints (inside_text (form_of base) parts)
 unfolding inside_text
-parts_print form.Lines parts h = word [] refl
-parts_print form.NamedLines parts h =
-    join (join (word (codes " inside=") refl) (number (length parts))) (flat (λ p. codes " " ++ part_text form.NamedLines p) IsPlainPart (λ p plain. join (word (codes " ") refl) (a_part form.NamedLines p plain)) parts h)
-parts_print form.Json parts h = join (word (codes ",\"inside\":") refl) (listed (part_text form.Json) IsPlainPart (a_part form.Json) parts h)
+parts_print bases.Lines parts h = word [] refl
+parts_print bases.NamedLines parts h =
+    join (join (word (codes " inside=") refl) (number (length parts))) (flat (λ p. codes " " ++ part_text (form_of bases.NamedLines) p) IsPlainPart (λ p plain. join (word (codes " ") refl) (a_part bases.NamedLines p plain)) parts h)
+parts_print bases.Json parts h = join (word (codes ",\"inside\":") refl) (listed (part_text (form_of bases.Json)) IsPlainPart (a_part bases.Json) parts h)
 
-parts_if : (f : Form) (inside : Option (List Part)) → IfPresent ArePlainParts inside → Prints (parts_text f inside)
-parts_if f None h = word [] refl
-parts_if f (Some parts) h = parts_print f parts h
+parts_if : (base : Base) (inside : Option (List Part)) → IfPresent ArePlainParts inside → Prints (parts_text (form_of base) inside)
+parts_if base None h = word [] refl
+parts_if base (Some parts) h = parts_print base parts h
 
 -- ---- what is last
 abbrev pub ArePlain : List Field → Type 0
 ArePlain fields = (names_are_plain fields ≡ true) × AreShown fields
 
-object_alone : (f : Form) {text : List ℕ} → Prints text → Prints (in_object_alone f text)
-object_alone form.Lines h = word [] refl
-object_alone form.NamedLines h = word [] refl
-object_alone form.Json h = h
+objects_alone : (base : Base) (fields : List Field) → ArePlain fields → Prints (unless_line (form_of base) fields)
+objects_alone bases.Lines fields h = word [] refl
+objects_alone bases.NamedLines fields h = word [] refl
+objects_alone bases.Json fields h = all_fields bases.Json fields h.0 h.1
 
-lasts : (f : Form) (last : List Field) → ArePlain last → Prints (last_text f last)
-lasts f [] h = word [] refl
-lasts f (first ∷ others) h = object_alone f (all_fields form.Json (first ∷ others) h.0 h.1)
+lasts : (base : Base) (last : List Field) → ArePlain last → Prints (last_text (form_of base) last)
+lasts base [] h = word [] refl
+lasts base (first ∷ others) h = objects_alone base (first ∷ others) h
 
-ends_with : (f : Form) (inside : Option (List Part)) (last : List Field) → IfPresent ArePlainParts inside → ArePlain last → Prints (ending f inside last)
-ends_with f inside last h k = join (parts_if f inside h) (join (lasts f last k) (ends f))
+ends_with : (base : Base) (inside : Option (List Part)) (last : List Field) → IfPresent ArePlainParts inside → ArePlain last → Prints (ending (form_of base) inside last)
+ends_with base inside last h k = join (parts_if base inside h) (join (lasts base last k) (ends base))
 
-pub record_prints : (f : Form) (r : Printed) → ArePlain r.origin → list_all is_printable r.kind ≡ true → ArePlain r.fields → IfPresent ArePlainParts r.inside → ArePlain r.last → Prints (record_text f r)
+-- of what is aside, which marked ones alone have, nothing
+nothing_aside : (base : Base) (aside : Option LastLine) → Prints (aside_text (form_of base) aside)
+nothing_aside base None = word [] refl
+nothing_aside bases.Lines (Some line) = word [] refl
+nothing_aside bases.NamedLines (Some line) = word [] refl
+nothing_aside bases.Json (Some line) = word [] refl
+
+pub record_prints : (base : Base) (r : Printed) → ArePlain r.origin → list_all is_printable r.kind ≡ true → ArePlain r.fields → IfPresent ArePlainParts r.inside → ArePlain r.last → Prints (record_text (form_of base) r)
 unfolding record_text
-record_prints f r origin kind fields inside last = join (join (heads f r.origin r.kind origin.0 origin.1 kind) (all_fields f r.fields fields.0 fields.1)) (ends_with f r.inside r.last inside last)
+record_prints base r origin kind fields inside last =
+    join (join (join (heads base r.origin r.kind origin.0 origin.1 kind) (all_fields base r.fields fields.0 fields.1)) (nothing_aside base r.aside)) (ends_with base r.inside r.last inside last)

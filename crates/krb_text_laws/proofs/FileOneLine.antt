@@ -18,9 +18,9 @@ use Rattle.krb_ccache.specs.declared.value.Header.{Header}
 use Rattle.krb_ccache.specs.declared.ticket.TicketState.TheVariants as states
 use Rattle.krb_ccache.specs.Spelling.{offset, is_config}
 use Rattle.krb_ccache.specs.Tickets.{ticket_read, judged_state, field_state, state_of}
-use Rattle.krb_record.specs.declared.form.Form.{Form}
-use Rattle.krb_record.specs.declared.form.Form.TheVariants as forms
-use Rattle.krb_record.specs.Forms.{record_line}
+use Rattle.krb_record.specs.declared.form.Base.{Base}
+use Rattle.krb_record.specs.declared.form.Base.TheVariants as bases
+use Rattle.krb_record.specs.Forms.{form_of, record_line}
 use Rattle.krb_record.specs.Laws.{IsOneLine}
 use Rattle.krb_list.specs.Laws.{RecordIsOfOctets, PrincipalIsOfOctets, CredentialIsOfOctets}
 use Rattle.krb_record.specs.Text.{AllAreOctets}
@@ -46,15 +46,15 @@ time : (seconds : ℕ) → seconds < 2 ^ 32 → IsShown (file_time seconds)
 time seconds h = time_by seconds (seconds == 0) h
 
 -- ---- keytabs
-pub record_shown : (form : Form) (r : Record) → RecordIsOfOctets r → IsOneLine (record_line form (printed_record r))
+pub record_shown : (base : Base) (r : Record) → RecordIsOfOctets r → IsOneLine (record_line (form_of base) (printed_record r))
 unfolding printed_record
-record_shown form (records.Entry e) h = one_line form (printed_record (records.Entry e)) refl refl ((h.0, h.1), (tt, (time e.time h.2, (tt, (tt, (tt, (tt, tt)))))))
-record_shown form (records.Hole hole) h = one_line form (printed_record (records.Hole hole)) refl refl (tt, (tt, tt))
+record_shown base (records.Entry e) h = one_line base (printed_record (records.Entry e)) refl refl ((h.0, h.1), (tt, (time e.time h.2, (tt, (tt, (tt, (tt, tt)))))))
+record_shown base (records.Hole hole) h = one_line base (printed_record (records.Hole hole)) refl refl (tt, (tt, tt))
 
-pub keytab_end_shown : (form : Form) (count : ℕ) (stop : Stop) → IsOneLine (record_line form (keytab_end count stop))
+pub keytab_end_shown : (base : Base) (count : ℕ) (stop : Stop) → IsOneLine (record_line (form_of base) (keytab_end count stop))
 unfolding keytab_end
-keytab_end_shown form count stops.File = one_line form (keytab_end count stops.File) refl refl (tt, (tt, tt))
-keytab_end_shown form count stops.Zero = one_line form (keytab_end count stops.Zero) refl refl (tt, (tt, tt))
+keytab_end_shown base count stops.File = one_line base (keytab_end count stops.File) refl refl (tt, (tt, tt))
+keytab_end_shown base count stops.Zero = one_line base (keytab_end count stops.Zero) refl refl (tt, (tt, tt))
 
 -- ---- what is read of octets is octets
 contents_at : (h : Head) (octets : List ℕ) → AreOctets octets → AreOctets (split_at_head h octets).contents
@@ -89,13 +89,13 @@ server octets a =
     strings _ _ (contents _ (contents _ (after _ name)))
 
 -- ---- caches
-pub cache_shown : (form : Form) (header : Header) (p : FilePrincipal) → PrincipalIsOfOctets p → IsOneLine (record_line form (cache_record header p))
+pub cache_shown : (base : Base) (header : Header) (p : FilePrincipal) → PrincipalIsOfOctets p → IsOneLine (record_line (form_of base) (cache_record header p))
 unfolding cache_record
-cache_shown form header p h = one_line form (cache_record header p) refl refl (h, (tt, (always offset_value (λ numbers. tt) (offset header), (tt, tt))))
+cache_shown base header p h = one_line base (cache_record header p) refl refl (h, (tt, (always offset_value (λ numbers. tt) (offset header), (tt, tt))))
 
-pub cache_end_shown : (form : Form) (count : ℕ) → IsOneLine (record_line form (cache_end count))
+pub cache_end_shown : (base : Base) (count : ℕ) → IsOneLine (record_line (form_of base) (cache_end count))
 unfolding cache_end
-cache_end_shown form count = one_line form (cache_end count) refl refl (tt, tt)
+cache_end_shown base count = one_line base (cache_end count) refl refl (tt, tt)
 
 live_by : (is_live : Bool) → IsShown (if is_live then Word (codes "live") else Word (codes "expired"))
 live_by true = (word (codes "live") refl).all
@@ -105,36 +105,36 @@ its_state : (now : Option ℕ) (endtime : ℕ) → IsShown (state now endtime)
 its_state None endtime = tt
 its_state (Some now) endtime = live_by (nat_lt now endtime)
 
-ticketed : (form : Form) (now : Option ℕ) (c : Credential) (ticket server : Value) → CredentialIsOfOctets c → IsShown ticket → IsShown server → IsOneLine (record_line form (ticketed_record now c ticket server))
+ticketed : (base : Base) (now : Option ℕ) (c : Credential) (ticket server : Value) → CredentialIsOfOctets c → IsShown ticket → IsShown server → IsOneLine (record_line (form_of base) (ticketed_record now c ticket server))
 unfolding ticketed_record
-ticketed form now c ticket server h its_ticket its_server =
-    one_line form (ticketed_record now c ticket server) refl refl (h.client & h.server & tt & tt & time c.authtime h.authtime & time c.starttime h.starttime & time c.endtime h.endtime
+ticketed base now c ticket server h its_ticket its_server =
+    one_line base (ticketed_record now c ticket server) refl refl (h.client & h.server & tt & tt & time c.authtime h.authtime & time c.starttime h.starttime & time c.endtime h.endtime
     & time c.renew_till h.renew_till & tt & h.flags & its_state now c.endtime & tt & tt & its_ticket & its_server & tt & tt)
 
 value : (shown : Bool) (c : Credential) → CredentialIsOfOctets c → IsShown (if shown then Quoted c.ticket else Absent)
 value true c h = h.ticket
 value false c h = tt
 
-config : (form : Form) (c : Credential) → CredentialIsOfOctets c → IsOneLine (record_line form (config_record form c))
+config : (base : Base) (c : Credential) → CredentialIsOfOctets c → IsOneLine (record_line (form_of base) (config_record (form_of base) c))
 unfolding config_record config_value
-config forms.Lines c h = one_line forms.Lines (config_record forms.Lines c) refl refl (h.client, (h.server, (tt, tt)))
-config forms.NamedLines c h = one_line forms.NamedLines (config_record forms.NamedLines c) refl refl (h.client, (h.server, (tt, (value (is_shown c.server.components) c h, tt))))
-config forms.Json c h = one_line forms.Json (config_record forms.Json c) refl refl (h.client, (h.server, (tt, (value (is_shown c.server.components) c h, tt))))
+config bases.Lines c h = one_line bases.Lines (config_record (form_of bases.Lines) c) refl refl (h.client, (h.server, (tt, tt)))
+config bases.NamedLines c h = one_line bases.NamedLines (config_record (form_of bases.NamedLines) c) refl refl (h.client, (h.server, (tt, (value (is_shown c.server.components) c h, tt))))
+config bases.Json c h = one_line bases.Json (config_record (form_of bases.Json) c) refl refl (h.client, (h.server, (tt, (value (is_shown c.server.components) c h, tt))))
 
 -- by what the ticket field holds
-judged : (form : Form) (now : Option ℕ) (c : Credential) (found : Option Refusal) (octets : List ℕ) → CredentialIsOfOctets c → AreOctets octets → IsOneLine (record_line form (state_record form now c (judged_state found octets)))
-judged form now c None octets h a =
-    ticketed form now c (encrypted (ticket_read octets).enc_part) (ticket_server (ticket_read octets)) h tt (server octets a, realm octets a)
-judged form now c (Some r) octets h a = ticketed form now c (RefusedTicket r) Absent h tt tt
+judged : (base : Base) (now : Option ℕ) (c : Credential) (found : Option Refusal) (octets : List ℕ) → CredentialIsOfOctets c → AreOctets octets → IsOneLine (record_line (form_of base) (state_record (form_of base) now c (judged_state found octets)))
+judged base now c None octets h a =
+    ticketed base now c (encrypted (ticket_read octets).enc_part) (ticket_server (ticket_read octets)) h tt (server octets a, realm octets a)
+judged base now c (Some r) octets h a = ticketed base now c (RefusedTicket r) Absent h tt tt
 
-ticket_field : (form : Form) (now : Option ℕ) (c : Credential) (octets : List ℕ) → CredentialIsOfOctets c → AreOctets octets → IsOneLine (record_line form (state_record form now c (field_state octets)))
-ticket_field form now c [] h a = ticketed form now c NoTicket Absent h tt tt
-ticket_field form now c (o ∷ octets) h a = judged form now c (ticket_refusal profiles.Lenient (o ∷ octets)) (o ∷ octets) h a
+ticket_field : (base : Base) (now : Option ℕ) (c : Credential) (octets : List ℕ) → CredentialIsOfOctets c → AreOctets octets → IsOneLine (record_line (form_of base) (state_record (form_of base) now c (field_state octets)))
+ticket_field base now c [] h a = ticketed base now c NoTicket Absent h tt tt
+ticket_field base now c (o ∷ octets) h a = judged base now c (ticket_refusal profiles.Lenient (o ∷ octets)) (o ∷ octets) h a
 
-by_kind : (form : Form) (now : Option ℕ) (c : Credential) (is : Bool) → CredentialIsOfOctets c → IsOneLine (record_line form (state_record form now c (when is (λ _. states.Config) (λ _. field_state c.ticket))))
-by_kind form now c true h = config form c h
-by_kind form now c false h = ticket_field form now c c.ticket h h.ticket
+by_kind : (base : Base) (now : Option ℕ) (c : Credential) (is : Bool) → CredentialIsOfOctets c → IsOneLine (record_line (form_of base) (state_record (form_of base) now c (when is (λ _. states.Config) (λ _. field_state c.ticket))))
+by_kind base now c true h = config base c h
+by_kind base now c false h = ticket_field base now c c.ticket h h.ticket
 
-pub credential_shown : (form : Form) (now : Option ℕ) (c : Credential) → CredentialIsOfOctets c → IsOneLine (record_line form (credential_record form now c))
+pub credential_shown : (base : Base) (now : Option ℕ) (c : Credential) → CredentialIsOfOctets c → IsOneLine (record_line (form_of base) (credential_record (form_of base) now c))
 unfolding credential_record state_of
-credential_shown form now c h = by_kind form now c (is_config c) h
+credential_shown base now c h = by_kind base now c (is_config c) h

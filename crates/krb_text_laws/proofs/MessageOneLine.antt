@@ -8,7 +8,10 @@ use Rattle.krb_msg.specs.declared.notes.Notes.{Notes}
 use Rattle.krb_msg.specs.Views.{IsInProfile, kind_name, kind_of}
 use Rattle.krb_msg.specs.declared.message.Message.{Message}
 use Rattle.krb_msg.specs.declared.message.Message.TheVariants as message
-use Rattle.krb_text.specs.Messages.{notes, fields_of, message_record}
+use Rattle.krb_record.specs.declared.form.Base.{Base}
+use Rattle.krb_record.specs.declared.form.Base.TheVariants as bases
+use Rattle.krb_record.specs.Forms.{form_of, shows_kind}
+use Rattle.krb_text.specs.Messages.{notes, fields_of, message_record, shown_record}
 use Rattle.krb_record.specs.Values.{Field, Printed, the}
 use Rattle.krb_record.proofs.Printable.{is_printable}
 use Rattle.krb_text_laws.proofs.EachForm.{ArePlainParts, AreShown, names_are_plain}
@@ -44,3 +47,10 @@ record_is_plain (message.KrbSafe m) good = plain (message.KrbSafe m) refl refl (
 record_is_plain (message.KrbCred m) good = plain (message.KrbCred m) refl refl (tt, (tt, tt)) (tickets_inside m.tickets good.fits.1.1.0.1)
 record_is_plain (message.KrbError m) good = plain (message.KrbError m) refl refl (error m good.fits) (error_inside m)
 record_is_plain other good = plain other refl refl (tt, tt) tt
+
+-- messages of each kind are shown in forms that are printed
+pub shown_whole : (base : Base) (m : Message) → shown_record (form_of base) m ≡ message_record m
+unfolding shows_kind
+shown_whole bases.Lines m = refl
+shown_whole bases.NamedLines m = refl
+shown_whole bases.Json m = refl

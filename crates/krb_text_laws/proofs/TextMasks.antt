@@ -18,6 +18,8 @@ use Rattle.krb_msg.specs.declared.krb_cred.KrbCred.{KrbCred}
 use Rattle.krb_msg.specs.declared.krb_error.KrbError.{KrbError}
 use Rattle.krb_msg.specs.declared.krb_priv.KrbPriv.{KrbPriv}
 use Rattle.krb_msg.specs.declared.krb_safe.KrbSafe.{KrbSafe}
+use Rattle.krb_msg.specs.declared.message.Kind.{Kind}
+use Rattle.krb_msg.specs.Views.{kind_name, kind_of}
 use Rattle.krb_msg.specs.declared.message.Message.{Message}
 use Rattle.krb_msg.specs.declared.message.Message.TheVariants as message
 use Rattle.krb_msg.specs.declared.notes.Notes.{Notes}
@@ -27,12 +29,12 @@ use Rattle.krb_record.specs.declared.form.Form.{Form}
 use Rattle.krb_record.specs.declared.capture_origin.CaptureOrigin.{CaptureOrigin}
 use Rattle.krb_record.specs.Captures.{captured_line}
 use Rattle.krb_text.specs.Messages.{captured_message_line}
-use Rattle.krb_record.specs.Forms.{record_line}
+use Rattle.krb_record.specs.Forms.{record_line, shows_kind}
 use Rattle.krb_text.specs.Inside.{data_parts_if, each_if, inside_of, kdc_req_parts, krb_error_parts, padata_parts, ticket_part}
 use Rattle.krb_text.specs.Judged.{asks_for_preauth, judged}
 use Rattle.krb_text.specs.declared.clear_type.Carrier.{Carrier}
 use Rattle.krb_text.specs.declared.clear_type.Carrier.TheVariants as carriers
-use Rattle.krb_text.specs.Messages.{padata, notes, methods, kdc_req_fields, kdc_rep_fields, ap_req_fields, ap_rep_fields, krb_safe_fields, krb_priv_fields, krb_cred_fields, krb_error_fields, message_record, message_line, message_line_from, ticket_line, ticket_record}
+use Rattle.krb_text.specs.Messages.{padata, notes, methods, kdc_req_fields, kdc_rep_fields, ap_req_fields, ap_rep_fields, krb_safe_fields, krb_priv_fields, krb_cred_fields, krb_error_fields, message_record, message_line, message_line_from, shown_record, ticket_line, ticket_record, unless_hidden}
 use Rattle.krb_text.specs.MessageValues.{encrypted}
 use Rattle.krb_record.specs.Values.{Field, Part, Printed, the, printed, with_inside, with_origin, if_there, count}
 use Rattle.krb_text.specs.Masks.{masked_encrypted, masked_item, masked_ticket, masked_req_body, masked_kdc_req, masked_kdc_rep, masked_ap_req, masked_ap_rep, masked_krb_safe, masked_krb_priv, masked_krb_cred, masked_krb_error, masked, masked_data}
@@ -238,16 +240,31 @@ record-same (message.KrbPriv m) = made _ _ _ (message.KrbPriv m) (krb_priv-same 
 record-same (message.KrbCred m) = made _ _ _ (message.KrbCred m) (krb_cred-same m)
 record-same (message.KrbError m) = made _ _ _ (message.KrbError m) (krb_error-same m)
 
+kind-same : (m : Message) → kind_of (masked m) ≡ kind_of m
+kind-same (message.AsReq m) = refl
+kind-same (message.AsRep m) = refl
+kind-same (message.TgsReq m) = refl
+kind-same (message.TgsRep m) = refl
+kind-same (message.ApReq m) = refl
+kind-same (message.ApRep m) = refl
+kind-same (message.KrbSafe m) = refl
+kind-same (message.KrbPriv m) = refl
+kind-same (message.KrbCred m) = refl
+kind-same (message.KrbError m) = refl
+
+shown-same : (form : Form) (m : Message) → shown_record form (masked m) ≡ shown_record form m
+shown-same form m = ap₂ (λ (kind : Kind) (r : Printed). unless_hidden (shows_kind form (kind_name kind)) r) (kind-same m) (record-same m)
+
 pub line-same : (form : Form) (m : Message) → message_line form (masked m) ≡ message_line form m
 unfolding message_line
-line-same form m = ap (record_line form) (record-same m)
+line-same form m = ap (record_line form) (shown-same form m)
 
 pub line_from-same : (form : Form) (origin : List Field) (m : Message) → message_line_from form origin (masked m) ≡ message_line_from form origin m
-line_from-same form origin m = ap (λ (r : Printed). record_line form (with_origin origin r)) (record-same m)
+line_from-same form origin m = ap (λ (r : Printed). record_line form (with_origin origin r)) (shown-same form m)
 
 pub ticket_line-same : (form : Form) (origin : List Field) (t : Ticket) → ticket_line form origin (masked_ticket t) ≡ ticket_line form origin t
 unfolding ticket_record
 ticket_line-same form origin t = rw (length-zeros (length t.enc_part.cipher)) refl
 
 pub captured-same : (form : Form) (origin : CaptureOrigin) (m : Message) → captured_message_line form origin (masked m) ≡ captured_message_line form origin m
-captured-same form origin m = ap (captured_line form origin) (record-same m)
+captured-same form origin m = ap (captured_line form origin) (shown-same form m)

@@ -3,7 +3,8 @@ ghost use Rattle.std.specs.Prelude.{ℕ, Option};
 ghost use Rattle.krb_source.specs.declared.unread_why.UnreadWhy.{UnreadWhy};
 ghost use Rattle.krb_record.specs.Captures.{unread_line};
 ghost use Rattle.krb_record.specs.declared.capture_origin.CaptureOrigin.{CaptureOrigin};
-ghost use Rattle.krb_record.specs.declared.form.Form.{Form};
+ghost use Rattle.krb_record.specs.declared.form.Base.{Base};
+ghost use Rattle.krb_record.specs.Forms.{form_of};
 ghost use Rattle.krb_record.specs.Laws.{CaptureEndIsOneLine, CaptureRefusalIsOneLine, CapturedRefusalIsOneLine, CountedStreamEndIsOneLine, DatesAreTheCalendars, EscapeIsGraphic, FileNameIsOneLine, FileRefusalIsOneLine, InputRefusalIsOneLine, IsOneLine, JoinedIsOneLine, LinesHaveNothingLast, LostIsOneLine, MessageRefusalIsOneLine, OriginIsInRange, PasswordIsOneLine, PlainLinesHaveNothingInside, PlainLinesTellNothing, PrincipalTextIsInjective, UnansweredIsOneLine, UnreachableIsOneLine, UntoldMessageRefusalIsOneLine, UntoldStreamRefusalIsOneLine};
 ghost use Rattle.krb_text.specs.Laws.{CapturedMessageIsOneLine, CiphersAreNotInCaptures, CiphersAreNotInLines, CiphersAreNotInLinesFrom, CiphersAreNotInRecords, CiphersAreNotInTickets, MessageFromIsOneLine, MessageIsOneLine, StreamEndIsOneLine, TicketIsOneLine};
 
@@ -45,7 +46,7 @@ pub fn capture_is_one_line_each()
     ensures refusal { CapturedRefusalIsOneLine }
     ensures joined { JoinedIsOneLine }
     ensures lost { LostIsOneLine }
-    ensures unread { (form : Form) (origin : CaptureOrigin) (place : Option ℕ) (octets : ℕ) (reason : UnreadWhy) → OriginIsInRange origin → IsOneLine (unread_line form origin place octets reason) }
+    ensures unread { (base : Base) (origin : CaptureOrigin) (place : Option ℕ) (octets : ℕ) (reason : UnreadWhy) → OriginIsInRange origin → IsOneLine (unread_line (form_of base) origin place octets reason) }
     ensures password { PasswordIsOneLine }
     ensures unanswered { UnansweredIsOneLine }
     ensures unreachable { UnreachableIsOneLine }

@@ -12,13 +12,13 @@ use Rattle.krb_msg.specs.declared.notes.Notes.{Notes}
 use Rattle.krb_record.specs.declared.form.Form.{Form}
 use Rattle.krb_text.specs.declared.record.Heading.{Heading}
 use Rattle.krb_text.specs.declared.record.Heading.TheVariants as headings
-use Rattle.krb_record.specs.Captures.{last_fields, origin_fields}
+use Rattle.krb_record.specs.Captures.{captured, last_fields, origin_fields}
 use Rattle.krb_record.specs.Forms.{field, fields_text, parts_text, record_text}
 use Rattle.krb_record.specs.Text.{line_feed}
 use Rattle.krb_text.specs.Inside.{inside_of}
 use Rattle.krb_record.specs.Origins.{message_origin}
 use Rattle.krb_text.specs.Messages.{fields_of, notes, shown_record}
-use Rattle.krb_record.specs.Values.{Field, Part, with_last, with_origin}
+use Rattle.krb_record.specs.Values.{Field, Part, Printed, with_origin}
 
 -- what is recorded of a view of a kind is what is recorded of its message
 pub record IsRecordedAs (kind : Kind) (IsValid : Type 0) (fields : List Field) (inside : Option (List Part)) (view : MessageView) : Type 0 where
@@ -42,9 +42,15 @@ abbrev pub shown_text : (is_shown : Bool) → Form → List Field → Notes → 
 shown_text false form fields n inside = []
 shown_text true form fields n inside = fields_text form fields ++ field form (codes "notes") (notes n) ++ parts_text form inside
 
--- the record of a message from its origin, without its line feed, and with it
+-- a record from its origin
+abbrev pub headed : Form → Heading → Printed → Printed
+headed form headings.Alone r = r
+headed form (headings.Captured origin) r = captured form origin.now r
+headed form (headings.From origin) r = with_origin (message_origin origin.now.line origin.now.layers.now) r
+
+-- that of a message, without its line feed, and with it
 abbrev pub text_after : Form → Heading → Message → List ℕ
-text_after form from m = record_text form (with_last (heading_last from) (with_origin (heading_origin form from) (shown_record form m)))
+text_after form from m = record_text form (headed form from (shown_record form m))
 
 abbrev pub line_after : Form → Heading → Message → List ℕ
 line_after form from m = text_after form from m ++ line_feed
