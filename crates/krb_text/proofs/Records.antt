@@ -8,6 +8,7 @@ use Rattle.krb_record.specs.declared.form.Form.{Form}
 use Rattle.krb_record.specs.Forms.{field, fields_text}
 use Rattle.krb_text.specs.Inside.{inside_of}
 use Rattle.krb_text.specs.Messages.{fields_of, message_record, notes}
+use Rattle.krb_record.proofs.Appended.{three_fields}
 use Rattle.krb_record.proofs.Records.{fields_text_append}
 use Rattle.krb_record.specs.Values.{the}
 
@@ -28,6 +29,8 @@ pub message_aside : (m : Message) → (message_record m).aside ≡ None
 unfolding message_record
 message_aside m = refl
 
--- a record of which nothing is told aside
-pub nothing_aside : (old opening fields closing feed : List ℕ) {new : List ℕ} → new ≡ old ++ (opening ++ fields ++ closing ++ feed) → new ≡ old ++ (opening ++ fields ++ [] ++ closing ++ feed)
-nothing_aside old opening fields closing feed e = e ∙ ap (λ text. old ++ (text ++ closing ++ feed)) (sym (append-nil (opening ++ fields)))
+-- a record of three fields, of which nothing is told aside
+pub three_fields_alone : (old : List ℕ) {l₁ l₂ l₃ l₄ l₅ : List ℕ} (opening a b c closing feed : List ℕ) → l₁ ≡ old ++ opening → l₂ ≡ l₁ ++ a → l₃ ≡ l₂ ++ b → l₄ ≡ l₃ ++ c → l₅ ≡ l₄ ++ closing ++ feed
+    → l₅ ≡ old ++ (opening ++ (a ++ (b ++ (c ++ []))) ++ [] ++ closing ++ feed)
+three_fields_alone old opening a b c closing feed h₁ h₂ h₃ h₄ h₅ =
+    three_fields old opening a b c closing feed h₁ h₂ h₃ h₄ h₅ ∙ ap (λ text. old ++ (text ++ closing ++ feed)) (sym (append-nil (opening ++ (a ++ (b ++ (c ++ []))))))
