@@ -1,10 +1,12 @@
--- Cells of strings that are plain, which are these strings.
+-- Cells of strings that are plain, which are these strings, and cells of no path.
 use Rattle.std.proofs.Common.{◌≡◌, ℕ, ◌≤◌, ◌<◌, Bool, true, false, ◌&&◌, List, [], ◌∷◌, ◌++◌, length, codes, refl, ◌∙◌, ap, arith}
 use Rattle.std.proofs.lemmas.Bool.Decides.{nat_tests}
 use Rattle.std.proofs.lemmas.Bool.{and_parts}
 use Rattle.std.specs.List.{flat_map, list_all}
 use Rattle.std.specs.Prelude.{bytes_eq, nat_eq}
-use Rattle.krb_record.specs.Forms.{escaped_if, is_mistaken, shown_octet, string_cell}
+use Rattle.krb_record.specs.declared.path.Path.{Path}
+use Rattle.krb_record.specs.Forms.{cells_from, escaped_if, is_mistaken, shown_octet, string_cell}
+use Rattle.krb_record.specs.Values.{Value}
 use Rattle.krb_record.specs.inner.Strings.{is_plain_in}
 
 plain_octet : (o : ℕ) → is_plain_in false o ≡ true → shown_octet o ≡ o ∷ []
@@ -36,3 +38,8 @@ unfolding string_cell
 plain_cell [] h e = absurd (omega arith)
 plain_cell (o ∷ octets) h e =
     ap (λ b. escaped_if b shown_octet o ++ flat_map shown_octet octets) (not_mistaken (o ∷ octets) h) ∙ plain_octets (o ∷ octets) e
+
+-- where no bit is left no cell is wanted
+pub no_cells : (paths : List Path) → (value : Value) → cells_from 0 paths value ≡ []
+no_cells [] value = refl
+no_cells (path ∷ others) value = no_cells others value

@@ -1,7 +1,7 @@
 //! Fields of records, by the form.
 
 ghost use Rattle.std.specs.Prelude.{◌≡◌, ◌++◌, OnOk};
-ghost use Rattle.krb_record.specs.Forms.{cells, cells_from, closing, form_of, kind_mark, labelled, members, opening};
+ghost use Rattle.krb_record.specs.Forms.{cells, cells_from, closing, form_of, kind_mark, labelled, opening};
 ghost use Rattle.krb_record.specs.Text.{line_feed};
 
 use crate::form::{Base, Form, Wanted};
@@ -47,6 +47,9 @@ fn put_cells_of<T: Shown>(
     let mut others = paths;
     let mut bits = wanted;
     'paths: while let Some((path, rest)) = others.split_first() {
+        if bits == 0 {
+            return Ok(());
+        }
         if bits % 2 == 1 {
             text.push_pair("\x03", path.letter())?;
             value.put_cell(text, *path)?;
@@ -73,15 +76,6 @@ fn put_cells<T: Shown>(
     }
     text.push_pair("\x02", begin)?;
     put_cells_of(text, wanted.paths(), &PATHS, value)
-}
-
-/// Appends the members of a value in an object, by a call, so that what has many fields stays small
-/// enough for lines of it to be compiled in place.
-#[inline(never)]
-fn put_members<T: Shown>(object: &mut TextBuffer, begin: &str, value: &T) -> Result<(), AllocError>
-    ensures { OnOk result (object.new ≡ object.old ++ members begin.now (T.shown value.now)) }
-{
-    value.put_members(object, begin)
 }
 
 /// Appends a field of a record that may be kept.
@@ -123,7 +117,7 @@ fn put_other_field<T: Shown>(
 {
     match form {
         Form::Rows(wanted) => put_cells(text, wanted, begin, value),
-        Form::Json | Form::KeptJson => put_members(text, begin, value),
+        Form::Json | Form::KeptJson => value.put_members(text, begin),
         Form::Lines | Form::KeptLines => put_kept(text, Base::Lines, label, begin, value),
         Form::NamedLines | Form::KeptNamedLines => {
             put_kept(text, Base::NamedLines, label, begin, value)
