@@ -1,5 +1,5 @@
 -- What the label of records adds to them.
-use Rattle.std.proofs.Common.{◌≡◌, ℕ, List, [], ◌++◌, codes, Option, Some, None, refl, sym, ap, ◌∙◌, append_assoc}
+use Rattle.std.proofs.Common.{◌≡◌, ℕ, List, [], ◌∷◌, ◌++◌, codes, Option, Some, None, refl, sym, ap, ◌∙◌, append_assoc}
 use Rattle.krb_record.specs.Forms.{closing, last_text, opening, record_line, record_text}
 use Rattle.krb_record.specs.Text.{line_feed}
 use Rattle.krb_record.specs.Labels.{Label, line_of, with_file_if}
@@ -29,6 +29,17 @@ unfolding record_text opening closing
 json-line None = refl
 json-line (Some name) = simp append_assoc
 
+kept-line : (file : Option (List ℕ)) → record_line forms.KeptJson (with_file_if forms.KeptJson file (printed [] [])) ≡ (1 ∷ 6 ∷ codes "{\"kind\":\"\"") ++ last_by forms.KeptJson file ++ codes "}\n"
+unfolding record_text opening closing
+kept-line None = refl
+kept-line (Some name) = simp append_assoc
+
+of-form : (form : Form) (label : Label) (begin : List ℕ) → label.form ≡ form → record_line form (with_file_if form label.file (printed [] [])) ≡ begin ++ last_by form label.file ++ codes "}\n" → line_of label (printed [] []) ≡ begin ++ last_members label ++ codes "}\n"
+of-form form label begin is line =
+    ap (λ f. record_line f (with_file_if f label.file (printed [] []))) is ∙ line ∙ ap (λ f. begin ++ last_by f label.file ++ codes "}\n") (sym is)
+
 pub empty-object : (label : Label) → label.form ≡ forms.Json → line_of label (printed [] []) ≡ codes "{\"kind\":\"\"" ++ last_members label ++ codes "}\n"
-empty-object label is =
-    ap (λ form. record_line form (with_file_if form label.file (printed [] []))) is ∙ json-line label.file ∙ ap (λ form. codes "{\"kind\":\"\"" ++ last_by form label.file ++ codes "}\n") (sym is)
+empty-object label is = of-form forms.Json label (codes "{\"kind\":\"\"") is (json-line label.file)
+
+pub empty-kept-object : (label : Label) → label.form ≡ forms.KeptJson → line_of label (printed [] []) ≡ (1 ∷ 6 ∷ codes "{\"kind\":\"\"") ++ last_members label ++ codes "}\n"
+empty-kept-object label is = of-form forms.KeptJson label (1 ∷ 6 ∷ codes "{\"kind\":\"\"") is (kept-line label.file)

@@ -25,11 +25,17 @@ pub(crate) fn last_of(alloc: Global, label: &Label) -> Result<String, AllocError
         Form::Lines | Form::KeptLines => Ok(String::new(alloc)),
         Form::NamedLines | Form::KeptNamedLines => Ok(String::new(alloc)),
         Form::Rows(_) => Ok(String::new(alloc)),
-        Form::Json | Form::KeptJson => {
-            let text = empty_object(alloc, label)?;
-            String::from_str(alloc, members_of(text.as_str()))
-        }
+        Form::Json => last_after(alloc, label, "{\"kind\":\"\""),
+        Form::KeptJson => last_after(alloc, label, "\x01\x06{\"kind\":\"\""),
     }
+}
+
+/// Returns what an object has last, of which one of no kind and no fields begins so.
+fn last_after(alloc: Global, label: &Label, begin: &str) -> Result<String, AllocError>
+    ensures { (members : List ℕ) → line_of label.now (printed [] []) ≡ begin.now ++ members ++ codes "}\n" → IfOk result (λ text. string_bytes text ≡ members) }
+{
+    let text = empty_object(alloc, label)?;
+    String::from_str(alloc, members_of(text.as_str(), begin))
 }
 
 /// Returns the object of a record of no kind and no fields, with its label.
@@ -44,11 +50,11 @@ fn empty_object(alloc: Global, label: &Label) -> Result<String, AllocError>
     Ok(text.into_string())
 }
 
-/// Returns what an object has after an empty kind.
-fn members_of(object: &str) -> &str
-    ensures { (members : List ℕ) → object.now ≡ codes "{\"kind\":\"\"" ++ members ++ codes "}\n" → result.now ≡ members }
+/// Returns what an object has after what it begins with.
+fn members_of<'a>(object: &'a str, begin: &str) -> &'a str
+    ensures { (members : List ℕ) → object.now ≡ begin.now ++ members ++ codes "}\n" → result.now ≡ members }
 {
-    let Some(members) = object.strip_prefix("{\"kind\":\"\"") else {
+    let Some(members) = object.strip_prefix(begin) else {
         return "";
     };
     match members.strip_suffix("}\n") {

@@ -18,8 +18,8 @@ use crate::shape::Leaf;
 use crate::words::put_words;
 use krb_der::{Refusal, integer_value};
 use krb_record::{
-    Base, ABSENT, ErrorCode, FlagBits, Form, HexText, MessageOrigin, Numbered, QuotedText, Reason, Text,
-    TextBuffer, put_end, put_field, put_message_opening,
+    ABSENT, Base, ErrorCode, FlagBits, Form, HexText, MessageOrigin, Numbered, QuotedText, Reason,
+    Text, TextBuffer, put_end, put_field, put_message_opening,
 };
 use krb_source::Layer;
 use std::alloc::{AllocError, Global};
