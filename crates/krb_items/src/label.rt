@@ -22,9 +22,8 @@ pub(crate) fn last_of(alloc: Global, label: &Label) -> Result<String, AllocError
     ensures { IfOk result (λ text. string_bytes text ≡ last_members label.now) }
 {
     match label.form() {
-        Form::Lines | Form::KeptLines => Ok(String::new(alloc)),
-        Form::NamedLines | Form::KeptNamedLines => Ok(String::new(alloc)),
-        Form::Rows(_) => Ok(String::new(alloc)),
+        Form::Lines | Form::NamedLines | Form::KeptLines | Form::KeptNamedLines | Form::Rows(_) =>
+            Ok(String::new(alloc)),
         Form::Json => last_after(alloc, label, "{\"kind\":\"\""),
         Form::KeptJson => last_after(alloc, label, "\x01\x06{\"kind\":\"\""),
     }
