@@ -1,3 +1,4 @@
+pub mod Helds
 pub mod Labels
 pub mod Listings
 pub mod Lists

@@ -1,9 +1,10 @@
 -- The steps of a walk.
-use Rattle.std.proofs.Common.{◌≡◌, ℕ, zero, suc, ◌+◌, ◌-◌, ◌≤◌, true, false, List, [], ◌∷◌, length, get_or, take, take_all, drop, map, Option, Some, Ok, Result, IfOk, refl, sym, ap, ◌∙◌, subst, arith}
+use Rattle.std.proofs.Common.{◌≡◌, ℕ, ℤ, zero, suc, ◌+◌, ◌-◌, ◌≤◌, true, false, List, [], ◌∷◌, length, get_or, take, take_all, drop, map, Option, Some, None, Ok, Result, IfOk, refl, sym, ap, ◌∙◌, subst, arith}
 use Rattle.std.specs.List.{slice_get}
 use Rattle.std.proofs.lemmas.Result.{IfOk-weaker}
 use Rattle.krb_items.specs.Heads.{Begun, Headed, begun_at, count_in, headed}
-use Rattle.krb_items.specs.Items.{Here, Items, begins_as, contents_items, element_items, ended, field_items, here_at, item_items, message_items, most_levels, of_headed, of_kind}
+use Rattle.krb_items.specs.Held.{number_after}
+use Rattle.krb_items.specs.Items.{Here, Items, begins_as, contents_items, element_items, ended, field_items, here_at, item_items, message_items, most_levels, named, of_headed, of_kind, passed}
 use Rattle.krb_items.specs.Names.{element_path, field_path}
 use Rattle.krb_items.specs.Records.{Context, Lists}
 use Rattle.krb_items.specs.Shapes.{Field, ItemType, field_of, message_of, type_of}
@@ -26,12 +27,12 @@ lists-at context item of octets own here old new end known same ends listed =
     subst (λ (h : Here). Lists context (item h of octets) old new known) same (subst (λ (e : End). Lists context (item own of octets) old new e) ends listed)
 
 -- what is listed after an item of so many octets
-lists-left : (context : Context) (items : Here → ℕ → List ℕ → Items) (here : Here) (count : ℕ) (octets : List ℕ) (after : Here) (room after-room : ℕ) (after-octets : List ℕ) (old new : Listed) (end : End) →
-    count ≡ count_in octets → after ≡ here_at here.name (here.place + count) here.depth → after-room ≡ room - count → after-octets ≡ drop count octets
+lists-left : (context : Context) (items : Here → ℕ → List ℕ → Items) (here : Here) (number : Option ℤ) (count : ℕ) (octets : List ℕ) (after : Here) (room after-room : ℕ) (after-octets : List ℕ) (old new : Listed) (end : End) →
+    count ≡ count_in octets → after ≡ passed here count number → after-room ≡ room - count → after-octets ≡ drop count octets
     → Lists context (items after after-room after-octets) old new end
-    → Lists context (items (here_at here.name (here.place + count_in octets) here.depth) (room - count_in octets) (drop (count_in octets) octets)) old new end
-lists-left context items here count octets after room after-room after-octets old new end count-is after-is room-is octets-is listed =
-    subst (λ (n : ℕ). Lists context (items (here_at here.name (here.place + n) here.depth) (room - n) (drop n octets)) old new end) count-is
+    → Lists context (items (passed here (count_in octets) number) (room - count_in octets) (drop (count_in octets) octets)) old new end
+lists-left context items here number count octets after room after-room after-octets old new end count-is after-is room-is octets-is listed =
+    subst (λ (n : ℕ). Lists context (items (passed here n number) (room - n) (drop n octets)) old new end) count-is
     (subst (λ (h : Here). Lists context (items h (room - count) (drop count octets)) old new end) after-is
     (subst (λ (n : ℕ). Lists context (items after n (drop count octets)) old new end) room-is
     (subst (λ (o : List ℕ). Lists context (items after after-room o) old new end) octets-is listed)))
@@ -48,44 +49,44 @@ listed-so context before items old mid new made result found same is listed goes
 -- ---- an item
 -- an item by its heads
 item-by : (levels left limit : ℕ) (here : Here) (of : ItemType) (octets : List ℕ) (h : Headed) → levels ≡ suc left → headed limit (begun_at here.place here.depth) of.tags octets ≡ h
-    → item_items levels limit here of octets ≡ of_headed here.name h (contents_items (item_items left limit) limit here.name of.shape)
+    → item_items levels limit here of octets ≡ of_headed here.name h (contents_items (item_items left limit) limit here of.shape)
 item-by levels left limit here of octets h is e =
-    ap (λ n. item_items n limit here of octets) is ∙ ap (λ h. of_headed here.name h (contents_items (item_items left limit) limit here.name of.shape)) e
+    ap (λ n. item_items n limit here of octets) is ∙ ap (λ h. of_headed here.name h (contents_items (item_items left limit) limit here of.shape)) e
 
 pub item-goes : (context : Context) (levels left limit : ℕ) (here : Here) (of : ItemType) (octets contents : List ℕ) (begun : Begun) (old new : Listed) (end : End) → levels ≡ suc left
     → headed limit (begun_at here.place here.depth) of.tags octets ≡ record { begun = begun; contents = Some contents }
-    → Lists context (contents_items (item_items left limit) limit here.name of.shape begun contents) old new end → Lists context (item_items levels limit here of octets) old new end
+    → Lists context (contents_items (item_items left limit) limit here of.shape begun contents) old new end → Lists context (item_items levels limit here of octets) old new end
 item-goes context levels left limit here of octets contents begun old new end is e listed =
     lists-same context _ _ old new end (item-by levels left limit here of octets (record { begun = begun; contents = Some contents }) is e) listed
 
 -- ---- the fields of a SEQUENCE
 field-then : (context : Context) (item : Here → ItemType → List ℕ → Items) (here : Here) (field : Field) (fields : List Field) (room : ℕ) (octets : List ℕ) (old mid new : Listed) (end : End) →
-    begins_as field.of.tags octets ≡ true → Lists context (item (here_at (field_path here.name field.name) here.place here.depth) field.of octets) old mid ends.Whole
-    → Lists context (field_items item (here_at here.name (here.place + count_in octets) here.depth) fields (room - count_in octets) (drop (count_in octets) octets)) mid new end
+    begins_as field.of.tags octets ≡ true → Lists context (item (named here (field_path here.name field.name)) field.of octets) old mid ends.Whole
+    → Lists context (field_items item (passed here (count_in octets) (number_after field.of octets here.number)) fields (room - count_in octets) (drop (count_in octets) octets)) mid new end
     → Lists context (field_items item here (field ∷ fields) room octets) old new end
 field-then context item here field fields room octets old mid new end begin first others = rw begin (lists-then context _ _ old mid new end first others)
 
 field-cut : (context : Context) (item : Here → ItemType → List ℕ → Items) (here : Here) (field : Field) (fields : List Field) (room : ℕ) (octets : List ℕ) (old new : Listed) →
-    begins_as field.of.tags octets ≡ true → Lists context (item (here_at (field_path here.name field.name) here.place here.depth) field.of octets) old new ends.Cut
+    begins_as field.of.tags octets ≡ true → Lists context (item (named here (field_path here.name field.name)) field.of octets) old new ends.Cut
     → Lists context (field_items item here (field ∷ fields) room octets) old new ends.Cut
 field-cut context item here field fields room octets old new begin first = rw begin (lists-cut context _ _ old new first)
 
 -- the first of the fields that are left, and those after it
-pub fields-then : (context : Context) (item : Here → ItemType → List ℕ → Items) (fields : List FieldOfCode) (default : FieldOfCode) (count : ℕ) (here own after : Here) (room after-room : ℕ) (octets after-octets : List ℕ) (old mid new : Listed) (first end : End) →
-    1 ≤ length fields → begins_as (get_or fields 0 default).of.tags.now octets ≡ true → own ≡ here_at (field_path here.name (get_or fields 0 default).name.now) here.place here.depth
+pub fields-then : (context : Context) (item : Here → ItemType → List ℕ → Items) (fields : List FieldOfCode) (default : FieldOfCode) (count : ℕ) (number : Option ℤ) (here own after : Here) (room after-room : ℕ) (octets after-octets : List ℕ) (old mid new : Listed) (first end : End) →
+    1 ≤ length fields → begins_as (get_or fields 0 default).of.tags.now octets ≡ true → own ≡ named here (field_path here.name (get_or fields 0 default).name.now)
     → Lists context (item own (type_of (get_or fields 0 default).of) octets) old mid first → first ≡ ends.Whole
-    → count ≡ count_in octets → after ≡ here_at here.name (here.place + count) here.depth → after-room ≡ room - count → after-octets ≡ drop count octets
+    → count ≡ count_in octets → number ≡ number_after (type_of (get_or fields 0 default).of) octets here.number → after ≡ passed here count number → after-room ≡ room - count → after-octets ≡ drop count octets
     → Lists context (field_items item after (map field_of (take (length fields - 1) (drop 1 fields))) after-room after-octets) mid new end
     → Lists context (field_items item here (map field_of fields) room octets) old new end
-fields-then context item [] default count here own after room after-room octets after-octets old mid new first end some begin own-is listed whole count-is after-is room-is octets-is others = absurd (omega arith)
-fields-then context item (field ∷ fields) default count here own after room after-room octets after-octets old mid new first end some begin own-is listed whole count-is after-is room-is octets-is others =
+fields-then context item [] default count number here own after room after-room octets after-octets old mid new first end some begin own-is listed whole count-is number-is after-is room-is octets-is others = absurd (omega arith)
+fields-then context item (field ∷ fields) default count number here own after room after-room octets after-octets old mid new first end some begin own-is listed whole count-is number-is after-is room-is octets-is others =
     field-then context item here (field_of field) (map field_of fields) room octets old mid new end begin
     (lists-at context item (type_of field.of) octets own _ old mid first ends.Whole own-is whole listed)
-    (lists-left context (λ here room octets. field_items item here (map field_of fields) room octets) here count octets after room after-room after-octets mid new end count-is after-is room-is octets-is
+    (lists-left context (λ here room octets. field_items item here (map field_of fields) room octets) here (number_after (type_of field.of) octets here.number) count octets after room after-room after-octets mid new end count-is (after-is ∙ ap (passed here count) number-is) room-is octets-is
     (subst (λ (left : List FieldOfCode). Lists context (field_items item after (map field_of left) after-room after-octets) mid new end) (take_all (length (field ∷ fields) - 1) fields (omega arith)) others))
 
 pub fields-cut : (context : Context) (item : Here → ItemType → List ℕ → Items) (fields : List FieldOfCode) (default : FieldOfCode) (here own : Here) (room : ℕ) (octets : List ℕ) (old new : Listed) (end : End) →
-    1 ≤ length fields → begins_as (get_or fields 0 default).of.tags.now octets ≡ true → own ≡ here_at (field_path here.name (get_or fields 0 default).name.now) here.place here.depth
+    1 ≤ length fields → begins_as (get_or fields 0 default).of.tags.now octets ≡ true → own ≡ named here (field_path here.name (get_or fields 0 default).name.now)
     → Lists context (item own (type_of (get_or fields 0 default).of) octets) old new end → end ≡ ends.Cut
     → Lists context (field_items item here (map field_of fields) room octets) old new ends.Cut
 fields-cut context item [] default here own room octets old new end some begin own-is listed cut = absurd (omega arith)
@@ -95,17 +96,17 @@ fields-cut context item (field ∷ fields) default here own room octets old new 
 -- ---- the items of a SEQUENCE OF
 -- one item, and those after it
 pub element-then : (context : Context) (item : Here → ItemType → List ℕ → Items) (of : ItemType) (bound left index count : ℕ) (here own after : Here) (room after-room : ℕ) (octets after-octets : List ℕ) (old mid new : Listed) (first end : End) →
-    bound ≡ suc left → begins_as of.tags octets ≡ true → own ≡ here_at (element_path here.name index) here.place here.depth → Lists context (item own of octets) old mid first → first ≡ ends.Whole
-    → count ≡ count_in octets → after ≡ here_at here.name (here.place + count) here.depth → after-room ≡ room - count → after-octets ≡ drop count octets
+    bound ≡ suc left → begins_as of.tags octets ≡ true → own ≡ named here (element_path here.name index) → Lists context (item own of octets) old mid first → first ≡ ends.Whole
+    → count ≡ count_in octets → after ≡ passed here count here.number → after-room ≡ room - count → after-octets ≡ drop count octets
     → Lists context (element_items item of left (index + 1) after after-room after-octets) mid new end
     → Lists context (element_items item of bound index here room octets) old new end
 element-then context item of bound left index count here own after room after-room octets after-octets old mid new first end is begin own-is listed whole count-is after-is room-is octets-is others =
     rw is (rw begin (lists-then context _ _ old mid new end
     (lists-at context item of octets own _ old mid first ends.Whole own-is whole listed)
-    (lists-left context (λ here room octets. element_items item of left (index + 1) here room octets) here count octets after room after-room after-octets mid new end count-is after-is room-is octets-is others)))
+    (lists-left context (λ here room octets. element_items item of left (index + 1) here room octets) here here.number count octets after room after-room after-octets mid new end count-is after-is room-is octets-is others)))
 
 pub element-cut : (context : Context) (item : Here → ItemType → List ℕ → Items) (of : ItemType) (bound left index : ℕ) (here own : Here) (room : ℕ) (octets : List ℕ) (old new : Listed) (end : End) →
-    bound ≡ suc left → begins_as of.tags octets ≡ true → own ≡ here_at (element_path here.name index) here.place here.depth → Lists context (item own of octets) old new end → end ≡ ends.Cut
+    bound ≡ suc left → begins_as of.tags octets ≡ true → own ≡ named here (element_path here.name index) → Lists context (item own of octets) old new end → end ≡ ends.Cut
     → Lists context (element_items item of bound index here room octets) old new ends.Cut
 element-cut context item of bound left index here own room octets old new end is begin own-is listed cut =
     rw is (rw begin (lists-cut context _ _ old new (lists-at context item of octets own _ old new end ends.Cut own-is cut listed)))
@@ -123,10 +124,10 @@ first-is : (octet : ℕ) (octets : List ℕ) (first : ℕ) → Some first ≡ sl
 first-is octet octets first some = cc
 
 pub message-goes : (limit place depth : ℕ) (octets : List ℕ) (first : ℕ) (kind : Kind) (name : List ℕ) (of : ItemType) → Some first ≡ slice_get octets 0 → kind_with_tag first ≡ Some kind → name ≡ kind_name kind → of ≡ message_of kind
-    → message_items limit place depth octets ≡ item_items most_levels limit (here_at name place depth) of octets
+    → message_items limit place depth octets ≡ item_items most_levels limit (here_at name place depth None) of octets
 message-goes limit place depth [] first kind name of some tag named shaped = absurd cc
 message-goes limit place depth (octet ∷ octets) first kind name of some tag named shaped =
     let found : kind_with_tag octet ≡ Some kind = ap kind_with_tag (sym (first-is octet octets first some)) ∙ tag in
     ap (λ (k : Option Kind). of_kind k limit place depth (octet ∷ octets)) found
-    ∙ ap (λ (n : List ℕ). item_items most_levels limit (here_at n place depth) (message_of kind) (octet ∷ octets)) (sym named)
-    ∙ ap (λ (o : ItemType). item_items most_levels limit (here_at name place depth) o (octet ∷ octets)) (sym shaped)
+    ∙ ap (λ (n : List ℕ). item_items most_levels limit (here_at n place depth None) (message_of kind) (octet ∷ octets)) (sym named)
+    ∙ ap (λ (o : ItemType). item_items most_levels limit (here_at name place depth None) o (octet ∷ octets)) (sym shaped)

@@ -27,10 +27,21 @@ count_by (Some head) octets = min (length octets) (head.header + head.size)
 abbrev pub count_in : List ℕ → ℕ
 count_in octets = count_by (head_in octets) octets
 
+-- the contents of the first item, as far as they are there
+abbrev pub contents_by : Option Head → List ℕ → List ℕ
+contents_by None octets = []
+contents_by (Some head) octets = take head.size (drop head.header octets)
+
+-- the contents in so many heads
+abbrev pub contents_in : List Tag → List ℕ → List ℕ
+contents_in [] octets = octets
+contents_in (tag ∷ tags) octets = contents_in tags (contents_by (head_in octets) octets)
+
 -- ---- the heads of an item
 abbrev pub octet_of : Tag → ℕ
 octet_of (tags.Context index) = 0xA0 + index % 32
 octet_of (tags.Application number) = 0x60 + number % 32
+octet_of tags.Boolean = 0x01
 octet_of tags.Integer = 0x02
 octet_of tags.BitString = 0x03
 octet_of tags.OctetString = 0x04

@@ -1,12 +1,14 @@
 -- The items of octets, in order of place, up to one in which the octets end or that is at fault: a recursion over types and whole lists, with a case for each of the judgement's.
 -- The octets are those up to and with one that is refused, or all that are there. The first of them, up to a limit, are right. So what holds no items is one once its last octet is right, and a SEQUENCE once its last length octet is.
-use Rattle.std.specs.Prelude.{ℕ, zero, suc, ◌+◌, ◌-◌, Bool, true, false, nat_lt, if◌then◌else◌, List, [], ◌∷◌, ◌++◌, length, take, drop, codes, Option, Some, None}
+use Rattle.std.specs.Prelude.{ℕ, ℤ, zero, suc, ◌+◌, ◌-◌, Bool, true, false, nat_lt, if◌then◌else◌, List, [], ◌∷◌, ◌++◌, length, take, drop, codes, Option, Some, None}
 use Rattle.krb_der.specs.Octets.{when, begins_with, number}
 use Rattle.krb_msg.specs.Views.{kind_with_tag, kind_name}
 use Rattle.krb_msg.specs.declared.message.Kind.{Kind}
 use Rattle.krb_items.specs.Heads.{Begun, Headed, begun_at, count_in, headed, octet_of, size_of, with_head, with_unknown}
+use Rattle.krb_items.specs.Held.{held_name, leaf_after, number_after, opened}
 use Rattle.krb_items.specs.Names.{element_path, field_path}
-use Rattle.krb_items.specs.Shapes.{Field, ItemType, fields_of, item_of, message_of, ticket}
+use Rattle.krb_items.specs.Shapes.{Field, ItemType, fields_of, held_type, item_of, message_of, ticket}
+use Rattle.krb_items.specs.declared.shape.Held.{Held}
 use Rattle.krb_items.specs.declared.shape.Leaf.{Leaf}
 use Rattle.krb_items.specs.declared.shape.Leaf.TheVariants as leaves
 use Rattle.krb_items.specs.declared.shape.Shape.{Shape}
@@ -49,14 +51,22 @@ abbrev pub after_item : Item → Items → Items
 after_item item others = record { items = item ∷ others.items; cut = others.cut }
 
 -- ---- containers
--- what the items that are left of a container have in common: its path, where they begin, and in how many items they are
+-- what the items that are left of a container have in common: its path, where they begin, in how many items they are, and the last number before them in the container
 pub record Here : Type 0 where
   pub name : List ℕ
   pub place : ℕ
   pub depth : ℕ
+  pub number : Option ℤ
 
-abbrev pub here_at : List ℕ → (place depth : ℕ) → Here
-here_at name place depth = record { name = name; place = place; depth = depth }
+abbrev pub here_at : List ℕ → (place depth : ℕ) → Option ℤ → Here
+here_at name place depth number = record { name = name; place = place; depth = depth; number = number }
+
+-- an item at the same place, and what follows so many octets
+abbrev pub named : Here → List ℕ → Here
+named here name = here_at name here.place here.depth here.number
+
+abbrev pub passed : Here → ℕ → Option ℤ → Here
+passed here count number = here_at here.name (here.place + count) here.depth number
 
 -- octets that begin none of the items that may be there
 abbrev pub unknown : Option (List ℕ) → (place depth : ℕ) → List ℕ → Items
@@ -83,11 +93,20 @@ abbrev pub is_counted : Leaf → Bool
 is_counted leaves.Hidden = true
 is_counted _ = false
 
--- an item that holds none
-abbrev pub leaf_items : (limit : ℕ) → List ℕ → Begun → Leaf → List ℕ → Items
-leaf_items limit name begun leaf octets =
-    if nat_lt limit (begun.next + size_of begun.size) then cut_in (Some name) begun (is_counted leaf)
-    else whole (record { name = name; begun = begun; shown = Some (leaf, octets) } ∷ [])
+-- octets that are all of an item, and that item, one deeper
+abbrev pub held_items : (Here → ItemType → List ℕ → Items) → List ℕ → Begun → List ℕ → Held → Items
+held_items item name begun octets held =
+    after_item (record { name = name; begun = begun; shown = Some (leaves.Opened, octets) }) (item (here_at (field_path name (held_name held)) begun.next (begun.depth + 1) None) (held_type held) octets)
+
+abbrev pub opened_items : (Here → ItemType → List ℕ → Items) → List ℕ → Begun → Leaf → List ℕ → Option Held → Items
+opened_items item name begun leaf octets None = whole (record { name = name; begun = begun; shown = Some (leaf, octets) } ∷ [])
+opened_items item name begun leaf octets (Some held) = held_items item name begun octets held
+
+-- An item of a type that holds none. What its octets are is known by the number before them. The function has the items of one item.
+abbrev pub leaf_items : (Here → ItemType → List ℕ → Items) → (limit : ℕ) → Here → Begun → Leaf → List ℕ → Items
+leaf_items item limit here begun leaf octets =
+    if nat_lt limit (begun.next + size_of begun.size) then cut_in (Some here.name) begun (is_counted (leaf_after here.number leaf))
+    else opened_items item here.name begun (leaf_after here.number leaf) octets (opened here.number leaf octets)
 
 abbrev pub container : List ℕ → Begun → Item
 container name begun = record { name = name; begun = begun; shown = None }
@@ -109,8 +128,8 @@ abbrev pub field_items : (Here → ItemType → List ℕ → Items) → Here →
 field_items item here [] room octets = ended here room octets
 field_items item here (field ∷ fields) room octets =
     when (begins_as field.of.tags octets)
-    (λ _. followed_by (item (here_at (field_path here.name field.name) here.place here.depth) field.of octets)
-    (λ _. field_items item (here_at here.name (here.place + count_in octets) here.depth) fields (room - count_in octets) (drop (count_in octets) octets)))
+    (λ _. followed_by (item (named here (field_path here.name field.name)) field.of octets)
+    (λ _. field_items item (passed here (count_in octets) (number_after field.of octets here.number)) fields (room - count_in octets) (drop (count_in octets) octets)))
     (λ _. not_there field here room octets (λ _. field_items item here fields room octets))
 
 -- The items that are left of a SEQUENCE OF, of which so many are before; the first number is a bound on how many there are.
@@ -118,23 +137,23 @@ abbrev pub element_items : (Here → ItemType → List ℕ → Items) → ItemTy
 element_items item of zero index here room octets = ended here room octets
 element_items item of (suc bound) index here room octets =
     when (begins_as of.tags octets)
-    (λ _. followed_by (item (here_at (element_path here.name index) here.place here.depth) of octets)
-    (λ _. element_items item of bound (index + 1) (here_at here.name (here.place + count_in octets) here.depth) (room - count_in octets) (drop (count_in octets) octets)))
+    (λ _. followed_by (item (named here (element_path here.name index)) of octets)
+    (λ _. element_items item of bound (index + 1) (passed here (count_in octets) here.number) (room - count_in octets) (drop (count_in octets) octets)))
     (λ _. ended here room octets)
 
 -- an item whose heads are right, and what is in it
-abbrev pub contents_items : (Here → ItemType → List ℕ → Items) → (limit : ℕ) → List ℕ → Shape → Begun → List ℕ → Items
-contents_items item limit name (shapes.Leaf leaf) begun octets = leaf_items limit name begun leaf octets
-contents_items item limit name (shapes.Sequence sequence) begun octets =
-    after_item (container name begun) (field_items item (here_at name begun.next (begun.depth + 1)) (fields_of sequence) (size_of begun.size) octets)
-contents_items item limit name (shapes.List list) begun octets =
-    after_item (container name begun) (element_items item (item_of list) (length octets) 0 (here_at name begun.next (begun.depth + 1)) (size_of begun.size) octets)
+abbrev pub contents_items : (Here → ItemType → List ℕ → Items) → (limit : ℕ) → Here → Shape → Begun → List ℕ → Items
+contents_items item limit here (shapes.Leaf leaf) begun octets = leaf_items item limit here begun leaf octets
+contents_items item limit here (shapes.Sequence sequence) begun octets =
+    after_item (container here.name begun) (field_items item (here_at here.name begun.next (begun.depth + 1) None) (fields_of sequence) (size_of begun.size) octets)
+contents_items item limit here (shapes.List list) begun octets =
+    after_item (container here.name begun) (element_items item (item_of list) (length octets) 0 (here_at here.name begun.next (begun.depth + 1) None) (size_of begun.size) octets)
 
 -- An item of a type and what is in it. The first number is a bound on how deep items nest.
 abbrev pub item_items : (levels limit : ℕ) → Here → ItemType → List ℕ → Items
 item_items zero limit here of octets = whole []
 item_items (suc levels) limit here of octets =
-    of_headed here.name (headed limit (begun_at here.place here.depth) of.tags octets) (contents_items (item_items levels limit) limit here.name of.shape)
+    of_headed here.name (headed limit (begun_at here.place here.depth) of.tags octets) (contents_items (item_items levels limit) limit here of.shape)
 
 -- how deep the items of a message nest at most
 abbrev pub most_levels : ℕ
@@ -143,7 +162,7 @@ most_levels = 16
 -- a message, of which the first octet is at a place
 abbrev pub of_kind : Option Kind → (limit place depth : ℕ) → List ℕ → Items
 of_kind None limit place depth octets = unknown None place depth octets
-of_kind (Some kind) limit place depth octets = item_items most_levels limit (here_at (kind_name kind) place depth) (message_of kind) octets
+of_kind (Some kind) limit place depth octets = item_items most_levels limit (here_at (kind_name kind) place depth None) (message_of kind) octets
 
 abbrev pub message_items : (limit place depth : ℕ) → List ℕ → Items
 message_items limit place depth [] = unknown None place depth []
@@ -151,7 +170,7 @@ message_items limit place depth (tag ∷ octets) = of_kind (kind_with_tag tag) l
 
 -- a Ticket alone
 abbrev pub ticket_items : (limit : ℕ) → List ℕ → Items
-ticket_items limit octets = item_items most_levels limit (here_at (codes "Ticket") 0 0) ticket octets
+ticket_items limit octets = item_items most_levels limit (here_at (codes "Ticket") 0 0 None) ticket octets
 
 -- ---- frames (RFC 4120, 7.2.2)
 abbrev pub frame_size : List ℕ → Option ℕ

@@ -1,6 +1,7 @@
 pub mod Heads
 pub mod Names
 pub mod Shapes
+pub mod Held
 pub mod Terms
 pub mod Items
 pub mod Records

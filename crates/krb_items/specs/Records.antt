@@ -10,7 +10,7 @@ use Rattle.krb_registry.specs.declared.registry.Registry.{Registry}
 use Rattle.krb_record.specs.Forms.{base_of, match_base, closing, field, heading, labelled}
 use Rattle.krb_record.specs.Origins.{message_origin}
 use Rattle.krb_record.specs.Text.{hex, joined, line_feed, list_text}
-use Rattle.krb_record.specs.Values.{Value, Absent, ErrorCode, Flags, Hex, Named, Number, Quoted, Reason, String, if_there}
+use Rattle.krb_record.specs.Values.{Value, Absent, ErrorCode, Flags, Hex, Named, Number, Quoted, Reason, String, YesNo, if_there}
 use Rattle.krb_record.specs.declared.form.Form.{Form}
 use Rattle.krb_items.specs.Heads.{Begun, size_of}
 use Rattle.krb_items.specs.Items.{Item, Items, Part, is_counted}
@@ -27,6 +27,7 @@ use Rattle.krb_items.specs.declared.tag.Tag.TheVariants as tags
 unfoldable pub type_word : Tag → List ℕ
 type_word (tags.Context index) = codes "["
 type_word (tags.Application number) = codes "[APPLICATION-"
+type_word tags.Boolean = codes "BOOLEAN"
 type_word tags.Integer = codes "INTEGER"
 type_word tags.BitString = codes "BIT-STRING"
 type_word tags.OctetString = codes "OCTET-STRING"
@@ -118,6 +119,11 @@ abbrev pub flags_in : Registry → List ℕ → Value
 flags_in registry [] = Absent
 flags_in registry (unused ∷ octets) = Flags registry (unused, octets)
 
+-- contents of a BOOLEAN (X.690, 8.2)
+abbrev pub truth_in : List ℕ → Value
+truth_in [] = Absent
+truth_in (octet ∷ octets) = YesNo (nat_lt 0 octet)
+
 abbrev pub leaf_value : Leaf → List ℕ → Value
 leaf_value leaves.Number octets = integer_in leaves.Number octets
 leaf_value (leaves.Numbered registry) octets = integer_in (leaves.Numbered registry) octets
@@ -126,7 +132,10 @@ leaf_value (leaves.Flags registry) octets = flags_in registry octets
 leaf_value leaves.Text octets = Quoted octets
 leaf_value leaves.Time octets = String octets
 leaf_value leaves.Octets octets = Hex octets
+leaf_value leaves.Truth octets = truth_in octets
 leaf_value leaves.Hidden octets = Number (pos (length octets))
+leaf_value leaves.Opened octets = Number (pos (length octets))
+leaf_value (leaves.Holder holder) octets = Number (pos (length octets))
 
 abbrev pub item_value : Option (Leaf × List ℕ) → Value
 item_value None = Absent

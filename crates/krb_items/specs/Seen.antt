@@ -35,7 +35,7 @@ pub record IsNear (begun : BegunOfCode) : Type 0 where
   pub size : IfSome begun.size (λ size. size < 2 ^ 40)
 
 abbrev pub here_of : HereOfCode → Here
-here_of here = record { name = here.name.now; place = here.place; depth = here.depth }
+here_of here = record { name = here.name.now; place = here.place; depth = here.depth; number = here.number }
 
 abbrev pub cut_of : Option (List ℕ) → BegunOfCode → Bool → Items
 cut_of name begun counted = cut_in name (begun_of begun) counted

@@ -1,4 +1,4 @@
--- What is in the items of messages by type: a line of a SEQUENCE is a line of RFC 4120, appendix A, with what is shown of the field.
+-- What is in the items of messages by type: a line of a SEQUENCE is a line of RFC 4120, appendix A, or of the document of pre-authentication data, with what is shown of the field. asn1/generate wrote this from asn1/krb5.asn1 and asn1/padata.asn1
 use Rattle.std.specs.Prelude.{ℕ, Bool, true, false, List, [], ◌∷◌, codes}
 use Prim.Native.String.{String}
 use Rattle.krb_msg.specs.declared.message.Kind.{Kind}
@@ -7,6 +7,10 @@ use Rattle.krb_registry.specs.declared.registry.Registry.{Registry}
 use Rattle.krb_registry.specs.declared.registry.Registry.TheVariants as registries
 use Rattle.krb_items.specs.declared.tag.Tag.{Tag}
 use Rattle.krb_items.specs.declared.tag.Tag.TheVariants as tags
+use Rattle.krb_items.specs.declared.shape.Held.{Held}
+use Rattle.krb_items.specs.declared.shape.Held.TheVariants as helds
+use Rattle.krb_items.specs.declared.shape.Holder.{Holder}
+use Rattle.krb_items.specs.declared.shape.Holder.TheVariants as holders
 use Rattle.krb_items.specs.declared.shape.Leaf.{Leaf}
 use Rattle.krb_items.specs.declared.shape.Leaf.TheVariants as leaves
 use Rattle.krb_items.specs.declared.shape.Sequence.{Sequence}
@@ -56,8 +60,14 @@ octets leaf = leaf_of tags.OctetString leaf
 abbrev pub flags : Registry → ItemType
 flags registry = leaf_of tags.BitString (leaves.Flags registry)
 
+abbrev pub holder : Holder → ItemType
+holder what = octets (leaves.Holder what)
+
 abbrev pub text : ItemType
 text = leaf_of tags.GeneralString leaves.Text
+
+abbrev pub truth : ItemType
+truth = leaf_of tags.Boolean leaves.Truth
 
 abbrev pub time : ItemType
 time = leaf_of tags.GeneralizedTime leaves.Time
@@ -76,21 +86,31 @@ ticket = application 1 sequences.Ticket
 
 -- ---- the fields of each SEQUENCE
 abbrev pub fields_of : Sequence → List Field
+-- RFC 4120, 5.2
 fields_of sequences.PrincipalName = field 0 "name-type" (number (leaves.Numbered registries.NameTypes)) ∷ field 1 "name-string" (list_type lists.Strings) ∷ []
 fields_of sequences.HostAddress = field 0 "addr-type" (number (leaves.Numbered registries.AddressTypes)) ∷ field 1 "address" (octets leaves.Octets) ∷ []
-fields_of sequences.PaData = field 1 "padata-type" (number (leaves.Numbered registries.PreAuthenticationData)) ∷ field 2 "padata-value" (octets leaves.Hidden) ∷ []
+fields_of sequences.RequestPaData =
+    field 1 "padata-type" (number (leaves.Numbered registries.PreAuthenticationData))
+    ∷ field 2 "padata-value" (holder holders.RequestPadata)
+    ∷ []
+fields_of sequences.PaData =
+    field 1 "padata-type" (number (leaves.Numbered registries.PreAuthenticationData))
+    ∷ field 2 "padata-value" (holder holders.Padata)
+    ∷ []
 fields_of sequences.EncryptedData =
     field 0 "etype" (number (leaves.Numbered registries.EncryptionTypes))
     ∷ optional 1 "kvno" (number leaves.Number)
     ∷ field 2 "cipher" (octets leaves.Hidden)
     ∷ []
 fields_of sequences.Checksum = field 0 "cksumtype" (number (leaves.Numbered registries.ChecksumTypes)) ∷ field 1 "checksum" (octets leaves.Hidden) ∷ []
+-- RFC 4120, 5.3
 fields_of sequences.Ticket =
     field 0 "tkt-vno" (number leaves.Number)
     ∷ field 1 "realm" text
     ∷ field 2 "sname" (sequence_type sequences.PrincipalName)
     ∷ field 3 "enc-part" (sequence_type sequences.EncryptedData)
     ∷ []
+-- RFC 4120, 5.4.1
 fields_of sequences.KdcReqBody =
     field 0 "kdc-options" (flags registries.KdcOptions)
     ∷ optional 1 "cname" (sequence_type sequences.PrincipalName)
@@ -108,9 +128,10 @@ fields_of sequences.KdcReqBody =
 fields_of sequences.KdcReq =
     field 1 "pvno" (number leaves.Number)
     ∷ field 2 "msg-type" (number leaves.Number)
-    ∷ optional 3 "padata" (list_type lists.PaDatas)
+    ∷ optional 3 "padata" (list_type lists.RequestPaDatas)
     ∷ field 4 "req-body" (sequence_type sequences.KdcReqBody)
     ∷ []
+-- RFC 4120, 5.4.2
 fields_of sequences.KdcRep =
     field 0 "pvno" (number leaves.Number)
     ∷ field 1 "msg-type" (number leaves.Number)
@@ -120,6 +141,7 @@ fields_of sequences.KdcRep =
     ∷ field 5 "ticket" ticket
     ∷ field 6 "enc-part" (sequence_type sequences.EncryptedData)
     ∷ []
+-- RFC 4120, 5.5
 fields_of sequences.ApReq =
     field 0 "pvno" (number leaves.Number)
     ∷ field 1 "msg-type" (number leaves.Number)
@@ -132,6 +154,7 @@ fields_of sequences.ApRep =
     ∷ field 1 "msg-type" (number leaves.Number)
     ∷ field 2 "enc-part" (sequence_type sequences.EncryptedData)
     ∷ []
+-- RFC 4120, 5.6.1
 fields_of sequences.KrbSafeBody =
     field 0 "user-data" (octets leaves.Hidden)
     ∷ optional 1 "timestamp" time
@@ -146,17 +169,20 @@ fields_of sequences.KrbSafe =
     ∷ field 2 "safe-body" (sequence_type sequences.KrbSafeBody)
     ∷ field 3 "cksum" (sequence_type sequences.Checksum)
     ∷ []
+-- RFC 4120, 5.7.1
 fields_of sequences.KrbPriv =
     field 0 "pvno" (number leaves.Number)
     ∷ field 1 "msg-type" (number leaves.Number)
     ∷ field 3 "enc-part" (sequence_type sequences.EncryptedData)
     ∷ []
+-- RFC 4120, 5.8.1
 fields_of sequences.KrbCred =
     field 0 "pvno" (number leaves.Number)
     ∷ field 1 "msg-type" (number leaves.Number)
     ∷ field 2 "tickets" (list_type lists.Tickets)
     ∷ field 3 "enc-part" (sequence_type sequences.EncryptedData)
     ∷ []
+-- RFC 4120, 5.9.1
 fields_of sequences.KrbError =
     field 0 "pvno" (number leaves.Number)
     ∷ field 1 "msg-type" (number leaves.Number)
@@ -170,16 +196,48 @@ fields_of sequences.KrbError =
     ∷ field 9 "realm" text
     ∷ field 10 "sname" (sequence_type sequences.PrincipalName)
     ∷ optional 11 "e-text" text
-    ∷ optional 12 "e-data" (octets leaves.Hidden)
+    ∷ optional 12 "e-data" (holder holders.ErrorData)
     ∷ []
+-- RFC 4120, 5.2.7.4
+fields_of sequences.EtypeInfoEntry = field 0 "etype" (number (leaves.Numbered registries.EncryptionTypes)) ∷ optional 1 "salt" (octets leaves.Text) ∷ []
+-- RFC 4120, 5.2.7.5
+fields_of sequences.EtypeInfo2Entry =
+    field 0 "etype" (number (leaves.Numbered registries.EncryptionTypes))
+    ∷ optional 1 "salt" text
+    ∷ optional 2 "s2kparams" (octets leaves.Octets)
+    ∷ []
+-- RFC 6113, 5.4.1
+fields_of sequences.KrbFastArmor = field 0 "armor-type" (number leaves.Number) ∷ field 1 "armor-value" (holder holders.Armor) ∷ []
+-- RFC 6113, 5.4.2
+fields_of sequences.KrbFastArmoredReq =
+    optional 0 "armor" (sequence_type sequences.KrbFastArmor)
+    ∷ field 1 "req-checksum" (sequence_type sequences.Checksum)
+    ∷ field 2 "enc-fast-req" (sequence_type sequences.EncryptedData)
+    ∷ []
+-- RFC 6113, 5.4.3
+fields_of sequences.KrbFastArmoredRep = field 0 "enc-fast-rep" (sequence_type sequences.EncryptedData) ∷ []
+-- MS-SFU, 2.2.1
+fields_of sequences.PaForUser =
+    field 0 "userName" (sequence_type sequences.PrincipalName)
+    ∷ field 1 "userRealm" text
+    ∷ field 2 "cksum" (sequence_type sequences.Checksum)
+    ∷ field 3 "auth-package" text
+    ∷ []
+-- MS-KILE, 2.2.10
+fields_of sequences.PaPacOptions = field 0 "flags" (flags registries.PacOptions) ∷ []
+-- MS-KILE, 2.2.3
+fields_of sequences.PacRequest = field 0 "include-pac" truth ∷ []
 
 -- the items of each SEQUENCE OF
 abbrev pub item_of : Items → ItemType
 item_of lists.Strings = text
 item_of lists.EncryptionTypes = number (leaves.Numbered registries.EncryptionTypes)
 item_of lists.HostAddresses = sequence_type sequences.HostAddress
-item_of lists.PaDatas = sequence_type sequences.PaData
 item_of lists.Tickets = ticket
+item_of lists.RequestPaDatas = sequence_type sequences.RequestPaData
+item_of lists.PaDatas = sequence_type sequences.PaData
+item_of lists.EtypeInfo = sequence_type sequences.EtypeInfoEntry
+item_of lists.EtypeInfo2 = sequence_type sequences.EtypeInfo2Entry
 
 -- the messages of a kind
 abbrev pub message_of : Kind → ItemType
@@ -193,3 +251,19 @@ message_of kinds.KrbSafe = application 20 sequences.KrbSafe
 message_of kinds.KrbPriv = application 21 sequences.KrbPriv
 message_of kinds.KrbCred = application 22 sequences.KrbCred
 message_of kinds.KrbError = application 30 sequences.KrbError
+
+-- what OCTET STRINGs hold; a salt holds no items
+abbrev pub held_type : Held → ItemType
+held_type helds.TgsReq = message_of kinds.ApReq
+held_type helds.EncTimestamp = sequence_type sequences.EncryptedData
+held_type helds.Salt = octets leaves.Text
+held_type helds.EtypeInfo = list_type lists.EtypeInfo
+held_type helds.EtypeInfo2 = list_type lists.EtypeInfo2
+held_type helds.PacRequest = sequence_type sequences.PacRequest
+held_type helds.ForUser = sequence_type sequences.PaForUser
+held_type helds.FastRequest = in_tag 0 (sequence_type sequences.KrbFastArmoredReq)
+held_type helds.FastReply = in_tag 0 (sequence_type sequences.KrbFastArmoredRep)
+held_type helds.EncryptedChallenge = sequence_type sequences.EncryptedData
+held_type helds.PacOptions = sequence_type sequences.PaPacOptions
+held_type helds.MethodData = list_type lists.PaDatas
+held_type helds.ApReq = message_of kinds.ApReq

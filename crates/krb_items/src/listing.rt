@@ -232,7 +232,14 @@ fn put_value(
         Leaf::Text => put_field!(text, form, "value": &QuotedText(contents)),
         Leaf::Time => put_field!(text, form, "value": &Text(contents)),
         Leaf::Octets => put_field!(text, form, "value": &HexText(contents)),
-        Leaf::Hidden => put_field!(text, form, "value": &(contents.len() as u64)),
+        Leaf::Truth => {
+            let [octet, ..] = contents else {
+                return put_field!(text, form, "value": &ABSENT);
+            };
+            put_field!(text, form, "value": &(*octet > 0))
+        }
+        Leaf::Hidden | Leaf::Opened | Leaf::Holder(_) =>
+            put_field!(text, form, "value": &(contents.len() as u64)),
     }
 }
 

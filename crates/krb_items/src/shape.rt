@@ -1,12 +1,14 @@
-//! What is in the items of messages, with the names of fields (RFC 4120, appendix A).
+//! What is in the items of messages and of pre-authentication data in the clear, with the names of
+//! fields (RFC 4120, appendix A, 5.2.7 and 5.9.1; RFC 6113, 5.4; MS-SFU, 2.2.1; MS-KILE, 2.2.3 and
+//! 2.2.10). `asn1/generate` wrote this from `asn1/krb5.asn1` and `asn1/padata.asn1`.
 
 ghost use Rattle.std.specs.Prelude.{◌≡◌, ◌≤◌, length, map};
 ghost use Rattle.krb_judge.specs.FieldNames.{names_of_kind};
 ghost use Rattle.krb_judge.specs.declared.locating.names.Names.TheVariants.{Ticket};
 ghost use Rattle.krb_msg.specs.Grammar.{ticket as ticket_term};
 ghost use Rattle.krb_msg.specs.Views.{kind_term};
-ghost use Rattle.krb_items.specs.Shapes.{field_of, fields_of, item_of, message_of, sequence_type, ticket, type_of};
-ghost use Rattle.krb_items.specs.Terms.{IsOf};
+ghost use Rattle.krb_items.specs.Shapes.{field_of, fields_of, held_type, in_tag, item_of, list_type, message_of, sequence_type, ticket, type_of};
+ghost use Rattle.krb_items.specs.Terms.{IsOf, IsOfHeld};
 
 use crate::tag::Tag;
 use krb_msg::Kind;
@@ -29,8 +31,58 @@ pub enum Leaf {
     Time,
     /// Octets that are shown.
     Octets,
+    /// Whether something holds.
+    Truth,
     /// Octets that are counted.
     Hidden,
+    /// Octets that are counted, and followed by what they hold.
+    Opened,
+    /// Octets of which the number before them says what they hold.
+    Holder(Holder),
+}
+
+/// An OCTET STRING of which the number before it says what it holds.
+#[derive(Clone, Copy)]
+pub enum Holder {
+    /// The padata-value of a request.
+    RequestPadata,
+    /// The padata-value of a reply or an error.
+    Padata,
+    /// The e-data of an error.
+    ErrorData,
+    /// The armor-value of a request.
+    Armor,
+}
+
+/// What an OCTET STRING holds.
+#[derive(Clone, Copy)]
+pub enum Held {
+    /// PA-TGS-REQ, an AP-REQ.
+    TgsReq,
+    /// PA-ENC-TIMESTAMP.
+    EncTimestamp,
+    /// PA-PW-SALT, which is no item.
+    Salt,
+    /// PA-ETYPE-INFO.
+    EtypeInfo,
+    /// PA-ETYPE-INFO2.
+    EtypeInfo2,
+    /// PA-PAC-REQUEST.
+    PacRequest,
+    /// PA-FOR-USER.
+    ForUser,
+    /// PA-FX-FAST of a request.
+    FastRequest,
+    /// PA-FX-FAST of a reply or an error.
+    FastReply,
+    /// PA-ENCRYPTED-CHALLENGE.
+    EncryptedChallenge,
+    /// PA-PAC-OPTIONS.
+    PacOptions,
+    /// METHOD-DATA of an error.
+    MethodData,
+    /// An armor that is an AP-REQ.
+    ApReq,
 }
 
 /// A SEQUENCE.
@@ -38,6 +90,7 @@ pub enum Leaf {
 pub enum Sequence {
     PrincipalName,
     HostAddress,
+    RequestPaData,
     PaData,
     EncryptedData,
     Checksum,
@@ -52,6 +105,14 @@ pub enum Sequence {
     KrbPriv,
     KrbCred,
     KrbError,
+    EtypeInfoEntry,
+    EtypeInfo2Entry,
+    KrbFastArmor,
+    KrbFastArmoredReq,
+    KrbFastArmoredRep,
+    PaForUser,
+    PaPacOptions,
+    PacRequest,
 }
 
 /// A SEQUENCE OF.
@@ -60,8 +121,11 @@ pub enum List {
     Strings,
     EncryptionTypes,
     HostAddresses,
-    PaDatas,
     Tickets,
+    RequestPaDatas,
+    PaDatas,
+    EtypeInfo,
+    EtypeInfo2,
 }
 
 /// What is in an item.
@@ -104,6 +168,12 @@ macro_rules! field {
     ($required:literal $index:literal $name:literal octets $leaf:expr) => {
         field!($required $index $name [Tag::OctetString] Shape::Leaf($leaf))
     };
+    ($required:literal $index:literal $name:literal holder $holder:expr) => {
+        field!($required $index $name [Tag::OctetString] Shape::Leaf(Leaf::Holder($holder)))
+    };
+    ($required:literal $index:literal $name:literal truth) => {
+        field!($required $index $name [Tag::Boolean] Shape::Leaf(Leaf::Truth))
+    };
     ($required:literal $index:literal $name:literal flags $registry:expr) => {
         field!($required $index $name [Tag::BitString] Shape::Leaf(Leaf::Flags($registry)))
     };
@@ -138,9 +208,14 @@ static HOST_ADDRESS: [Field; 2] = fields![
     (true 1 "address" octets Leaf::Octets),
 ];
 
+static REQUEST_PA_DATA: [Field; 2] = fields![
+    (true 1 "padata-type" number Leaf::Numbered(Registry::PreAuthenticationData)),
+    (true 2 "padata-value" holder Holder::RequestPadata),
+];
+
 static PA_DATA: [Field; 2] = fields![
     (true 1 "padata-type" number Leaf::Numbered(Registry::PreAuthenticationData)),
-    (true 2 "padata-value" octets Leaf::Hidden),
+    (true 2 "padata-value" holder Holder::Padata),
 ];
 
 static ENCRYPTED_DATA: [Field; 3] = fields![
@@ -179,7 +254,7 @@ static KDC_REQ_BODY: [Field; 12] = fields![
 static KDC_REQ: [Field; 4] = fields![
     (true 1 "pvno" number Leaf::Number),
     (true 2 "msg-type" number Leaf::Number),
-    (false 3 "padata" list List::PaDatas),
+    (false 3 "padata" list List::RequestPaDatas),
     (true 4 "req-body" sequence Sequence::KdcReqBody),
 ];
 
@@ -249,7 +324,48 @@ static KRB_ERROR: [Field; 13] = fields![
     (true 9 "realm" text),
     (true 10 "sname" sequence Sequence::PrincipalName),
     (false 11 "e-text" text),
-    (false 12 "e-data" octets Leaf::Hidden),
+    (false 12 "e-data" holder Holder::ErrorData),
+];
+
+static ETYPE_INFO_ENTRY: [Field; 2] = fields![
+    (true 0 "etype" number Leaf::Numbered(Registry::EncryptionTypes)),
+    (false 1 "salt" octets Leaf::Text),
+];
+
+static ETYPE_INFO2_ENTRY: [Field; 3] = fields![
+    (true 0 "etype" number Leaf::Numbered(Registry::EncryptionTypes)),
+    (false 1 "salt" text),
+    (false 2 "s2kparams" octets Leaf::Octets),
+];
+
+static KRB_FAST_ARMOR: [Field; 2] = fields![
+    (true 0 "armor-type" number Leaf::Number),
+    (true 1 "armor-value" holder Holder::Armor),
+];
+
+static KRB_FAST_ARMORED_REQ: [Field; 3] = fields![
+    (false 0 "armor" sequence Sequence::KrbFastArmor),
+    (true 1 "req-checksum" sequence Sequence::Checksum),
+    (true 2 "enc-fast-req" sequence Sequence::EncryptedData),
+];
+
+static KRB_FAST_ARMORED_REP: [Field; 1] = fields![
+    (true 0 "enc-fast-rep" sequence Sequence::EncryptedData),
+];
+
+static PA_FOR_USER: [Field; 4] = fields![
+    (true 0 "userName" sequence Sequence::PrincipalName),
+    (true 1 "userRealm" text),
+    (true 2 "cksum" sequence Sequence::Checksum),
+    (true 3 "auth-package" text),
+];
+
+static PA_PAC_OPTIONS: [Field; 1] = fields![
+    (true 0 "flags" flags Registry::PacOptions),
+];
+
+static PAC_REQUEST: [Field; 1] = fields![
+    (true 0 "include-pac" truth),
 ];
 
 impl Sequence {
@@ -261,6 +377,7 @@ impl Sequence {
         match self {
             Sequence::PrincipalName => &PRINCIPAL_NAME,
             Sequence::HostAddress => &HOST_ADDRESS,
+            Sequence::RequestPaData => &REQUEST_PA_DATA,
             Sequence::PaData => &PA_DATA,
             Sequence::EncryptedData => &ENCRYPTED_DATA,
             Sequence::Checksum => &CHECKSUM,
@@ -275,6 +392,14 @@ impl Sequence {
             Sequence::KrbPriv => &KRB_PRIV,
             Sequence::KrbCred => &KRB_CRED,
             Sequence::KrbError => &KRB_ERROR,
+            Sequence::EtypeInfoEntry => &ETYPE_INFO_ENTRY,
+            Sequence::EtypeInfo2Entry => &ETYPE_INFO2_ENTRY,
+            Sequence::KrbFastArmor => &KRB_FAST_ARMOR,
+            Sequence::KrbFastArmoredReq => &KRB_FAST_ARMORED_REQ,
+            Sequence::KrbFastArmoredRep => &KRB_FAST_ARMORED_REP,
+            Sequence::PaForUser => &PA_FOR_USER,
+            Sequence::PaPacOptions => &PA_PAC_OPTIONS,
+            Sequence::PacRequest => &PAC_REQUEST,
         }
     }
 }
@@ -294,8 +419,11 @@ impl List {
                 shape: Shape::Leaf(Leaf::Numbered(Registry::EncryptionTypes)),
             },
             List::HostAddresses => of_sequence(Sequence::HostAddress),
-            List::PaDatas => of_sequence(Sequence::PaData),
             List::Tickets => ticket_type(),
+            List::RequestPaDatas => of_sequence(Sequence::RequestPaData),
+            List::PaDatas => of_sequence(Sequence::PaData),
+            List::EtypeInfo => of_sequence(Sequence::EtypeInfoEntry),
+            List::EtypeInfo2 => of_sequence(Sequence::EtypeInfo2Entry),
         }
     }
 }
@@ -346,5 +474,51 @@ pub(crate) fn message_type(kind: Kind) -> ItemType
         Kind::KrbPriv => message!(21 KrbPriv),
         Kind::KrbCred => message!(22 KrbCred),
         Kind::KrbError => message!(30 KrbError),
+    }
+}
+
+/// Returns the type of a SEQUENCE OF by itself.
+fn of_list(of: List) -> ItemType
+    ensures { type_of result ≡ list_type of }
+{
+    ItemType {
+        tags: &[Tag::SequenceOf],
+        shape: Shape::List(of),
+    }
+}
+
+/// Returns the type of a SEQUENCE in the explicit tag `[0]`.
+fn in_first_tag(of: Sequence) -> ItemType
+    ensures { type_of result ≡ in_tag 0 (sequence_type of) }
+{
+    ItemType {
+        tags: &[Tag::Context(0), Tag::Sequence],
+        shape: Shape::Sequence(of),
+    }
+}
+
+impl Held {
+    /// Returns the type of its items.
+    pub(crate) fn item(self) -> ItemType
+        ensures held { type_of result ≡ held_type self }
+        ensures grammar { IsOfHeld self (type_of result) }
+    {
+        match self {
+            Held::TgsReq | Held::ApReq => message_type(Kind::ApReq),
+            Held::EncTimestamp => of_sequence(Sequence::EncryptedData),
+            Held::Salt => ItemType {
+                tags: &[Tag::OctetString],
+                shape: Shape::Leaf(Leaf::Text),
+            },
+            Held::EtypeInfo => of_list(List::EtypeInfo),
+            Held::EtypeInfo2 => of_list(List::EtypeInfo2),
+            Held::PacRequest => of_sequence(Sequence::PacRequest),
+            Held::ForUser => of_sequence(Sequence::PaForUser),
+            Held::FastRequest => in_first_tag(Sequence::KrbFastArmoredReq),
+            Held::FastReply => in_first_tag(Sequence::KrbFastArmoredRep),
+            Held::EncryptedChallenge => of_sequence(Sequence::EncryptedData),
+            Held::PacOptions => of_sequence(Sequence::PaPacOptions),
+            Held::MethodData => of_list(List::PaDatas),
+        }
     }
 }

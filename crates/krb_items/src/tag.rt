@@ -10,6 +10,8 @@ pub enum Tag {
     Context(u8),
     /// An explicit tag `[APPLICATION a]`.
     Application(u8),
+    /// A BOOLEAN.
+    Boolean,
     /// An INTEGER.
     Integer,
     /// A BIT STRING.
@@ -36,6 +38,7 @@ impl Tag {
         match self {
             Tag::Context(index) => 0xA0 + index % 32,
             Tag::Application(number) => 0x60 + number % 32,
+            Tag::Boolean => 0x01,
             Tag::Integer => 0x02,
             Tag::BitString => 0x03,
             Tag::OctetString => 0x04,

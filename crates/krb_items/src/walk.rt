@@ -3,7 +3,7 @@
 ghost use Rattle.std.specs.Prelude.{◌≡◌, ◌+◌, ◌-◌, ◌^◌, ◌<◌, ◌≤◌, Some, drop, length, map, IfOk, string_bytes};
 ghost use Rattle.std.specs.Option.{option_copied};
 ghost use Rattle.krb_items.specs.Heads.{count_in};
-ghost use Rattle.krb_items.specs.Items.{begins_as, contents_items, element_items, ended, field_items, here_at, item_items, leaf_items, message_items, missing, most_levels, ticket_items, unknown};
+ghost use Rattle.krb_items.specs.Items.{begins_as, contents_items, element_items, ended, field_items, held_items, here_at, item_items, leaf_items, message_items, missing, most_levels, named, passed, ticket_items, unknown};
 ghost use Rattle.krb_items.specs.Names.{element_path, field_path};
 ghost use Rattle.krb_items.specs.Records.{Lists};
 ghost use Rattle.krb_items.specs.Seen.{IsNear, begun_of, context_of, cut_of, here_of};
@@ -11,8 +11,9 @@ ghost use Rattle.krb_items.specs.Shapes.{field_of, type_of};
 
 use crate::begun::Begun;
 use crate::head::{begins, count_of, from};
+use crate::held::number_after;
 use crate::listing::{End, Item, Listed, Source};
-use crate::shape::{Field, ItemType, Leaf, Shape, message_type, ticket_type};
+use crate::shape::{Field, Held, ItemType, Leaf, Shape, message_type, ticket_type};
 use crate::tag::Tag;
 use itoa::Buffer;
 use krb_msg::Kind;
@@ -30,6 +31,8 @@ pub struct Here<'n> {
     pub place: u64,
     /// In how many items they are.
     pub depth: u64,
+    /// The last number before them in the container.
+    pub number: Option<i64>,
 }
 
 /// What is left of a container.
@@ -95,24 +98,63 @@ impl<'a> Source<'a> {
         self.cut(out, Some(path.as_str()), &begun, false)
     }
 
-    /// Lists an item that holds none.
+    /// Lists an item of a type that holds none, and what its octets are all of.
+    #[cycle(items)]
     fn leaf(
         self,
         out: &mut Listed,
-        name: &str,
+        levels: u8,
+        here: Here<'_>,
         begun: &Begun<'a>,
         leaf: Leaf,
         octets: &'a [u8],
     ) -> Result<End, AllocError>
-        requires { IsNear begun.now }
-        ensures { IfOk result (Lists (context_of self.entry) (leaf_items self.entry.limit name.now (begun_of begun.now) leaf octets.now) out.old out.new) }
+        requires begun { IsNear begun.now }
+        requires near { begun.now.next + length octets.now < 2 ^ 40 }
+        requires shallow { begun.now.depth + levels + 1 < 2 ^ 32 }
+        ensures { IfOk result (Lists (context_of self.entry) (leaf_items (item_items levels self.entry.limit) self.entry.limit (here_of here.entry) (begun_of begun.now) leaf octets.now) out.old out.new) }
     {
+        let seen = leaf.after(here.number);
         if begun.next + begun.count() > self.limit {
-            return self.cut(out, Some(name), begun, leaf.is_counted());
+            return self.cut(out, Some(here.name), begun, seen.is_counted());
         }
-        let shown = Some((leaf, octets));
+        match leaf.opened(here.number, octets) {
+            None => {
+                let name = here.name;
+                let shown = Some((seen, octets));
+                self.list(out, Item { name, begun, shown })?;
+                Ok(End::Whole)
+            }
+            Some(held) => self.opened(out, levels, here.name, begun, held, octets),
+        }
+    }
+
+    /// Lists an OCTET STRING, and what it holds.
+    #[cycle(items)]
+    fn opened(
+        self,
+        out: &mut Listed,
+        levels: u8,
+        name: &str,
+        begun: &Begun<'a>,
+        held: Held,
+        octets: &'a [u8],
+    ) -> Result<End, AllocError>
+        requires begun { IsNear begun.now }
+        requires near { begun.now.next + length octets.now < 2 ^ 40 }
+        requires shallow { begun.now.depth + levels + 1 < 2 ^ 32 }
+        ensures { IfOk result (Lists (context_of self.entry) (held_items (item_items levels self.entry.limit) name.now (begun_of begun.now) octets.now held) out.old out.new) }
+    {
+        let path = field_name(self.alloc, name, held.name())?;
+        let shown = Some((Leaf::Opened, octets));
         self.list(out, Item { name, begun, shown })?;
-        Ok(End::Whole)
+        let here = Here {
+            name: path.as_str(),
+            place: begun.next,
+            depth: begun.depth + 1,
+            number: None,
+        };
+        self.item(out, levels, here, held.item(), octets)
     }
 
     /// Lists an item of a type and what is in it.
@@ -135,9 +177,7 @@ impl<'a> Source<'a> {
         let mut begun = Begun::new(self.alloc, here.place, here.depth);
         match begun.read(self.limit, of.tags, octets)? {
             None => self.cut(out, Some(here.name), &begun, false),
-            Some(contents) => {
-                self.contents(out, levels - 1, here.name, of.shape, &begun, contents)
-            }
+            Some(contents) => { self.contents(out, levels - 1, here, of.shape, &begun, contents) }
         }
     }
 
@@ -147,7 +187,7 @@ impl<'a> Source<'a> {
         self,
         out: &mut Listed,
         levels: u8,
-        name: &str,
+        own: Here<'_>,
         shape: Shape,
         begun: &Begun<'a>,
         octets: &'a [u8],
@@ -155,12 +195,14 @@ impl<'a> Source<'a> {
         requires begun { IsNear begun.now }
         requires near { begun.now.next + length octets.now < 2 ^ 40 }
         requires shallow { begun.now.depth + levels + 1 < 2 ^ 32 }
-        ensures { IfOk result (Lists (context_of self.entry) (contents_items (item_items levels self.entry.limit) self.entry.limit name.now shape (begun_of begun.now) octets.now) out.old out.new) }
+        ensures { IfOk result (Lists (context_of self.entry) (contents_items (item_items levels self.entry.limit) self.entry.limit (here_of own.entry) shape (begun_of begun.now) octets.now) out.old out.new) }
     {
+        let name = own.name;
         let here = Here {
             name,
             place: begun.next,
             depth: begun.depth + 1,
+            number: None,
         };
         let rest = Rest {
             room: begun.count(),
@@ -172,7 +214,7 @@ impl<'a> Source<'a> {
             shown: None,
         };
         match shape {
-            Shape::Leaf(leaf) => self.leaf(out, name, begun, leaf, octets),
+            Shape::Leaf(leaf) => self.leaf(out, levels, own, begun, leaf, octets),
             Shape::Sequence(sequence) => {
                 self.list(out, container)?;
                 self.fields(out, levels, here, sequence.fields(), rest)
@@ -208,7 +250,9 @@ impl<'a> Source<'a> {
                 End::Cut => Ok(End::Cut),
                 End::Whole => {
                     let count = count_of(rest.octets);
-                    self.fields(out, levels, here.after(count), others, rest.after(count))
+                    let number = number_after(field.of, rest.octets, here.number);
+                    let next = here.after(count, number);
+                    self.fields(out, levels, next, others, rest.after(count))
                 }
             };
         }
@@ -251,7 +295,7 @@ impl<'a> Source<'a> {
                 return Ok(End::Cut);
             };
             let count = count_of(rest.octets);
-            next = next.after(count);
+            next = next.after(count, next.number);
             rest = rest.after(count);
             index += 1;
         }
@@ -280,6 +324,7 @@ impl<'a> Source<'a> {
             name: kind.name(),
             place,
             depth,
+            number: None,
         };
         self.item(out, LEVELS, here, message_type(kind), octets)
     }
@@ -293,6 +338,7 @@ impl<'a> Source<'a> {
             name: "Ticket",
             place: 0,
             depth: 0,
+            number: None,
         };
         self.item(out, LEVELS, here, ticket_type(), octets)
     }
@@ -301,24 +347,26 @@ impl<'a> Source<'a> {
 impl<'n> Here<'n> {
     /// Returns the same with the path of an item.
     fn named<'p>(self, name: &'p str) -> Here<'p>
-        ensures { here_of result ≡ here_at name.entry.now self.entry.place self.entry.depth }
+        ensures { here_of result ≡ named (here_of self.entry) name.entry.now }
     {
         Here {
             name,
             place: self.place,
             depth: self.depth,
+            number: self.number,
         }
     }
 
-    /// Returns what follows so many octets.
-    fn after(self, count: u64) -> Here<'n>
+    /// Returns what follows so many octets, after a number.
+    fn after(self, count: u64, number: Option<i64>) -> Here<'n>
         requires { self.place + count < 2 ^ 40 }
-        ensures { here_of result ≡ here_at self.entry.name.now (self.entry.place + count) self.entry.depth }
+        ensures { here_of result ≡ passed (here_of self.entry) count number }
     {
         Here {
             name: self.name,
             place: self.place + count,
             depth: self.depth,
+            number,
         }
     }
 }

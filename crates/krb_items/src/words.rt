@@ -49,6 +49,7 @@ fn type_word(tag: Tag) -> &'static str
     match tag {
         Tag::Context(_) => "[",
         Tag::Application(_) => "[APPLICATION-",
+        Tag::Boolean => "BOOLEAN",
         Tag::Integer => "INTEGER",
         Tag::BitString => "BIT-STRING",
         Tag::OctetString => "OCTET-STRING",

@@ -1,17 +1,18 @@
 """Where each item of a message is in its octets: the records of `krbls items`.
 
 A walk judges octets as `judging` does, and keeps each item once it is right: what holds others once its last length octet is, all
-else once its last octet is. An item and the explicit tags that it stands in are one. What is inside of an OCTET STRING is not
-gone into, and of a token only the message in it has items.
+else once its last octet is. An item and the explicit tags that it stands in are one. An OCTET STRING that is all of what it
+should hold is opened: the items of that follow it. Of a token only the message in it has items.
 """
 
 from dataclasses import dataclass, field
 
-from .grammar import MESSAGES, STRICT_MESSAGES, Bits, Integer, ListOf, Sequence, Tagged, Time
+from .grammar import MESSAGES, METHOD_DATA, STRICT_MESSAGES, Bits, Boolean, Integer, ListOf, Sequence, Tagged, Time
 from .inputs import spelled
+from .inside import ARMOR_AP_REQUEST, OF_OTHERS, OF_REQUESTS, SALT, value_of
 from .judging import Ended, Judge, Refused
 from .records import Record, refused_input
-from .registries import ADDRESS_TYPES, AP_OPTIONS, CHECKSUM_TYPES, ENCRYPTION_TYPES, KDC_OPTIONS, NAME_TYPES, PA_DATA_TYPES
+from .registries import ADDRESS_TYPES, AP_OPTIONS, CHECKSUM_TYPES, ENCRYPTION_TYPES, KDC_OPTIONS, NAME_TYPES, PA_DATA_TYPES, PAC_OPTIONS
 from .messages import MOST_TEXT, TICKETS, octets_record
 from .spellings import Misspelled
 from .tokens import Ntlm, Token
@@ -29,6 +30,7 @@ from .values import (
     reason,
     string,
     word,
+    yes_or_no,
 )
 
 # The registries of fields that are numbers, and of those that are flags.
@@ -39,9 +41,24 @@ NUMBERS = {
     "addr-type": ADDRESS_TYPES,
     "cksumtype": CHECKSUM_TYPES,
 }
-FLAGS = {"kdc-options": KDC_OPTIONS, "ap-options": AP_OPTIONS}
+FLAGS = {"kdc-options": KDC_OPTIONS, "ap-options": AP_OPTIONS, "flags": PAC_OPTIONS}
+SHOWN = ("address", "s2kparams")
 
-TYPES = {0x02: "INTEGER", 0x03: "BIT-STRING", 0x04: "OCTET-STRING", 0x18: "GeneralizedTime", 0x1B: "GeneralString"}
+# What a padata-value of a type is called, and the codes of errors whose data are METHOD-DATA.
+HELD = {
+    1: "PA-TGS-REQ",
+    2: "PA-ENC-TIMESTAMP",
+    11: "PA-ETYPE-INFO",
+    19: "PA-ETYPE-INFO2",
+    128: "PA-PAC-REQUEST",
+    129: "PA-FOR-USER",
+    136: "PA-FX-FAST",
+    138: "PA-ENCRYPTED-CHALLENGE",
+    167: "PA-PAC-OPTIONS",
+}
+WITH_METHODS = (24, 25)
+
+TYPES = {0x01: "BOOLEAN", 0x02: "INTEGER", 0x03: "BIT-STRING", 0x04: "OCTET-STRING", 0x18: "GeneralizedTime", 0x1B: "GeneralString"}
 
 GREATEST = 2147483647
 MOST_BEFORE = 16
@@ -91,6 +108,9 @@ class Walk(Judge):
         self.records = []
         # The octets that are not shown, as where they begin and end.
         self.hidden = []
+        # The last number of the SEQUENCE, and whether the message is a request.
+        self.number = None
+        self.is_request = False
         # Whether the next item is in an explicit tag.
         self.is_joined = False
         self.begin()
@@ -178,24 +198,34 @@ class Walk(Judge):
         return self.leaf(item, size)
 
     def nested(self, item, size):
+        outer, self.number = self.number, None
         self.depth = self.begun.depth + 1
         self.begin()
-        return super().contents(item, size)
+        value = super().contents(item, size)
+        self.number = outer
+        return value
 
     def last_name(self):
         return self.path.split(".")[-1].split("[")[0]
 
     def leaf(self, item, size):
         start, name = self.place, self.last_name()
-        counted = item.tag == 0x04 and name != "address"
+        is_salt = name == "salt" or (name == "padata-value" and self.number == SALT)
+        counted = item.tag == 0x04 and name not in SHOWN and not is_salt
         if counted:
             self.hidden.append((start, start + size))
         value = super().contents(item, size)
         self.list(self.value(item, name, value, counted))
+        if isinstance(item, Integer):
+            self.number = value
+        if counted:
+            self.open(name, start, value)
         return value
 
     def value(self, item, name, value, counted):
         match item:
+            case Boolean():
+                return yes_or_no(value)
             case Integer():
                 if name == "error-code":
                     return error_code(value)
@@ -206,7 +236,25 @@ class Walk(Judge):
                 return string(value)
         if counted:
             return number(len(value))
-        return hexadecimal(value) if name == "address" else quoted(value)
+        return hexadecimal(value) if name in SHOWN else quoted(value)
+
+    def open(self, name, start, octets):
+        """Lists what an OCTET STRING is all of, if it is what it should be."""
+        held = None
+        if name == "padata-value" and self.number in HELD:
+            held = HELD[self.number], (OF_REQUESTS if self.is_request else OF_OTHERS)[self.number][0]
+        elif name == "e-data" and self.number in WITH_METHODS:
+            held = "METHOD-DATA", METHOD_DATA
+        elif name == "armor-value" and self.number == ARMOR_AP_REQUEST:
+            held = "AP-REQ", MESSAGES["AP-REQ"]
+        if held is None or value_of(held[1], octets) is None:
+            return
+        self.hidden.pop()
+        inner = Walk(self.octets[: start + len(octets)], self.n, start, self.begun.depth + 1, self.via, self.path)
+        inner.is_request = self.is_request
+        inner.item([(f".{held[0]}", held[1])], len(octets), True)
+        self.records += inner.records
+        self.hidden += inner.hidden
 
     # ---- layers
 
@@ -225,6 +273,7 @@ class Walk(Judge):
         """A message, in the room that is left."""
         outer, self.path = self.path, ""
         if self.place < len(self.octets):
+            self.is_request = self.octets[self.place] in (MESSAGES["AS-REQ"].tag, MESSAGES["TGS-REQ"].tag)
             self.outside = ""
         else:
             self.path = outer

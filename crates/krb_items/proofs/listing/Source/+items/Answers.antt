@@ -3,7 +3,7 @@ use Rattle.std.specs.Option.{option_map}
 use denote.Ref.{Bor}
 use Rattle.std.proofs.lemmas.Result.{IfOk-weaker}
 use Rattle.krb_items.specs.Heads.{Begun, headed}
-use Rattle.krb_items.specs.Items.{Here, field_items, here_at, item_items}
+use Rattle.krb_items.specs.Items.{Here, field_items, item_items, named}
 use Rattle.krb_items.specs.Names.{element_path}
 use Rattle.krb_items.specs.Seen.{begun_of, context_of, headed_of, here_of}
 use Rattle.krb_items.specs.Shapes.{field_of, type_of}
@@ -12,8 +12,8 @@ use Rattle.krb_items.proofs.listing.Source.+items.Goals as goal
 use Rattle.krb_items.proofs.listing.Source.+items.Goals.{elements-then-elements-test+else-begin_as, elements-else-elements-test, fields-in-Cut, fields-in-Whole}
 
 -- the path of an item
-own-at : (own : Here) (name text path here : List ℕ) (place depth : ℕ) (in_path : List ℕ → List ℕ) → own ≡ here_at name place depth → name ≡ text → text ≡ in_path path → here ≡ path → own ≡ here_at (in_path here) place depth
-own-at own name text path here place depth in_path is named made-is same = is ∙ ap (λ (n : List ℕ). here_at n place depth) (named ∙ made-is ∙ ap in_path (sym same))
+own-at : (own next : Here) (name text path : List ℕ) (in_path : List ℕ → List ℕ) → own ≡ named next name → name ≡ text → text ≡ in_path path → next.name ≡ path → own ≡ named next (in_path next.name)
+own-at own next name text path in_path is named-is made-is same = is ∙ ap (λ (n : List ℕ). named next n) (named-is ∙ made-is ∙ ap in_path (sym same))
 
 pub elements-returns-in_default : goal.elements-returns-in_default
 elements-returns-in_default t c =
@@ -23,7 +23,7 @@ elements-returns-in_default t c =
     (element-cut (context_of c.args.self) (item_items c.args.levels c.args.self.limit) (type_of c.args.of) (size - c.elements.index) (size - (c.elements.index + 1)) c.elements.index next (here_of c.named-own.result) c.elements.rest.room c.elements.rest.octets.now c.elements.out c.item.new.out c.in_ok-item.field-0
     (omega arith)
     (sym c.begin_as.ensures ∙ c.if-begin_as.true)
-    (own-at (here_of c.named-own.result) _ _ c.args.here.name.now next.name next.place next.depth (λ path. element_path path c.elements.index) c.named-own.ensures c.as_str.ensures.value c.in_ok-name.ensures c.elements.invariant.2)
+    (own-at (here_of c.named-own.result) next _ _ c.args.here.name.now (λ path. element_path path c.elements.index) c.named-own.ensures c.as_str.ensures.value c.in_ok-name.ensures c.elements.invariant.2)
     c.in_ok-item.ensures
     c.in_default.is)
 
@@ -39,7 +39,7 @@ elements-elements-preserved t c =
           (element-then (context_of c.args.self) (item_items c.args.levels c.args.self.limit) (type_of c.args.of) (size - c.elements.index) (size - (c.elements.index + 1)) c.elements.index c.count_of-count.result next (here_of c.named-own.result) (here_of c.after-next.result) c.elements.rest.room c.after-rest.result.room c.elements.rest.octets.now c.after-rest.result.octets.now c.elements.out c.item.new.out new c.in_ok-item.field-0 end
           (omega arith)
           (sym c.begin_as.ensures ∙ c.if-begin_as.true)
-          (own-at (here_of c.named-own.result) _ _ c.args.here.name.now next.name next.place next.depth (λ path. element_path path c.elements.index) c.named-own.ensures c.as_str.ensures.value c.in_ok-name.ensures c.elements.invariant.2)
+          (own-at (here_of c.named-own.result) next _ _ c.args.here.name.now (λ path. element_path path c.elements.index) c.named-own.ensures c.as_str.ensures.value c.in_ok-name.ensures c.elements.invariant.2)
           c.in_ok-item.ensures
           c.in-Whole.is
           c.count_of-count.ensures.count
@@ -73,20 +73,21 @@ fields-returns-then-begin_as t c =
           (fields-cut (context_of c.args.self) item c.args.fields.now _ here (here_of c.named-own.result) c.args.rest.room c.args.rest.octets.now c.args.out.now c.item.new.out c.in_ok-item.field-0
           c.in-len1-up.len_at_least
           (sym c.begin_as.ensures ∙ c.if-begin_as.true)
-          (c.named-own.ensures ∙ ap (λ (n : List ℕ). here_at n here.place here.depth) (c.as_str.ensures.value ∙ c.in_ok-name.ensures))
+          (c.named-own.ensures ∙ ap (λ (n : List ℕ). named here n) (c.as_str.ensures.value ∙ c.in_ok-name.ensures))
           c.in_ok-item.ensures
           w.in-Cut.is)
-      | fields-in-Whole w ↦ listed-so (context_of c.args.self) (field_items item (here_of w.after.result) (map field_of (take (length c.args.fields.now - 1) (drop 1 c.args.fields.now))) w.after-in-Whole.result.room w.after-in-Whole.result.octets.now) _ c.args.out.now c.item.new.out w.fields.new.out c.match-branch-3.out w.fields.result c.match-branch-3.result w.out-is w.result-is w.fields.ensures
-          (λ end listed. fields-then (context_of c.args.self) item c.args.fields.now _ w.count_of-count.result here (here_of c.named-own.result) (here_of w.after.result) c.args.rest.room w.after-in-Whole.result.room c.args.rest.octets.now w.after-in-Whole.result.octets.now c.args.out.now c.item.new.out w.fields.new.out c.in_ok-item.field-0 end
+      | fields-in-Whole w ↦ listed-so (context_of c.args.self) (field_items item (here_of w.after-next.result) (map field_of (take (length c.args.fields.now - 1) (drop 1 c.args.fields.now))) w.after.result.room w.after.result.octets.now) _ c.args.out.now c.item.new.out w.fields.new.out c.match-branch-3.out w.fields.result c.match-branch-3.result w.out-is w.result-is w.fields.ensures
+          (λ end listed. fields-then (context_of c.args.self) item c.args.fields.now _ w.count_of-count.result w.number_after-number.result here (here_of c.named-own.result) (here_of w.after-next.result) c.args.rest.room w.after.result.room c.args.rest.octets.now w.after.result.octets.now c.args.out.now c.item.new.out w.fields.new.out c.in_ok-item.field-0 end
           c.in-len1-up.len_at_least
           (sym c.begin_as.ensures ∙ c.if-begin_as.true)
-          (c.named-own.ensures ∙ ap (λ (n : List ℕ). here_at n here.place here.depth) (c.as_str.ensures.value ∙ c.in_ok-name.ensures))
+          (c.named-own.ensures ∙ ap (λ (n : List ℕ). named here n) (c.as_str.ensures.value ∙ c.in_ok-name.ensures))
           c.in_ok-item.ensures
           w.in-Whole.is
           w.count_of-count.ensures.count
-          w.after.ensures
-          w.after-in-Whole.ensures.room
-          w.after-in-Whole.ensures.octets
+          w.number_after-number.ensures
+          w.after-next.ensures
+          w.after.ensures.room
+          w.after.ensures.octets
           listed)
     ]
 

@@ -11,6 +11,12 @@ use Rattle.krb_items.proofs.listing.Source.+items.Given as goal
 abbrev pub decreases-item : goal.decreases-item
 decreases-item l = 32 * l.levels
 
+abbrev pub decreases-opened : goal.decreases-opened
+decreases-opened l = 32 * l.levels + 2
+
+abbrev pub decreases-leaf : goal.decreases-leaf
+decreases-leaf l = 32 * l.levels + 3
+
 abbrev pub decreases-contents : goal.decreases-contents
 decreases-contents l = 32 * l.levels + 20
 

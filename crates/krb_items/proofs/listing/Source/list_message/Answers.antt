@@ -1,4 +1,4 @@
-use Rattle.std.proofs.Common.{sym, ◌∙◌}
+use Rattle.std.proofs.Common.{sym, ◌∙◌, None}
 use Rattle.std.proofs.lemmas.Result.{IfOk-weaker}
 use Rattle.krb_items.specs.Items.{here_at, item_items, most_levels}
 use Rattle.krb_items.specs.Records.{Lists}
@@ -9,7 +9,7 @@ use Rattle.krb_items.proofs.listing.Source.list_message.Goals as goal
 
 pub returns : goal.returns
 returns c = IfOk-weaker c.item.result
-    (Lists (context_of c.args.self) (item_items most_levels c.args.self.limit (here_at c.name.result.now c.args.place c.args.depth) (type_of c.message_type.result) c.args.octets.now) c.args.out.now c.item.new.out)
+    (Lists (context_of c.args.self) (item_items most_levels c.args.self.limit (here_at c.name.result.now c.args.place c.args.depth None) (type_of c.message_type.result) c.args.octets.now) c.args.out.now c.item.new.out)
     _
     (λ end listed. lists-same (context_of c.args.self) _ _ c.args.out.now c.item.new.out end
     (message-goes c.args.self.limit c.args.place c.args.depth c.args.octets.now c.in-Some.first.now c.in-Some-of_tag.kind c.name.result.now (type_of c.message_type.result)
