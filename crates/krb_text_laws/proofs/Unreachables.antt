@@ -1,5 +1,5 @@
 -- The names of the types and of the codes of errors of ICMP are plain.
-use Rattle.std.proofs.Common.{◌≡◌, ℕ, ◌==◌, Bool, true, false, List, [], ◌∷◌, Option, Some, None, refl}
+use Rattle.std.proofs.Common.{◌≡◌, ℕ, ◌==◌, Bool, true, false, List, Option, Some, refl}
 use Rattle.std.specs.List.{list_all}
 use Rattle.krb_der.specs.Octets.{when}
 use Rattle.krb_record.specs.Unreachables.{code_name, code_name4, code_name6, exceeded_code, exceeded_code6, parameter_code, parameter_code6, type_name, type_name4, type_name6, unreachable_code, unreachable_code6}

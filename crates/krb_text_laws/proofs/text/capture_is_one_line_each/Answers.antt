@@ -4,7 +4,7 @@ use Rattle.std.specs.Net.Addr.{IsIpv4Addr, IsIpv6Addr, MatchIp}
 use Rattle.std.proofs.lemmas.Bool.{and_parts, and_from}
 use Rattle.krb_msg.specs.Term.{IfPresent}
 use Rattle.krb_source.specs.declared.timestamp.Timestamp.{Timestamp}
-use Rattle.krb_record.specs.Captures.{answer_fields, captured as captured_record, capture_end_record, capture_refused_record, captured_line, last_fields, lost_record, origin_fields, password_record, request_name, span_value, told_counts, told_fields, told_in, unanswered_record, unreachable_record, unread_record}
+use Rattle.krb_record.specs.Captures.{answer_fields, captured as captured_record, capture_end_record, capture_refused_record, captured_line, lost_record, origin_fields, password_record, request_name, span_value, told_counts, told_fields, told_in, unanswered_record, unreachable_record, unread_record}
 use Rattle.krb_record.specs.Forms.{form_of}
 use Rattle.krb_record.specs.Laws.{IsOneLine, OriginIsInRange}
 use Rattle.krb_text.specs.Messages.{message_record}
