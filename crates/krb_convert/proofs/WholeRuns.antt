@@ -1,5 +1,5 @@
 -- A run on one message.
-use Rattle.std.proofs.Common.{◌≡◌, ℕ, ◌+◌, ◌-◌, ◌<◌, ◌≤◌, true, false, List, [], ◌∷◌, ◌++◌, length, take, drop, Option, Some, None, Result, Ok, Err, IfErr, refl, sym, ◌∙◌, ap, subst, arith, append-nil, length-append, length-take, length-drop, take-append-drop}
+use Rattle.std.proofs.Common.{◌≡◌, ℕ, ◌+◌, ◌-◌, ◌<◌, ◌≤◌, true, false, List, [], ◌++◌, length, take, drop, Option, Some, None, Result, Ok, Err, IfErr, refl, sym, ◌∙◌, ap, subst, arith, append-nil, length-append, length-take, length-drop, take-append-drop}
 use Rattle.std.proofs.KnownBytes.{Consumes-trans}
 use Rattle.std.specs.Io.KnownBytes.{Consumes, Appends, Keeps}
 use Rattle.std.specs.Prelude.{nat_lt}
@@ -9,9 +9,6 @@ use Rattle.krb_der.specs.declared.profile.Profile.{Profile}
 use Rattle.krb_der.specs.declared.verdict.Refusal.{Refusal}
 use Rattle.krb_der.specs.declared.why.Why.TheVariants.{TooLong}
 use Rattle.krb_judge.specs.Parses.{refusal_of}
-use Rattle.krb_record.specs.Refusals.{path_in}
-use Rattle.krb_record.specs.Values.{Value, Absent, String, Field, if_there}
-use Rattle.krb_record.specs.declared.form.Form.TheVariants as forms
 use Rattle.krb_run.specs.Runs.{StopsInPiece}
 use Rattle.krb_convert.specs.Decoding.{Refusing, message_decoded, decoded_whole, DecodesWhole, FailsToDecodeWhole, ReadsMost}
 use Rattle.krb_run.specs.Records.{AppendsPrefix}
@@ -112,19 +109,3 @@ is_long limit got size e l = let less : limit < size = omega (arith, e, l) in gr
 
 pub is_short : (limit got size : ℕ) → got ≡ limit → size ≤ got → nat_lt limit size ≡ false
 is_short limit got size e l = let few : size ≤ limit = omega (arith, e, l) in grind (arith, nat_tests)
-
--- the value of the one field
-sole_value : List Field → Value
-sole_value [] = Absent
-sole_value (field ∷ fields) = field.value
-
-there : (found wanted : Option (List ℕ)) → if_there String found ≡ if_there String wanted → found ≡ wanted
-there None None e = refl
-there None (Some path) e = cc
-there (Some path) None e = cc
-there (Some path) (Some other) e = cc
-
--- a path that has names in a line is the path
-pub same_path : (found wanted : Option (List ℕ)) → path_in forms.NamedLines found ≡ path_in forms.NamedLines wanted → found ≡ wanted
-unfolding sole_value
-same_path found wanted e = there found wanted (ap sole_value e)

@@ -1,11 +1,9 @@
 use Rattle.std.proofs.Common.{length, refl, sym, ◌∙◌, ap}
 use Rattle.std.proofs.lemmas.Result.{IfOk-weaker}
-use Rattle.std.specs.Option.{option_map}
-use Rattle.std.specs.Prelude.{None, Some, string_bytes}
+use Rattle.std.specs.Prelude.{None, Some}
 use Rattle.krb_convert.specs.Decoding.{Refusing, ending_of}
-use Rattle.krb_tool.specs.Paths.{refused_path}
 use Rattle.krb_convert.proofs.DecodedFrames.{message_viewed}
-use Rattle.krb_convert.proofs.WholeRuns.{whole-long, whole-short, is_long, is_short, same_path}
+use Rattle.krb_convert.proofs.WholeRuns.{whole-long, whole-short, is_long, is_short}
 use Rattle.krb_convert.proofs.whole_run.decode_message.Goals as goal
 
 pub returns-then-octets-get-clause-decoded : goal.returns-then-octets-get-clause-decoded
@@ -27,6 +25,5 @@ pub returns-in_ok-path-in-Err-clause-decoded : goal.returns-in_ok-path-in-Err-cl
 returns-in_ok-path-in-Err-clause-decoded c =
     let short = is_short c.args.limit c.get.result (length c.args.octets.now) c.get.ensures.value c.if-octets-get.false in
     let whole = whole-short c.args.profile c.args.limit c.args.octets.now (Some c.in-Err.refusal) short (sym ((c.in-Err.ensures.refused c.in-Err.refusal).0 refl)) in
-    let path = same_path (option_map string_bytes c.in_ok-path-in-Err.path) (refused_path c.args.profile c.args.octets.now c.in-Err.refusal) c.in_ok-path-in-Err.ensures.path in
-    (λ i. record { text = c.refused-in-Err.ensures.text i; end = (ap ending_of c.refused-in-Err.ensures.end ∙ ap (Refusing 0 c.in-Err.refusal) path) i })
+    (λ i. record { text = c.refused-in-Err.ensures.text i; end = (ap ending_of c.refused-in-Err.ensures.end ∙ ap (Refusing 0 c.in-Err.refusal) c.in_ok-path-in-Err.ensures.path) i })
     ∙ sym whole
