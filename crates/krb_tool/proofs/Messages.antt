@@ -21,7 +21,6 @@ use Rattle.krb_record.specs.Origins.{message_origin}
 use Rattle.krb_text.specs.Messages.{PutsMessage, message_line_from, ticket_line}
 use Rattle.krb_record.specs.Refusals.{known_path, message_refused}
 use Rattle.krb_record.specs.Labels.{Label}
-use Rattle.krb_record.specs.Values.{Field}
 use Rattle.krb_record.specs.declared.input.InputFault.TheVariants as faults
 use Rattle.krb_source.specs.declared.spelling.Spelling.{Spelling}
 use Rattle.krb_source.specs.declared.layer.Layer.{Layer}
