@@ -1,4 +1,5 @@
 pub mod Choices
+pub mod Columns
 pub mod Shown
 pub mod Wanted
 pub mod Marked

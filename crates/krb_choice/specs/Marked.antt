@@ -1,6 +1,6 @@
 -- Marked texts: what they show of records, and the text without marks.
-use Rattle.std.specs.Prelude.{ℕ, ◌+◌, ◌==◌, nat_lt, Bool, true, false, List, [], ◌∷◌, ◌++◌, Option, None, Some, codes, if◌then◌else◌}
-use Rattle.std.specs.List.{flat_map}
+use Rattle.std.specs.Prelude.{ℕ, ◌==◌, ◌||◌, nat_lt, not, Bool, true, false, List, [], ◌∷◌, ◌++◌, Option, None, Some, codes, if◌then◌else◌}
+use Rattle.std.specs.List.{flat_map, list_any}
 use Rattle.krb_record.specs.declared.path.Path.{Path}
 use Rattle.krb_record.specs.Forms.{path_letter}
 use Rattle.krb_record.specs.Text.{line_feed}
@@ -19,18 +19,7 @@ abbrev pub pieces : List ℕ → List Piece
 pieces [] = []
 pieces (c ∷ others) = if nat_lt c 32 then record { mark = c; text = unmarked others } ∷ pieces others else pieces others
 
--- ---- what was read of the pieces from the last one on: cells of a field that has not begun, fields of what has not begun, the fields after what is inside, records, of which the first is the outermost, what is inside, and the line that tells of the record
-pub record Reading : Type 0 where
-  pub cells : List (List ℕ)
-  pub fields : List ShownField
-  pub after : List ShownField
-  pub records : List ShownPart
-  pub inside : Option (List ShownPart)
-  pub aside : Option (List ℕ)
-
-abbrev pub nothing_read : Reading
-nothing_read = record { cells = []; fields = []; after = []; records = []; inside = None; aside = None }
-
+-- ---- fields: 02, what begins the member, and cells
 -- a cell is the letter of its path and its text
 abbrev pub is_cell_of : Path → List ℕ → Bool
 is_cell_of path [] = false
@@ -44,36 +33,62 @@ abbrev pub text_of_cells : List (List ℕ) → Path → List ℕ
 text_of_cells [] path = codes "-"
 text_of_cells (cell ∷ others) path = if is_cell_of path cell then without_first cell else text_of_cells others path
 
+-- the cells of a field follow it at once
+abbrev pub first_cells : List Piece → List (List ℕ)
+first_cells [] = []
+first_cells (piece ∷ others) = if piece.mark == 3 then piece.text ∷ first_cells others else []
+
 -- what begins a member is `,"` and the name
-abbrev pub field_read : (begin : List ℕ) → List (List ℕ) → ShownField
-field_read begin cells = record { name = without_first (without_first begin); text = text_of_cells cells }
+abbrev pub field_read : (begin : List ℕ) → List Piece → ShownField
+field_read begin others = record { name = without_first (without_first begin); text = text_of_cells (first_cells others) }
 
-abbrev pub read_piece : Piece → Reading → Reading
-read_piece piece reading =
-    if piece.mark == 1 then record reading { fields = []; records = record { kind = kind_alone piece.text; fields = reading.fields } ∷ reading.records }
-    else if piece.mark == 2 then record reading { cells = []; fields = field_read piece.text reading.cells ∷ reading.fields }
-    else if piece.mark == 3 then record reading { cells = piece.text ∷ reading.cells }
-    else if piece.mark == 4 then record reading { fields = reading.after; records = []; inside = Some reading.records }
-    else if piece.mark == 5 then record reading { aside = Some piece.text }
-    else if piece.mark == 7 then record reading { fields = []; after = reading.fields }
-    else reading
+-- ---- records: what is inside lies between 04 and 07, and all other fields are those of the record
+abbrev pub own_fields : (is_inside : Bool) → List Piece → List ShownField
+own_fields is_inside [] = []
+own_fields true (piece ∷ others) = own_fields (not (piece.mark == 7)) others
+own_fields false (piece ∷ others) = if piece.mark == 2 then field_read piece.text others ∷ own_fields false others else own_fields (piece.mark == 4) others
 
-abbrev pub read : List Piece → Reading
-read [] = nothing_read
-read (piece ∷ others) = read_piece piece (read others)
+-- the fields of what is inside follow its kind
+abbrev pub part_fields : List Piece → List ShownField
+part_fields [] = []
+part_fields (piece ∷ others) =
+    if piece.mark == 1 || piece.mark == 7 then []
+    else if piece.mark == 2 then field_read piece.text others ∷ part_fields others
+    else part_fields others
 
--- a record of which some are kept whole has no marks around what is inside
-abbrev pub inside_read : List ShownPart → Option (List ShownPart) → Option (List ShownPart)
-inside_read [] inside = inside
-inside_read (first ∷ others) inside = Some (first ∷ others)
+abbrev pub parts_read : List Piece → List ShownPart
+parts_read [] = []
+parts_read (piece ∷ others) = if piece.mark == 1 then record { kind = kind_alone piece.text; fields = part_fields others } ∷ parts_read others else parts_read others
 
-abbrev pub record_read : List ShownPart → Reading → ShownRecord
-record_read [] reading = record { kind = []; fields = reading.fields; inside = reading.inside }
-record_read (first ∷ others) reading = record { kind = first.kind; fields = reading.fields ++ first.fields; inside = inside_read others reading.inside }
+-- the first kind is that of the record, and others are of what is inside
+abbrev pub kind_read : List Piece → List ℕ
+kind_read [] = []
+kind_read (piece ∷ others) = if piece.mark == 1 then kind_alone piece.text else kind_read others
+
+abbrev pub after_kind : List Piece → List Piece
+after_kind [] = []
+after_kind (piece ∷ others) = if piece.mark == 1 then others else after_kind others
+
+abbrev pub is_marked : (mark : ℕ) → Piece → Bool
+is_marked mark piece = piece.mark == mark
+
+-- a record that is kept whole has no marks around what is inside
+abbrev pub inside_read : Bool → List ShownPart → Option (List ShownPart)
+inside_read true parts = Some parts
+inside_read false [] = None
+inside_read false (first ∷ others) = Some (first ∷ others)
+
+abbrev pub read_pieces : List Piece → ShownRecord
+read_pieces all = record { kind = kind_read all; fields = own_fields false all; inside = inside_read (list_any (is_marked 4) all) (parts_read (after_kind all)) }
 
 -- what a marked record shows
 abbrev pub read_record : List ℕ → ShownRecord
-read_record text = record_read (read (pieces text)).records (read (pieces text))
+read_record text = read_pieces (pieces text)
+
+-- the line that tells of a record that may be the last
+abbrev pub aside_of : List Piece → Option (List ℕ)
+aside_of [] = None
+aside_of (piece ∷ others) = if piece.mark == 5 then Some piece.text else aside_of others
 
 -- the text that stands between its marks
 abbrev pub kept_piece : Piece → List ℕ

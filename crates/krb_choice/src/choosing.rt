@@ -1,7 +1,8 @@
 //! A writer of marked listings.
 
 use crate::choice::Choice;
-use crate::row::{Record, put_whole};
+use crate::mark::put_whole;
+use crate::record::Record;
 use memchr::memchr;
 use std::alloc::{AllocError, Global};
 use std::io;
@@ -20,7 +21,6 @@ pub struct Choosing<'a, W> {
     goes_on: bool,
     /// The octets of a record whose end has not come.
     begun: Vec<u8>,
-    record: Record,
     /// What is not written yet.
     out: Vec<u8>,
     /// The line that tells of the last record, if that is not kept.
@@ -28,7 +28,7 @@ pub struct Choosing<'a, W> {
 }
 
 /// Returns the error of a writer that is out of memory.
-fn out_of_memory(_error: AllocError) -> io::Error {
+fn out_of_memory<E: Drop>(_error: E) -> io::Error {
     ErrorKind::OutOfMemory.into()
 }
 
@@ -46,7 +46,6 @@ impl<'a, W: Write> Choosing<'a, W> {
             choice,
             goes_on,
             begun: Vec::new(alloc),
-            record: Record::new(alloc, choice)?,
             out: Vec::new(alloc),
             told: Vec::new(alloc),
         })
@@ -66,13 +65,11 @@ impl<'a, W: Write> Choosing<'a, W> {
     }
 
     /// Writes the rows of a record.
-    fn write_rows(&mut self, text: &[u8]) -> io::Result<()> {
-        let count = self.record.count_rows(self.choice);
+    fn write_rows(&mut self, record: &Record<'_>) -> io::Result<()> {
+        let count = record.count_rows();
         let mut row = 0;
         'rows: while row < count {
-            self.record
-                .put_row(self.choice, text, row, &mut self.out)
-                .map_err(out_of_memory)?;
+            record.put_row(row, &mut self.out).map_err(out_of_memory)?;
             if MANY <= self.out.len() {
                 self.write_out()?;
             }
@@ -82,12 +79,12 @@ impl<'a, W: Write> Choosing<'a, W> {
     }
 
     /// Keeps the line that tells of a record, if it may be the last one and is not kept.
-    fn keep_told(&mut self, text: &[u8], is_kept: bool) -> Result<(), AllocError> {
+    fn keep_told(&mut self, record: &Record<'_>, is_kept: bool) -> Result<(), AllocError> {
         self.told.clear();
         if is_kept {
             return Ok(());
         }
-        if let Some(line) = self.record.aside(text) {
+        if let Some(line) = record.aside() {
             self.told.extend_from_slice(line)?;
             self.told.extend_from_slice(b"\n")?;
         }
@@ -95,42 +92,42 @@ impl<'a, W: Write> Choosing<'a, W> {
     }
 
     /// Takes a record without its line feed.
-    fn take(&mut self, text: &[u8]) -> io::Result<()> {
-        self.record.find(self.choice, text).map_err(out_of_memory)?;
-        let is_last = self.record.may_be_last()
-            && !(self.goes_on && self.record.is_of(text, b"refused"));
-        let is_kept = self.record.is_kept(self.choice, text, is_last);
-        self.keep_told(text, is_kept).map_err(out_of_memory)?;
+    fn take<'b>(&mut self, text: &'b [u8], record: &mut Record<'b>) -> io::Result<()> {
+        record.find(self.choice, text).map_err(out_of_memory)?;
+        let is_last = record.aside().is_some() && !(self.goes_on && record.is_of(b"refused"));
+        let is_kept = record.is_kept(self.choice, is_last);
+        self.keep_told(record, is_kept).map_err(out_of_memory)?;
         if !is_kept {
             return Ok(());
         }
         if self.choice.has_rows() {
-            self.write_rows(text)
+            self.write_rows(record)
         } else {
             put_whole(text, &mut self.out).map_err(out_of_memory)
         }
     }
 
-    /// Takes the end of a record, of which the beginning may have come.
+    /// Takes the end of the record that has begun.
     fn take_end(&mut self, end: &[u8]) -> io::Result<()> {
-        if self.begun.is_empty() {
-            return self.take(end);
-        }
         self.begun.extend_from_slice(end).map_err(out_of_memory)?;
         let alloc = *self.begun.allocator();
-        let mut text = std::mem::replace(&mut self.begun, Vec::new(alloc));
-        self.take(text.as_slice())?;
-        text.clear();
-        self.begun = text;
-        Ok(())
+        let text = std::mem::replace(&mut self.begun, Vec::new(alloc));
+        let mut record = Record::new(alloc);
+        self.take(text.as_slice(), &mut record)
     }
 }
 
 impl<'a, W: Write> Write for Choosing<'a, W> {
     fn write(&mut self, buffer: &[u8]) -> io::Result<usize> {
+        let alloc = *self.begun.allocator();
+        let mut record = Record::new(alloc);
         let mut rest = buffer;
         'records: while let Some(end) = memchr(b'\n', rest) {
-            self.take_end(&rest[..end])?;
+            if self.begun.is_empty() {
+                self.take(&rest[..end], &mut record)?;
+            } else {
+                self.take_end(&rest[..end])?;
+            }
             rest = &rest[end + 1..];
         }
         self.begun.extend_from_slice(rest).map_err(out_of_memory)?;

@@ -9,8 +9,10 @@
 mod choice;
 mod choosing;
 mod column;
+mod found;
 mod mark;
-mod row;
+mod pieces;
+mod record;
 
 pub use choice::Choice;
 pub use choosing::Choosing;

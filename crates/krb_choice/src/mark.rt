@@ -1,8 +1,10 @@
 //! The pieces of a marked text.
 
-ghost use Rattle.std.specs.Prelude.{◌≡◌, ◌+◌, ◌≤◌, drop, length};
-ghost use Rattle.krb_choice.specs.Marked.{unmarked};
+ghost use Rattle.std.specs.Prelude.{◌≡◌, ◌++◌, OnOk, length};
+ghost use Rattle.krb_choice.specs.Marked.{pieces, unmarked};
 
+use std::alloc::AllocError;
+use std::marker::Model;
 use std::simd::Simd;
 
 /// The marks, as octets.
@@ -20,23 +22,29 @@ pub(crate) const END: u8 = 0x06;
 
 pub(crate) const OUTSIDE: u8 = 0x07;
 
-/// A mark, and where the text lies that follows it, up to the next mark.
-#[derive(Clone, Copy)]
-pub(crate) struct Piece {
+/// A mark, and the text that follows it, up to the next mark.
+#[derive(Drop)]
+pub(crate) struct Piece<'a> {
     pub(crate) mark: u8,
-    pub(crate) start: usize,
-    pub(crate) end: usize,
+    pub(crate) text: &'a [u8],
+}
+
+impl<'a> Model for Piece<'a> {
+    ghost use Rattle.krb_choice.specs.Marked.{Piece};
+
+    ghost Value = { Piece };
+
+    ghost view = { λ piece. record { mark = piece.mark; text = piece.text.now } };
 }
 
 /// How many octets are looked at at once.
 const MANY: usize = 16;
 
-/// Returns the place of the first mark from a place on, or the end of the text.
-pub(crate) fn next_mark(text: &[u8], place: usize) -> usize
-    requires { place ≤ length text.now }
-    ensures { result ≡ place + length (unmarked (drop place text.now)) }
+/// Returns the place of the first mark of a text, or its end.
+pub(crate) fn first_mark(text: &[u8]) -> usize
+    ensures { result ≡ length (unmarked text.now) }
 {
-    let mut at = place;
+    let mut at = 0;
     'pieces: while MANY <= text.len() - at {
         let octets = Simd::<u8, MANY>::from_slice(&text[at..]);
         if let Some(first) = octets.simd_lt(Simd::splat(0x20)).first_set() {
@@ -50,15 +58,33 @@ pub(crate) fn next_mark(text: &[u8], place: usize) -> usize
     at
 }
 
-/// Returns the piece that begins at a place, if the text does not end there.
-pub(crate) fn piece_at(text: &[u8], place: usize) -> Option<Piece> {
-    if text.len() <= place {
-        return None;
+/// Appends the pieces of a text.
+pub(crate) fn put_pieces<'a>(text: &'a [u8], found: &mut Vec<Piece<'a>>) -> Result<(), AllocError>
+    ensures { OnOk result (found.new.items ≡ found.old.items ++ pieces text.now) }
+{
+    let mut others = &text[first_mark(text)..];
+    'pieces: while let Some((mark, after)) = others.split_first() {
+        let end = first_mark(after);
+        found.push(Piece {
+            mark: *mark,
+            text: &after[..end],
+        })?;
+        others = &after[end..];
     }
-    let start = place + 1;
-    Some(Piece {
-        mark: text[place],
-        start,
-        end: next_mark(text, start),
-    })
+    Ok(())
+}
+
+/// Appends a marked record without its marks.
+pub(crate) fn put_whole(text: &[u8], out: &mut Vec<u8>) -> Result<(), AllocError> {
+    let end = first_mark(text);
+    out.extend_from_slice(&text[..end])?;
+    let mut others = &text[end..];
+    'pieces: while let Some((mark, after)) = others.split_first() {
+        let end = first_mark(after);
+        if *mark == END {
+            out.extend_from_slice(&after[..end])?;
+        }
+        others = &after[end..];
+    }
+    out.extend_from_slice(b"\n")
 }
