@@ -1,7 +1,7 @@
 -- Choices: which records of a listing are kept, and the rows that are made of them.
-use Rattle.std.specs.Prelude.{ℕ, suc, ◌+◌, ◌-◌, ◌==◌, ◌&&◌, ◌||◌, nat_lt, not, Bool, true, false, List, [], ◌∷◌, ◌++◌, length, map, Option, None, Some, bytes_eq, codes, if◌then◌else◌}
+use Rattle.std.specs.Prelude.{ℕ, suc, zero, ◌-◌, ◌==◌, ◌&&◌, ◌||◌, nat_lt, not, Bool, true, false, List, [], ◌∷◌, ◌++◌, length, map, Option, None, Some, bytes_eq, codes, if◌then◌else◌}
 use Rattle.std.specs.Option.{option_map}
-use Rattle.std.specs.List.{filter, flat_map, list_all, list_any}
+use Rattle.std.specs.List.{filter, flat_map, list_all, list_any, slice_get}
 use Rattle.krb_record.specs.declared.path.Path.{Path}
 use Rattle.krb_record.specs.declared.form.Base.{Base}
 use Rattle.krb_record.specs.declared.form.Form.TheVariants.{NamedLines}
@@ -127,11 +127,6 @@ abbrev pub is_kept : Choice → (is_last : Bool) → ShownRecord → Bool
 is_kept c is_last r = if c.by_kind then has_kind c r else has_all c is_last r
 
 -- ---- rows
--- the element of an index, counted from 0
-abbrev pub at_index : {A : Type 0} → ℕ → List A → Option A
-at_index i [] = None
-at_index i (a ∷ others) = if i == 0 then Some a else at_index (i - 1) others
-
 -- the cell of the first field of a name, or `-`
 abbrev pub cell_of : (name : List ℕ) → Path → List ShownField → List ℕ
 cell_of name path [] = codes "-"
@@ -158,7 +153,7 @@ repeated row text = if nat_lt 0 row && nat_lt 256 (length text) then codes ".." 
 
 abbrev pub cell_within : Option (List ℕ) → Shows → (row : ℕ) → ShownRecord → List ℕ
 cell_within None shows row r = repeated row (own_cell shows r)
-cell_within (Some kind) shows row r = part_cell shows (at_index row (filter (is_of kind) (parts_of r.inside)))
+cell_within (Some kind) shows row r = part_cell shows (slice_get (filter (is_of kind) (parts_of r.inside)) row)
 
 abbrev pub cell_in : (row : ℕ) → ShownRecord → Column → List ℕ
 cell_in row r column = cell_within column.within column.shows row r
@@ -181,7 +176,7 @@ abbrev pub count_rows : List Column → ShownRecord → ℕ
 count_rows columns r = greatest (1 ∷ map (λ column. count_within column.within r) columns)
 
 abbrev pub below : ℕ → List ℕ
-below 0 = []
+below zero = []
 below (suc n) = below n ++ n ∷ []
 
 abbrev pub rows_text : List Column → ShownRecord → List ℕ

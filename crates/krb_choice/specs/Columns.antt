@@ -1,9 +1,9 @@
 -- What columns show of a record: a cell of the record itself, the kinds of what is inside, or a cell of each that is inside of a kind.
-use Rattle.std.specs.Prelude.{ℕ, Bool, true, false, not, List, [], ◌∷◌, ◌++◌, length, map, Option, None, Some, codes}
-use Rattle.std.specs.List.{filter, list_any}
+use Rattle.std.specs.Prelude.{ℕ, ◌&&◌, ◌||◌, Bool, true, false, not, List, [], ◌∷◌, ◌++◌, length, map, Option, None, Some, codes, if◌then◌else◌}
+use Rattle.std.specs.List.{filter, list_any, slice_get}
 use Rattle.krb_record.specs.Text.{joined, line_feed}
 use Rattle.krb_record.specs.declared.path.Path.{Path}
-use Rattle.krb_choice.specs.Choices.{Column, Inside, Kind, Member, ShownField, ShownPart, ShownRecord, Shows, at_index, cell_of, inside_cell, is_called, is_of, is_there, part_cell, parts_of, repeated}
+use Rattle.krb_choice.specs.Choices.{Column, Inside, Kind, Member, Print, Rows, ShownField, ShownPart, ShownRecord, Shows, Whole, cell_of, chooses, inside_cell, is_called, is_of, is_there, part_cell, parts_of, repeated}
 
 pub data Found : Type 0 where
   Own : (cell : Option (List ℕ)) → Found
@@ -31,6 +31,10 @@ found_of (Some kind) shows r = Within (map (λ part. part_cell shows (Some part)
 abbrev pub found : ShownRecord → Column → Found
 found r column = found_of column.within column.shows r
 
+abbrev pub has_rows : Print → Bool
+has_rows (Whole base) = false
+has_rows (Rows columns) = true
+
 -- ---- rows of what was found
 abbrev pub is_any : {A : Type 0} → List A → Bool
 is_any [] = false
@@ -53,7 +57,13 @@ or_none (Some cell) = cell
 abbrev pub cell_found : (row : ℕ) → Found → List ℕ
 cell_found row (Own cell) = repeated row (or_none cell)
 cell_found row (Kinds text) = repeated row text
-cell_found row (Within cells) = or_none (at_index row cells)
+cell_found row (Within cells) = or_none (slice_get cells row)
 
 abbrev pub row_found : (row : ℕ) → List Found → List ℕ
 row_found row all = joined [] (9 ∷ []) (cell_found row) all ++ line_feed
+
+-- all is there that chooses
+abbrev pub all_found : List Column → List Found → Bool
+all_found [] all = true
+all_found (column ∷ others) [] = true
+all_found (column ∷ others) (first ∷ all) = (not (chooses column) || has_found first) && all_found others all

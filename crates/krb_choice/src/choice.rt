@@ -1,9 +1,10 @@
 //! Choices of records.
 
-ghost use Rattle.std.specs.Prelude.{◌≡◌, false, map, true};
+ghost use Rattle.std.specs.Prelude.{◌≡◌, bytes_eq, false, map, true};
 ghost use Rattle.std.specs.List.{list_any};
-ghost use Rattle.krb_choice.specs.Choices.{Rows, Whole, chooses};
-ghost use Rattle.krb_choice.specs.Wanted.{choice_form, may_be_inside, wanted_by, with_kinds};
+ghost use Rattle.krb_choice.specs.Choices.{Rows, Whole, chooses, columns_of};
+ghost use Rattle.krb_choice.specs.Columns.{has_rows};
+ghost use Rattle.krb_choice.specs.Wanted.{choice_form, may_be_inside, wanted_by, with_kind, with_kinds};
 
 use crate::column::Column;
 use krb_record::{Base, Form, Wanted};
@@ -66,17 +67,24 @@ fn may_be_inside(kind: &str) -> bool
     }
 }
 
+/// Adds the messages of a kind, or all, and what is inside, if that may be of the kind.
+fn with_kind(wanted: Wanted, by_kind: bool, kind: &str) -> Wanted
+    ensures { result ≡ with_kind by_kind wanted kind.now }
+{
+    if by_kind && may_be_inside(kind) {
+        wanted.with_all_kinds().with_inside()
+    } else {
+        wanted.with_kind(kind)
+    }
+}
+
 /// Adds the messages of some kinds, or all, and what is inside, if that may be of one of the kinds.
 fn with_kinds(wanted: Wanted, by_kind: bool, kinds: &[&'static str]) -> Wanted
     ensures { result ≡ with_kinds wanted by_kind (map (λ kind. kind.now) kinds.now) }
 {
     let mut all = wanted;
     for kind in kinds {
-        all = if by_kind && may_be_inside(kind) {
-            all.with_all_kinds().with_inside()
-        } else {
-            all.with_kind(kind)
-        };
+        all = with_kind(all, by_kind, kind);
     }
     all
 }
@@ -104,9 +112,11 @@ pub(crate) fn any_chooses(columns: &[Column]) -> bool
 }
 
 /// Returns whether a kind is one of others.
-pub(crate) fn is_one_of(kind: &[u8], kinds: &[&'static str]) -> bool {
+pub(crate) fn is_one_of(kind: &[u8], kinds: &[&'static str]) -> bool
+    ensures { result ≡ list_any (bytes_eq kind.now) (map (λ one. one.now) kinds.now) }
+{
     for one in kinds {
-        if one.as_bytes() == kind {
+        if kind == one.as_bytes() {
             return true;
         }
     }
@@ -116,7 +126,7 @@ pub(crate) fn is_one_of(kind: &[u8], kinds: &[&'static str]) -> bool {
 impl Choice {
     /// Returns the choice that keeps records of some kinds, or with one of these inside, whole.
     pub fn kept(alloc: Global, base: Base, kinds: Vec<&'static str>) -> Choice
-        ensures { result ≡ record { by_kind = true; kinds = map (λ kind. kind.now) kinds.items; print = Whole base } }
+        ensures { result ≡ record { by_kind = true; kinds = map (λ kind. kind.now) kinds.entry.items; print = Whole base } }
     {
         Choice {
             form: Form::kept(base),
@@ -128,7 +138,7 @@ impl Choice {
 
     /// Returns the choice that has rows of the same records.
     pub fn rows_of(kinds: Vec<&'static str>, columns: Vec<Column>) -> Choice
-        ensures { result ≡ record { by_kind = true; kinds = map (λ kind. kind.now) kinds.items; print = Rows columns.items } }
+        ensures { result ≡ record { by_kind = true; kinds = map (λ kind. kind.now) kinds.entry.items; print = Rows columns.items } }
     {
         Choice {
             form: Form::Rows(wanted_of(true, kinds.as_slice(), columns.as_slice())),
@@ -141,7 +151,7 @@ impl Choice {
     /// Returns the choice that has rows of the records of some kinds that have all columns which
     /// choose. If there is none of these, it has none of the refusal that ends a listing.
     pub fn rows(kinds: Vec<&'static str>, columns: Vec<Column>) -> Choice
-        ensures { result ≡ record { by_kind = false; kinds = map (λ kind. kind.now) kinds.items; print = Rows columns.items } }
+        ensures { result ≡ record { by_kind = false; kinds = map (λ kind. kind.now) kinds.entry.items; print = Rows columns.items } }
     {
         Choice {
             form: Form::Rows(wanted_of(false, kinds.as_slice(), columns.as_slice())),
@@ -159,7 +169,19 @@ impl Choice {
     }
 
     /// Returns whether rows are made.
-    pub(crate) fn has_rows(&self) -> bool {
+    pub(crate) fn has_rows(&self) -> bool
+        ensures { result ≡ has_rows self.now.print }
+    {
         matches!(self.form, Form::Rows(_))
+    }
+
+    /// Returns the columns of rows.
+    pub(crate) fn columns(&self) -> &[Column]
+        ensures { result.now ≡ columns_of self.now.print }
+    {
+        match self.form {
+            Form::Rows(_) => self.columns.as_slice(),
+            _ => &[],
+        }
     }
 }

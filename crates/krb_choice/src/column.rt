@@ -53,7 +53,7 @@ fn is_of_origin(name: &str) -> bool
 impl Column {
     /// Returns the column of the kind of a record, or of what is inside of a kind.
     pub fn kind(within: Option<&'static str>) -> Column
-        ensures { result ≡ record { within = option_copied within; shows = Kind } }
+        ensures { result ≡ record { within = option_copied within.entry; shows = Kind } }
     {
         Column {
             within,
@@ -73,7 +73,7 @@ impl Column {
 
     /// Returns the column of a path of a field, of the record or of what is inside of a kind.
     pub fn field(within: Option<&'static str>, field: &'static str, path: Path) -> Column
-        ensures { result ≡ record { within = option_copied within; shows = Member field.now path } }
+        ensures { result ≡ record { within = option_copied within.entry; shows = Member field.now path } }
     {
         Column {
             within,

@@ -1,6 +1,6 @@
 //! What the pieces of a marked record say.
 
-ghost use Rattle.std.specs.Prelude.{◌≡◌};
+ghost use Rattle.std.specs.Prelude.{◌≡◌, false};
 ghost use Rattle.std.specs.List.{list_any};
 ghost use Rattle.std.specs.Option.{option_copied};
 ghost use Rattle.krb_choice.specs.Choices.{cell_of, is_called, is_there, kind_alone};
@@ -38,10 +38,14 @@ pub(crate) fn after_kind<'p, 'a>(pieces: &'p [Piece<'a>]) -> &'p [Piece<'a>]
     ensures { result.now ≡ after_kind pieces.now }
 {
     let mut index = 0;
-    'pieces: while index < pieces.len() && pieces[index].mark != KIND {
+    'pieces: while index < pieces.len() {
+        let piece = &pieces[index];
         index += 1;
+        if piece.mark == KIND {
+            return &pieces[index..];
+        }
     }
-    &pieces[pieces.len().min(index + 1)..]
+    &pieces[pieces.len()..]
 }
 
 /// Returns the line that tells of a record, if that may be the last one.
