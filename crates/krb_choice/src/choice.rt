@@ -169,7 +169,7 @@ impl Choice {
     }
 
     /// Returns whether rows are made.
-    pub(crate) fn has_rows(&self) -> bool
+    pub fn has_rows(&self) -> bool
         ensures { result ≡ has_rows self.now.print }
     {
         matches!(self.form, Form::Rows(_))

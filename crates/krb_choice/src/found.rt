@@ -15,7 +15,7 @@ use std::alloc::{AllocError, Global};
 
 /// What a column shows of a record.
 #[derive(Drop)]
-pub(crate) enum Found<'a> {
+pub enum Found<'a> {
     /// A cell of the record itself, if it has it.
     Own(Option<&'a [u8]>),
     /// The kinds of what is inside.

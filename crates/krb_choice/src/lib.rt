@@ -1,13 +1,11 @@
 //! Choices: which records of a listing are kept, and the rows that are made of them.
 //!
 //! A [`Choice`] keeps records by their kinds, and those of what is inside of them, or by what they
-//! have. Its [`Form`](krb_record::Form) is that in which records are listed for it, with marks.
-//! [`Choosing`] is a writer of such a listing: it writes the records that are kept, without marks, or
-//! their rows, to another writer.
+//! have. Its [`Form`](krb_record::Form) is that in which records are listed for it, with marks. A
+//! [`Record`] is read of such a text: its pieces, and what each column of the choice shows of it.
 #![tactic(auto)]
 
 mod choice;
-mod choosing;
 mod column;
 mod found;
 mod mark;
@@ -15,5 +13,7 @@ mod pieces;
 mod record;
 
 pub use choice::Choice;
-pub use choosing::Choosing;
 pub use column::Column;
+pub use found::Found;
+pub use mark::{Piece, put_whole};
+pub use record::Record;

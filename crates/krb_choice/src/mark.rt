@@ -26,9 +26,11 @@ pub(crate) const OUTSIDE: u8 = 0x07;
 
 /// A mark, and the text that follows it, up to the next mark.
 #[derive(Drop)]
-pub(crate) struct Piece<'a> {
-    pub(crate) mark: u8,
-    pub(crate) text: &'a [u8],
+pub struct Piece<'a> {
+    /// The mark, an octet below 20.
+    pub mark: u8,
+    /// The text that follows it.
+    pub text: &'a [u8],
 }
 
 impl<'a> Model for Piece<'a> {
@@ -110,7 +112,7 @@ pub(crate) fn put_pieces<'a>(text: &'a [u8], found: &mut Vec<Piece<'a>>) -> Resu
 }
 
 /// Appends a marked record without its marks.
-pub(crate) fn put_whole(text: &[u8], out: &mut Vec<u8>) -> Result<(), AllocError>
+pub fn put_whole(text: &[u8], out: &mut Vec<u8>) -> Result<(), AllocError>
     ensures { OnOk result (out.new.items ≡ out.old.items ++ whole_text text.now) }
 {
     let (first, mut others) = split_mark(text);

@@ -17,9 +17,11 @@ use std::alloc::{AllocError, Global};
 
 /// A marked record, and what columns show of it.
 #[derive(Drop)]
-pub(crate) struct Record<'a> {
-    pieces: Vec<Piece<'a>>,
-    found: Vec<Found<'a>>,
+pub struct Record<'a> {
+    /// Its pieces.
+    pub pieces: Vec<Piece<'a>>,
+    /// What each column shows of it.
+    pub found: Vec<Found<'a>>,
 }
 
 /// Returns whether something inside is of one of some kinds, of the pieces after the kind of a record.
@@ -67,7 +69,7 @@ fn has_columns(columns: &[Column], found: &[Found<'_>], is_last: bool) -> bool
 
 impl<'a> Record<'a> {
     /// Returns a record of which nothing is known yet.
-    pub(crate) fn new(alloc: Global) -> Record<'a> {
+    pub fn new(alloc: Global) -> Record<'a> {
         Record {
             pieces: Vec::new(alloc),
             found: Vec::new(alloc),
@@ -75,7 +77,7 @@ impl<'a> Record<'a> {
     }
 
     /// Finds what a record has, and what columns show of it.
-    pub(crate) fn find(&mut self, choice: &Choice, text: &'a [u8]) -> Result<(), AllocError>
+    pub fn find(&mut self, choice: &Choice, text: &'a [u8]) -> Result<(), AllocError>
         ensures { OnOk result (Finds choice.now text.now self.new) }
     {
         let alloc = *self.found.allocator();
@@ -91,7 +93,7 @@ impl<'a> Record<'a> {
     }
 
     /// Returns whether the record is kept, which may be the last one.
-    pub(crate) fn is_kept(&self, choice: &Choice, is_last: bool) -> bool
+    pub fn is_kept(&self, choice: &Choice, is_last: bool) -> bool
         requires { HasFound choice.now self.now }
         ensures { result ≡ is_kept choice.now is_last (read_pieces self.now.pieces.items) }
     {
@@ -109,21 +111,21 @@ impl<'a> Record<'a> {
     }
 
     /// Returns whether the record is of a kind.
-    pub(crate) fn is_of(&self, kind: &[u8]) -> bool
+    pub fn is_of(&self, kind: &[u8]) -> bool
         ensures { result ≡ bytes_eq (read_pieces self.now.pieces.items).kind kind.now }
     {
         kind_of(self.pieces.as_slice()) == kind
     }
 
     /// Returns the line that tells of the record, if it may be the last one.
-    pub(crate) fn aside(&self) -> Option<&'a [u8]>
+    pub fn aside(&self) -> Option<&'a [u8]>
         ensures { option_copied result ≡ aside_of self.now.pieces.items }
     {
         aside_of(self.pieces.as_slice())
     }
 
     /// Returns how many rows it has.
-    pub(crate) fn count_rows(&self) -> usize
+    pub fn count_rows(&self) -> usize
         ensures { result ≡ greatest (1 ∷ map count_found (all_in self.now.found.items)) }
     {
         let mut count = 1;
@@ -134,7 +136,7 @@ impl<'a> Record<'a> {
     }
 
     /// Appends a row.
-    pub(crate) fn put_row(&self, row: usize, out: &mut Vec<u8>) -> Result<(), AllocError>
+    pub fn put_row(&self, row: usize, out: &mut Vec<u8>) -> Result<(), AllocError>
         ensures { OnOk result (out.new.items ≡ out.old.items ++ row_found row (all_in self.now.found.items)) }
     {
         put_row(self.found.as_slice(), row, out)

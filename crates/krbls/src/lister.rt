@@ -13,7 +13,8 @@ ghost use Rattle.krbls.specs.Commands.{Does, FailsToTurn, TellsSaid, Turns, chos
 ghost use Rattle.krbls.specs.Program.{DoesFrom, IsFaultReported, IsHinted, IsTold, ListsBy, name_of};
 
 use krb_capture_run::run_capture;
-use krb_choice::{Choice, Choosing};
+use krb_choice::Choice;
+use krb_choosing::Choosing;
 use krb_convert::{decode, encode, put_decode_end, put_encode_end};
 use krb_file_run::{run_ccache_in, run_keytab_in};
 use krb_host::Host;

@@ -1,8 +1,6 @@
 //! A writer of marked listings.
 
-use crate::choice::Choice;
-use crate::mark::put_whole;
-use crate::record::Record;
+use krb_choice::{Choice, Record, put_whole};
 use memchr::memchr;
 use std::alloc::{AllocError, Global};
 use std::io;

@@ -1,0 +1,9 @@
+//! The writer that chooses: what is written of a listing of which not all is wanted.
+//!
+//! [`Choosing`] is a writer of a marked listing: it writes the records that a choice keeps, without
+//! marks, or their rows, to another writer.
+#![tactic(auto)]
+
+mod choosing;
+
+pub use choosing::Choosing;
