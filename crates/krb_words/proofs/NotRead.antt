@@ -1,5 +1,5 @@
 -- Words that are no command line.
-use Rattle.std.proofs.Common.{◌≡◌, ℕ, inl, inr, Bool, true, false, List, [], ◌∷◌, map, Option, Some, None, is_some, Result, Err, refl, sym, ◌∙◌, ap, subst, find}
+use Rattle.std.proofs.Common.{◌≡◌, ℕ, inl, inr, Bool, true, false, List, [], ◌∷◌, map, Option, Some, None, is_some, Result, Err, refl, sym, ◌∙◌, ap, subst, find, string_bytes}
 use Rattle.clap.specs.Words.{App, HasKind, HasMatchesOf, IsAmong, Kinds, Row, Shape, Text, TriesOne, built, fault_of, is_simple_and_free, kind_of, subcommand_of, subcommand_rows_of}
 use Rattle.clap.specs.Faults.{check_fault, entered_fault, level_fault}
 use Rattle.clap.specs.Kinds.{or_else}
@@ -8,6 +8,7 @@ use Rattle.clap.specs.Walk.{Held, Names, answers_to, finished, nothing_held, sto
 use Rattle.clap.specs.declared.error.Error.{Error}
 use Rattle.clap.specs.declared.error.kind.ErrorKind.{ErrorKind}
 use Rattle.clap.specs.declared.parser.matches.ArgMatches.{ArgMatches}
+use Rattle.krb_words.specs.Chosen.{IfSaid}
 use Rattle.krb_words.specs.Words.{FindsUnfit, IsFaultFor, IsNoNumber, IsRequest, IsWrongBy, krbls}
 use Rattle.krb_words.specs.Times.{Spells}
 use Rattle.krb_words.specs.declared.words.WordsFault.{WordsFault}
@@ -61,37 +62,37 @@ entered_known a (Some p) met e none = go (find (λ s. answers_to p.0 (label_of s
         let name : s.name ≡ met.0 = cc in
         name_found (λ x. answers_to p.0 (label_of x)) a.subs s is (subst (IsNoneOf (map (λ (x : Shape). x.name) a.subs)) (sym name) none)
 
-find_unfit : (a : App) (stop : Option (Text × List Text)) (met : Option (Text × List Row)) → map (λ (x : Shape). x.name) a.subs ≡ commands → entered a stop ≡ met → is_some met ≡ true
-    → FindsNoJob met → FindsUnfit met
-find_unfit a stop None names is some none = cc
-find_unfit a stop (Some met) names is some (inl none) = absurd (entered_known a stop met is (subst (λ l. IsNoneOf l met.0) (sym names) none))
-find_unfit a stop (Some met) names is some (inr none) = none
+find_unfit : (a : App) (stop : Option (Text × List Text)) (met : Option (Text × List Row)) (text : Text) → map (λ (x : Shape). x.name) a.subs ≡ commands → entered a stop ≡ met → is_some met ≡ true
+    → FindsNoJob met text → FindsUnfit met text
+find_unfit a stop None text names is some none = cc
+find_unfit a stop (Some met) text names is some (inl none) = absurd (entered_known a stop met is (subst (λ l. IsNoneOf l met.0) (sym names) none))
+find_unfit a stop (Some met) text names is some (inr none) = none
 
-words_find_unfit : (words : List Text) → fault_of krbls words ≡ [] → FindsNoJob (subcommand_of krbls words) → FindsUnfit (subcommand_of krbls words)
-words_find_unfit words e none =
+words_find_unfit : (words : List Text) (text : Text) → fault_of krbls words ≡ [] → FindsNoJob (subcommand_of krbls words) text → FindsUnfit (subcommand_of krbls words) text
+words_find_unfit words text e none =
     let a = built krbls in
     let taken = argument_words krbls words in
     let stop = stop_after a.top.rules (names_of a) taken in
-    find_unfit a stop (entered a stop) refl refl (level_met a.top (names_of a) nothing_held taken (is_some (entered a stop)) (entered_fault a stop) refl refl e) none
+    find_unfit a stop (entered a stop) text refl refl (level_met a.top (names_of a) nothing_held taken (is_some (entered a stop)) (entered_fault a stop) refl refl e) none
 
 -- ---- what is wrong with words
-wrong_by_nothing : (kinds : Kinds) (words : List Text) → kinds ≡ [] → FindsUnfit (subcommand_of krbls words) → IsWrongBy kinds words
-wrong_by_nothing [] words e out = out
-wrong_by_nothing (first ∷ kinds) words e out = cc
+wrong_by_nothing : (kinds : Kinds) (words : List Text) (text : Text) → kinds ≡ [] → FindsUnfit (subcommand_of krbls words) text → IsWrongBy kinds words text
+wrong_by_nothing [] words text e out = out
+wrong_by_nothing (first ∷ kinds) words text e out = cc
 
-wrong_by_kind : (kinds : Kinds) (words : List Text) (kind : ErrorKind) → IsAmong kind kinds → (IsRequest kind → ⊥) → IsWrongBy kinds words
-wrong_by_kind [] words kind among request = absurd among
-wrong_by_kind (first ∷ kinds) words kind among request = (kind, among, request)
+wrong_by_kind : (kinds : Kinds) (words : List Text) (text : Text) (kind : ErrorKind) → IsAmong kind kinds → (IsRequest kind → ⊥) → IsWrongBy kinds words text
+wrong_by_kind [] words text kind among request = absurd among
+wrong_by_kind (first ∷ kinds) words text kind among request = (kind, among, request)
 
 -- by their matches
 pub IsFaultFor-matches : (app : App) (texts : List Text) (m : ArgMatches) (e : WordsFault) → app ≡ krbls → (is_simple_and_free app ≡ true → fault_of app texts ≡ []) → HasMatchesOf app texts m
-    → IfWrong e (FindsNoJob (subcommand_rows_of m)) → IsFaultFor texts e
+    → IfSaid e (FindsNoJob (subcommand_rows_of m)) → IsFaultFor texts e
 IsFaultFor-matches app texts m (faults.Wrong text) is nothing has none =
     let free : is_simple_and_free app ≡ true = ap is_simple_and_free is ∙ krbls-free in
     let simple : is_simple app ≡ true = ap is_simple is ∙ krbls-simple in
     let kinds : fault_of krbls texts ≡ [] = ap (λ a. fault_of a texts) (sym is) ∙ nothing free in
     let rows : subcommand_rows_of m ≡ subcommand_of krbls texts = (has simple).1 ∙ ap (λ a. subcommand_of a texts) is in
-    wrong_by_nothing (fault_of krbls texts) texts kinds (words_find_unfit texts kinds (subst FindsNoJob rows none))
+    wrong_by_nothing (fault_of krbls texts) texts (string_bytes text) kinds (words_find_unfit texts (string_bytes text) kinds (subst (λ met. FindsNoJob met (string_bytes text)) rows none))
 IsFaultFor-matches app texts m faults.Memory is nothing has none = tt
 
 among : (kinds : Kinds) (error : Error) → HasKind kinds error → IsNoText (kind_of error) → IsAmong (kind_of error) kinds
@@ -103,5 +104,5 @@ pub IsFaultFor-error : (app : App) (texts : List Text) (error : Error) (e : Word
     → IfWrong e (IsNoText (kind_of error)) → IsFaultFor texts e
 IsFaultFor-error app texts error (faults.Wrong text) is fails out =
     let free : is_simple_and_free app ≡ true = ap is_simple_and_free is ∙ krbls-free in
-    wrong_by_kind (fault_of krbls texts) texts (kind_of error) (subst (λ a. IsAmong (kind_of error) (fault_of a texts)) is (among (fault_of app texts) error (fails free) out)) out.0
+    wrong_by_kind (fault_of krbls texts) texts (string_bytes text) (kind_of error) (subst (λ a. IsAmong (kind_of error) (fault_of a texts)) is (among (fault_of app texts) error (fails free) out)) out.0
 IsFaultFor-error app texts error faults.Memory is fails out = tt

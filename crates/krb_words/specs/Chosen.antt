@@ -1,6 +1,6 @@
 -- What the words choose: kinds by `--only`, and names by `--fields`, with a first row by `--header`; and what is said of those that choose nothing.
 use Rattle.std.specs.Prelude.{ℕ, ◌≡◌, ◌≢◌, ◌⊎◌, ◌==◌, ◌&&◌, ◌||◌, not, Bool, true, false, List, [], ◌∷◌, ◌++◌, map, Option, Some, None, codes, string_bytes, if◌then◌else◌}
-use Rattle.std.specs.List.{filter, list_all}
+use Rattle.std.specs.List.{filter, list_all, slice_split}
 use Rattle.std.specs.Option.{option_copied, option_map}
 use Rattle.std.specs.Str.{bytes_eq}
 use Rattle.clap.specs.Words.{Text}
@@ -25,13 +25,8 @@ use Rattle.krb_words.specs.declared.words.Naming.TheVariants as naming
 
 -- ---- words
 -- the words of a text, with commas between them
-abbrev pub with_octet : ℕ → List Text → List Text
-with_octet octet [] = (octet ∷ []) ∷ []
-with_octet octet (word ∷ others) = (octet ∷ word) ∷ others
-
 abbrev pub words_of : Text → List Text
-words_of [] = [] ∷ []
-words_of (octet ∷ text) = if octet == 0x2C then [] ∷ words_of text else with_octet octet (words_of text)
+words_of text = slice_split (λ octet. octet == 0x2C) text
 
 -- those of an option, if it is given
 abbrev pub words_if : Option Text → List Text
@@ -138,26 +133,30 @@ abbrev pub AreNames : List Listing → List Text → List Name → Type 0
 AreNames listings words names = (map name_text names ≡ words) × (first_unknown (all_names listings) words ≡ None)
 
 -- rows of records of the kinds of `--only`, or of those that names choose
-abbrev pub rows_by : Option Text → List Listing → List Name → List Column → Choice
+abbrev pub rows_by : Option (List Text) → List Listing → List Name → List Column → Choice
 rows_by None listings names columns = record { by_kind = false; kinds = kinds_chosen listings names; print = Rows columns }
-rows_by (Some kinds) listings names columns = record { by_kind = true; kinds = words_of kinds; print = Rows columns }
+rows_by (Some kinds) listings names columns = record { by_kind = true; kinds = kinds; print = Rows columns }
 
 abbrev pub first_row : Bool → Naming → List Text → Option Text
 first_row false naming words = None
 first_row true naming words = Some (joined [] (codes "\t") (λ word. word) (file_name naming ++ words))
 
--- The choice and the first row by the options.
-abbrev pub IsChosenBy : Options → (only fields : Option Text) → Option Choice → Option Text → Type 0
-IsChosenBy options None None choice header = (choice ≡ None) × (header ≡ None)
-IsChosenBy options (Some kinds) None choice header =
-    (choice ≡ Some (record { by_kind = true; kinds = words_of kinds; print = Whole (base_of options.form) })) × (header ≡ None)
-IsChosenBy options only (Some words) choice header =
+-- by the words of names: rows, and the first row
+abbrev pub IsRowsBy : Options → (kinds : Option (List Text)) → Text → Option Choice → Option Text → Type 0
+IsRowsBy options kinds words choice header =
     (names : List Name) × AreNames options.listings (words_of words) names
-    × (choice ≡ Some (rows_by only options.listings names (file_column options.naming ++ map column_of names)))
+    × (choice ≡ Some (rows_by kinds options.listings names (file_column options.naming ++ map column_of names)))
     × (header ≡ first_row options.has_header options.naming (words_of words))
 
+-- The choice and the first row by the options.
+abbrev pub IsChosenBy : Options → (kinds : Option (List Text)) → (fields : Option Text) → Option Choice → Option Text → Type 0
+IsChosenBy options None None choice header = (choice ≡ None) × (header ≡ None)
+IsChosenBy options (Some kinds) None choice header =
+    (choice ≡ Some (record { by_kind = true; kinds = kinds; print = Whole (base_of options.form) })) × (header ≡ None)
+IsChosenBy options kinds (Some words) choice header = IsRowsBy options kinds words choice header
+
 abbrev pub IsChosen : Options → Option Choice → Option Text → Type 0
-IsChosen options choice header = IsChosenBy options options.only options.fields choice header
+IsChosen options choice header = IsChosenBy options (option_map words_of options.only) options.fields choice header
 
 -- ---- what is said of words that are wrong
 abbrev pub error_text : Text → Text
@@ -207,31 +206,36 @@ told_text kind = kind ++ codes " is shown with --names, --json or --fields"
 abbrev pub HaveNone : List Listing → List Name → Type 0
 HaveNone listings names = (filter (chooses listings) names ≢ []) × (kinds_chosen listings names ≡ [])
 
-abbrev pub NoneHasAll : List Listing → Text → List Name → Type 0
-NoneHasAll listings words names = AreNames listings (words_of words) names × HaveNone listings names
-
 -- all kinds are told
 abbrev pub SaysTold : List Text → Text → Type 0
 SaysTold [] text = ⊥
 SaysTold (first ∷ others) text = (list_all is_told (first ∷ others) ≡ true) × (text ≡ told_text first)
 
--- the first of these that holds, after the words themselves
-abbrev pub SaysRest : Options → (only fields : Option Text) → Text → Type 0
+abbrev pub SaysNone : List Listing → List Name → Text → Type 0
+SaysNone listings names text = HaveNone listings names × (text ≡ none_text (map name_text (filter (chooses listings) names)))
+
+abbrev pub SaysObjects : Form → Text → Type 0
+SaysObjects listed text = (listed ≡ form.Json) × (text ≡ objects_text)
+
+abbrev pub SaysNoNames : Bool → Text → Type 0
+SaysNoNames has_header text = (has_header ≡ true) × (text ≡ no_names_text)
+
+-- The first of these that holds, where each word is a kind, or a name: no kind has all names, objects have no columns, there is no name for a first row, or all kinds are told.
+abbrev pub SaysRest : Options → (kinds : Option (List Text)) → (fields : Option Text) → Text → Type 0
 SaysRest options None (Some words) text =
-    ((names : List Name) × NoneHasAll options.listings words names × (text ≡ none_text (map name_text (filter (chooses options.listings) names))))
-    ⊎ (((names : List Name) → NoneHasAll options.listings words names → ⊥) × (options.form ≡ form.Json) × (text ≡ objects_text))
-SaysRest options (Some kinds) (Some words) text = (options.form ≡ form.Json) × (text ≡ objects_text)
-SaysRest options None None text = (options.has_header ≡ true) × (text ≡ no_names_text)
+    (names : List Name) × AreNames options.listings (words_of words) names
+    × (SaysNone options.listings names text ⊎ ((HaveNone options.listings names → ⊥) × SaysObjects options.form text))
+SaysRest options (Some kinds) (Some words) text = SaysObjects options.form text
+SaysRest options None None text = SaysNoNames options.has_header text
 SaysRest options (Some kinds) None text =
-    ((options.has_header ≡ true) × (text ≡ no_names_text))
-    ⊎ ((options.has_header ≡ false) × (options.form ≡ form.Lines) × SaysTold (words_of kinds) text)
+    SaysNoNames options.has_header text ⊎ ((options.has_header ≡ false) × (options.form ≡ form.Lines) × SaysTold kinds text)
 
-abbrev pub SaysNames : Options → Option Text → Text → Type 0
-SaysNames options None text = SaysRest options options.only options.fields text
-SaysNames options (Some word) text = SaysName options.listings word text
+abbrev pub SaysNames : Options → (kinds : Option (List Text)) → (fields unknown : Option Text) → Text → Type 0
+SaysNames options kinds fields None text = SaysRest options kinds fields text
+SaysNames options kinds fields (Some word) text = SaysName options.listings word text
 
-abbrev pub SaysKinds : Options → Option Text → Text → Type 0
-SaysKinds options None text = SaysNames options (first_unknown (all_names options.listings) (words_if options.fields)) text
+abbrev pub SaysKinds : Options → (unknown : Option Text) → Text → Type 0
+SaysKinds options None text = SaysNames options (option_map words_of options.only) options.fields (first_unknown (all_names options.listings) (words_if options.fields)) text
 SaysKinds options (Some word) text = SaysKind options.listings word text
 
 -- what is wrong with options that choose nothing

@@ -30,7 +30,7 @@ use Rattle.krb_record.specs.FileNames.{name_text}
 use Rattle.krb_words.specs.Names.{as_command}
 use Rattle.krb_choice.specs.Choices.{Choice}
 use Rattle.krb_choice.specs.Wanted.{choice_form}
-use Rattle.krb_words.specs.Chosen.{IsChoiceFault, IsChosen, Options, listings_of}
+use Rattle.krb_words.specs.Chosen.{IsChoiceFault, IsChosen, IsErrorOf, Options, listings_of}
 use Rattle.krb_words.specs.Sources.{place_of, sources_of}
 use Rattle.krb_words.specs.Times.{Spells, IsNoWhen, IsWhenIf}
 
@@ -209,14 +209,13 @@ pub record ChoosesBy (command : Text) (rows : List Row) (command_line : CommandL
   pub chosen : Chooses command rows listed command_line.naming (λ options. IsChosen options command_line.choice (option_map string_bytes command_line.header))
   pub form : command_line.form ≡ form_chosen command_line.choice listed
 
--- the options choose nothing
-pub record ChoosesNothing (command : Text) (rows : List Row) : Type 0 where
+-- the options choose nothing, as a text says
+pub record ChoosesNothing (command : Text) (rows : List Row) (text : Text) : Type 0 where
   pub listed : Form
   pub named : Naming
   pub is_form : IsForm rows listed
   pub is_naming : IsNaming (first_of (codes "with-filename") rows) named
-  pub text : Text
-  pub chosen : Chooses command rows listed named (λ options. IsChoiceFault options text)
+  pub says : IsErrorOf (λ said. Chooses command rows listed named (λ options. IsChoiceFault options said)) text
 
 -- a command has no source
 abbrev pub LacksFile : Text → List Row → Type 0
@@ -270,28 +269,28 @@ abbrev pub IsNoNumber : (least greatest : ℕ) → Option Text → Type 0
 IsNoNumber least greatest None = ⊥
 IsNoNumber least greatest (Some text) = (number : ℕ) → Spells text number → least ≤ number → number ≤ greatest → ⊥
 
--- an option with a value that is no number of its range, or no time, options that choose nothing, or a command without a source
-abbrev pub IsUnfit : Text → List Row → Type 0
-IsUnfit command rows =
+-- an option with a value that is no number of its range, or no time, options that choose nothing, of which the text says why, or a command without a source
+abbrev pub IsUnfit : Text → List Row → Text → Type 0
+IsUnfit command rows text =
     IsNoNumber 1 2147483647 (one_of (codes "limit") rows) ⊎ (IsNoWhen (first_of (codes "now") rows)
-    ⊎ (IsNoNumber 1 65535 (one_of (codes "port") rows) ⊎ (ChoosesNothing command rows ⊎ LacksFile command rows)))
+    ⊎ (IsNoNumber 1 65535 (one_of (codes "port") rows) ⊎ (ChoosesNothing command rows text ⊎ LacksFile command rows)))
 
-abbrev pub FindsUnfit : Option (Text × List Row) → Type 0
-FindsUnfit None = ⊥
-FindsUnfit (Some met) = IsUnfit met.0 met.1
+abbrev pub FindsUnfit : Option (Text × List Row) → Text → Type 0
+FindsUnfit None text = ⊥
+FindsUnfit (Some met) text = IsUnfit met.0 met.1 text
 
 -- the words ask for a text to be printed
 abbrev pub IsRequest : ErrorKind → Type 0
 IsRequest kind = (kind ≡ DisplayHelp) ⊎ (kind ≡ DisplayVersion)
 
 -- By the kinds of error that `clap` may return for the words: one of them is no request, or if there is none, the command that was found is unfit.
-abbrev pub IsWrongBy : Kinds → List Text → Type 0
-IsWrongBy [] words = FindsUnfit (subcommand_of krbls words)
-IsWrongBy (first ∷ kinds) words = (kind : ErrorKind) × IsAmong kind (first ∷ kinds) × (IsRequest kind → ⊥)
+abbrev pub IsWrongBy : Kinds → List Text → Text → Type 0
+IsWrongBy [] words text = FindsUnfit (subcommand_of krbls words) text
+IsWrongBy (first ∷ kinds) words text = (kind : ErrorKind) × IsAmong kind (first ∷ kinds) × (IsRequest kind → ⊥)
 
 -- what is wrong with words, unless memory ran out
 abbrev pub IsFaultFor : List Text → WordsFault → Type 0
-IsFaultFor texts (fault.Wrong text) = IsWrongBy (fault_of krbls texts) texts
+IsFaultFor texts (fault.Wrong text) = IsWrongBy (fault_of krbls texts) texts (string_bytes text)
 IsFaultFor texts fault.Memory = Unit {0}
 
 abbrev pub IsFaultIn : List (List ℕ) → WordsFault → Type 0

@@ -1,12 +1,13 @@
 //! Which records are kept, and what is printed of them: `--only`, `--fields` and `--header`.
 
-ghost use Rattle.std.specs.Prelude.{◌≡◌, ◌++◌, Some, IfErr, IfOk, MatchOption, None, OnOk, map, string_bytes};
+ghost use Rattle.std.specs.Prelude.{◌≡◌, ◌∷◌, ◌++◌, [], false, true, IfErr, IfNone, IfOk, MatchOption, OnOk, codes, map, string_bytes};
 ghost use Rattle.std.specs.List.{filter};
 ghost use Rattle.std.specs.Option.{option_map};
 ghost use Rattle.clap.specs.Words.{Text, found_of, rows_of};
 ghost use Rattle.krb_choice.specs.Choices.{Whole};
-ghost use Rattle.krb_fields.specs.Names.{all_kinds, all_names, chooses, name_text};
-ghost use Rattle.krb_words.specs.Chosen.{AreNames, HaveNone, IfSaid, IsChoiceFault, IsChosen, IsErrorOf, SaysKind, SaysName, SaysTold, base_of, column_of, error_text, file_column, first_row, first_unknown, is_between, is_told, kinds_chosen, listed, listings_of, none_text, path_of, told_text, words_of};
+ghost use Rattle.krb_fields.specs.Names.{all_kinds, all_names, chooses, is_among, name_text};
+ghost use Rattle.krb_record.specs.Text.{joined};
+ghost use Rattle.krb_words.specs.Chosen.{AreNames, HaveNone, IfSaid, IsChoiceFault, IsChosen, IsErrorOf, IsRowsBy, SaysKind, SaysName, SaysNames, SaysNone, SaysTold, base_of, column_of, error_text, file_column, first_row, first_unknown, is_between, is_told, kinds_chosen, listed, listings_of, none_text, path_of, rows_by, told_text, words_of};
 ghost use Rattle.krb_words.specs.Words.{Chooses};
 ghost use Rattle.krb_words.specs.inner.Options.{IsOkOf, SaysFirst, options_of};
 
@@ -147,6 +148,13 @@ fn fault_of(alloc: Global, text: &str) -> WordsFault
     wrong(error_text(alloc, text))
 }
 
+/// Returns the words of a text, with commas between them.
+fn words_of<'a>(alloc: Global, text: &'a str) -> Result<Vec<&'a str>, AllocError>
+    ensures { IfOk result (λ words. map (λ word. word.now) words.items ≡ words_of text.now) }
+{
+    text.split(',').collect(alloc)
+}
+
 /// Returns the texts of strings.
 fn texts_of<'a>(alloc: Global, strings: &'a [String]) -> Result<Vec<&'a str>, AllocError>
     ensures { IfOk result (λ texts. map (λ text. text.now) texts.items ≡ map string_bytes strings.now) }
@@ -207,9 +215,23 @@ fn fault_said(alloc: Global, said: Result<String, AllocError>) -> WordsFault
 }
 
 /// Appends an item.
-fn put<T: Drop>(items: &mut Vec<T>, item: T) -> Result<(), AllocError> {
+fn put<T: Drop>(items: &mut Vec<T>, item: T) -> Result<(), AllocError>
+    ensures { OnOk result (items.new.items ≡ items.old.items ++ item ∷ []) }
+{
     items.push(item)?;
     Ok(())
+}
+
+/// Returns the kind that a word is.
+fn kind_by(alloc: Global, listings: &[Listing], word: &str) -> Result<&'static str, WordsFault>
+    ensures kind { IfOk result (λ kind. (kind.now ≡ word.now) × (is_among word.now (all_kinds listings.now) ≡ true)) }
+    ensures unknown { IfErr result (λ e. is_among word.now (all_kinds listings.now) ≡ false) }
+    ensures fault { IfErr result (λ e. IfSaid e (IsErrorOf (SaysKind listings.now word.now))) }
+{
+    match kind_of(listings, word.as_bytes()) {
+        Some(kind) => Ok(kind),
+        None => Err(fault_said(alloc, said_of_kind(alloc, listings, word))),
+    }
 }
 
 /// Returns the kinds that words are.
@@ -218,17 +240,28 @@ fn kinds_of(
     listings: &[Listing],
     words: &str,
 ) -> Result<Vec<&'static str>, WordsFault>
-    ensures kinds { IfOk result (λ kinds. (map (λ kind. kind.now) kinds.items ≡ words_of words.now) × (first_unknown (all_kinds listings.now) (words_of words.now) ≡ None)) }
+    ensures kinds { IfOk result (λ kinds. map (λ kind. kind.now) kinds.items ≡ words_of words.now) }
+    ensures known { OnOk result (first_unknown (all_kinds listings.now) (words_of words.now) ≡ None) }
     ensures fault { IfErr result (λ e. IfSaid e (IsErrorOf (SaysFirst (first_unknown (all_kinds listings.now) (words_of words.now)) (SaysKind listings.now)))) }
 {
+    let words = words_of(alloc, words)?;
     let mut kinds = Vec::new(alloc);
-    for word in words.split(',') {
-        match kind_of(listings, word.as_bytes()) {
-            Some(kind) => put(&mut kinds, kind)?,
-            None => return Err(fault_said(alloc, said_of_kind(alloc, listings, word))),
-        }
+    for word in words.as_slice() {
+        put(&mut kinds, kind_by(alloc, listings, word)?)?;
     }
     Ok(kinds)
+}
+
+/// Returns the name that a word is.
+fn name_by(alloc: Global, listings: &[Listing], word: &str) -> Result<Name, WordsFault>
+    ensures name { IfOk result (λ name. (name_text name ≡ word.now) × (is_among word.now (all_names listings.now) ≡ true)) }
+    ensures unknown { IfErr result (λ e. is_among word.now (all_names listings.now) ≡ false) }
+    ensures fault { IfErr result (λ e. IfSaid e (IsErrorOf (SaysName listings.now word.now))) }
+{
+    match name_of(listings, word.as_bytes()) {
+        Some(name) => Ok(name),
+        None => Err(fault_said(alloc, said_of_name(alloc, listings, word))),
+    }
 }
 
 /// Returns the names that words are.
@@ -236,12 +269,10 @@ fn names_of(alloc: Global, listings: &[Listing], words: &str) -> Result<Vec<Name
     ensures names { IfOk result (λ names. AreNames listings.now (words_of words.now) names.items) }
     ensures fault { IfErr result (λ e. IfSaid e (IsErrorOf (SaysFirst (first_unknown (all_names listings.now) (words_of words.now)) (SaysName listings.now)))) }
 {
+    let words = words_of(alloc, words)?;
     let mut names = Vec::new(alloc);
-    for word in words.split(',') {
-        match name_of(listings, word.as_bytes()) {
-            Some(name) => put(&mut names, name)?,
-            None => return Err(fault_said(alloc, said_of_name(alloc, listings, word))),
-        }
+    for word in words.as_slice() {
+        put(&mut names, name_by(alloc, listings, word)?)?;
     }
     Ok(names)
 }
@@ -259,24 +290,35 @@ fn choosing_of(alloc: Global, listings: &[Listing], names: &[Name]) -> Result<Ve
     Ok(choosing)
 }
 
+/// Returns the texts of names.
+fn texts_of_names(alloc: Global, names: &[Name]) -> Result<Vec<String>, AllocError>
+    ensures { IfOk result (λ texts. map string_bytes texts.items ≡ map name_text names.now) }
+{
+    let mut texts = Vec::new(alloc);
+    for name in names {
+        texts.push(text_of(alloc, name)?)?;
+    }
+    Ok(texts)
+}
+
+/// Returns the text of a name.
+fn text_of(alloc: Global, name: &Name) -> Result<String, AllocError>
+    ensures { IfOk result (λ text. string_bytes text ≡ name_text name.now) }
+{
+    match name.within {
+        Some(kind) => format!(in alloc; "{kind}.{}{}", name.field, name.ending),
+        None => format!(in alloc; "{}{}", name.field, name.ending),
+    }
+}
+
 /// Returns what is said of names that no kind of record has all of.
 fn said_of_none(alloc: Global, names: &[Name]) -> Result<String, AllocError>
     ensures { IfOk result (λ text. string_bytes text ≡ none_text (map name_text names.now)) }
 {
+    let names = texts_of_names(alloc, names)?;
+    let names = texts_of(alloc, names.as_slice())?;
     let mut text = String::from_str(alloc, "no kind of record has all of these fields: ")?;
-    let mut is_first = true;
-    for name in names {
-        if !is_first {
-            text.push_str(", ")?;
-        }
-        is_first = false;
-        if let Some(kind) = name.within {
-            text.push_str(kind)?;
-            text.push_str(".")?;
-        }
-        text.push_str(name.field)?;
-        text.push_str(name.ending)?;
-    }
+    put_listed(&mut text, names.as_slice())?;
     text.push_str("; with --only KIND,.. each record of the kinds has a row")?;
     Ok(text)
 }
@@ -300,8 +342,9 @@ fn kinds_chosen(
     listings: &[Listing],
     names: &[Name],
 ) -> Result<Vec<&'static str>, WordsFault>
-    ensures kinds { IfOk result (λ kinds. (map (λ kind. kind.now) kinds.items ≡ kinds_chosen listings.now names.now) × (HaveNone listings.now names.now → ⊥)) }
-    ensures fault { IfErr result (λ e. IfSaid e (IsErrorOf (λ text. HaveNone listings.now names.now × (text ≡ none_text (map name_text (filter (chooses listings.now) names.now)))))) }
+    ensures kinds { IfOk result (λ kinds. map (λ kind. kind.now) kinds.items ≡ kinds_chosen listings.now names.now) }
+    ensures some { OnOk result (HaveNone listings.now names.now → ⊥) }
+    ensures fault { IfErr result (λ e. IfSaid e (IsErrorOf (SaysNone listings.now names.now))) }
 {
     let choosing = choosing_of(alloc, listings, names)?;
     let kinds = kinds_with(alloc, listings, choosing.as_slice())?;
@@ -320,7 +363,11 @@ fn rows_of(
     options: &Options<'_>,
     kinds: Option<Vec<&'static str>>,
     names: &[Name],
-) -> Result<Choice, WordsFault> {
+) -> Result<Choice, WordsFault>
+    ensures choice { IfOk result (λ choice. choice ≡ rows_by (option_map (λ kinds. map (λ kind. kind.now) kinds.items) kinds.entry) options.now.listings.now names.now (file_column options.now.naming ++ map column_of names.now)) }
+    ensures some { OnOk result (IfNone kinds.entry (HaveNone options.now.listings.now names.now → ⊥)) }
+    ensures fault { IfErr result (λ e. IfSaid e (IsErrorOf (λ text. (kinds.entry ≡ None) × SaysNone options.now.listings.now names.now text))) }
+{
     let columns = columns_of(alloc, options.naming, names)?;
     match kinds {
         Some(kinds) => Ok(Choice::rows_of(kinds, columns)),
@@ -381,22 +428,31 @@ fn kept_of(alloc: Global, form: Form, kinds: Vec<&'static str>) -> Result<Choice
     Ok(Choice::kept(alloc, base_of(form), kinds))
 }
 
-/// Returns the first row: the names as they were given, after that of the file, if each row has it.
-fn header_of(alloc: Global, naming: Naming, words: &str) -> Result<String, AllocError>
-    ensures { IfOk result (λ row. Some (string_bytes row) ≡ first_row true naming (words_of words.now)) }
+/// Appends words with tabs between them.
+fn put_cells(row: &mut String, words: &[&str]) -> Result<(), AllocError>
+    ensures { OnOk result (string_bytes row.new ≡ string_bytes row.old ++ joined [] (codes "\t") (λ word. word) (map (λ word. word.now) words.now)) }
 {
-    let mut row = String::new(alloc);
-    if naming == Naming::Each {
-        row.push_str("file\t")?;
-    }
     let mut is_first = true;
-    for word in words.split(',') {
+    for word in words {
         if !is_first {
             row.push_str("\t")?;
         }
         is_first = false;
         row.push_str(word)?;
     }
+    Ok(())
+}
+
+/// Returns the first row: the names as they were given, after that of the file, if each row has it.
+fn header_of(alloc: Global, naming: Naming, words: &str) -> Result<String, AllocError>
+    ensures { IfOk result (λ row. Some (string_bytes row) ≡ first_row true naming (words_of words.now)) }
+{
+    let words = words_of(alloc, words)?;
+    let mut row = String::new(alloc);
+    if naming == Naming::Each {
+        row.push_str("file\t")?;
+    }
+    put_cells(&mut row, words.as_slice())?;
     Ok(row)
 }
 
@@ -412,7 +468,10 @@ fn chosen_by_names(
     options: &Options<'_>,
     kinds: Option<Vec<&'static str>>,
     words: &str,
-) -> Result<Chosen, WordsFault> {
+) -> Result<Chosen, WordsFault>
+    ensures chosen { IfOk result (λ chosen. IsRowsBy (options_of options.now) (option_map (λ kinds. map (λ kind. kind.now) kinds.items) kinds.entry) words.now chosen.choice (option_map string_bytes chosen.header)) }
+    ensures fault { IfErr result (λ e. IfSaid e (IsErrorOf (SaysNames (options_of options.now) (option_map (λ kinds. map (λ kind. kind.now) kinds.items) kinds.entry) (Some words.now) (first_unknown (all_names options.now.listings.now) (words_of words.now))))) }
+{
     let names = names_of(alloc, options.listings, words)?;
     let choice = rows_of(alloc, options, kinds, names.as_slice())?;
     if options.form == Form::Json {

@@ -2,9 +2,10 @@
 
 ghost use Rattle.std.specs.Prelude.{◌≡◌, codes, map, [], Some, IfOk, IfErr, OnOk, string_bytes};
 ghost use Rattle.clap.specs.Words.{found_of, kind_of, rows_of, subcommand_rows_of, first_of, one_of};
+ghost use Rattle.krb_words.specs.Chosen.{IfSaid};
 ghost use Rattle.krb_words.specs.Sources.{place_of, sources_of};
 ghost use Rattle.krb_words.specs.Times.{IsNoWhen, IsWhenIf};
-ghost use Rattle.krb_words.specs.Words.{IsTextBy, IsCommand, IsProfile, IsAfter, IsFraming, IsInputs, IsNaming, IsForm, IsGiven, IsCommandLineFor, IsCommandLineOf, IsCommandLineIn, IsFaultFor, IsFaultIn, IsNumber, IsNumberOr, IsNoNumber, LacksFile};
+ghost use Rattle.krb_words.specs.Words.{IsTextBy, IsCommand, IsProfile, IsAfter, IsFraming, IsInputs, IsNaming, IsForm, IsGiven, IsCommandLineFor, IsCommandLineOf, IsCommandLineIn, IsFaultFor, IsFaultIn, IsNumber, IsNumberOr, IsNoNumber, LacksFile, form_chosen};
 ghost use Rattle.krb_words.specs.declared.words.WordsFault.TheVariants as fault;
 ghost use Rattle.krb_words.specs.inner.NotRead.{FindsNoJob, IfWrong, IsNoJob, IsNoText};
 
@@ -308,7 +309,7 @@ fn form_of(found: &ArgMatches<'_>) -> Form
 /// Returns the command of a name with its options.
 fn command_of(alloc: Global, name: &str, found: &ArgMatches<'_>) -> Result<Command, WordsFault>
     ensures command { IfOk result (IsCommand name.now (rows_of (found_of found.now))) }
-    ensures fault { IfErr result (λ e. IfWrong e (IsNoJob name.now (rows_of (found_of found.now)))) }
+    ensures fault { IfErr result (λ e. IfSaid e (IsNoJob name.now (rows_of (found_of found.now)))) }
 {
     match name {
         "list" => Ok(Command::List(when_of(alloc, found)?)),
@@ -358,7 +359,9 @@ fn some_sources_of(
 }
 
 /// Returns the form in which records are listed: that of a choice, if there is one.
-fn form_chosen(chosen: &Chosen, form: Form) -> Form {
+fn form_chosen(chosen: &Chosen, form: Form) -> Form
+    ensures { result ≡ form_chosen chosen.now.choice form }
+{
     match &chosen.choice {
         Some(choice) => choice.form(),
         None => form,
@@ -368,7 +371,7 @@ fn form_chosen(chosen: &Chosen, form: Form) -> Form {
 /// Returns the command line of the matches.
 fn command_line_of(alloc: Global, matches: &ArgMatches<'_>) -> Result<CommandLine, WordsFault>
     ensures command_line { IfOk result (IsCommandLineOf (subcommand_rows_of matches.now)) }
-    ensures fault { IfErr result (λ e. IfWrong e (FindsNoJob (subcommand_rows_of matches.now))) }
+    ensures fault { IfErr result (λ e. IfSaid e (FindsNoJob (subcommand_rows_of matches.now))) }
 {
     match matches.subcommand() {
         None => Err(not_read(alloc)),

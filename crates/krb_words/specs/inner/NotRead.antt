@@ -19,13 +19,13 @@ IsNoneOf (first ∷ others) name = (name ≡ first → ⊥) × IsNoneOf others n
 abbrev pub commands : List Text
 commands = codes "list" ∷ codes "stream" ∷ codes "message" ∷ codes "items" ∷ codes "keytab" ∷ codes "ccache" ∷ codes "capture" ∷ codes "decode" ∷ codes "encode" ∷ []
 
--- the name of a command that is none of the program's, or a command that is unfit
-abbrev pub IsNoJob : Text → List Row → Type 0
-IsNoJob name rows = IsNoneOf commands name ⊎ IsUnfit name rows
+-- the name of a command that is none of the program's, or a command that is unfit, as a text says
+abbrev pub IsNoJob : Text → List Row → Text → Type 0
+IsNoJob name rows text = IsNoneOf commands name ⊎ IsUnfit name rows text
 
-abbrev pub FindsNoJob : Option (Text × List Row) → Type 0
-FindsNoJob None = Unit {0}
-FindsNoJob (Some met) = IsNoJob met.0 met.1
+abbrev pub FindsNoJob : Option (Text × List Row) → Text → Type 0
+FindsNoJob None text = Unit {0}
+FindsNoJob (Some met) text = IsNoJob met.0 met.1 text
 
 -- an error that is no request, and not that memory ran out
 abbrev pub IsNoText : ErrorKind → Type 0
