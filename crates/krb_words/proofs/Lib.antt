@@ -1,4 +1,6 @@
 pub mod Days
+pub mod Joined
 pub mod Matched
 pub mod NotRead
+pub mod Said
 pub mod Shown

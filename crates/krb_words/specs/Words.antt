@@ -190,6 +190,7 @@ abbrev pub IsForm : List Row → Form → Type 0
 IsForm rows form.Json = IsGiven (first_of (codes "json") rows) true
 IsForm rows form.NamedLines = IsGiven (first_of (codes "json") rows) false × IsGiven (first_of (codes "names") rows) true
 IsForm rows form.Lines = IsGiven (first_of (codes "json") rows) false × IsGiven (first_of (codes "names") rows) false
+IsForm rows other = ⊥
 
 -- a fact of the options of a command that choose, by the form that is asked for and which records name their file
 pub record Chooses (command : Text) (rows : List Row) (listed : Form) (named : Naming) (Fact : Options → Type 0) : Type 0 where

@@ -1,13 +1,13 @@
 //! Which records are kept, and what is printed of them: `--only`, `--fields` and `--header`.
 
 ghost use Rattle.std.specs.Prelude.{◌≡◌, ◌∷◌, ◌++◌, [], false, true, IfErr, IfNone, IfOk, MatchOption, OnOk, codes, map, string_bytes};
-ghost use Rattle.std.specs.List.{filter};
+ghost use Rattle.std.specs.List.{filter, list_all};
 ghost use Rattle.std.specs.Option.{option_map};
 ghost use Rattle.clap.specs.Words.{Text, found_of, rows_of};
 ghost use Rattle.krb_choice.specs.Choices.{Whole};
-ghost use Rattle.krb_fields.specs.Names.{all_kinds, all_names, chooses, is_among, name_text};
+ghost use Rattle.krb_fields.specs.Names.{all_kinds, all_names, chooses, is_among, name_text, within_text};
 ghost use Rattle.krb_record.specs.Text.{joined};
-ghost use Rattle.krb_words.specs.Chosen.{AreNames, HaveNone, IfSaid, IsChoiceFault, IsChosen, IsErrorOf, IsRowsBy, SaysKind, SaysName, SaysNames, SaysNone, SaysTold, base_of, column_of, error_text, file_column, first_row, first_unknown, is_between, is_told, kinds_chosen, listed, listings_of, none_text, path_of, rows_by, told_text, words_of};
+ghost use Rattle.krb_words.specs.Chosen.{AreNames, HaveNone, IfSaid, IsChoiceFault, IsChosen, IsChosenBy, IsErrorOf, IsRowsBy, SaysKind, SaysName, SaysNames, SaysNone, SaysRest, SaysTold, base_of, column_of, error_text, file_column, file_name, first_row, first_unknown, is_between, is_told, kinds_chosen, listed, listings_of, near_or_all, near_or_none, none_text, path_of, rows_by, told_text, words_if, words_of};
 ghost use Rattle.krb_words.specs.Words.{Chooses};
 ghost use Rattle.krb_words.specs.inner.Options.{IsOkOf, SaysFirst, options_of};
 
@@ -119,19 +119,24 @@ fn columns_of(alloc: Global, naming: Naming, names: &[Name]) -> Result<Vec<Colum
     Ok(columns)
 }
 
+/// Appends words with a separator between them.
+fn put_joined(text: &mut String, separator: &str, words: &[&str]) -> Result<(), AllocError>
+    ensures { OnOk result (string_bytes text.new ≡ string_bytes text.old ++ joined [] separator.now (λ word. word) (map (λ word. word.now) words.now)) }
+{
+    let mut before = "";
+    for word in words {
+        text.push_str(before)?;
+        text.push_str(word)?;
+        before = separator;
+    }
+    Ok(())
+}
+
 /// Appends words with `, ` between them.
 fn put_listed(text: &mut String, words: &[&str]) -> Result<(), AllocError>
     ensures { OnOk result (string_bytes text.new ≡ string_bytes text.old ++ listed (map (λ word. word.now) words.now)) }
 {
-    let mut is_first = true;
-    for word in words {
-        if !is_first {
-            text.push_str(", ")?;
-        }
-        is_first = false;
-        text.push_str(word)?;
-    }
-    Ok(())
+    put_joined(text, ", ", words)
 }
 
 /// Returns the line of an error, with what follows it.
@@ -166,6 +171,42 @@ fn texts_of<'a>(alloc: Global, strings: &'a [String]) -> Result<Vec<&'a str>, Al
     Ok(texts)
 }
 
+/// Appends what is said of all names.
+fn put_all(alloc: Global, text: &mut String, all: &[String]) -> Result<(), AllocError>
+    ensures { OnOk result (string_bytes text.new ≡ string_bytes text.old ++ near_or_all [] (map string_bytes all.now)) }
+{
+    text.push_str("; there are: ")?;
+    let all = texts_of(alloc, all)?;
+    put_listed(text, all.as_slice())
+}
+
+/// Appends what is said of the names near a word, if there are some.
+fn put_near(text: &mut String, near: &[&str]) -> Result<(), AllocError>
+    ensures { OnOk result (string_bytes text.new ≡ string_bytes text.old ++ near_or_none (map (λ name. name.now) near.now)) }
+{
+    if near.is_empty() {
+        return Ok(());
+    }
+    text.push_str("; near it: ")?;
+    put_listed(text, near)
+}
+
+/// Appends what is said of the names near a word, or of all.
+fn put_near_or_all(
+    alloc: Global,
+    text: &mut String,
+    near: &[&str],
+    all: &[String],
+) -> Result<(), AllocError>
+    ensures { OnOk result (string_bytes text.new ≡ string_bytes text.old ++ near_or_all (map (λ name. name.now) near.now) (map string_bytes all.now)) }
+{
+    if near.is_empty() {
+        put_all(alloc, text, all)
+    } else {
+        put_near(text, near)
+    }
+}
+
 /// Returns what is said of a word of `--only` that is no kind.
 fn said_of_kind(alloc: Global, listings: &[Listing], word: &str) -> Result<String, AllocError>
     ensures { IfOk result (λ text. SaysKind listings.now word.now (string_bytes text)) }
@@ -176,14 +217,7 @@ fn said_of_kind(alloc: Global, listings: &[Listing], word: &str) -> Result<Strin
     let mut text = format!(in alloc;
         "invalid value '{word}' for '--only <KIND,..>': no such kind"
     )?;
-    if near.is_empty() {
-        text.push_str("; there are: ")?;
-        let kinds = texts_of(alloc, kinds.as_slice())?;
-        put_listed(&mut text, kinds.as_slice())?;
-    } else {
-        text.push_str("; near it: ")?;
-        put_listed(&mut text, near.as_slice())?;
-    }
+    put_near_or_all(alloc, &mut text, near.as_slice(), kinds.as_slice())?;
     Ok(text)
 }
 
@@ -197,10 +231,7 @@ fn said_of_name(alloc: Global, listings: &[Listing], word: &str) -> Result<Strin
     let mut text = format!(in alloc;
         "invalid value '{word}' for '--fields <NAME,..>': no such field"
     )?;
-    if !near.is_empty() {
-        text.push_str("; near it: ")?;
-        put_listed(&mut text, near.as_slice())?;
-    }
+    put_near(&mut text, near.as_slice())?;
     Ok(text)
 }
 
@@ -290,25 +321,31 @@ fn choosing_of(alloc: Global, listings: &[Listing], names: &[Name]) -> Result<Ve
     Ok(choosing)
 }
 
+/// Returns the text of a name by its parts.
+fn name_text(
+    alloc: Global,
+    within: Option<&str>,
+    field: &str,
+    ending: &str,
+) -> Result<String, AllocError>
+    ensures { IfOk result (λ text. string_bytes text ≡ within_text within.entry ++ field.now ++ ending.now) }
+{
+    let text = match within {
+        Some(kind) => format!(in alloc; "{kind}.{field}{ending}")?,
+        None => format!(in alloc; "{field}{ending}")?,
+    };
+    Ok(text)
+}
+
 /// Returns the texts of names.
 fn texts_of_names(alloc: Global, names: &[Name]) -> Result<Vec<String>, AllocError>
     ensures { IfOk result (λ texts. map string_bytes texts.items ≡ map name_text names.now) }
 {
     let mut texts = Vec::new(alloc);
     for name in names {
-        texts.push(text_of(alloc, name)?)?;
+        texts.push(name_text(alloc, name.within, name.field, name.ending)?)?;
     }
     Ok(texts)
-}
-
-/// Returns the text of a name.
-fn text_of(alloc: Global, name: &Name) -> Result<String, AllocError>
-    ensures { IfOk result (λ text. string_bytes text ≡ name_text name.now) }
-{
-    match name.within {
-        Some(kind) => format!(in alloc; "{kind}.{}{}", name.field, name.ending),
-        None => format!(in alloc; "{}{}", name.field, name.ending),
-    }
 }
 
 /// Returns what is said of names that no kind of record has all of.
@@ -325,7 +362,7 @@ fn said_of_none(alloc: Global, names: &[Name]) -> Result<String, AllocError>
 
 /// Returns the kinds but those of the records before and after others.
 fn between(alloc: Global, kinds: Vec<&'static str>) -> Result<Vec<&'static str>, AllocError>
-    ensures { IfOk result (λ others. map (λ kind. kind.now) others.items ≡ filter is_between (map (λ kind. kind.now) kinds.items)) }
+    ensures { IfOk result (λ others. map (λ kind. kind.now) others.items ≡ filter is_between (map (λ kind. kind.now) kinds.entry.items)) }
 {
     let mut others = Vec::new(alloc);
     for kind in kinds.as_slice() {
@@ -385,20 +422,27 @@ fn is_told(kind: &str) -> bool
     kind == "unanswered" || kind == "unreachable"
 }
 
+/// Returns whether records of all these kinds are told.
+fn are_told(kinds: &[&'static str]) -> bool
+    ensures { result ≡ list_all is_told (map (λ kind. kind.now) kinds.now) }
+{
+    for kind in kinds {
+        if !is_told(kind) {
+            return false;
+        }
+    }
+    true
+}
+
 /// Returns the first of kinds, if all of them are told.
 fn first_told(kinds: &[&'static str]) -> Option<&'static str>
     ensures { MatchOption result ((text : Text) → SaysTold (map (λ kind. kind.now) kinds.now) text → ⊥) (λ kind. SaysTold (map (λ kind. kind.now) kinds.now) (told_text kind.now)) }
 {
-    let mut first = None;
-    for kind in kinds {
-        if !is_told(kind) {
-            return None;
-        }
-        if first.is_none() {
-            first = Some(*kind);
-        }
+    if are_told(kinds) {
+        kinds.first().copied()
+    } else {
+        None
     }
-    first
 }
 
 /// Returns the form of records that are kept whole.
@@ -414,8 +458,8 @@ fn base_of(form: Form) -> Base
 
 /// Returns the choice of kinds alone.
 fn kept_of(alloc: Global, form: Form, kinds: Vec<&'static str>) -> Result<Choice, WordsFault>
-    ensures choice { IfOk result (λ choice. choice ≡ record { by_kind = true; kinds = map (λ kind. kind.now) kinds.items; print = Whole (base_of form) }) }
-    ensures fault { IfErr result (λ e. IfSaid e (IsErrorOf (λ text. (form ≡ Form.Lines) × SaysTold (map (λ kind. kind.now) kinds.items) text))) }
+    ensures choice { IfOk result (λ choice. choice ≡ record { by_kind = true; kinds = map (λ kind. kind.now) kinds.entry.items; print = Whole (base_of form) }) }
+    ensures fault { IfErr result (λ e. IfSaid e (IsErrorOf (λ text. (form ≡ Form.Lines) × SaysTold (map (λ kind. kind.now) kinds.entry.items) text))) }
 {
     if form == Form::Lines {
         if let Some(kind) = first_told(kinds.as_slice()) {
@@ -428,31 +472,33 @@ fn kept_of(alloc: Global, form: Form, kinds: Vec<&'static str>) -> Result<Choice
     Ok(Choice::kept(alloc, base_of(form), kinds))
 }
 
-/// Appends words with tabs between them.
-fn put_cells(row: &mut String, words: &[&str]) -> Result<(), AllocError>
-    ensures { OnOk result (string_bytes row.new ≡ string_bytes row.old ++ joined [] (codes "\t") (λ word. word) (map (λ word. word.now) words.now)) }
+/// Returns the cells of the first row: the names as they were given, after that of the file, if each
+/// row has it.
+fn cells_of<'a>(
+    alloc: Global,
+    naming: Naming,
+    words: &[&'a str],
+) -> Result<Vec<&'a str>, AllocError>
+    ensures { IfOk result (λ cells. map (λ cell. cell.now) cells.items ≡ file_name naming ++ map (λ word. word.now) words.now) }
 {
-    let mut is_first = true;
-    for word in words {
-        if !is_first {
-            row.push_str("\t")?;
-        }
-        is_first = false;
-        row.push_str(word)?;
+    let mut cells = Vec::new(alloc);
+    if naming == Naming::Each {
+        cells.push("file")?;
     }
-    Ok(())
+    for word in words {
+        cells.push(*word)?;
+    }
+    Ok(cells)
 }
 
-/// Returns the first row: the names as they were given, after that of the file, if each row has it.
+/// Returns the first row.
 fn header_of(alloc: Global, naming: Naming, words: &str) -> Result<String, AllocError>
     ensures { IfOk result (λ row. Some (string_bytes row) ≡ first_row true naming (words_of words.now)) }
 {
     let words = words_of(alloc, words)?;
+    let cells = cells_of(alloc, naming, words.as_slice())?;
     let mut row = String::new(alloc);
-    if naming == Naming::Each {
-        row.push_str("file\t")?;
-    }
-    put_cells(&mut row, words.as_slice())?;
+    put_joined(&mut row, "\t", cells.as_slice())?;
     Ok(row)
 }
 
@@ -488,18 +534,30 @@ fn chosen_by_names(
     })
 }
 
-/// Returns what the options choose.
-fn chosen_of(alloc: Global, options: &Options<'_>) -> Result<Chosen, WordsFault>
-    ensures chosen { IfOk result (λ chosen. IsChosen (options_of options.now) chosen.choice (option_map string_bytes chosen.header)) }
-    ensures fault { IfErr result (λ e. IfSaid e (IsErrorOf (IsChoiceFault (options_of options.now)))) }
+/// Returns the kinds of `--only`, if it is given.
+fn kinds_given(
+    alloc: Global,
+    options: &Options<'_>,
+) -> Result<Option<Vec<&'static str>>, WordsFault>
+    ensures kinds { IfOk result (λ kinds. option_map (λ kinds. map (λ kind. kind.now) kinds.items) kinds ≡ option_map words_of (options_of options.now).only) }
+    ensures known { OnOk result (first_unknown (all_kinds options.now.listings.now) (words_if (options_of options.now).only) ≡ None) }
+    ensures fault { IfErr result (λ e. IfSaid e (IsErrorOf (SaysFirst (first_unknown (all_kinds options.now.listings.now) (words_if (options_of options.now).only)) (SaysKind options.now.listings.now)))) }
 {
-    let kinds = match options.only {
-        Some(words) => Some(kinds_of(alloc, options.listings, words)?),
-        None => None,
-    };
-    if let Some(words) = options.fields {
-        return chosen_by_names(alloc, options, kinds, words);
+    match options.only {
+        Some(words) => Ok(Some(kinds_of(alloc, options.listings, words)?)),
+        None => Ok(None),
     }
+}
+
+/// Returns the choice of kinds alone, if there are some.
+fn chosen_by_kinds(
+    alloc: Global,
+    options: &Options<'_>,
+    kinds: Option<Vec<&'static str>>,
+) -> Result<Chosen, WordsFault>
+    ensures chosen { IfOk result (λ chosen. IsChosenBy (options_of options.now) (option_map (λ kinds. map (λ kind. kind.now) kinds.items) kinds.entry) None chosen.choice (option_map string_bytes chosen.header)) }
+    ensures fault { IfErr result (λ e. IfSaid e (IsErrorOf (SaysRest (options_of options.now) (option_map (λ kinds. map (λ kind. kind.now) kinds.items) kinds.entry) None))) }
+{
     if options.has_header {
         return Err(fault_of(alloc, NO_NAMES));
     }
@@ -511,6 +569,18 @@ fn chosen_of(alloc: Global, options: &Options<'_>) -> Result<Chosen, WordsFault>
         choice,
         header: None,
     })
+}
+
+/// Returns what the options choose.
+fn chosen_of(alloc: Global, options: &Options<'_>) -> Result<Chosen, WordsFault>
+    ensures chosen { IfOk result (λ chosen. IsChosen (options_of options.now) chosen.choice (option_map string_bytes chosen.header)) }
+    ensures fault { IfErr result (λ e. IfSaid e (IsErrorOf (IsChoiceFault (options_of options.now)))) }
+{
+    let kinds = kinds_given(alloc, options)?;
+    match options.fields {
+        Some(words) => chosen_by_names(alloc, options, kinds, words),
+        None => chosen_by_kinds(alloc, options, kinds),
+    }
 }
 
 /// Returns what the options of a command choose.

@@ -8,6 +8,7 @@ ghost use Rattle.krb_words.specs.Times.{IsNoWhen, IsWhenIf};
 ghost use Rattle.krb_words.specs.Words.{IsTextBy, IsCommand, IsProfile, IsAfter, IsFraming, IsInputs, IsNaming, IsForm, IsGiven, IsCommandLineFor, IsCommandLineOf, IsCommandLineIn, IsFaultFor, IsFaultIn, IsNumber, IsNumberOr, IsNoNumber, LacksFile, form_chosen};
 ghost use Rattle.krb_words.specs.declared.words.WordsFault.TheVariants as fault;
 ghost use Rattle.krb_words.specs.inner.NotRead.{FindsNoJob, IfWrong, IsNoJob, IsNoText};
+ghost use Rattle.krb_words.specs.inner.Options.{IsOkOf};
 
 use crate::choice::{Chosen, choice_of};
 use crate::commands::krbls_command;
@@ -127,7 +128,9 @@ impl From<AllocError> for WordsFault {
 pub const USUAL_PORT: u16 = 88;
 
 /// Returns the fault of words of which a text says what is wrong with them, if there is memory for it.
-pub(crate) fn wrong(text: Result<String, AllocError>) -> WordsFault {
+pub(crate) fn wrong(text: Result<String, AllocError>) -> WordsFault
+    ensures { IfSaid result (λ said. IsOkOf text (λ string. string_bytes string ≡ said)) }
+{
     match text {
         Ok(text) => WordsFault::Wrong(text),
         Err(_) => WordsFault::Memory,
