@@ -1,5 +1,7 @@
 //! A writer of marked listings.
 
+ghost use Rattle.std.specs.Prelude.{◌≡◌, ◌++◌, ◌∷◌, IfSome};
+
 use krb_choice::{Choice, Record, put_whole};
 use memchr::memchr;
 use std::alloc::{AllocError, Global};
@@ -25,8 +27,16 @@ pub struct Choosing<'a, W> {
     told: Vec<u8>,
 }
 
+/// Splits a text at its first line feed.
+fn split_line(text: &[u8]) -> Option<(&[u8], &[u8])>
+    ensures { IfSome result (λ parts. parts.0.now ++ 10 ∷ parts.1.now ≡ text.now) }
+{
+    let end = memchr(b'\n', text)?;
+    Some((&text[..end], &text[end + 1..]))
+}
+
 /// Returns the error of a writer that is out of memory.
-fn out_of_memory<E: Drop>(_error: E) -> io::Error {
+fn out_of_memory(_error: AllocError) -> io::Error {
     ErrorKind::OutOfMemory.into()
 }
 
@@ -120,13 +130,13 @@ impl<'a, W: Write> Write for Choosing<'a, W> {
         let alloc = *self.begun.allocator();
         let mut record = Record::new(alloc);
         let mut rest = buffer;
-        'records: while let Some(end) = memchr(b'\n', rest) {
+        'records: while let Some((end, others)) = split_line(rest) {
             if self.begun.is_empty() {
-                self.take(&rest[..end], &mut record)?;
+                self.take(end, &mut record)?;
             } else {
-                self.take_end(&rest[..end])?;
+                self.take_end(end)?;
             }
-            rest = &rest[end + 1..];
+            rest = others;
         }
         self.begun.extend_from_slice(rest).map_err(out_of_memory)?;
         self.write_out()?;
