@@ -26,7 +26,7 @@ use Rattle.krb_text.specs.StreamEnds.{end_record}
 use Rattle.krb_record.specs.Streams.{counted_end_record, refused_frame, refused_record}
 use Rattle.krb_record.specs.Text.{IsPrintable}
 use Rattle.krb_record.specs.Time.{microseconds, timestamp_text}
-use Rattle.krb_record.specs.Values.{Field, Number, String, Word, if_there, printed, with_origin}
+use Rattle.krb_record.specs.Values.{Field, LastLine, Number, String, Word, if_there, printed, with_origin}
 use Rattle.krb_record.specs.declared.extent.Extent.{Extent}
 use Rattle.krb_record.specs.declared.form.Form.TheVariants as forms
 use Rattle.krb_record.specs.declared.capture.CaptureCounts.{CaptureCounts}
@@ -54,7 +54,7 @@ use Rattle.krb_text_laws.proofs.Tuples.{◌&◌}
 use Rattle.krb_laws.specs.JsonLaws.{AreCounts, AreToldCounts, CapturesAreJson, EndsAreJson, IsAnswer, IsError, IsSmall, IsTold, IsEnd, IsExtent, IsFlowOrigin, PrintsJson, ValueFits, are_different, is_plain, member_names}
 use Rattle.krb_laws.proofs.JsonMessages.{its_origin, message_with}
 use Rattle.krb_laws.proofs.JsonRecords.{ValuesFit, names_are_plain}
-use Rattle.krb_laws.proofs.JsonShown.{IsLast, IsOrigin, different-back, from_origin, picked, thrice, last_names, names_of, no_last, no_origin, origin_names, record_is_json}
+use Rattle.krb_laws.proofs.JsonShown.{IsLast, IsOrigin, aside_too, different-back, from_origin, picked, thrice, last_names, names_of, no_last, no_origin, origin_names, record_is_json}
 use Rattle.krb_laws.proofs.JsonValues.{small_reason}
 
 -- a record without parts: the names of its members are plain and differ, from each origin too
@@ -63,6 +63,14 @@ from origin kind fields o k n a v = record_is_json _ (from_origin origin kind fi
 
 pub alone : (kind : List ℕ) (fields : List Field) → is_plain kind ≡ true → names_are_plain fields ≡ true → are_different ((codes "kind" ∷ (origin_names ++ (names_of fields ++ []))) ++ last_names) ≡ true → ValuesFit fields → PrintsJson (printed kind fields)
 alone kind fields k n a v = from [] kind fields no_origin k n a v
+
+-- the same with what is told aside
+from_told : (aside : Option LastLine) (origin : List Field) (kind : List ℕ) (fields : List Field) → IsOrigin origin → is_plain kind ≡ true → names_are_plain fields ≡ true → are_different ((codes "kind" ∷ (origin_names ++ (names_of fields ++ []))) ++ last_names) ≡ true → ValuesFit fields → PrintsJson (record (with_origin origin (printed kind fields)) { aside = aside })
+from_told aside origin kind fields o k n a v =
+    record_is_json _ (aside_too aside (with_origin origin (printed kind fields)) (from_origin origin kind fields None [] o no_last (record { kind_plain = k; plain = n; apart = a; values = v; parts = tt })))
+
+told_alone : (aside : Option LastLine) (kind : List ℕ) (fields : List Field) → is_plain kind ≡ true → names_are_plain fields ≡ true → are_different ((codes "kind" ∷ (origin_names ++ (names_of fields ++ []))) ++ last_names) ≡ true → ValuesFit fields → PrintsJson (record (printed kind fields) { aside = aside })
+told_alone aside kind fields k n a v = from_told aside [] kind fields no_origin k n a v
 
 -- ---- what is told of a refusal
 its_path : (path : Option (List ℕ)) → ValueFits (if_there String path)
@@ -109,7 +117,7 @@ worded other = word _ refl
 -- ---- refusals and ends
 frame_refused : (messages place : ℕ) (reason : Why) (path : Option (List ℕ)) (extent : Extent) → messages < 10 ^ 64 → place < 10 ^ 64 → IsExtent extent → PrintsJson (refused_record forms.Json messages place reason path extent)
 frame_refused messages place reason path extent m h e =
-    alone (codes "refused") (refused_record forms.Json messages place reason path extent).fields refl refl refl (m & h & its_reason reason & its_extent path extent e)
+    told_alone (refused_record forms.Json messages place reason path extent).aside (codes "refused") (refused_record forms.Json messages place reason path extent).fields refl refl refl (m & h & its_reason reason & its_extent path extent e)
 
 end_of_stream : (messages : ℕ) (end : End) (path : Option (List ℕ)) (extent : Extent) → messages < 10 ^ 64 → IsEnd end → IsExtent extent → PrintsJson (end_record forms.Json messages end path extent)
 end_of_stream messages Boundary path extent m h e = alone (codes "end") (end_record forms.Json messages Boundary path extent).fields refl refl refl (m & tt)
@@ -118,17 +126,18 @@ end_of_stream messages (Refused place reason) path extent m h e = frame_refused 
 
 pub ends_are_json : EndsAreJson
 ends_are_json = record {
-  file = λ place reason path extent h e. alone (codes "refused") (file_refused_record forms.Json place reason path extent).fields refl refl refl (h & its_file_reason reason & its_extent path extent e);
+  file = λ place reason path extent h e.
+      told_alone (file_refused_record forms.Json place reason path extent).aside (codes "refused") (file_refused_record forms.Json place reason path extent).fields refl refl refl (h & its_file_reason reason & its_extent path extent e);
   message = λ line layers refusal path extent s l h e.
-      from (message_origin line layers) (codes "refused") (message_refused_record forms.Json refusal path extent s).fields (its_origin line layers l) refl refl refl
+      from_told (with_origin (message_origin line layers) (message_refused_record forms.Json refusal path extent s)).aside (message_origin line layers) (codes "refused") (message_refused_record forms.Json refusal path extent s).fields (its_origin line layers l) refl refl refl
       (h & its_reason refusal.why & its_path path & e.at & optional_number extent.length e.length & (spelled s).all & tt);
   untold_message = λ refusal path h. alone (codes "refused") (refusal_record refusal (path_in forms.Json path)).fields refl refl refl (h & its_reason refusal.why & its_path path & tt);
   input = λ line layers fault place extent s l h e.
-      from (message_origin line layers) (codes "refused") (input_refused_record forms.Json fault place extent s).fields (its_origin line layers l) refl refl refl
+      from_told (with_origin (message_origin line layers) (input_refused_record forms.Json fault place extent s)).aside (message_origin line layers) (codes "refused") (input_refused_record forms.Json fault place extent s).fields (its_origin line layers l) refl refl refl
       ((worded fault).all & optional_number place h & tt & tt & e.at & optional_number extent.length e.length & optional_spelling s & tt);
   stream = end_of_stream;
   untold_stream = λ messages place reason path m h. alone (codes "refused") (refused_frame messages place reason (path_in forms.Json path)).fields refl refl refl (m & h & its_reason reason & its_path path & tt);
-  counted_stream = λ messages refused m r. alone (codes "end") (counted_end_record messages refused).fields refl refl refl (m & r & tt);
+  counted_stream = λ messages refused m r. told_alone (counted_end_record messages refused).aside (codes "end") (counted_end_record messages refused).fields refl refl refl (m & r & tt);
   name = λ name. alone (codes "file") (file_record name).fields refl refl refl (tt & tt);
 }
 
@@ -242,18 +251,18 @@ unreachable_is : (origin : CaptureOrigin) (how : How) (answer : Answer) → IsFl
 unreachable_is origin how answer o e h a = untold_is origin (codes "unreachable") (unreachable_record how answer).fields origin.told e o refl refl refl (unreachable_fits how answer h a)
 
 -- the last record, which has no origin
-by_itself : (kind : List ℕ) (fields : List Field) → is_plain kind ≡ true → names_are_plain fields ≡ true → are_different (codes "kind" ∷ (names_of fields ++ member_names (codes "file"))) ≡ true → ValuesFit fields → PrintsJson (printed kind fields)
-by_itself kind fields k n a v = record_is_json _ (record { kind = k; names = n; apart = a; values = v; inside = tt; last_names = refl; last_values = tt })
+by_itself : (aside : Option LastLine) (kind : List ℕ) (fields : List Field) → is_plain kind ≡ true → names_are_plain fields ≡ true → are_different (codes "kind" ∷ (names_of fields ++ member_names (codes "file"))) ≡ true → ValuesFit fields → PrintsJson (record (printed kind fields) { aside = aside })
+by_itself aside kind fields k n a v = record_is_json _ (record { kind = k; names = n; apart = a; values = v; inside = tt; last_names = refl; last_values = tt })
 
 end_is : (counts : CaptureCounts) (told : ToldCounts) → AreCounts counts → AreToldCounts told → PrintsJson (capture_end_record forms.Json counts told)
 unfolding told_counts
 end_is counts told h t =
-    by_itself (codes "end") (count_fields counts ++ told_counts forms.Json told) refl refl refl (h.packets & h.messages & h.refused & h.lost & h.unread & t.answered & t.unanswered & t.again & t.unreachable & tt)
+    by_itself (capture_end_record forms.Json counts told).aside (codes "end") (count_fields counts ++ told_counts forms.Json told) refl refl refl (h.packets & h.messages & h.refused & h.lost & h.unread & t.answered & t.unanswered & t.again & t.unreachable & tt)
 
 file_is : (counts : CaptureCounts) (told : ToldCounts) (place : ℕ) (reason : FileWhy) (path : Option (List ℕ)) (extent : Extent) → AreCounts counts → AreToldCounts told → place < 10 ^ 64 → IsExtent extent → PrintsJson (capture_refused_record forms.Json counts told place reason path extent)
 unfolding told_counts
 file_is counts told place reason path extent h t p e =
-    by_itself (codes "refused") (capture_refused_record forms.Json counts told place reason path extent).fields refl refl refl
+    by_itself (capture_refused_record forms.Json counts told place reason path extent).aside (codes "refused") (capture_refused_record forms.Json counts told place reason path extent).fields refl refl refl
     (h.packets & h.messages & h.refused & h.lost & h.unread & p & its_file_reason reason & its_path path & e.at & optional_number extent.length e.length & t.answered & t.unanswered & t.again & t.unreachable & tt)
 
 pub captures_are_json : CapturesAreJson

@@ -6,9 +6,9 @@ use Rattle.std.specs.List.{AllByRecursion, flat_map, list_all}
 use Rattle.json.specs.Json.{Json, Members, member, no_members, null, string}
 use Rattle.json.specs.Strict.{keys, AreDistinct}
 use Rattle.krb_registry.specs.declared.registry.Registry.TheVariants as registries
-use Rattle.krb_record.specs.Forms.{closing, end_text, ending, fields_text, heading, inside_text, json_value, labelled, members, name_string, names_member, opening, opening_from, part_text, record_text}
+use Rattle.krb_record.specs.Forms.{aside_text, closing, end_text, ending, fields_text, heading, inside_text, json_value, labelled, members, name_string, names_member, opening, opening_from, part_text, record_text}
 use Rattle.krb_record.specs.Text.{list_text}
-use Rattle.krb_record.specs.Values.{Value, Named, Numbers, ErrorCode, Status, Reason, NoReason, Called, Field, Part, Printed}
+use Rattle.krb_record.specs.Values.{Value, Named, Numbers, ErrorCode, Status, Reason, NoReason, Called, Field, LastLine, Part, Printed}
 use Rattle.krb_record.specs.declared.form.Form.TheVariants as form
 use Rattle.krb_laws.specs.Json.{field_members, inside_members, json_of, json_of_value, list_of, members_of, name_json, names_of_value, object_of, part_json}
 use Rattle.krb_laws.specs.JsonLaws.{IsJson, PartFits, ValueFits, are_different, inside_name, is_plain, member_names}
@@ -204,12 +204,18 @@ unfolding opening opening_from labelled
 headed [] kind = sym (append-nil (codes "{\"kind\":\"" ++ kind ++ codes "\""))
 headed (first ∷ rest) kind = refl
 
+-- an object has nothing of what is told aside
+nothing_aside : (front end : List ℕ) (aside : Option LastLine) → front ++ end ≡ front ++ aside_text form.Json aside ++ end
+nothing_aside front end None = ap (λ t. t ++ end) (sym (append-nil front))
+nothing_aside front end (Some line) = ap (λ t. t ++ end) (sym (append-nil front))
+
 whole : (r : Printed) → 123 ∷ 34 ∷ (codes "kind" ++ 34 ∷ 58 ∷ ((34 ∷ (r.kind ++ 34 ∷ [])) ++ (fields_text form.Json (r.origin ++ r.fields) ++ ending form.Json r.inside r.last))) ≡ record_text form.Json r
 unfolding record_text
 whole r =
     ap (λ t. 123 ∷ 34 ∷ (codes "kind" ++ 34 ∷ 58 ∷ ((34 ∷ (r.kind ++ 34 ∷ [])) ++ (t ++ ending form.Json r.inside r.last)))) (both_fields r.origin r.fields)
     ∙ around r.kind (fields_text form.Json r.origin) (fields_text form.Json r.fields) (ending form.Json r.inside r.last)
     ∙ ap (λ t. t ++ fields_text form.Json r.fields ++ ending form.Json r.inside r.last) (sym (headed r.origin r.kind))
+    ∙ nothing_aside (heading form.Json r.origin r.kind ++ fields_text form.Json r.fields) (ending form.Json r.inside r.last) r.aside
 
 -- a record that is an object by itself
 pub record FitsObject (r : Printed) : Type 0 where

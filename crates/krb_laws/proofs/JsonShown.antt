@@ -4,7 +4,7 @@ use Rattle.std.proofs.lemmas.Bool.{and_parts, and_from}
 use Rattle.std.proofs.lemmas.Grind.{flat_map-append}
 use Rattle.std.specs.List.{AllByRecursion, flat_map, list_all}
 use Rattle.std.specs.Str.{bytes_eq}
-use Rattle.krb_record.specs.Values.{Value, Absent, NoTicket, Number, Named, Numbers, ErrorCode, Status, Reason, NoReason, String, Quoted, FileName, Word, Hex, Flags, TicketFlags, Encrypted, Principal, Address, Digest, YesNo, Offset, RefusedTicket, Flow, Layers, Span, Called, Host, Field, Part, Printed, printed, with_inside, with_last, with_origin}
+use Rattle.krb_record.specs.Values.{Value, Absent, NoTicket, Number, Named, Numbers, ErrorCode, Status, Reason, NoReason, String, Quoted, FileName, Word, Hex, Flags, TicketFlags, Encrypted, Principal, Address, Digest, YesNo, Offset, RefusedTicket, Flow, Layers, Span, Called, Host, Field, LastLine, Part, Printed, printed, with_inside, with_last, with_origin}
 use Rattle.krb_record.specs.Labels.{file_field, with_file}
 use Rattle.krb_record.specs.declared.form.Form.TheVariants as forms
 use Rattle.krb_text_laws.proofs.EachForm.{AreShown, IsShown}
@@ -172,6 +172,10 @@ from_origin origin kind fields inside last o l r = record {
   last_names = l.plain;
   last_values = l.values;
 }
+
+-- what is told aside is no matter
+pub aside_too : (aside : Option LastLine) (r : Printed) → FitsJson r → FitsJson (record r { aside = aside })
+aside_too aside r h = record { kind = h.kind; names = h.names; apart = h.apart; values = h.values; inside = h.inside; last_names = h.last_names; last_values = h.last_values }
 
 pub no_origin : IsOrigin []
 no_origin = record { plain = refl; keeps = false ∷ false ∷ false ∷ false ∷ false ∷ []; among = λ rest. refl; values = tt }
