@@ -1,5 +1,5 @@
 -- What is done with a source by a command: the run of its command, with the label of the source and by the profile, the limit and the numbers of the command.
-use Rattle.std.specs.Prelude.{ℕ, ◌≡◌, ◌⊎◌, List, [], ◌∷◌, Option, Some, None, IfOk, IfErr}
+use Rattle.std.specs.Prelude.{ℕ, ◌≡◌, ◌⊎◌, List, [], ◌∷◌, Option, Some, None, Ok, Err, IfOk, IfErr}
 use Rattle.std.specs.Option.{option_and_then}
 use Rattle.krb_der.specs.declared.profile.Profile.{Profile}
 use Rattle.krb_input.specs.Hints.{hint_for}
@@ -9,6 +9,7 @@ use Rattle.krb_input.specs.declared.hint.Hint.TheVariants as hint
 use Rattle.krb_input.specs.declared.source_kind.SourceKind.{SourceKind}
 use Rattle.krb_input.specs.declared.source_kind.SourceKind.TheVariants as kind
 use Rattle.krb_record.specs.Labels.{Label}
+use Rattle.krb_choice.specs.Choices.{Choice}
 use Rattle.krb_capture_run.specs.Captures.{IsCaptureRest, capture_listing}
 use Rattle.krb_convert.specs.Conversions.{DecodesBy, EncodesBy, FailsToDecodeBy, is_framed}
 use Rattle.krb_convert.specs.Ends.{decode_end_line, decode_run_end, encode_end_line, encode_run_end}
@@ -21,7 +22,7 @@ use Rattle.krb_tool.specs.Listing.{Fails, Lists}
 use Rattle.krb_tool.specs.MessageLines.{FailsLines, ListsLines}
 use Rattle.krb_tool.specs.Messages.{IsMessageListing}
 use Rattle.krb_items_run.specs.Items.{IsItemsListing}
-use Rattle.krb_run.specs.Sources.{Run}
+use Rattle.krb_run.specs.Sources.{Outcome, Run}
 use Rattle.krb_run.specs.declared.run.RunEnd.{RunEnd}
 use Rattle.krb_run.specs.declared.run.RunFault.{RunFault}
 use Rattle.krb_run.specs.declared.run.RunFault.TheVariants as fault
@@ -105,3 +106,27 @@ Does IsTold label now (commands.Encode limit profile how) had left written_befor
 Does IsTold label now (commands.List when) had left written_before written_after outcome = written_after ≡ written_before
 Does IsTold label now (commands.Help text) had left written_before written_after outcome = written_after ≡ written_before
 Does IsTold label now (commands.Version text) had left written_before written_after outcome = written_after ≡ written_before
+
+-- ---- with a choice
+-- a write of what is chosen failed, or memory ran out for it
+abbrev pub IsOfChoice : RunFault → Type 0
+IsOfChoice (fault.Read error) = ⊥
+IsOfChoice (fault.Write error) = Unit {0}
+IsOfChoice fault.Memory = Unit {0}
+
+abbrev pub FailsChoice : Outcome → Type 0
+FailsChoice (Ok ended) = ⊥
+FailsChoice (Err failed) = IsOfChoice failed
+
+-- A source was listed to what writes the records that are chosen, and ends as its listing does. What of it is written, and what is told of its last record, is not said here.
+pub record ListsChosen (Lists : Run) (outcome : Outcome) : Type 0 where
+  pub given_before : Option (List ℕ)
+  pub given_after : Option (List ℕ)
+  pub result : Outcome
+  pub lists : Lists given_before given_after result
+  pub ends : (outcome ≡ result) ⊎ FailsChoice outcome
+
+-- what is written of a source is its listing, or what is chosen of it
+abbrev pub DoesWith : Option Choice → (IsTold : List ℕ → Type 0) → Label → (now : Option ℕ) → Command → (had left : Option (List ℕ)) → Run
+DoesWith None IsTold label now command had left written_before written_after outcome = Does IsTold label now command had left written_before written_after outcome
+DoesWith (Some choice) IsTold label now command had left written_before written_after outcome = ListsChosen (Does IsTold label now command had left) outcome ⊎ FailsChoice outcome

@@ -1,7 +1,9 @@
 -- What the program does by its words: to the standard output, to the standard error, and its status.
-use Rattle.std.specs.Prelude.{ℕ, ◌≡◌, ◌++◌, ◌⊎◌, ◌&&◌, max, Bool, true, false, if◌then◌else◌, List, length, map, Option, Some, None, Result, Ok, Err, IfOk, OnErr, codes, string_bytes}
+use Rattle.std.specs.Prelude.{ℕ, ◌≡◌, ◌++◌, ◌⊎◌, ◌&&◌, max, Bool, true, false, if◌then◌else◌, List, length, map, Option, Some, None, Result, Ok, Err, IfErr, IfOk, OnErr, codes, string_bytes}
 use Rattle.std.specs.Io.KnownBytes.{Appends, Keeps}
 use Rattle.std.specs.List.{list_any}
+use Rattle.std.specs.Option.{option_map}
+use Rattle.krb_choice.specs.Choices.{Choice}
 use Rattle.krb_decode.specs.Hints.{keytab_text}
 use Rattle.krb_decode.specs.Runs.{DecodesInput, FailsToDecodeInput}
 use Rattle.krb_decode.specs.declared.input.InputEnd.{InputEnd}
@@ -12,6 +14,7 @@ use Rattle.krb_input.specs.declared.hint.Hint.{Hint}
 use Rattle.krb_input.specs.declared.source_kind.SourceKind.{SourceKind}
 use Rattle.krb_input.specs.declared.source_kind.SourceKind.TheVariants as kind
 use Rattle.krb_record.specs.Labels.{Label}
+use Rattle.krb_record.specs.Text.{line_feed}
 use Rattle.krb_record.specs.declared.form.Form.{Form}
 use Rattle.krb_record.specs.declared.form.Form.TheVariants as forms
 use Rattle.krb_run.specs.Faults.{IsWrite}
@@ -41,7 +44,7 @@ use Rattle.krb_words.specs.declared.words.WordsFault.{WordsFault}
 use Rattle.krb_words.specs.declared.words.WordsFault.TheVariants as words_fault
 use Rattle.krb_host.specs.Around.{Around}
 use Rattle.krb_host.specs.Expanded.{Expands}
-use Rattle.krbls.specs.Commands.{Does, TellsSaid, chosen, decoding_of, hint_by}
+use Rattle.krbls.specs.Commands.{DoesWith, FailsChoice, IsOfChoice, TellsSaid, chosen, decoding_of, hint_by}
 
 -- the name of a source, as it was given
 abbrev pub name_of : Source → List ℕ
@@ -77,10 +80,10 @@ Hints around s given hint run.Refused = Unit {0}
 Hints around s given hint run.RefusedAtOnce = IsHinted around s given hint
 
 -- A command is done with a source that begins with some octets, and a hint is told.
-pub record ListsBy (around : Around) (label : Label) (now : Option ℕ) (command : Command) (s : Source) (used : Command) (first : List ℕ) (had written_before written_after : Option (List ℕ)) (outcome : Outcome) : Type 0 where
+pub record ListsBy (around : Around) (choice : Option Choice) (label : Label) (now : Option ℕ) (command : Command) (s : Source) (used : Command) (first : List ℕ) (had written_before written_after : Option (List ℕ)) (outcome : Outcome) : Type 0 where
   pub left : Option (List ℕ)
   pub result : Outcome
-  pub does : Does (around.IsEndTold s) label now used had left written_before written_after result
+  pub does : DoesWith choice (around.IsEndTold s) label now used had left written_before written_after result
   pub ends : (outcome ≡ result) ⊎ (outcome ≡ Err fault.Memory)
   pub hinted : IfOk outcome (Hints around s (name_used command) (hint_by used first))
 
@@ -106,17 +109,17 @@ pub record TellsKeytab (around : Around) (s : Source) (written_before written_af
   pub unwritten : written_after ≡ written_before
 
 -- It is one message or a keytab if its first octets say so, and else a stream.
-abbrev pub DecodesBegun : SourceKind → Around → Label → Option ℕ → Command → Profile → Source → (first : List ℕ) → (had written_before written_after : Option (List ℕ)) → Outcome → Type 0
-DecodesBegun kind.Message around label now command profile s first had written_before written_after outcome = DecodesSpelled around command profile s first had written_before written_after outcome
-DecodesBegun kind.Keytab around label now command profile s first had written_before written_after outcome = TellsKeytab around s written_before written_after outcome
-DecodesBegun other around label now command profile s first had written_before written_after outcome = ListsBy around label now command s (chosen command first) first had written_before written_after outcome
+abbrev pub DecodesBegun : SourceKind → Around → Option Choice → Label → Option ℕ → Command → Profile → Source → (first : List ℕ) → (had written_before written_after : Option (List ℕ)) → Outcome → Type 0
+DecodesBegun kind.Message around choice label now command profile s first had written_before written_after outcome = DecodesSpelled around command profile s first had written_before written_after outcome
+DecodesBegun kind.Keytab around choice label now command profile s first had written_before written_after outcome = TellsKeytab around s written_before written_after outcome
+DecodesBegun other around choice label now command profile s first had written_before written_after outcome = ListsBy around choice label now command s (chosen command first) first had written_before written_after outcome
 
-abbrev pub BegunBy : Option Profile → Around → Label → Option ℕ → Command → Source → (first : List ℕ) → (had written_before written_after : Option (List ℕ)) → Outcome → Type 0
-BegunBy (Some profile) around label now command s first had written_before written_after outcome = DecodesBegun (command_for first) around label now command profile s first had written_before written_after outcome
-BegunBy None around label now command s first had written_before written_after outcome = ListsBy around label now command s (chosen command first) first had written_before written_after outcome
+abbrev pub BegunBy : Option Profile → Around → Option Choice → Label → Option ℕ → Command → Source → (first : List ℕ) → (had written_before written_after : Option (List ℕ)) → Outcome → Type 0
+BegunBy (Some profile) around choice label now command s first had written_before written_after outcome = DecodesBegun (command_for first) around choice label now command profile s first had written_before written_after outcome
+BegunBy None around choice label now command s first had written_before written_after outcome = ListsBy around choice label now command s (chosen command first) first had written_before written_after outcome
 
-abbrev pub DoesBegun : Around → Label → Option ℕ → Command → Source → (first : List ℕ) → (had written_before written_after : Option (List ℕ)) → Outcome → Type 0
-DoesBegun around label now command s first had written_before written_after outcome = BegunBy (decoding_of command) around label now command s first had written_before written_after outcome
+abbrev pub DoesBegun : Around → Option Choice → Label → Option ℕ → Command → Source → (first : List ℕ) → (had written_before written_after : Option (List ℕ)) → Outcome → Type 0
+DoesBegun around choice label now command s first had written_before written_after outcome = BegunBy (decoding_of command) around choice label now command s first had written_before written_after outcome
 
 -- octets that are known begin with these
 abbrev pub BeginsWith : (first : List ℕ) → Option (List ℕ) → Type 0
@@ -124,7 +127,7 @@ BeginsWith first None = Unit {0}
 BeginsWith first (Some octets) = (rest : List ℕ) × (octets ≡ first ++ rest)
 
 -- A source was opened, and its command was done: that of the command line, or, if this has none, that of its first octets. These are 16, or as many as the command awaits, or all that the source has, or those before a read that failed.
-pub record DoesOpened (around : Around) (label : Label) (now : Option ℕ) (command : Command) (s : Source) (written_before written_after : Option (List ℕ)) (outcome : Outcome) : Type 0 where
+pub record DoesOpened (around : Around) (choice : Option Choice) (label : Label) (now : Option ℕ) (command : Command) (s : Source) (written_before written_after : Option (List ℕ)) (outcome : Outcome) : Type 0 where
   pub first : List ℕ
   pub had : Option (List ℕ)
   pub begins : BeginsWith first (around.octets s)
@@ -132,13 +135,25 @@ pub record DoesOpened (around : Around) (label : Label) (now : Option ℕ) (comm
   pub enough : IsEnough follows (octets_awaited command) (length first)
   pub whole : follows ≡ End → had ≡ Some first
   pub same : Keeps (around.octets s) had
-  pub lists : DoesBegun around label now command s first had written_before written_after outcome
+  pub lists : DoesBegun around choice label now command s first had written_before written_after outcome
 
 -- a source was opened, or it could not be
-abbrev pub DoesFrom : Around → Label → Option ℕ → Command → Source → Run
-DoesFrom around label now command s written_before written_after outcome =
-    DoesOpened around label now command s written_before written_after outcome
+abbrev pub DoesSource : Around → Option Choice → Label → Option ℕ → Command → Source → Run
+DoesSource around choice label now command s written_before written_after outcome =
+    DoesOpened around choice label now command s written_before written_after outcome
     ⊎ ((written_after ≡ written_before) × IsUnread outcome)
+
+-- without a choice nothing is written before a listing
+abbrev pub NamesSource : Option Choice → (written_before written_after : Option (List ℕ)) → Result (Unit {0}) RunFault → Type 0
+NamesSource None written_before written_after result = (result ≡ Ok tt) × (written_after ≡ written_before)
+NamesSource (Some choice) written_before written_after result = IfErr result IsOfChoice
+
+-- With a choice, the record of the name of a source was written before its listing, if there is one and it is chosen, of which nothing is said here; or that failed.
+abbrev pub DoesFrom : Around → Option Choice → Label → Option ℕ → Command → Source → Run
+DoesFrom around None label now command s written_before written_after outcome = DoesSource around None label now command s written_before written_after outcome
+DoesFrom around (Some choice) label now command s written_before written_after outcome =
+    ((between : Option (List ℕ)) × DoesSource around (Some choice) label now command s between written_after outcome)
+    ⊎ FailsChoice outcome
 
 -- Each cache of a directory has its record, even if it is the only one.
 abbrev pub is_directory : Source → Bool
@@ -173,7 +188,7 @@ form_for command_line = if is_conversion command_line.command then forms.Lines e
 
 abbrev pub ListsSources : Around → CommandLine → Option ℕ → List Source → RunOver
 ListsSources around command_line now sources =
-    ListsEach (λ s. Reports (IsFaultReported around command_line.command s) (ListsOne (form_for command_line) (names_for command_line (length sources)) (name_of s) (λ label. DoesFrom around label now command_line.command s))) sources
+    ListsEach (λ s. Reports (IsFaultReported around command_line.command s) (ListsOne (form_for command_line) (names_for command_line (length sources)) (name_of s) (λ label. DoesFrom around command_line.choice label now command_line.command s))) sources
 
 -- The command of a command line is done with each of its sources, each cache of a directory among them, and the fault by which a run ends is told.
 pub record DoesEach (around : Around) (command_line : CommandLine) (written_before written_after : Option (List ℕ)) (status : ℕ) : Type 0 where
@@ -195,10 +210,26 @@ Prints around text written_before written_after status =
 
 -- ---- the words
 -- the command is done, or memory ran out before, which is told
-abbrev pub DoesAny : Around → CommandLine → RunOver
-DoesAny around command_line written_before written_after status =
+abbrev pub DoesSources : Around → CommandLine → RunOver
+DoesSources around command_line written_before written_after status =
     DoesEach around command_line written_before written_after status
     ⊎ (around.IsFaultTold source.Input fault.Memory × (status ≡ 3) × (written_after ≡ written_before))
+
+-- the names of the columns were written as a row, and then the command is done
+pub record DoesAfterRow (around : Around) (command_line : CommandLine) (row : List ℕ) (written_before written_after : Option (List ℕ)) (status : ℕ) : Type 0 where
+  pub between : Option (List ℕ)
+  pub headed : Appends written_before between (row ++ line_feed)
+  pub does : DoesSources around command_line between written_after status
+
+-- with a first row or without; if a write of it failed, that is told
+abbrev pub DoesHeaded : (row : Option (List ℕ)) → Around → CommandLine → RunOver
+DoesHeaded None around command_line written_before written_after status = DoesSources around command_line written_before written_after status
+DoesHeaded (Some row) around command_line written_before written_after status =
+    DoesAfterRow around command_line row written_before written_after status
+    ⊎ ((told : RunFault) × IsWrite told × around.IsFaultTold source.Input told × (status ≡ 3))
+
+abbrev pub DoesAny : Around → CommandLine → RunOver
+DoesAny around command_line written_before written_after status = DoesHeaded (option_map string_bytes command_line.header) around command_line written_before written_after status
 
 -- why messages are not written to a terminal
 abbrev pub terminal_text : List ℕ

@@ -1,5 +1,6 @@
 //! The runs over sources that are decoded as their first octets say.
 
+ghost use Rattle.std.specs.Option.{option_copied};
 ghost use Rattle.std.specs.Prelude.{◌≡◌, ◌⊎◌, IfOk};
 ghost use Rattle.krb_decode.specs.Hints.{keytab_text};
 ghost use Rattle.krb_input.specs.Sources.{command_for};
@@ -37,7 +38,7 @@ impl<H: Host> Lister<'_, H> {
         reader: &mut Begun<R>,
         writer: &mut W,
     ) -> Result<RunEnd, RunFault>
-        ensures { DoesBegun (H.around self.now.host.now) label.now self.now.time self.now.command.now source.now (first_of reader.old) (begun_remaining R.remaining reader.old) (W.contents writer.old) (W.contents writer.new) result }
+        ensures { DoesBegun (H.around self.now.host.now) (option_copied self.now.choice) label.now self.now.time self.now.command.now source.now (first_of reader.old) (begun_remaining R.remaining reader.old) (W.contents writer.old) (W.contents writer.new) result }
     {
         match decoding_of(self.command) {
             Some(profile) => self.decode_begun(source, profile, label, reader, writer),
@@ -55,7 +56,7 @@ impl<H: Host> Lister<'_, H> {
         reader: &mut Begun<R>,
         writer: &mut W,
     ) -> Result<RunEnd, RunFault>
-        ensures { DecodesBegun (command_for (first_of reader.old)) (H.around self.now.host.now) label.now self.now.time self.now.command.now profile source.now (first_of reader.old) (begun_remaining R.remaining reader.old) (W.contents writer.old) (W.contents writer.new) result }
+        ensures { DecodesBegun (command_for (first_of reader.old)) (H.around self.now.host.now) (option_copied self.now.choice) label.now self.now.time self.now.command.now profile source.now (first_of reader.old) (begun_remaining R.remaining reader.old) (W.contents writer.old) (W.contents writer.new) result }
     {
         match kind_of(reader.first()) {
             SourceKind::Message => self.decode_input(source, profile, reader, writer),

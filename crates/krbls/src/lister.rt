@@ -1,7 +1,7 @@
 //! The runs over sources.
 
 ghost use Rattle.std.specs.Prelude.{◌≡◌, IfErr, IfOk, OnOk, string_bytes};
-ghost use Rattle.std.specs.Option.{option_and_then};
+ghost use Rattle.std.specs.Option.{option_and_then, option_copied};
 ghost use Rattle.krb_run.specs.Begun.{begun_remaining, first_of};
 ghost use Rattle.krb_convert.specs.Encoding.{FailsToEncode};
 ghost use Rattle.krb_words.specs.Shell.{shell_word};
@@ -9,8 +9,8 @@ ghost use Rattle.krb_words.specs.Tasks.{name_used, said_unopened};
 ghost use Rattle.krb_convert.specs.Conversions.{DecodesBy, EncodesBy, FailsToDecodeBy, is_framed};
 ghost use Rattle.krb_convert.specs.Ends.{decode_end_line, decode_run_end, encode_end_line, encode_run_end};
 ghost use Rattle.krb_input.specs.Hints.{hint_for};
-ghost use Rattle.krbls.specs.Commands.{Does, FailsToTurn, TellsSaid, Turns, chosen, fitting as fitting_hint, hint_by, kind_read, unless_http as hint_unless_http};
-ghost use Rattle.krbls.specs.Program.{DoesFrom, IsFaultReported, IsHinted, IsTold, ListsBy, name_of};
+ghost use Rattle.krbls.specs.Commands.{Does, DoesWith, FailsToTurn, TellsSaid, Turns, chosen, fitting as fitting_hint, hint_by, kind_read, unless_http as hint_unless_http};
+ghost use Rattle.krbls.specs.Program.{DoesFrom, DoesSource, IsFaultReported, IsHinted, IsTold, ListsBy, NamesSource, name_of};
 
 use krb_capture_run::run_capture;
 use krb_choice::Choice;
@@ -214,7 +214,9 @@ impl<H: Host> Lister<'_, H> {
         label: &Label,
         reader: &mut R,
         writer: &mut W,
-    ) -> Result<RunEnd, RunFault> {
+    ) -> Result<RunEnd, RunFault>
+        ensures { DoesWith (option_copied self.now.choice) ((H.around self.now.host.now).IsEndTold source.now) label.now self.now.time command.now (R.remaining reader.old) (R.remaining reader.new) (W.contents writer.old) (W.contents writer.new) result }
+    {
         let Some(choice) = self.choice else {
             return self.run(source, command, label, reader, writer);
         };
@@ -227,7 +229,9 @@ impl<H: Host> Lister<'_, H> {
     }
 
     /// Writes the record with the name of a source, if there is one and it is kept.
-    fn write_name<W: Write>(&self, source: &Source, writer: &mut W) -> Result<(), RunFault> {
+    fn write_name<W: Write>(&self, source: &Source, writer: &mut W) -> Result<(), RunFault>
+        ensures { NamesSource (option_copied self.now.choice) (W.contents writer.old) (W.contents writer.new) result }
+    {
         let Some(choice) = self.choice else {
             return Ok(());
         };
@@ -250,7 +254,7 @@ impl<H: Host> Lister<'_, H> {
         reader: &mut Begun<R>,
         writer: &mut W,
     ) -> Result<RunEnd, RunFault>
-        ensures { ListsBy (H.around self.now.host.now) label.now self.now.time self.now.command.now source.now command.now (first_of reader.old) (begun_remaining R.remaining reader.old) (W.contents writer.old) (W.contents writer.new) result }
+        ensures { ListsBy (H.around self.now.host.now) (option_copied self.now.choice) label.now self.now.time self.now.command.now source.now command.now (first_of reader.old) (begun_remaining R.remaining reader.old) (W.contents writer.old) (W.contents writer.new) result }
     {
         let hint = hint_by(command, reader.first());
         let end = self.run_chosen(source, command, label, reader, writer)?;
@@ -268,7 +272,7 @@ impl<H: Host> Lister<'_, H> {
         reader: &mut Begun<R>,
         writer: &mut W,
     ) -> Result<RunEnd, RunFault>
-        ensures { ListsBy (H.around self.now.host.now) label.now self.now.time self.now.command.now source.now (chosen self.now.command.now (first_of reader.old)) (first_of reader.old) (begun_remaining R.remaining reader.old) (W.contents writer.old) (W.contents writer.new) result }
+        ensures { ListsBy (H.around self.now.host.now) (option_copied self.now.choice) label.now self.now.time self.now.command.now source.now (chosen self.now.command.now (first_of reader.old)) (first_of reader.old) (begun_remaining R.remaining reader.old) (W.contents writer.old) (W.contents writer.new) result }
     {
         match self.command {
             Command::List(when) => {
@@ -281,6 +285,24 @@ impl<H: Host> Lister<'_, H> {
 }
 
 impl<H: Host> Lister<'_, H> {
+    /// Opens a source and does the command with it.
+    fn list_opened<W: Write>(
+        &self,
+        source: &Source,
+        label: &Label,
+        writer: &mut W,
+    ) -> Result<RunEnd, RunFault>
+        ensures { DoesSource (H.around self.now.host.now) (option_copied self.now.choice) label.now self.now.time self.now.command.now source.now (W.contents writer.old) (W.contents writer.new) result }
+    {
+        match self.host.open(source) {
+            Ok(reader) => {
+                let mut begun = Begun::begin(self.alloc, reader, self.command.octets_awaited())?;
+                self.do_begun(source, label, &mut begun, writer)
+            }
+            Err(error) => Err(RunFault::Read(error)),
+        }
+    }
+
     /// Tells what the name of a source that could not be opened is, if it is that of a command or of a
     /// credential cache that is no file.
     fn tell_unopened(&self, source: &Source)
@@ -312,7 +334,7 @@ fn octets_name(source: &Source) -> &[u8]
 impl<H: Host> ListSource<Source> for Lister<'_, H> {
     ghost called = { name_of };
 
-    ghost Lists = { λ lister source label. DoesFrom (H.around lister.host.now) label lister.time lister.command.now source };
+    ghost Lists = { λ lister source label. DoesFrom (H.around lister.host.now) (option_copied lister.choice) label lister.time lister.command.now source };
 
     ghost IsReported = { λ lister source fault. IsFaultReported (H.around lister.host.now) lister.command.now source fault };
 
@@ -327,13 +349,7 @@ impl<H: Host> ListSource<Source> for Lister<'_, H> {
         writer: &mut W,
     ) -> Result<RunEnd, RunFault> {
         self.write_name(source, writer)?;
-        match self.host.open(source) {
-            Ok(reader) => {
-                let mut begun = Begun::begin(self.alloc, reader, self.command.octets_awaited())?;
-                self.do_begun(source, label, &mut begun, writer)
-            }
-            Err(error) => Err(RunFault::Read(error)),
-        }
+        self.list_opened(source, label, writer)
     }
 
     fn report(&self, source: &Source, fault: &RunFault) {

@@ -1,10 +1,13 @@
 //! What the program does by its words.
 
-ghost use Rattle.std.specs.Prelude.{◌≡◌, map};
+ghost use Rattle.std.specs.Prelude.{◌≡◌, ◌++◌, map, IfErr, OnOk};
+ghost use Rattle.std.specs.Io.KnownBytes.{Appends};
 ghost use Rattle.std.specs.List.{list_any};
 ghost use Rattle.std.specs.Process.{exit_status};
+ghost use Rattle.krb_record.specs.Text.{line_feed};
+ghost use Rattle.krb_run.specs.Faults.{IsWrite};
 ghost use Rattle.krb_words.specs.Tasks.{when_of};
-ghost use Rattle.krbls.specs.Program.{RunsCommand, DoesAny, DoesUnlessShown, IsTime, ListsSources, Prints, Refuses, Runs, is_directory, labels_of};
+ghost use Rattle.krbls.specs.Program.{RunsCommand, DoesAny, DoesSources, DoesUnlessShown, IsTime, ListsSources, Prints, Refuses, Runs, is_directory, labels_of};
 
 use crate::lister::Lister;
 use krb_host::{Host, expand};
@@ -154,7 +157,7 @@ fn do_sources<H: Host, W: Write>(
     command_line: &CommandLine,
     writer: W,
 ) -> (W, ExitCode)
-    ensures { DoesAny (H.around host.now) command_line.now (W.contents writer) (W.contents result.0) (exit_status result.1) }
+    ensures { DoesSources (H.around host.now) command_line.now (W.contents writer) (W.contents result.0) (exit_status result.1) }
 {
     match expand(alloc, host, command_line.sources.as_slice()) {
         Ok(expanded) => {
@@ -173,7 +176,9 @@ fn do_each<H: Host, W: Write>(
     host: &H,
     command_line: &CommandLine,
     writer: W,
-) -> (W, ExitCode) {
+) -> (W, ExitCode)
+    ensures { DoesAny (H.around host.now) command_line.now (W.contents writer) (W.contents result.0) (exit_status result.1) }
+{
     let Some(header) = &command_line.header else {
         return do_sources(alloc, host, command_line, writer);
     };
@@ -188,7 +193,10 @@ fn do_each<H: Host, W: Write>(
 }
 
 /// Writes a row and a line feed.
-fn write_row<W: Write>(writer: &mut W, row: &[u8]) -> Result<(), RunFault> {
+fn write_row<W: Write>(writer: &mut W, row: &[u8]) -> Result<(), RunFault>
+    ensures written { OnOk result (Appends (W.contents writer.old) (W.contents writer.new) (row.now ++ line_feed)) }
+    ensures fault { IfErr result IsWrite }
+{
     write_all(writer, row)?;
     write_all(writer, b"\n")
 }

@@ -2,7 +2,7 @@ use Rattle.std.proofs.Common.{List, map, inl, subst, sym, ◌∙◌}
 use Rattle.krb_words.specs.Sources.{place_of}
 use Rattle.krb_words.specs.declared.sources.Source.{Source}
 use Rattle.krb_host.specs.Expanded.{Expands}
-use Rattle.krbls.proofs.program.do_each.Goals as goal
+use Rattle.krbls.proofs.program.do_sources.Goals as goal
 
 pub returns-in-Ok : goal.returns-in-Ok
 returns-in-Ok g c = inl (record {
