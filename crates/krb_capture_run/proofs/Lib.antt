@@ -1,1 +1,2 @@
+pub mod FileRefusals
 mod CaptureLines

@@ -56,7 +56,7 @@ fn refused_end(at_once: bool) -> RunEnd
 impl<R: Read> CaptureLines<'_, '_, R> {
     /// Appends the records of a fault of the file, which ends the run. Faults of the reader have
     /// none.
-    #[tactic(auto, unfolding(krb_capture::specs::Captures::refusal_text))]
+    #[tactic(auto, using(crate::proofs::FileRefusals::same_refusal))]
     fn put_fault(
         &mut self,
         alloc: Global,
