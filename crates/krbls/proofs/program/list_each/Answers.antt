@@ -4,10 +4,10 @@ use Rattle.krbls.proofs.program.list_each.Goals as goal
 
 pub returns-then-is_conversion : goal.returns-then-is_conversion
 returns-then-is_conversion g c =
-    each_unnamed (g.H.Host.around c.args.host.now) c.args.command_line.now c.args.now _ _ _ _
+    each_unnamed (g.H.Host.around c.args.host.now) c.args.command_line.now c.args.now _ _ _ _ _ c.as_ref.ensures.value
     (sym c.is_conversion.ensures ∙ c.if-is_conversion.true) c.run_sources_unnamed.ensures
 
 pub returns-else-is_conversion : goal.returns-else-is_conversion
 returns-else-is_conversion g c =
-    each_named (g.H.Host.around c.args.host.now) c.args.command_line.now c.args.now _ _ _ _ c.labels_of.result c.labels_of.ensures
+    each_named (g.H.Host.around c.args.host.now) c.args.command_line.now c.args.now _ _ _ _ _ c.as_ref.ensures.value c.labels_of-naming.result c.labels_of-naming.ensures
     (sym c.is_conversion.ensures ∙ c.if-is_conversion.false) c.run_sources.ensures
