@@ -1,17 +1,20 @@
 -- A record that names its file is one line, if it is one without.
 use Rattle.std.proofs.Common.{◌≡◌, ℕ, List, [], ◌∷◌, ◌++◌, length, take, Option, Some, None, IfSome, codes, refl, sym, ◌∙◌, ap, subst, append_assoc, length-append, take_at, arith}
 use Rattle.krb_der.specs.Octets.{AreOctets}
-use Rattle.krb_record.specs.Forms.{closing, fields_text, heading, labelled, last_text, parts_text, record_line, record_text}
+use Rattle.krb_record.specs.Forms.{aside_text, closing, fields_text, form_of, heading, labelled, last_text, parts_text, record_line, record_text}
 use Rattle.krb_record.specs.Labels.{AddsMembers, Label, label_text, line_of, with_file, with_file_if}
 use Rattle.krb_record.specs.Laws.{IsOneLine}
 use Rattle.krb_record.specs.Text.{IsPrintable, line_feed}
 use Rattle.krb_record.specs.Values.{FileName, Printed}
+use Rattle.krb_record.specs.declared.form.Base.{Base}
+use Rattle.krb_record.specs.declared.form.Base.TheVariants as bases
 use Rattle.krb_record.specs.declared.form.Form.{Form}
 use Rattle.krb_record.specs.declared.form.Form.TheVariants as forms
 use Rattle.krb_record.proofs.Labels.{ends-named, ends-object, ends-plain}
 use Rattle.krb_record.proofs.Printable.{Prints, join, word}
 use Rattle.krb_text_laws.proofs.EachForm.{labelled_field}
 use Rattle.krb_tool_laws.specs.Listings.{IsNamed}
+use Rattle.krb_tool_laws.proofs.InForms.{base_in, is_base}
 
 -- texts that one text follows are the same
 pub before : (end text other : List ℕ) → text ++ end ≡ other ++ end → text ≡ other
@@ -24,14 +27,14 @@ front_prints [] end h = word [] refl
 front_prints (c ∷ text) end h = record { all = (h.0, (front_prints text end h.1).all) }
 
 -- ---- the text of a label
-its_name : (form : Form) (name : List ℕ) → AreOctets name → Prints (labelled form (codes "file=") (codes ",\"file") (FileName name))
-its_name form name are = labelled_field form (codes "file=") (codes ",\"file") (FileName name) (word _ refl) (word _ refl) are
+its_name : (base : Base) (name : List ℕ) → AreOctets name → Prints (labelled (form_of base) (codes "file=") (codes ",\"file") (FileName name))
+its_name base name are = labelled_field base (codes "file=") (codes ",\"file") (FileName name) (word _ refl) (word _ refl) are
 
-label_prints : (form : Form) (name : List ℕ) → AreOctets name → Prints (label_text form name)
+label_prints : (base : Base) (name : List ℕ) → AreOctets name → Prints (label_text (form_of base) name)
 unfolding label_text
-label_prints forms.Lines name are = join (its_name forms.Lines name are) (word _ refl)
-label_prints forms.NamedLines name are = join (its_name forms.NamedLines name are) (word _ refl)
-label_prints forms.Json name are = join (its_name forms.Json name are) (word _ refl)
+label_prints bases.Lines name are = join (its_name bases.Lines name are) (word _ refl)
+label_prints bases.NamedLines name are = join (its_name bases.NamedLines name are) (word _ refl)
+label_prints bases.Json name are = join (its_name bases.Json name are) (word _ refl)
 
 -- ---- lines
 after_name : (name line labelled : List ℕ) → Prints name → IsOneLine line → name ++ line ≡ labelled → IsOneLine labelled
@@ -41,14 +44,14 @@ after_name name line labelled prints one is =
 -- ---- objects
 -- one without what ends it
 object_of : Printed → List ℕ
-object_of r = (heading forms.Json r.origin r.kind ++ fields_text forms.Json r.fields) ++ (parts_text forms.Json r.inside ++ last_text forms.Json r.last)
+object_of r = ((heading forms.Json r.origin r.kind ++ fields_text forms.Json r.fields) ++ aside_text forms.Json r.aside) ++ (parts_text forms.Json r.inside ++ last_text forms.Json r.last)
 
 ends_so : (a b c d e : List ℕ) → (a ++ (b ++ (c ++ d))) ++ e ≡ (a ++ (b ++ c)) ++ (d ++ e)
 ends_so a b c d e = simp append_assoc refl
 
 object_is : (r : Printed) → record_line forms.Json r ≡ object_of r ++ codes "}\n"
 unfolding record_text closing object_of
-object_is r = ends_so (heading forms.Json r.origin r.kind ++ fields_text forms.Json r.fields) (parts_text forms.Json r.inside) (last_text forms.Json r.last) (codes "}") line_feed
+object_is r = ends_so ((heading forms.Json r.origin r.kind ++ fields_text forms.Json r.fields) ++ aside_text forms.Json r.aside) (parts_text forms.Json r.inside) (last_text forms.Json r.last) (codes "}") line_feed
 
 members_added : (members old object : List ℕ) → old ≡ object ++ codes "}\n" → AddsMembers members old (object ++ members ++ codes "}\n")
 members_added members old object is other e = ap (λ l. l ++ members ++ codes "}\n") (before (codes "}\n") object other (sym is ∙ e))
@@ -67,14 +70,16 @@ with_members object members line labelled prints one ends is =
     )
 
 -- ---- records
-named_line : (form : Form) (name : List ℕ) (r : Printed) → AreOctets name → IsOneLine (record_line form r) → IsOneLine (record_line form (with_file form name r))
-named_line forms.Lines name r are one = after_name (label_text forms.Lines name) (record_line forms.Lines r) _ (label_prints forms.Lines name are) one (ends-plain name (label_text forms.Lines name ++ record_line forms.Lines r) [] r refl)
-named_line forms.NamedLines name r are one = after_name (label_text forms.NamedLines name) (record_line forms.NamedLines r) _ (label_prints forms.NamedLines name are) one (ends-named name (label_text forms.NamedLines name ++ record_line forms.NamedLines r) [] r refl)
-named_line forms.Json name r are one = with_members (object_of r) (label_text forms.Json name) (record_line forms.Json r) _ (label_prints forms.Json name are) one (object_is r) (labelled_object name r)
+named_line : (base : Base) (name : List ℕ) (r : Printed) → AreOctets name → IsOneLine (record_line (form_of base) r) → IsOneLine (record_line (form_of base) (with_file (form_of base) name r))
+named_line bases.Lines name r are one = after_name (label_text forms.Lines name) (record_line forms.Lines r) _ (label_prints bases.Lines name are) one (ends-plain name (label_text forms.Lines name ++ record_line forms.Lines r) [] r refl)
+named_line bases.NamedLines name r are one = after_name (label_text forms.NamedLines name) (record_line forms.NamedLines r) _ (label_prints bases.NamedLines name are) one (ends-named name (label_text forms.NamedLines name ++ record_line forms.NamedLines r) [] r refl)
+named_line bases.Json name r are one = with_members (object_of r) (label_text forms.Json name) (record_line forms.Json r) _ (label_prints bases.Json name are) one (object_is r) (labelled_object name r)
 
-line_with : (form : Form) (file : Option (List ℕ)) (r : Printed) → IfSome file AreOctets → IsOneLine (record_line form r) → IsOneLine (record_line form (with_file_if form file r))
-line_with form None r are one = one
-line_with form (Some name) r are one = named_line form name r are one
+line_with : (base : Base) (file : Option (List ℕ)) (r : Printed) → IfSome file AreOctets → IsOneLine (record_line (form_of base) r) → IsOneLine (record_line (form_of base) (with_file_if (form_of base) file r))
+line_with base None r are one = one
+line_with base (Some name) r are one = named_line base name r are one
 
 pub labelled_line : (label : Label) (r : Printed) → IsNamed label → IsOneLine (record_line label.form r) → IsOneLine (line_of label r)
-labelled_line label r are one = line_with label.form label.file r are one
+labelled_line label r named one =
+    let same = is_base label.form named.0 in
+    subst (λ (f : Form). IsOneLine (record_line f (with_file_if f label.file r))) same (line_with (base_in label.form) label.file r named.1 (subst (λ (f : Form). IsOneLine (record_line f r)) (sym same) one))

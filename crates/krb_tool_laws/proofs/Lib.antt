@@ -12,6 +12,7 @@ pub mod FlowOctets
 pub mod FoundParts
 pub mod FragmentOctets
 pub mod HoleOctets
+pub mod InForms
 pub mod KeptEntries
 pub mod KeyOctets
 pub mod Labelled

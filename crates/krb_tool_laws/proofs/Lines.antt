@@ -19,6 +19,10 @@ object_in : (form : Form) → form ≡ forms.Json → (file : Option (List ℕ))
 object_in forms.Lines e file r json = absurd cc
 object_in forms.NamedLines e file r json = absurd cc
 object_in forms.Json e file r json = json file
+object_in forms.KeptLines e file r json = absurd cc
+object_in forms.KeptNamedLines e file r json = absurd cc
+object_in forms.KeptJson e file r json = absurd cc
+object_in (forms.Rows wanted) e file r json = absurd cc
 
 module _ (form : Form) where
   pub no_lines : AreLinesOf form []

@@ -21,7 +21,7 @@ use Rattle.krb_exchange.specs.declared.sending.What.{What}
 use Rattle.krb_exchange.specs.declared.sending.What.TheVariants as whats
 use Rattle.krb_laws.specs.JsonLaws.{AreCounts, AreToldCounts, CapturesAreJson, IsAnswer, IsError, IsFlowOrigin, IsSmall, IsTold as IsToldIn, PrintsJson}
 use Rattle.krb_record.specs.Captures.{capture_end_record, capture_refused_record, captured, lost_record, password_record, unanswered_record, unreachable_record, unread_line, unread_record}
-use Rattle.krb_record.specs.Forms.{record_line}
+use Rattle.krb_record.specs.Forms.{form_of, record_line}
 use Rattle.krb_record.specs.Labels.{Label, line_of}
 use Rattle.krb_record.specs.Laws.{CaptureEndIsOneLine, CaptureRefusalIsOneLine, CapturedRefusalIsOneLine, IsOneLine, JoinedIsOneLine, LostIsOneLine, OriginIsInRange, PasswordIsOneLine, UnansweredIsOneLine, UnreachableIsOneLine}
 use Rattle.krb_record.specs.Refusals.{extent_in, path_in, refusal_record}
@@ -31,6 +31,7 @@ use Rattle.krb_record.specs.Values.{Printed, printed}
 use Rattle.krb_record.specs.declared.capture.CaptureCounts.{CaptureCounts}
 use Rattle.krb_record.specs.declared.capture_origin.CaptureOrigin.{CaptureOrigin}
 use Rattle.krb_record.specs.declared.flow.Flow.{Flow}
+use Rattle.krb_record.specs.declared.form.Base.{Base}
 use Rattle.krb_record.specs.declared.form.Form.{Form}
 use Rattle.krb_record.specs.declared.form.Form.TheVariants as forms
 use Rattle.krb_record.specs.declared.told.Answer.{Answer}
@@ -45,7 +46,7 @@ use Rattle.krb_run.specs.Paths.{field_path}
 use Rattle.krb_source.specs.declared.timestamp.Timestamp.{Timestamp}
 use Rattle.krb_source.specs.declared.unread_why.UnreadWhy.{UnreadWhy}
 use Rattle.krb_text.specs.Laws.{CapturedMessageIsOneLine}
-use Rattle.krb_text.specs.Messages.{message_record}
+use Rattle.krb_text.specs.Messages.{shown_record}
 use Rattle.krb_capture.specs.Captures.{Finding, Progress, Settings, all_counts, at_first, end_taken, happened_each, lines_of}
 use Rattle.krb_capture.specs.Flows.{moment_due}
 use Rattle.krb_capture.specs.Found.{Begun, Failed, Faulty, Found, Joined, Missing, Password, Sent, Unread, Whole, and_more, event_of, found_happened, found_heard, found_line, found_text, origin_with}
@@ -60,6 +61,7 @@ use Rattle.krb_tool_laws.proofs.CaptureParts.{IsHost}
 use Rattle.krb_tool_laws.proofs.FileReaders.{IsFault, IsSmallFault, small_fault}
 use Rattle.krb_tool_laws.proofs.FoundParts.{IsFound, Rules}
 use Rattle.krb_tool_laws.proofs.KeptEntries.{chosen}
+use Rattle.krb_tool_laws.proofs.InForms.{base_in, one_in, shown_json}
 use Rattle.krb_tool_laws.proofs.Lines.{a_line, and_lines, no_lines}
 use Rattle.krb_tool_laws.proofs.ListedFiles.{path_octets}
 use Rattle.krb_tool_laws.proofs.PacketOctets.{ArePackets, IsTime, packets_are}
@@ -71,7 +73,7 @@ pub record Premises : Type 0 where
   pub refusal_line_is : CapturedRefusalIsOneLine
   pub joined_line_is : JoinedIsOneLine
   pub lost_line_is : LostIsOneLine
-  pub unread_line_is : (form : Form) (origin : CaptureOrigin) (place : Option ℕ) (octets : ℕ) (reason : UnreadWhy) → OriginIsInRange origin → IsOneLine (unread_line form origin place octets reason)
+  pub unread_line_is : (base : Base) (origin : CaptureOrigin) (place : Option ℕ) (octets : ℕ) (reason : UnreadWhy) → OriginIsInRange origin → IsOneLine (unread_line (form_of base) origin place octets reason)
   pub password_line_is : PasswordIsOneLine
   pub unanswered_line_is : UnansweredIsOneLine
   pub unreachable_line_is : UnreachableIsOneLine
@@ -94,6 +96,10 @@ first_remembered : (form : Form) → IsHappened (told_at_first form)
 first_remembered forms.Lines = tt
 first_remembered forms.NamedLines = (tt, no_counts)
 first_remembered forms.Json = (tt, no_counts)
+first_remembered forms.KeptLines = tt
+first_remembered forms.KeptNamedLines = (tt, no_counts)
+first_remembered forms.KeptJson = (tt, no_counts)
+first_remembered (forms.Rows wanted) = (tt, no_counts)
 
 -- the flow and the moment of an origin
 flow_is : (origin : CaptureOrigin) → IsFlowOrigin origin → IsRecordFlow origin.flow
@@ -240,19 +246,19 @@ module _ (p : Premises) (label : Label) (named : IsNamed label) where
   AreOurs = AreLinesOf label.form
 
   -- the line of a record, by what it is in each form
-  its_line : (shown : Form → Printed) → IsOneLine (record_line label.form (shown label.form)) → PrintsJson (shown forms.Json) → AreOurs (line_of label (shown label.form))
-  its_line shown one json = a_line label named (shown label.form) one (λ is. subst (λ f. PrintsJson (shown f)) (sym is) json)
+  its_line : (shown : Form → Printed) → IsOneLine (record_line (form_of (base_in label.form)) (shown (form_of (base_in label.form)))) → PrintsJson (shown forms.Json) → AreOurs (line_of label (shown label.form))
+  its_line shown one json = a_line label named (shown label.form) (one_in shown label.form named.0 one) (λ is. subst (λ f. PrintsJson (shown f)) (sym is) json)
 
   -- ---- news, which are told with a packet
   one_unreachable : (now : Moment) (flow : Flow) (how : How) (answer : Answer) → IsMoment now → IsRecordFlow flow → IfSome (error_of how) IsError → IsAnswer answer → AreOurs (line_of label (captured label.form (at_moment now flow) (unreachable_record how answer)))
   one_unreachable now flow how answer at is by told =
       let origin : IsFlowOrigin (at_moment now flow) = news_origin_is now flow at is in
-      its_line (λ form. captured form (at_moment now flow) (unreachable_record how answer)) (p.unreachable_line_is label.form (at_moment now flow) how answer origin.in_range (host_of how by)) (p.json.unreachable (at_moment now flow) how answer origin refl by told)
+      its_line (λ form. captured form (at_moment now flow) (unreachable_record how answer)) (p.unreachable_line_is (base_in label.form) (at_moment now flow) how answer origin.in_range (host_of how by)) (p.json.unreachable (at_moment now flow) how answer origin refl by told)
 
   one_missed : (now : Moment) (what : What) (sending : Sending) → IsMoment now → IsSending sending → AreOurs (line_of label (captured label.form (at_moment now sending.flow) (missed_record now what sending)))
   one_missed now (whats.Request kind octets) sending at is =
       let origin : IsFlowOrigin (at_moment now sending.flow) = news_origin_is now sending.flow at is.flow in
-      its_line (λ form. captured form (at_moment now sending.flow) (unanswered_record kind (waited sending now))) (p.unanswered_line_is label.form (at_moment now sending.flow) kind (waited sending now) origin.in_range)
+      its_line (λ form. captured form (at_moment now sending.flow) (unanswered_record kind (waited sending now))) (p.unanswered_line_is (base_in label.form) (at_moment now sending.flow) kind (waited sending now) origin.in_range)
       (p.json.unanswered (at_moment now sending.flow) kind (waited sending now) origin refl (waited_is sending now is at))
   one_missed now (whats.Syn number) sending at is = one_unreachable now sending.flow hows.Silent (waited sending now) at is.flow tt (waited_is sending now is at)
 
@@ -374,17 +380,18 @@ module _ (p : Premises) (label : Label) (named : IsNamed label) where
   -- ---- lines
   one_found : (origin : CaptureOrigin) (found : Found) → IsFlowOrigin origin → IsFound found → AreOurs (found_line label origin found)
   one_found origin (Whole octets) range is =
-      its_line (λ form. captured form origin (message_record (message_of_der octets))) (p.message_line_is label.form origin (message_of_der octets) range.in_range is) (p.json.message origin (message_of_der octets) range is)
+      its_line (λ form. captured form origin (shown_record form (message_of_der octets))) (p.message_line_is (base_in label.form) origin (message_of_der octets) range.in_range is)
+      (subst (λ (r : Printed). PrintsJson (captured forms.Json origin r)) (sym (shown_json (message_of_der octets))) (p.json.message origin (message_of_der octets) range is))
   one_found origin (Faulty refusal path extent) range is =
-      its_line (λ form. captured form origin (refusal_record refusal (path_in form path ++ extent_in form extent))) (p.refusal_line_is label.form origin refusal path extent range.in_range is.1) (p.json.refusal origin refusal path extent range is.0 is.2)
+      its_line (λ form. captured form origin (refusal_record refusal (path_in form path ++ extent_in form extent))) (p.refusal_line_is (base_in label.form) origin refusal path extent range.in_range is.1) (p.json.refusal origin refusal path extent range is.0 is.2)
   one_found origin Begun range is = no_lines label.form
-  one_found origin Joined range is = its_line (λ form. captured form origin (printed (codes "joined") [])) (p.joined_line_is label.form origin range.in_range) (p.json.joined origin range)
+  one_found origin Joined range is = its_line (λ form. captured form origin (printed (codes "joined") [])) (p.joined_line_is (base_in label.form) origin range.in_range) (p.json.joined origin range)
   one_found origin (Missing place octets path) range is =
-      its_line (λ form. captured form origin (lost_record form place octets path)) (p.lost_line_is label.form origin place octets path range.in_range is.2) (p.json.lost origin place octets path range is.0 is.1)
+      its_line (λ form. captured form origin (lost_record form place octets path)) (p.lost_line_is (base_in label.form) origin place octets path range.in_range is.2) (p.json.lost origin place octets path range is.0 is.1)
   one_found origin (Password octets version ap rest) range is =
-      its_line (λ form. captured form origin (password_record version ap rest)) (p.password_line_is label.form origin version ap rest range.in_range) (p.json.password origin version ap rest range is.0 is.1 is.2)
+      its_line (λ form. captured form origin (password_record version ap rest)) (p.password_line_is (base_in label.form) origin version ap rest range.in_range) (p.json.password origin version ap rest range is.0 is.1 is.2)
   one_found origin (Unread place octets reason) range is =
-      its_line (λ form. captured form origin (unread_record place octets reason)) (p.unread_line_is label.form origin place octets reason range.in_range) (p.json.unread origin place octets reason range is.0 is.1)
+      its_line (λ form. captured form origin (unread_record place octets reason)) (p.unread_line_is (base_in label.form) origin place octets reason range.in_range) (p.json.unread origin place octets reason range is.0 is.1)
   one_found origin (Sent header) range is = no_lines label.form
   one_found origin (Failed error) range is = no_lines label.form
 
@@ -413,10 +420,10 @@ module _ (p : Premises) (label : Label) (named : IsNamed label) where
   last_record (Some fault) counts told form = capture_refused_record form counts told fault.place fault.why (field_path fault.field) (extent_of fault)
 
   counts_line : (refusal : Option Fault) (counts : CaptureCounts) (told : ToldCounts) → IfSome refusal IsSmallFault → AreCounts counts → AreToldCounts told → AreOurs (line_of label (last_record refusal counts told label.form))
-  counts_line None counts told small are too = its_line (λ form. capture_end_record form counts told) (p.end_line_is label.form counts told) (p.json.end counts told are too)
+  counts_line None counts told small are too = its_line (λ form. capture_end_record form counts told) (p.end_line_is (base_in label.form) counts told) (p.json.end counts told are too)
   counts_line (Some fault) counts told small are too =
       its_line (λ form. capture_refused_record form counts told fault.place fault.why (field_path fault.field) (extent_of fault))
-      (p.file_line_is label.form counts told fault.place fault.why (field_path fault.field) (extent_of fault) (path_octets places.File fault.field))
+      (p.file_line_is (base_in label.form) counts told fault.place fault.why (field_path fault.field) (extent_of fault) (path_octets places.File fault.field))
       (p.json.file counts told fault.place fault.why (field_path fault.field) (extent_of fault) are too small.place small.extent)
 
   last_is : (settings : Settings) → settings.label ≡ label → (refusal : Option Fault) (happened : Option Happened) (progress : Progress) → IfSome refusal IsSmallFault → IsProgress progress → IsHappened happened → AreOurs (last_line (record settings { label = label }) refusal happened progress)

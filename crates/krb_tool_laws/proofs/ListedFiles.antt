@@ -55,6 +55,7 @@ use Rattle.krb_tool_laws.specs.Listings.{AreLinesOf, ArePrintedLines, AreRead, I
 use Rattle.krb_tool_laws.proofs.FileFaults.{AreSmall, EndsSmall, cache_fault, keytab_fault}
 use Rattle.krb_tool_laws.proofs.FileReaders.{IsSmallFault}
 use Rattle.krb_tool_laws.proofs.Labelled.{labelled_line}
+use Rattle.krb_tool_laws.proofs.InForms.{base_in, one_in}
 use Rattle.krb_tool_laws.proofs.Lines.{a_line as a_line_of, and_lines as and_lines_of, each_line as each_line_of}
 use Rattle.krb_tool_laws.proofs.PathOctets.{index_octets, octets_of}
 
@@ -118,7 +119,7 @@ path_octets item None = tt
 path_octets item (Some field) = AreOctets-append (item_text item field.name) (field_text field) (item_octets item field.name) (in_part_octets field.part (name_text field.name) (name_octets field.name))
 
 refusal_line : FileRefusalIsOneLine → (label : Label) (named : IsNamed label) (fault : Fault) (item : FileItem) → ArePrintedLines (fault_line label fault (file_path item fault.field))
-refusal_line refused label named fault item = printed_line label named (file_refused_record label.form fault.place fault.why (file_path item fault.field) (extent_of fault)) (refused label.form fault.place fault.why (file_path item fault.field) (extent_of fault) (path_octets item fault.field))
+refusal_line refused label named fault item = printed_line label named (file_refused_record label.form fault.place fault.why (file_path item fault.field) (extent_of fault)) (one_in (λ f. file_refused_record f fault.place fault.why (file_path item fault.field) (extent_of fault)) label.form named.0 (refused (base_in label.form) fault.place fault.why (file_path item fault.field) (extent_of fault) (path_octets item fault.field)))
 
 -- ---- names
 counted_octets : (w : Width) (values : List (List ℕ)) → AllByRecursion (IsCounted w) values → AllAreOctets values
@@ -136,12 +137,12 @@ records_are (r ∷ found) octets spelled = (record_is r spelled.0 spelled.3, rec
 
 module _ (refused : FileRefusalIsOneLine) (record_one : RecordIsOneLine) (end_one : KeytabEndIsOneLine) (label : Label) (named : IsNamed label) where
   keytab_end_line_is : (count : ℕ) (end : Result (Stop × ℕ) Fault) → ArePrintedLines (keytab_last label count end)
-  keytab_end_line_is count (Ok end) = printed_line label named (keytab_end count end.0) (end_one label.form count end.0)
+  keytab_end_line_is count (Ok end) = printed_line label named (keytab_end count end.0) (one_in (λ f. keytab_end count end.0) label.form named.0 (end_one (base_in label.form) count end.0))
   keytab_end_line_is count (Err fault) = refusal_line refused label named fault (places.Record count)
 
   found_lines : (found : Records) → AllByRecursion RecordIsOfOctets found.items → ArePrintedLines (text_of (records_listing label found))
   found_lines found are =
-      and_lines (flat_map (record_line label) found.items) (keytab_last label (length found.items) found.end) (each_line RecordIsOfOctets (record_line label) (λ r is. labelled_line label (printed_record r) named (record_one label.form r is)) found.items are) (keytab_end_line_is (length found.items) found.end)
+      and_lines (flat_map (record_line label) found.items) (keytab_last label (length found.items) found.end) (each_line RecordIsOfOctets (record_line label) (λ r is. labelled_line label (printed_record r) named (one_in (λ f. printed_record r) label.form named.0 (record_one (base_in label.form) r is))) found.items are) (keytab_end_line_is (length found.items) found.end)
 
   pub keytab_printed : RecordsAreSpelled → (file : List ℕ) → AreOctets file → ArePrintedLines (text_of (keytab_listing label file))
   unfolding keytab_listing
@@ -186,12 +187,12 @@ contents_are start found octets (inr (version, v, spelled, same)) =
 
 module _ (refused : FileRefusalIsOneLine) (cache_one : CacheIsOneLine) (credential_one : CredentialIsOneLine) (end_one : CacheEndIsOneLine) (label : Label) (named : IsNamed label) (now : Option ℕ) where
   cache_end_line_is : (count : ℕ) (end : Result ℕ Fault) → ArePrintedLines (ccache_last label count end)
-  cache_end_line_is count (Ok size) = printed_line label named (cache_end count) (end_one label.form count)
+  cache_end_line_is count (Ok size) = printed_line label named (cache_end count) (one_in (λ f. cache_end count) label.form named.0 (end_one (base_in label.form) count))
   cache_end_line_is count (Err fault) = refusal_line refused label named fault (places.Credential count)
 
   credential_lines : (found : CacheItems Credential) → AllByRecursion CredentialIsOfOctets found.items → ArePrintedLines (text_of (credentials_listing label now found))
   credential_lines found are =
-      and_lines (flat_map (credential_line label now) found.items) (ccache_last label (length found.items) found.end) (each_line CredentialIsOfOctets (credential_line label now) (λ c is. labelled_line label (credential_record label.form now c) named (credential_one label.form now c is)) found.items are) (cache_end_line_is (length found.items) found.end)
+      and_lines (flat_map (credential_line label now) found.items) (ccache_last label (length found.items) found.end) (each_line CredentialIsOfOctets (credential_line label now) (λ c is. labelled_line label (credential_record label.form now c) named (one_in (λ f. credential_record f now c) label.form named.0 (credential_one (base_in label.form) now c is))) found.items are) (cache_end_line_is (length found.items) found.end)
 
   started : (r : Result (Start × Source) Fault) (found : CacheItems Credential) → ((start : Start) (after : Source) → r ≡ Ok (start, after) → AreOfOctets start.principal found.items) → ArePrintedLines (text_of (cache_listing label now r found))
   started (Err fault) found are = refusal_line refused label named fault places.File
@@ -199,7 +200,7 @@ module _ (refused : FileRefusalIsOneLine) (cache_one : CacheIsOneLine) (credenti
       let is = are start after refl in
       let line : List ℕ = cache_line label start.header start.principal in
       let others : RecordListing = credentials_listing label now found in
-      subst ArePrintedLines (sym (append_assoc line others.lines others.last)) (and_lines line (text_of others) (printed_line label named (cache_record start.header start.principal) (cache_one label.form start.header start.principal is.owner)) (credential_lines found is.each))
+      subst ArePrintedLines (sym (append_assoc line others.lines others.last)) (and_lines line (text_of others) (printed_line label named (cache_record start.header start.principal) (one_in (λ f. cache_record start.header start.principal) label.form named.0 (cache_one (base_in label.form) start.header start.principal is.owner))) (credential_lines found is.each))
 
   pub cache_printed : CredentialsAreSpelled → (file : List ℕ) → AreOctets file → ArePrintedLines (text_of (ccache_listing label now file))
   unfolding ccache_listing
@@ -258,16 +259,16 @@ few_in_cache limit file =
 module _ (ends : EndsAreJson) (refused : FileRefusalIsOneLine) (label : Label) (named : IsNamed label) where
   fault_line_of : (fault : Fault) (item : FileItem) → IsSmallFault fault → AreLinesOf label.form (fault_line label fault (file_path item fault.field))
   fault_line_of fault item small =
-      a_line_of label named (file_refused_record label.form fault.place fault.why (file_path item fault.field) (extent_of fault)) (refused label.form fault.place fault.why (file_path item fault.field) (extent_of fault) (path_octets item fault.field))
+      a_line_of label named (file_refused_record label.form fault.place fault.why (file_path item fault.field) (extent_of fault)) (one_in (λ f. file_refused_record f fault.place fault.why (file_path item fault.field) (extent_of fault)) label.form named.0 (refused (base_in label.form) fault.place fault.why (file_path item fault.field) (extent_of fault) (path_octets item fault.field)))
       (λ json. subst (λ f. PrintsJson (file_refused_record f fault.place fault.why (file_path item fault.field) (extent_of fault))) (sym json) (ends.file fault.place fault.why (file_path item fault.field) (extent_of fault) small.place small.extent))
 
 -- ---- keytabs
 module _ (json : FilesAreJson) (ends : EndsAreJson) (refused : FileRefusalIsOneLine) (record_one : RecordIsOneLine) (end_one : KeytabEndIsOneLine) (label : Label) (named : IsNamed label) where
   fit_lines : (found : List Record) → AllByRecursion (λ r. RecordIsOfOctets r × IsRecord r) found → AreLinesOf label.form (flat_map (record_line label) found)
-  fit_lines found are = each_line_of label.form (λ r. RecordIsOfOctets r × IsRecord r) (record_line label) (λ r is. a_line_of label named (printed_record r) (record_one label.form r is.0) (λ _. json.of_record r is.1)) found are
+  fit_lines found are = each_line_of label.form (λ r. RecordIsOfOctets r × IsRecord r) (record_line label) (λ r is. a_line_of label named (printed_record r) (one_in (λ f. printed_record r) label.form named.0 (record_one (base_in label.form) r is.0)) (λ _. json.of_record r is.1)) found are
 
   fit_end : (count : ℕ) (end : Result (Stop × ℕ) Fault) → count < 10 ^ 64 → EndsSmall end → AreLinesOf label.form (keytab_last label count end)
-  fit_end count (Ok end) few small = a_line_of label named (keytab_end count end.0) (end_one label.form count end.0) (λ _. json.end_of_keytab count end.0 few)
+  fit_end count (Ok end) few small = a_line_of label named (keytab_end count end.0) (one_in (λ f. keytab_end count end.0) label.form named.0 (end_one (base_in label.form) count end.0)) (λ _. json.end_of_keytab count end.0 few)
   fit_end count (Err fault) few small = fault_line_of ends refused label named fault (places.Record count) small
 
   pub keytab_lines_of : RecordsAreSpelled → (file : List ℕ) → AreRead file → AreLinesOf label.form (text_of (keytab_listing label file))
@@ -308,10 +309,10 @@ module _ (json : FilesAreJson) (ends : EndsAreJson) (refused : FileRefusalIsOneL
   fit_credentials : (found : List Credential) → AllByRecursion CredentialFits found → AreLinesOf label.form (flat_map (credential_line label now) found)
   fit_credentials found fit =
       each_line_of label.form CredentialFits (credential_line label now)
-      (λ c fits. a_line_of label named (credential_record label.form now c) (credential_one label.form now c (credential_is c fits)) (λ is. subst (λ f. PrintsJson (credential_record f now c)) (sym is) (json.credential now c fits))) found fit
+      (λ c fits. a_line_of label named (credential_record label.form now c) (one_in (λ f. credential_record f now c) label.form named.0 (credential_one (base_in label.form) now c (credential_is c fits))) (λ is. subst (λ f. PrintsJson (credential_record f now c)) (sym is) (json.credential now c fits))) found fit
 
   fit_cache_end : (count : ℕ) (end : Result ℕ Fault) → count < 10 ^ 64 → EndsSmall end → AreLinesOf label.form (ccache_last label count end)
-  fit_cache_end count (Ok size) few small = a_line_of label named (cache_end count) (end_one label.form count) (λ _. json.end_of_cache count few)
+  fit_cache_end count (Ok size) few small = a_line_of label named (cache_end count) (one_in (λ f. cache_end count) label.form named.0 (end_one (base_in label.form) count)) (λ _. json.end_of_cache count few)
   fit_cache_end count (Err fault) few small = fault_line_of ends refused label named fault (places.Credential count) small
 
   started_lines : (r : Result (Start × Source) Fault) (found : CacheItems Credential) → length found.items < 10 ^ 64 → AreSmall r found → ((start : Start) (after : Source) → r ≡ Ok (start, after) → Fit start found.items) → AreLinesOf label.form (text_of (cache_listing label now r found))
@@ -320,7 +321,7 @@ module _ (json : FilesAreJson) (ends : EndsAreJson) (refused : FileRefusalIsOneL
       let its = fit start after refl in
       let line : List ℕ = cache_line label start.header start.principal in
       let others : RecordListing = credentials_listing label now found in
-      let first = a_line_of label named (cache_record start.header start.principal) (cache_one label.form start.header start.principal (principal_is start.principal its.principal)) (λ _. json.cache start.header start.principal its.header its.principal) in
+      let first = a_line_of label named (cache_record start.header start.principal) (one_in (λ f. cache_record start.header start.principal) label.form named.0 (cache_one (base_in label.form) start.header start.principal (principal_is start.principal its.principal))) (λ _. json.cache start.header start.principal its.header its.principal) in
       subst (AreLinesOf label.form) (sym (append_assoc line others.lines others.last))
       (and_lines_of label.form line (text_of others) first
       (and_lines_of label.form (flat_map (credential_line label now) found.items) (ccache_last label (length found.items) found.end) (fit_credentials found.items its.each) (fit_cache_end (length found.items) found.end few small.end_small)))

@@ -13,6 +13,7 @@ use Rattle.krb_tool.specs.MessageLines.{is_passed, lines_listed, next_line, none
 use Rattle.krb_tool.specs.Messages.{OneRecord, input_listing, listing_with}
 use Rattle.krb_tool.proofs.MessageLines.{counts_record}
 use Rattle.krb_tool_laws.specs.Listings.{AreLinesOf, AreRead, IsNamed, MessagesAreLines}
+use Rattle.krb_tool_laws.proofs.InForms.{base_in, one_in}
 use Rattle.krb_tool_laws.proofs.Lines.{a_line, and_lines, no_lines}
 use Rattle.krb_tool_laws.proofs.ListedMessages.{IsGood, Premises, good_line, input_is, message_is, octets_listed}
 
@@ -61,7 +62,7 @@ module _ (p : Premises) (label : Label) (named : IsNamed label) (profile : Profi
   bounded false one other count most a b = b
 
   count_line : (messages refused : ℕ) → messages < 10 ^ 64 → refused < 10 ^ 64 → AreLinesOf label.form (counted_end_line label messages refused)
-  count_line messages refused m r = a_line label named (counted_end_record messages refused) (p.counted_line_is label.form messages refused) (λ json. p.ends_json.counted_stream messages refused m r)
+  count_line messages refused m r = a_line label named (counted_end_record messages refused) (one_in (λ f. counted_end_record messages refused) label.form named.0 (p.counted_line_is (base_in label.form) messages refused)) (λ json. p.ends_json.counted_stream messages refused m r)
 
   -- after what was seen, with which these lines are few
   records_are : (seen : _) (lines : List (List ℕ)) → AllByRecursion AreOctets lines → (next_line label profile seen).at + room lines < 10 ^ 64 → seen.lines + room lines < 10 ^ 64 → AreLinesOf label.form (records_of label profile seen lines).text

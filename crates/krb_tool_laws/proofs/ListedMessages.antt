@@ -24,23 +24,26 @@ use Rattle.krb_judge.specs.Parses.{refusal_of, ticket_refusal}
 use Rattle.krb_judge.proofs.Slices.{message_in, whole_value}
 use Rattle.krb_input.specs.Inputs.{Spells}
 use Rattle.krb_laws.specs.JsonLaws.{EndsAreJson, IsExtent, IsLine, MessagesAreJson, PrintsJson}
-use Rattle.krb_record.specs.Forms.{record_line}
+use Rattle.krb_record.specs.Forms.{form_of, is_marked, record_line}
 use Rattle.krb_record.specs.Inputs.{input_refused_record}
 use Rattle.krb_record.specs.Labels.{Label, no_label}
 use Rattle.krb_record.specs.Laws.{CountedStreamEndIsOneLine, InputRefusalIsOneLine, IsOneLine, MessageRefusalIsOneLine}
 use Rattle.krb_record.specs.Origins.{message_origin}
 use Rattle.krb_record.specs.Refusals.{message_refused_record}
-use Rattle.krb_record.specs.Values.{with_origin}
+use Rattle.krb_record.specs.Values.{Printed, with_origin}
+use Rattle.krb_record.specs.declared.form.Base.{Base}
 use Rattle.krb_record.specs.declared.form.Form.{Form}
 use Rattle.krb_record.specs.declared.form.Form.TheVariants as forms
 use Rattle.krb_record.specs.declared.input.InputFault.{InputFault}
 use Rattle.krb_record.specs.declared.input.InputFault.TheVariants as faults
 use Rattle.krb_text.specs.Laws.{MessageFromIsOneLine, TicketIsOneLine}
+use Rattle.krb_text.specs.Messages.{shown_record, ticket_record}
 use Rattle.krb_token.specs.Opened.{Found, Message as IsMessage, Ntlm, Refused, Ticket as IsTicket}
 use Rattle.krb_token.specs.Tokens.{opened}
 use Rattle.krb_tool.specs.Messages.{Layered, OneRecord, by_itself, extent_of, found_listing, input_limit, input_listing, input_octets_listing, judged_listing, listing_with, message_listing, ntlm_listing, octets_listing, refused_listing, spelled_in, spelled_listing, ticket_listing, ticket_of_der, unread_listing, whole_input}
 use Rattle.krb_tool.specs.Paths.{refused_path, ticket_refused_path}
 use Rattle.krb_tool_laws.specs.Listings.{AreLinesOf, AreRead, IsNamed}
+use Rattle.krb_tool_laws.proofs.InForms.{base_in, is_unmarked, one_in, shown_json}
 use Rattle.krb_tool_laws.proofs.Lines.{a_line}
 use Rattle.krb_tool_laws.proofs.OpenedParts.{IsFound, opened_is}
 use Rattle.krb_tool_laws.proofs.PathOctets.{message_octets, ticket_octets}
@@ -60,11 +63,11 @@ pub record Premises : Type 0 where
 
 -- a record without a label
 pub record IsGood (form : Form) (one : OneRecord) : Type 0 where
-  pub alone : IsOneLine (record_line form one.shown)
+  pub alone : is_marked form ≡ false → IsOneLine (record_line form one.shown)
   pub json : form ≡ forms.Json → PrintsJson one.shown
 
 pub good_line : (label : Label) (one : OneRecord) → IsNamed label → IsGood label.form one → AreLinesOf label.form (listing_with label one).text
-good_line label one named good = a_line label named one.shown good.alone good.json
+good_line label one named good = a_line label named one.shown (good.alone named.0) good.json
 
 -- ---- octets that are a message, and those that are not refused
 pub lenient_in : MessageOfDerIsMessage → (profile : Profile) (octets : List ℕ) → AreMessage profile (length octets) octets → IsInProfile profiles.Lenient (message_of_der octets)
@@ -112,14 +115,16 @@ module _ (p : Premises) where
 
   refused : (input : _) (layered : Layered) (refusal : Refusal) (path : Option (List ℕ)) → IsExtent (extent_of input layered.all) → IsLine input.line → refusal.place < 10 ^ 64 → IfSome path AreOctets → IsGood input.form (refused_listing input layered refusal path)
   refused input layered refusal path extent line small are = record {
-    alone = p.refusal_line_is input.form input.line layered.layers refusal path (extent_of input layered.all) layered.spelling are;
+    alone = λ e. one_in (λ f. with_origin (message_origin input.line layered.layers) (message_refused_record f refusal path (extent_of input layered.all) layered.spelling)) input.form e
+        (p.refusal_line_is (base_in input.form) input.line layered.layers refusal path (extent_of input layered.all) layered.spelling are);
     json = λ json. subst (λ f. PrintsJson (with_origin (message_origin input.line layered.layers) (message_refused_record f refusal path (extent_of input layered.all) layered.spelling))) (sym json)
         (p.ends_json.message input.line layered.layers refusal path (extent_of input layered.all) layered.spelling line small extent);
   }
 
   unread : (input : _) (fault : InputFault) (place : Option ℕ) → IsExtent (extent_of input []) → IsLine input.line → IfSome place (λ n. n < 10 ^ 64) → IsGood input.form (unread_listing input fault place)
   unread input fault place extent line small = record {
-    alone = p.input_line_is input.form input.line [] fault place (record { at = input.at; length = None }) None;
+    alone = λ e. one_in (λ f. with_origin (message_origin input.line []) (input_refused_record f fault place (record { at = input.at; length = None }) None)) input.form e
+        (p.input_line_is (base_in input.form) input.line [] fault place (record { at = input.at; length = None }) None);
     json = λ json. subst (λ f. PrintsJson (with_origin (message_origin input.line []) (input_refused_record f fault place (record { at = input.at; length = None }) None))) (sym json)
         (p.ends_json.input input.line [] fault place (record { at = input.at; length = None }) None line small (record { at = extent.at; length = tt }));
   }
@@ -129,8 +134,9 @@ module _ (p : Premises) where
   judged input layered place octets None extent line are small e =
       let its : IsInProfile profiles.Lenient (message_of_der octets) = its_message p.message_of_der input.profile octets are e in
       record {
-        alone = p.message_line_is input.form input.line layered.layers (message_of_der octets) its;
-        json = λ json. p.messages_json.from input.line layered.layers (message_of_der octets) line its;
+        alone = λ e. one_in (λ f. with_origin (message_origin input.line layered.layers) (shown_record f (message_of_der octets))) input.form e (p.message_line_is (base_in input.form) input.line layered.layers (message_of_der octets) its);
+        json = λ json. subst (λ f. PrintsJson (with_origin (message_origin input.line layered.layers) (shown_record f (message_of_der octets)))) (sym json)
+            (subst (λ (r : Printed). PrintsJson (with_origin (message_origin input.line layered.layers) r)) (sym (shown_json (message_of_der octets))) (p.messages_json.from input.line layered.layers (message_of_der octets) line its));
       }
   judged input layered place octets (Some refusal) extent line are small e =
       refused input layered (record { place = place + refusal.place; why = refusal.why }) (refused_path input.profile octets refusal) extent line (omega (arith, small, message_place p.inside input.profile octets refusal e)) (refused_octets input.profile octets refusal)
@@ -139,7 +145,7 @@ module _ (p : Premises) where
   as_ticket input layered None extent line are e =
       let its : IsTicketOf layered.all = its_ticket input.profile layered.all are e in
       record {
-        alone = p.ticket_line_is input.form input.line layered.layers (ticket_of_der layered.all) its.fits;
+        alone = λ e. one_in (λ f. with_origin (message_origin input.line layered.layers) (ticket_record (ticket_of_der layered.all))) input.form e (p.ticket_line_is (base_in input.form) input.line layered.layers (ticket_of_der layered.all) its.fits);
         json = λ json. p.messages_json.ticket input.line layered.layers (ticket_of_der layered.all) line its.fits its.short;
       }
   as_ticket input layered (Some refusal) extent line are e =
@@ -147,7 +153,8 @@ module _ (p : Premises) where
 
   as_ntlm : (input : _) (layered : Layered) (place : ℕ) → IsExtent (extent_of input layered.all) → IsLine input.line → place < 10 ^ 64 → IsGood input.form (ntlm_listing input layered place)
   as_ntlm input layered place extent line small = record {
-    alone = p.input_line_is input.form input.line layered.layers faults.Ntlm (Some place) (extent_of input layered.all) (Some layered.spelling);
+    alone = λ e. one_in (λ f. with_origin (message_origin input.line layered.layers) (input_refused_record f faults.Ntlm (Some place) (extent_of input layered.all) (Some layered.spelling))) input.form e
+        (p.input_line_is (base_in input.form) input.line layered.layers faults.Ntlm (Some place) (extent_of input layered.all) (Some layered.spelling));
     json = λ json. subst (λ f. PrintsJson (with_origin (message_origin input.line layered.layers) (input_refused_record f faults.Ntlm (Some place) (extent_of input layered.all) (Some layered.spelling)))) (sym json)
         (p.ends_json.input input.line layered.layers faults.Ntlm (Some place) (extent_of input layered.all) (Some layered.spelling) line small extent);
   }
@@ -187,6 +194,6 @@ module _ (p : Premises) where
   message_is label profile input named are =
       good_line label (input_listing (whole_input label.form profile) input) named (input_is (whole_input label.form profile) input (record { at = omega arith; length = omega (arith, are.1) }) tt are.0)
 
-  pub octets_listed : (form : Form) (profile : Profile) (octets : List ℕ) → AreRead octets → AreLinesOf form (octets_listing form profile octets).text
-  octets_listed form profile octets are =
-      good_line (no_label form) (input_octets_listing (whole_input form profile) Octets octets) tt (octets_are (whole_input form profile) Octets octets (record { at = omega arith; length = omega (arith, are.1) }) tt are.0)
+  pub octets_listed : (base : Base) (profile : Profile) (octets : List ℕ) → AreRead octets → AreLinesOf (form_of base) (octets_listing (form_of base) profile octets).text
+  octets_listed base profile octets are =
+      good_line (no_label (form_of base)) (input_octets_listing (whole_input (form_of base) profile) Octets octets) (is_unmarked base, tt) (octets_are (whole_input (form_of base) profile) Octets octets (record { at = omega arith; length = omega (arith, are.1) }) tt are.0)

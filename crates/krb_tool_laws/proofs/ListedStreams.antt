@@ -28,12 +28,13 @@ use Rattle.krb_record.specs.Labels.{Label}
 use Rattle.krb_record.specs.Streams.{counted_end_record, refused_record}
 use Rattle.krb_text.specs.Laws.{MessageIsOneLine, StreamEndIsOneLine}
 use Rattle.krb_record.specs.Laws.{CountedStreamEndIsOneLine}
-use Rattle.krb_text.specs.Messages.{message_line as its_own_line, message_record}
+use Rattle.krb_text.specs.Messages.{message_line as its_own_line, shown_record}
 use Rattle.krb_text.specs.StreamEnds.{end_record}
 use Rattle.krb_tool.specs.GoingOn.{AreCountedLines, Faulty, IsCountedListing, Listed, Whole, counted_end_line, entry_of, lines_after, refused_line, messages_in, refused_in}
 use Rattle.krb_tool.specs.Listing.{AreLines, IsListing, end_line, end_of, message_line}
 use Rattle.krb_tool.specs.Paths.{end_extent, end_path, frame_extent, frame_path, last_octets}
 use Rattle.krb_tool_laws.specs.Listings.{AreLinesOf, AreRead, IsNamed, StreamsAreLines}
+use Rattle.krb_tool_laws.proofs.InForms.{base_in, one_in, shown_json}
 use Rattle.krb_tool_laws.proofs.Lines.{a_line, and_lines, each_line, no_lines}
 use Rattle.krb_tool_laws.proofs.PathOctets.{frame_octets}
 
@@ -170,7 +171,9 @@ module _ (p : Premises) (label : Label) (named : IsNamed label) (profile : Profi
 
   its_line : (m : Message) → IsGood profile limit (message_der m) → AreLinesOf label.form (message_line label m)
   unfolding message_line its_own_line
-  its_line m good = a_line label named (message_record m) (p.message_line_is label.form m (in_profile m good)) (λ json. p.messages_json.message m (in_profile m good))
+  its_line m good =
+      a_line label named (shown_record label.form m) (one_in (λ f. shown_record f m) label.form named.0 (p.message_line_is (base_in label.form) m (in_profile m good)))
+      (λ json. subst (λ f. PrintsJson (shown_record f m)) (sym json) (subst PrintsJson (sym (shown_json m)) (p.messages_json.message m (in_profile m good))))
 
   good_messages : (found : List Message) → AllByRecursion (IsGood profile limit) (map message_der found) → AllByRecursion (λ m. IsGood profile limit (message_der m)) found
   good_messages [] are = tt
@@ -191,7 +194,7 @@ module _ (p : Premises) (label : Label) (named : IsNamed label) (profile : Profi
       let after : List ℕ = after_contents found stream in
       let octets = last_are found.end after (AreOctets-drop (frames_size found.contents) stream are.0) in
       let extent = extent_small (frames_size found.contents) (last_octets found.end after) (omega (arith, (parsed profile limit stream are.0).size, are.1)) octets in
-      a_line label named (end_record label.form count found.end (end_path profile limit stream) (end_extent profile limit stream)) (p.end_line_is label.form count found.end (end_path profile limit stream) (end_extent profile limit stream) (frame_octets profile (last_octets found.end after)))
+      a_line label named (end_record label.form count found.end (end_path profile limit stream) (end_extent profile limit stream)) (one_in (λ f. end_record f count found.end (end_path profile limit stream) (end_extent profile limit stream)) label.form named.0 (p.end_line_is (base_in label.form) count found.end (end_path profile limit stream) (end_extent profile limit stream) (frame_octets profile (last_octets found.end after))))
       (λ json. subst (λ f. PrintsJson (end_record f count found.end (end_path profile limit stream) (end_extent profile limit stream))) (sym json) (p.ends_json.stream count found.end (end_path profile limit stream) (end_extent profile limit stream) small (end_small p.inside profile limit stream found.end are.1 refl) extent))
 
   as_many : (found : List Message) → length (map message_der found) ≡ length found
@@ -304,7 +307,7 @@ module _ (p : Premises) (label : Label) (named : IsNamed label) (profile : Profi
   frame_line : (count offset place : ℕ) (reason : Why) (prefix : List ℕ) → count < 10 ^ 64 → offset < 10 ^ 64 → place < 10 ^ 64 → AreOctets prefix → AreLinesOf label.form (refused_line label count place reason (frame_path profile prefix) (frame_extent offset prefix))
   frame_line count offset place reason prefix count_small offset_small place_small are =
       let extent = extent_small offset prefix offset_small are in
-      a_line label named (refused_record label.form count place reason (frame_path profile prefix) (frame_extent offset prefix)) (p.end_line_is label.form count (Refused place reason) (frame_path profile prefix) (frame_extent offset prefix) (frame_octets profile prefix))
+      a_line label named (refused_record label.form count place reason (frame_path profile prefix) (frame_extent offset prefix)) (one_in (λ f. refused_record f count place reason (frame_path profile prefix) (frame_extent offset prefix)) label.form named.0 (p.end_line_is (base_in label.form) count (Refused place reason) (frame_path profile prefix) (frame_extent offset prefix) (frame_octets profile prefix)))
       (λ json. subst (λ f. PrintsJson (refused_record f count place reason (frame_path profile prefix) (frame_extent offset prefix))) (sym json) (p.ends_json.stream count (Refused place reason) (frame_path profile prefix) (frame_extent offset prefix) count_small place_small extent))
 
   counted_lines : (found : List Listed) (count offset : ℕ) → AllByRecursion (IsGoodEntry p.inside profile limit) (map entry_of found) → count + length found < 10 ^ 64 → offset + 2 ^ 33 * length found < 10 ^ 64 → AreLinesOf label.form (lines_after label profile count offset found)
@@ -320,7 +323,7 @@ module _ (p : Premises) (label : Label) (named : IsNamed label) (profile : Profi
       (counted_lines found count (offset + (4 + number (take 4 prefix))) are.1 (omega (arith, few)) (omega (arith, fewer, size)))
 
   count_line : (messages refused : ℕ) → messages < 10 ^ 64 → refused < 10 ^ 64 → AreLinesOf label.form (counted_end_line label messages refused)
-  count_line messages refused m r = a_line label named (counted_end_record messages refused) (p.counted_line_is label.form messages refused) (λ json. p.ends_json.counted_stream messages refused m r)
+  count_line messages refused m r = a_line label named (counted_end_record messages refused) (one_in (λ f. counted_end_record messages refused) label.form named.0 (p.counted_line_is (base_in label.form) messages refused)) (λ json. p.ends_json.counted_stream messages refused m r)
 
   few_found : (stream : List ℕ) (found : List Listed) (others : List Entry) → AreRead stream → entries (messages profile) limit stream ≡ map entry_of found ++ others → length found < 2 ^ 129
   unfolding entries
