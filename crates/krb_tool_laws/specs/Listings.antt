@@ -1,5 +1,5 @@
 -- The laws of whole listings: that each line of them is one, whatever octets were read. Each is the contract of a function of the module `listings`.
-use Rattle.std.specs.Prelude.{ℕ, ◌≡◌, ◌<◌, ◌^◌, List, ◌++◌, length, Option, IfSome}
+use Rattle.std.specs.Prelude.{ℕ, ◌≡◌, ◌<◌, ◌^◌, false, List, ◌++◌, length, Option, IfSome}
 use Rattle.std.specs.List.{AllByRecursion, flat_map}
 use Rattle.json.specs.Json.{Json}
 use Rattle.krb_capture.specs.Captures.{Settings}
