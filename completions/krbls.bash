@@ -60,7 +60,7 @@ _krbls() {
             case $command in
                 stream) options="--limit --keep-going --strict $forms $options" ;;
                 message) options="--lines --strict $forms $options" ;;
-                items) options="--strict $forms $options" ;;
+                items) options="--strict --names --json --with-filename $options" ;;
                 keytab) options="$forms $options" ;;
                 capture) options="--limit --port --strict $forms $options" ;;
                 decode|encode) options="--limit --strict --unframed $options" ;;
