@@ -34,6 +34,7 @@ all_plain registries.Statuses = refl
 all_plain registries.KdcOptions = refl
 all_plain registries.ApOptions = refl
 all_plain registries.PacOptions = refl
+all_plain registries.ContextFlags = refl
 all_plain registries.TicketFlags = refl
 all_plain registries.NameTypes = refl
 all_plain registries.AddressTypes = refl

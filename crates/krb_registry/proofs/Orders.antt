@@ -43,6 +43,7 @@ all_sorted registries.Statuses = refl
 all_sorted registries.KdcOptions = refl
 all_sorted registries.ApOptions = refl
 all_sorted registries.PacOptions = refl
+all_sorted registries.ContextFlags = refl
 all_sorted registries.TicketFlags = refl
 all_sorted registries.NameTypes = refl
 all_sorted registries.AddressTypes = refl

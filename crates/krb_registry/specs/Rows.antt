@@ -1,5 +1,5 @@
 -- The rows of the registries, and the name of a number.
-use Rattle.std.specs.Prelude.{ℕ, ℤ, List, Option}
+use Rattle.std.specs.Prelude.{[], ℕ, ℤ, List, Option}
 use Rattle.std.specs.List.{find}
 use Rattle.std.specs.Option.{option_map}
 use Rattle.std.specs.Ordering.{int_eq}
@@ -31,6 +31,7 @@ rows registry.Statuses = statuses
 rows registry.KdcOptions = kdc_options
 rows registry.ApOptions = ap_options
 rows registry.PacOptions = pac_options
+rows registry.ContextFlags = []
 rows registry.TicketFlags = ticket_flags
 rows registry.NameTypes = name_types
 rows registry.AddressTypes = address_types

@@ -96,6 +96,7 @@ fn places(registry: Registry) -> &'static [u8] {
         | Registry::KdcOptions
         | Registry::ApOptions
         | Registry::PacOptions
+        | Registry::ContextFlags
         | Registry::TicketFlags => &[],
     }
 }

@@ -30,6 +30,8 @@ pub enum Registry {
     ApOptions,
     /// The options of PA-PAC-OPTIONS, by the numbers of their bits (MS-KILE, 2.2.10).
     PacOptions,
+    /// The flags of a context of GSS-API in a token of SPNEGO, of which none has a name here (RFC 4178, 4.2.1).
+    ContextFlags,
     /// The flags of a ticket, by the numbers of their bits (RFC 4120, 5.3).
     TicketFlags,
     /// The types of the names of principals (RFC 4120, 6.2).
@@ -56,6 +58,7 @@ pub fn rows(registry: Registry) -> &'static [Row]
         Registry::KdcOptions => &kdc_options::ROWS,
         Registry::ApOptions => &ap_options::ROWS,
         Registry::PacOptions => &pac_options::ROWS,
+        Registry::ContextFlags => &[],
         Registry::TicketFlags => &ticket_flags::ROWS,
         Registry::NameTypes => &name_types::ROWS,
         Registry::AddressTypes => &address_types::ROWS,
