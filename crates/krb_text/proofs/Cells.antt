@@ -93,6 +93,7 @@ names_other registries.Statuses = refl
 names_other registries.KdcOptions = refl
 names_other registries.ApOptions = refl
 names_other registries.PacOptions = refl
+names_other registries.ContextFlags = refl
 names_other registries.TicketFlags = refl
 names_other registries.NameTypes = refl
 names_other registries.AddressTypes = refl
