@@ -1,6 +1,6 @@
 """Times bin/krbls on streams of framed messages, beside cat, in 8 MiB of address space: real messages
 of nine kinds, and AP-REPs; on both in turns with the fastest lister in C, which prints the same lines; and on the real
-messages in turns with MIT's decoder, if its library is installed. Then what krb_damage does with streams: to
+messages in turns with rows of six names, and with MIT's decoder, if its library is installed. Then what krb_damage does with streams: to
 judge their messages, to scan them octet by octet and at once, to parse them, and to encode them again, beside a
 memcpy of the same octets."""
 
@@ -16,6 +16,16 @@ from timing import best_of, best_run, best_runs, output_of, rate
 
 KRBLS = ["bash", "-c", "ulimit -v 8192; exec bin/krbls stream"]
 AGAIN = "crates/krb_damage/out/krb_damage"
+# Six names: in rows of seven kinds, and of those that have all names.
+ROWS = {
+    "of seven kinds": [
+        "--only",
+        "AS-REQ,AS-REP,TGS-REQ,TGS-REP,AP-REQ,AP-REP,KRB-ERROR",
+        "--fields",
+        "kind,client,server,ticket.etype_name,ticket.kvno,code_name",
+    ],
+    "of replies": ["--fields", "kind,client,server,ticket.etype_name,ticket.kvno,enc.etype_name"],
+}
 MIXED_OCTETS = 64 << 20
 CACHED_OCTETS = 1 << 20
 
@@ -36,6 +46,16 @@ def time_listing(name, frames, messages, count):
         f"{messages} {name}, {size} octets: list {rate(size, listing)}, "
         f"{messages / listing / 1e6:.3f} million messages/s; cat {rate(size, copying)}"
     )
+
+
+def time_rows(name, frames, messages, count):
+    """Prints what rows of six names cost of some frames this many times, beside lines. They alternate."""
+    size = count * len(frames)
+    commands = [KRBLS] + [["bash", "-c", f"ulimit -v 8192; exec bin/krbls stream {' '.join(words)}"] for words in ROWS.values()]
+    with repeated(frames, count) as stream:
+        listing, *rows = best_runs(commands, stream.name)
+    for which, seconds in zip(ROWS, rows):
+        print(f"{count * messages} {name}, rows of six names {which}: {rate(size, seconds)}; {seconds / listing:.2f} times lines")
 
 
 def time_mit(name, frames, messages, count):
@@ -118,6 +138,7 @@ def main():
     time_listing("AP-REPs", ap_rep, 1, 2 * messages)
     time_lister(*mixed)
     time_lister("AP-REPs", ap_rep, 1, messages)
+    time_rows(*mixed)
     time_mit(*mixed)
     time_judging(*mixed)
     time_again(*mixed)

@@ -63,7 +63,8 @@ _krbls() {
                 items) options="--strict --names --json --with-filename $options" ;;
                 keytab) options="$forms $options" ;;
                 capture) options="--limit --port --strict $forms $options" ;;
-                decode|encode) options="--limit --strict --unframed $options" ;;
+                decode) options="--limit --strict --unframed --keep-going --port --packet $options" ;;
+                encode) options="--limit --strict --unframed $options" ;;
                 # without a command the words are those of list
                 *) options="--now $forms $options" ;;
             esac

@@ -1,4 +1,4 @@
-"""The cases of tests/data/inputs.jsonl, and command lines with the files of tests/data/sources, some of which have odd names."""
+"""The cases of tests/data/inputs.jsonl and choices.jsonl, and command lines with the files of tests/data/sources, some of which have odd names."""
 
 import itertools
 import json
@@ -10,6 +10,8 @@ from typing import NamedTuple
 from reference.runs import run
 
 DATA = pathlib.Path(__file__).resolve().parents[1] / "data"
+# The files of cases.
+KEPT = (DATA / "inputs.jsonl", DATA / "choices.jsonl")
 
 # A name that is not UTF-8, and what the file has, which is copied from another one.
 ODD_NAME = b"b\xe4r.keytab"
@@ -125,6 +127,25 @@ WORDS = [
     ["-H", "--names", ODD_NAME],
     ["--json", ODD_NAME, "a.keytab"],
     ["capture", ODD_NAME],
+    ["--header", "--fields", "kind,principal", "a.keytab", "b c.keytab", "cc/tkt1"],
+    ["-H", "--header", "--fields", "kind,principal", "b c.keytab", "x.kirbi", "none", "x.gz"],
+    ["--fields", "name", "a.keytab", "b c.keytab"],
+    ["--fields", "file,kind,Ticket.server", "x.kirbi", ODD_NAME, "x.kirbi"],
+    ["--only", "file,end", "a.keytab", "b c.keytab", "DIR:cc"],
+    ["--only", "cred,Ticket", "--json", "DIR:cc", "x.kirbi"],
+    ["-H", "--only", "KRB-CRED", "--names", "DIR:cc", "x.kirbi"],
+    ["ccache", "--fields", "server.components,value", "DIR:cc"],
+    ["--only", "AP-REP", "--fields", "enc.etype", "x.gz", "m.hex"],
+    ["--only", "KRB-EROR", "a.keytab"],
+    ["keytab", "--only", "cred", "a.keytab"],
+    ["--fields", "clinet,code", "a.keytab"],
+    ["stream", "--fields", "salt", "m.hex"],
+    ["stream", "--fields", "\x1b]0;x\x07", "m.hex"],
+    ["stream", "--fields", "code,PA-TGS-REQ.ticket,etypes", "m.hex"],
+    ["--fields", "", "a.keytab"],
+    ["--header", "a.keytab"],
+    ["--json", "--fields", "kind", "a.keytab"],
+    ["--only", "unanswered", "m.hex"],
 ]
 
 

@@ -598,6 +598,11 @@ def options(dice):
     return dice.choice(["", "", "", " --limit 300", " --port 750", " --strict"])
 
 
+def packet_option(dice, octets):
+    """The number of a packet, mostly one that is there, or none."""
+    return f" --packet {dice.randint(1, len(whole_packets(octets)) + 2)}" if dice.random() < 0.3 else ""
+
+
 def raw_pcap(dice, sent):
     """A capture of IP packets that is whole."""
     return FileMaker(dice, 0).pcap([Captured(10**18, RAW_IP, octets, len(octets)) for octets in sent])

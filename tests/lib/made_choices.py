@@ -25,11 +25,16 @@ def some(dice, found, most):
     return dice.choices(found, k=dice.randint(1, most))
 
 
-def options(dice, command):
-    """The words of a choice: all names of a kind, with --only and without; some names of some kinds; or kinds alone."""
+def kinds_in(objects):
+    """The kinds of records, and of what is inside of them."""
+    return list(dict.fromkeys(part["kind"] for it in objects for part in [it, *it.get("inside", [])]))
+
+
+def options(dice, command, listed):
+    """The words of a choice: all names of a kind, mostly one that is listed, with --only and without; some names of some kinds; or kinds alone."""
     kinds = choosing.kinds_of(command)
-    kind = dice.choice(kinds)
-    match dice.randrange(4):
+    kind = dice.choice(dice.choice([listed, listed, kinds]))
+    match dice.choice([0, 0, 1, 2, 3]):
         case 0:
             words = ["--only", kind, "--fields", ",".join(names_of(command, kind))]
         case 1:
@@ -42,11 +47,15 @@ def options(dice, command):
     return [*words, *dice.choice([["-H"], ["--header"], [], []])]
 
 
+def objects_in(written):
+    return [json.loads(line) for line in written if line.startswith("{")]
+
+
 def wanted(command, words, named, written):
     """What a choice has to write and say of a listing, which was written with names and as objects."""
     only, fields = (words[words.index(word) + 1] if word in words else None for word in ("--only", "--fields"))
     choice = choosing.choice_of(command, only, fields, [word for word in words if word.startswith("-")])
-    objects = [json.loads(line) for line in written if line.startswith("{")]
+    objects = objects_in(written)
     lines = choice.header[:]
     forms = written if choice.form == "--json" else named
     for number, (it, line) in enumerate(zip(objects, forms), 1):

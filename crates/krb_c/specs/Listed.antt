@@ -4,6 +4,7 @@ use Rattle.krb_der.specs.declared.profile.Profile.{Profile}
 use Rattle.krb_der.specs.declared.profile.Profile.TheVariants.{Lenient}
 use Rattle.krb_record.specs.Labels.{no_label}
 use Rattle.krb_record.specs.declared.form.Form.{Form}
+use Rattle.krb_capture.specs.Labels.{of_records}
 use Rattle.krb_capture_run.specs.Captures.{capture_listing}
 use Rattle.krb_run.specs.Records.{RecordListing, text_of}
 use Rattle.krb_file_run.specs.Files.{ccache_listing, keytab_listing}
@@ -35,4 +36,4 @@ abbrev pub IsCcacheListing : Form → Option ℕ → List ℕ → List ℕ → R
 IsCcacheListing form now octets = IsRecords (ccache_listing (no_label form) now octets)
 
 abbrev pub IsCaptureListing : Form → (limit port : ℕ) → List ℕ → List ℕ → RunEnd → Type 0
-IsCaptureListing form limit port octets = IsRecords (capture_listing (record { label = no_label form; profile = Lenient; limit = limit; port = port }) octets)
+IsCaptureListing form limit port octets = IsRecords (capture_listing (record { label = of_records (no_label form); profile = Lenient; limit = limit; port = port }) octets)

@@ -11,7 +11,7 @@ use Rattle.krb_packet.specs.declared.contents.Datagram.{Datagram}
 use Rattle.krb_packet.specs.declared.contents.Fragment.{Fragment}
 use Rattle.krb_packet.specs.declared.contents.Segment.{Segment}
 use Rattle.krb_record.specs.declared.capture.CaptureCounts.{CaptureCounts}
-use Rattle.krb_record.specs.Labels.{Label}
+use Rattle.krb_capture.specs.Labels.{Label, label_in}
 use Rattle.krb_record.specs.declared.capture_origin.CaptureOrigin.{CaptureOrigin}
 use Rattle.krb_record.specs.declared.flow.Transport.TheVariants as transports
 use Rattle.krb_capture.specs.Captures.{Finding, HasEnded, HasFollowed, Progress, Settings, Taken, all_counts, and_counted, contents_event, contents_taken, counted_each, datagram_taken, end_taken, error_event, failure_of, happened_each, happened_in, last_counts, last_lines, lines_of, nothing_in, over_tcp, over_udp, quoted_transport, segment_event, segment_taken, unread_taken, whole_event, whole_taken, with_each, with_event}
@@ -33,11 +33,11 @@ use Rattle.krb_capture.proofs.Written.{counts-each, happened-each, label-each, n
 
 -- ---- a call lends its text to a listing, with the tally of the capture
 abbrev pub lent : Capture → List ℕ → ℕ → Written
-lent capture text name = record { label = capture.listing.label.now; text = text; counts = capture.listing.counts; happened = happened_in capture.happened; text_name = name }
+lent capture text name = record { label = label_in capture.listing.style; text = text; counts = capture.listing.counts; happened = happened_in capture.happened; text_name = name }
 
 -- what was written is the tally of a capture again, and the text of the caller
 pub record IsBack (old capture : Capture) (written : Written) (text : List ℕ) : Type 0 where
-  pub label : capture.listing.label.now ≡ old.listing.label.now
+  pub label : (label_in capture.listing.style) ≡ (label_in old.listing.style)
   pub counts : capture.listing.counts ≡ written.counts
   pub happened : happened_in capture.happened ≡ written.happened
   pub is : text ≡ written.text
@@ -48,10 +48,10 @@ same-text found before after e = ap (λ w. w.text_name) e ∙ name-each found be
 
 -- findings are listed and counted, and what happened with them is told
 pub record Steps (old new : Capture) (found : List Finding) (before after : List ℕ) : Type 0 where
-  pub label : new.listing.label.now ≡ old.listing.label.now
+  pub label : (label_in new.listing.style) ≡ (label_in old.listing.style)
   pub counts : new.listing.counts ≡ counted_each found old.listing.counts
   pub happened : happened_in new.happened ≡ happened_each found (happened_in old.happened)
-  pub text : after ≡ before ++ lines_of old.listing.label.now (happened_in old.happened) found
+  pub text : after ≡ before ++ lines_of (label_in old.listing.style) (happened_in old.happened) found
 
 pub steps : (old new : Capture) (found : List Finding) (before after : List ℕ) (name : ℕ) (written : Written) → written ≡ with_each found (lent old before name) → IsBack old new written after → Steps old new found before after
 steps old new found before after name written e b = record {
@@ -78,7 +78,7 @@ counted-append [] ys counts = refl
 counted-append (x ∷ xs) ys counts = counted-append xs ys (counted x.1 counts)
 
 -- findings are listed, and others are left
-pub lists-found : (old new : Capture) (settings : Settings) (progress : Progress) (rest : Option (Box Rest Global)) (found : List Finding) (before after : List ℕ) (name : ℕ) (written : Written) → Follows new.directions settings.limit progress.table progress.last rest found (lent old before name) written → IsBack old new written after → old.listing.label.now ≡ settings.label → counted_each found old.listing.counts ≡ progress.counts → new.profile ≡ settings.profile → new.port ≡ settings.port → new.fragments ≡ progress.fragments → new.last ≡ progress.last → Lists (happened_in old.happened) new settings (record { found = found; progress = progress }) rest before after
+pub lists-found : (old new : Capture) (settings : Settings) (progress : Progress) (rest : Option (Box Rest Global)) (found : List Finding) (before after : List ℕ) (name : ℕ) (written : Written) → Follows new.directions settings.limit progress.table progress.last rest found (lent old before name) written → IsBack old new written after → (label_in old.listing.style) ≡ settings.label → counted_each found old.listing.counts ≡ progress.counts → new.profile ≡ settings.profile → new.port ≡ settings.port → new.fragments ≡ progress.fragments → new.last ≡ progress.last → Lists (happened_in old.happened) new settings (record { found = found; progress = progress }) rest before after
 lists-found old new settings progress rest found before after name written f b o c q p g l =
     let s = steps old new f.listed before after name written f.written b in
     record {
@@ -215,16 +215,16 @@ directions-ended old new settings progress before after name written h e b g =
           b.is
           ∙ ap (λ w. w.text) ended.same
           ∙ ap (λ t. t ++ end_lines listed.label (moment_due progress.last) listed.happened) (text-each found (lent old before name))
-          ∙ ap₂ (λ l w. (before ++ lines_of old.listing.label.now was found) ++ end_lines l (moment_due progress.last) w) (label-each found (lent old before name)) (happened-each found (lent old before name))
-          ∙ append_assoc before (lines_of old.listing.label.now was found) (end_lines old.listing.label.now (moment_due progress.last) (happened_each found was))
+          ∙ ap₂ (λ l w. (before ++ lines_of (label_in old.listing.style) was found) ++ end_lines l (moment_due progress.last) w) (label-each found (lent old before name)) (happened-each found (lent old before name))
+          ∙ append_assoc before (lines_of (label_in old.listing.style) was found) (end_lines (label_in old.listing.style) (moment_due progress.last) (happened_each found was))
           ∙ ap (λ l. before ++ (lines_of l was found ++ end_lines l (moment_due progress.last) (happened_each found was))) h.label;
     }
 
 -- the last record, by the label and the totals
-pub last-listed : (was : Option Happened) (capture : Capture) (settings : Settings) (progress : Progress) (before between after : List ℕ) (shown : CaptureCounts) (told : ToldCounts) (line : Label → CaptureCounts → ToldCounts → List ℕ) → HasEnded was capture settings progress before between → shown ≡ totals (unread capture.fragments) capture.listing.counts → told ≡ told_in (happened_in capture.happened) → after ≡ between ++ line capture.listing.label.now shown told → after ≡ before ++ (last_lines settings was progress ++ line settings.label (all_counts (end_taken settings progress).progress) (last_counts settings was progress))
+pub last-listed : (was : Option Happened) (capture : Capture) (settings : Settings) (progress : Progress) (before between after : List ℕ) (shown : CaptureCounts) (told : ToldCounts) (line : Label → CaptureCounts → ToldCounts → List ℕ) → HasEnded was capture settings progress before between → shown ≡ totals (unread capture.fragments) capture.listing.counts → told ≡ told_in (happened_in capture.happened) → after ≡ between ++ line (label_in capture.listing.style) shown told → after ≡ before ++ (last_lines settings was progress ++ line settings.label (all_counts (end_taken settings progress).progress) (last_counts settings was progress))
 last-listed was capture settings progress before between after shown told line h t u e =
     e
-    ∙ ap (λ x. x ++ line capture.listing.label.now shown told) h.text
+    ∙ ap (λ x. x ++ line (label_in capture.listing.style) shown told) h.text
     ∙ ap (λ x. (before ++ last_lines settings was progress) ++ line x shown told) h.label
     ∙ ap₂ (λ x y. (before ++ last_lines settings was progress) ++ line settings.label x y) (t ∙ h.counts) (u ∙ h.told)
     ∙ append_assoc before (last_lines settings was progress) (line settings.label (all_counts (end_taken settings progress).progress) (last_counts settings was progress))

@@ -10,7 +10,8 @@ use Rattle.krb_der.specs.declared.verdict.Verdict.{Verdict}
 use Rattle.krb_der.specs.declared.verdict.Verdict.TheVariants as verdict
 use Rattle.krb_der.specs.declared.why.Why.TheVariants as why
 use Rattle.krb_record.specs.Captures.{captured}
-use Rattle.krb_record.specs.Labels.{Label, line_of}
+use Rattle.krb_capture.specs.Labels.{Label, is_decoded, line_of}
+use Rattle.krb_capture.specs.declared.style.Decoding.{Decoding}
 use Rattle.krb_record.specs.Refusals.{extent_in, path_in}
 use Rattle.krb_record.specs.Values.{Field, Number, Reason, printed, the}
 use Rattle.krb_record.specs.declared.extent.Extent.{Extent}
@@ -24,7 +25,7 @@ use Rattle.krb_judge.specs.Paths.{message_path}
 use Rattle.krb_frame.specs.GoingOn.{Fault}
 use Rattle.krb_capture.specs.Happened.{by_part, heard, moment_of, news_lines, news_told, telling, told_of, unread_event}
 use Rattle.krb_capture.specs.declared.happened.Happened.{Happened}
-use Rattle.krb_capture.specs.Found.{Found, Faulty, Written, counted, with_all, with_found}
+use Rattle.krb_capture.specs.Found.{Found, Faulty, Written, counted, found_line, with_all, with_found, written_line}
 use Rattle.krb_capture.specs.Messages.{most_octets, path_of}
 use Rattle.krb_capture.specs.Streams.{entry_found, extent_at, frame_path}
 
@@ -75,16 +76,23 @@ refused_with label origin refusal extent fields =
     line_of label (captured label.form origin (printed (codes "refused") (the (codes "place") (Number (pos refusal.place)) ∷ the (codes "why") (Reason (reason_number refusal.why) (reason_name refusal.why)) ∷ (fields ++ extent_in label.form extent))))
 
 -- paths that a form shows as the same
+same_line : (decoding : Option Decoding) (label : Label) (origin : CaptureOrigin) (refusal : Refusal) (p q : Option (List ℕ)) (extent : Extent) → path_in label.form p ≡ path_in label.form q → written_line decoding label origin (Faulty refusal p extent) ≡ written_line decoding label origin (Faulty refusal q extent)
+same_line None label origin refusal p q extent e = ap (refused_with label origin refusal extent) e
+same_line (Some decoding) label origin refusal p q extent e = ap (λ fields. if is_decoded decoding origin then refused_with label origin refusal extent fields else []) e
+
 pub same_path : (origin : CaptureOrigin) (refusal : Refusal) (p q : Option (List ℕ)) (extent : Extent) (w : Written) → path_in w.label.form p ≡ path_in w.label.form q → with_found origin (Faulty refusal p extent) w ≡ with_found origin (Faulty refusal q extent) w
 same_path origin refusal p q extent w e = by w.happened
   where
+    same : (from : CaptureOrigin) → found_line w.label from (Faulty refusal p extent) ≡ found_line w.label from (Faulty refusal q extent)
+    same from = same_line w.label.decoding w.label from refusal p q extent e
+
     by : (h : Option Happened) → with_found origin (Faulty refusal p extent) (record w { happened = h }) ≡ with_found origin (Faulty refusal q extent) (record w { happened = h })
-    by None = ap (λ (fields : List Field). record w { text = w.text ++ refused_with w.label origin refusal extent fields; counts = counted (Faulty refusal p extent) w.counts; happened = None }) e
-    by (Some a) = ap (λ (fields : List Field). record w {
-      text = w.text ++ (refused_with w.label (telling origin (told_of (by_part a.parts unread_event) origin a.sendings)) refusal extent fields ++ news_lines w.label (moment_of origin) (heard (by_part a.parts unread_event) origin a).news);
+    by None = ap (λ (line : List ℕ). record w { text = w.text ++ line; counts = counted (Faulty refusal p extent) w.counts; happened = None }) (same origin)
+    by (Some a) = ap (λ (line : List ℕ). record w {
+      text = w.text ++ (line ++ news_lines w.label (moment_of origin) (heard (by_part a.parts unread_event) origin a).news);
       counts = counted (Faulty refusal p extent) w.counts;
       happened = Some (news_told (heard (by_part a.parts unread_event) origin a));
-    }) e
+    }) (same (telling origin (told_of (by_part a.parts unread_event) origin a.sendings)))
 
 pub refused_listed : (profile : Profile) (origin : CaptureOrigin) (refusal : Refusal) (offset : ℕ) (octets : List ℕ) (form : Form) (shown path : Option (List ℕ)) (extent : Extent) (before after : Written) → form ≡ before.label.form → path_in form shown ≡ path_in form (frame_path profile octets) → path ≡ shown → extent ≡ extent_at offset octets → after ≡ with_found origin (Faulty refusal path extent) before → after ≡ with_found origin (entry_found profile offset (Fault refusal.place refusal.why octets)) before
 refused_listed profile origin refusal offset octets form shown path extent before after f e p x l =

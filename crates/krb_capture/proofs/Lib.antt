@@ -17,6 +17,7 @@ pub mod Read
 mod Recents
 mod Rests
 mod Sendings
+mod Styles
 pub mod Tables
 pub mod Untaken
 mod Taken

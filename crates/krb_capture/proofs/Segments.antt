@@ -3,7 +3,7 @@ use Rattle.std.proofs.Common.{◌≡◌, List, [], ◌∷◌, ◌++◌, Option, 
 use Rattle.krb_exchange.specs.declared.parties.Header.{Header}
 use Rattle.krb_exchange.specs.declared.sending.Moment.{Moment}
 use Rattle.krb_record.specs.declared.capture_origin.CaptureOrigin.{CaptureOrigin}
-use Rattle.krb_record.specs.Labels.{Label}
+use Rattle.krb_capture.specs.Labels.{Label}
 use Rattle.krb_record.specs.declared.told.ToldCounts.{ToldCounts}
 use Rattle.krb_capture.specs.Found.{Sent, Written, with_found}
 use Rattle.krb_capture.specs.Happened.{Heard, each_counted, moment_of, news_counted, news_line, news_lines, segment_heard}

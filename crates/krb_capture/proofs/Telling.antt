@@ -5,7 +5,7 @@ use Rattle.krb_exchange.specs.declared.sending.Moment.{Moment}
 use Rattle.krb_exchange.specs.declared.sending.Sending.{Sending}
 use Rattle.krb_exchange.specs.declared.sending.State.TheVariants as states
 use Rattle.krb_record.specs.declared.capture_origin.CaptureOrigin.{CaptureOrigin}
-use Rattle.krb_record.specs.Labels.{Label}
+use Rattle.krb_capture.specs.Labels.{Label}
 use Rattle.krb_record.specs.declared.flow.Flow.{Flow}
 use Rattle.krb_record.specs.declared.told.ToldCounts.{ToldCounts}
 use Rattle.krb_capture.specs.Ends.{IsEnded, told_in}

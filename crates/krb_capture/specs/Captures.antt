@@ -1,5 +1,5 @@
 -- What is found in the packets of a capture, one after another.
-use Rattle.std.specs.Prelude.{ℕ, ◌≡◌, ◌==◌, ◌&&◌, Bool, List, [], ◌∷◌, ◌++◌, length, map, max, Option, Some, None}
+use Rattle.std.specs.Prelude.{ℕ, ◌≡◌, ◌==◌, Bool, List, [], ◌∷◌, ◌++◌, length, map, max, Option, Some, None}
 use Rattle.krb_der.specs.declared.profile.Profile.{Profile}
 use Rattle.krb_packet.specs.Contents.{contents_of}
 use Rattle.krb_packet.specs.declared.contents.Contents.{Contents}
@@ -22,11 +22,12 @@ use Rattle.std.specs.declared.net.ip_addr.IpAddr.{IpAddr}
 use Rattle.std.specs.declared.net.ip_addr.IpAddr.TheVariants as addresses
 use Rattle.krb_packet.specs.declared.packet.Packet.{Packet}
 use Rattle.krb_source.specs.declared.file_why.FileWhy.{FileWhy}
-use Rattle.krb_record.specs.Captures.{capture_end_record, capture_refused_record}
 use Rattle.krb_record.specs.declared.capture.CaptureCounts.{CaptureCounts}
 use Rattle.krb_record.specs.declared.told.ToldCounts.{ToldCounts}
 use Rattle.krb_record.specs.declared.extent.Extent.{Extent}
-use Rattle.krb_record.specs.Labels.{Label, line_of}
+use Rattle.krb_capture.specs.Labels.{Label, label_in}
+use Rattle.krb_capture.specs.Decoded.{end_line, refusal_line}
+pub use Rattle.krb_capture.specs.Counts.{is_clean}
 use Rattle.krb_record.specs.declared.capture_origin.CaptureOrigin.{CaptureOrigin}
 use Rattle.krb_record.specs.declared.flow.Transport.TheVariants as transports
 use Rattle.krb_capture.specs.Datagrams.{all_found}
@@ -42,7 +43,7 @@ use Rattle.krb_capture.specs.declared.flow.Due.{Due}
 use Rattle.krb_capture.specs.declared.flow.Flow.{Flow}
 use Rattle.krb_capture.specs.declared.flow.Service.{Service}
 
--- how a capture is listed: the label of its records, the profile by which messages are judged, the greatest length of a frame, and the port of KDCs
+-- how a capture is listed: how what is found is written, the profile by which messages are judged, the greatest length of a frame, and the port of KDCs
 pub record Settings : Type 0 where
   pub label : Label
   pub profile : Profile
@@ -219,25 +220,22 @@ last_counts settings happened progress = end_counts (happened_each (end_taken se
 
 unfoldable pub end_text : Settings → Option Happened → Progress → List ℕ
 end_text settings happened progress =
-    last_lines settings happened progress ++ line_of settings.label (capture_end_record settings.label.form (all_counts (end_taken settings progress).progress) (last_counts settings happened progress))
+    last_lines settings happened progress ++ end_line settings.label (all_counts (end_taken settings progress).progress) (last_counts settings happened progress)
 
 -- the same of a file that is itself at fault: the directions end, too
 unfoldable pub refusal_text : Settings → Option Happened → Progress → ℕ → FileWhy → Option (List ℕ) → Extent → List ℕ
 refusal_text settings happened progress place why path extent =
-    last_lines settings happened progress ++ line_of settings.label (capture_refused_record settings.label.form (all_counts (end_taken settings progress).progress) (last_counts settings happened progress) place why path extent)
+    last_lines settings happened progress ++ refusal_line settings.label (all_counts (end_taken settings progress).progress) (last_counts settings happened progress) place why path extent
 
 -- no packet came
 abbrev pub has_no_packet : CaptureCounts → Bool
 has_no_packet counts = counts.packets == 0
 
-abbrev pub is_clean : CaptureCounts → Bool
-is_clean counts = (counts.refused == 0 && counts.lost == 0) && counts.unread == 0
-
 -- ---- what a capture keeps represents its progress; beside that it has what happened, if it is told
 pub record HasFollowed (capture : Capture) (settings : Settings) (progress : Progress) : Type 0 where
   pub port : capture.port ≡ settings.port
   pub profile : capture.profile ≡ settings.profile
-  pub label : capture.listing.label.now ≡ settings.label
+  pub label : label_in capture.listing.style ≡ settings.label
   pub fragments : capture.fragments ≡ progress.fragments
   pub table : HoldsTable capture.directions settings.limit progress.table
   pub last : capture.last ≡ progress.last
@@ -245,7 +243,7 @@ pub record HasFollowed (capture : Capture) (settings : Settings) (progress : Pro
 
 -- The directions that were open have ended, and what is unanswered is told, which is listed and counted.
 pub record HasEnded (was : Option Happened) (capture : Capture) (settings : Settings) (progress : Progress) (before after : List ℕ) : Type 0 where
-  pub label : capture.listing.label.now ≡ settings.label
+  pub label : label_in capture.listing.style ≡ settings.label
   pub counts : totals (unread capture.fragments) capture.listing.counts ≡ all_counts (end_taken settings progress).progress
   pub told : told_in (happened_in capture.happened) ≡ last_counts settings was progress
   pub text : after ≡ before ++ last_lines settings was progress

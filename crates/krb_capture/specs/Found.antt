@@ -1,10 +1,12 @@
 -- What is found in a flow, and what is written of it.
-use Rattle.std.specs.Prelude.{ℕ, ◌+◌, ◌≤◌, List, [], ◌∷◌, ◌++◌, length, take, drop, Option, None, Some, codes}
+use Rattle.std.specs.Prelude.{ℕ, ◌+◌, ◌≤◌, List, [], ◌∷◌, ◌++◌, length, take, drop, Option, None, Some, codes, if◌then◌else◌}
 use Rattle.krb_der.specs.declared.verdict.Refusal.{Refusal}
 use Rattle.krb_source.specs.declared.unread_why.UnreadWhy.{UnreadWhy}
 use Rattle.krb_msg.specs.Views.{message_of_der}
+use Rattle.krb_capture.specs.Decoded.{decoded_message}
+use Rattle.krb_capture.specs.Labels.{Label, is_decoded, line_of}
+use Rattle.krb_capture.specs.declared.style.Decoding.{Decoding}
 use Rattle.krb_record.specs.Captures.{captured, lost_record, password_record, unread_record}
-use Rattle.krb_record.specs.Labels.{Label, line_of}
 use Rattle.krb_record.specs.Refusals.{extent_in, path_in, refusal_record}
 use Rattle.krb_record.specs.Values.{Printed, printed}
 use Rattle.krb_text.specs.Messages.{shown_record}
@@ -47,8 +49,26 @@ abbrev pub line_if : Label → CaptureOrigin → Option Printed → List ℕ
 line_if label origin None = []
 line_if label origin (Some r) = line_of label (captured label.form origin r)
 
+abbrev pub listed_line : Label → CaptureOrigin → Found → List ℕ
+listed_line label origin found = line_if label origin (found_record label.form found)
+
+-- As it is decoded, a message has its line, and a message that changes a password those of its parts; what is refused, lost or unread is said by its record.
+abbrev pub decoded_line : Label → CaptureOrigin → Found → List ℕ
+decoded_line label origin (Whole octets) = decoded_message label.form origin (message_of_der octets)
+decoded_line label origin Joined = []
+decoded_line label origin (Password octets version ap rest) = []
+decoded_line label origin found = listed_line label origin found
+
+abbrev pub written_line : Option Decoding → Label → CaptureOrigin → Found → List ℕ
+written_line None label origin found = listed_line label origin found
+written_line (Some decoding) label origin found = if is_decoded decoding origin then decoded_line label origin found else []
+
+-- what has no record has none in any case
 abbrev pub found_line : Label → CaptureOrigin → Found → List ℕ
-found_line label origin found = line_if label origin (found_record label.form found)
+found_line label origin Begun = []
+found_line label origin (Sent header) = []
+found_line label origin (Failed error) = []
+found_line label origin found = written_line label.decoding label origin found
 
 abbrev pub counted : Found → CaptureCounts → CaptureCounts
 counted (Whole octets) counts = record counts { messages = and_more counts.messages 1 }

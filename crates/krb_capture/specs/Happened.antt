@@ -15,7 +15,7 @@ use Rattle.krb_msg.specs.Kinds.{kind_with_tag}
 use Rattle.krb_msg.specs.declared.message.Kind.{Kind}
 use Rattle.krb_msg.specs.declared.message.Kind.TheVariants as kinds
 use Rattle.krb_record.specs.Captures.{captured, unanswered_record, unreachable_record}
-use Rattle.krb_record.specs.Labels.{Label, line_of}
+use Rattle.krb_capture.specs.Labels.{Label, line_of}
 use Rattle.krb_record.specs.Values.{Printed}
 use Rattle.krb_record.specs.Time.{microseconds}
 use Rattle.krb_record.specs.declared.capture_origin.CaptureOrigin.{CaptureOrigin}

@@ -1,5 +1,7 @@
 pub mod Counts
 pub mod Flows
+pub mod Labels
+pub mod Decoded
 pub mod Happened
 pub mod Boxed
 pub mod Found

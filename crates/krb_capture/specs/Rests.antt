@@ -7,6 +7,7 @@ use Rattle.krb_capture.specs.Captures.{Finding, Progress, Settings, Taken, count
 use Rattle.krb_capture.specs.declared.happened.Happened.{Happened}
 use Rattle.krb_capture.specs.Directions.{HoldsMaps, HoldsTable, IsKnown, Table, in_flow, kept}
 use Rattle.krb_capture.specs.Found.{Found, IsFullIf, Written, with_all}
+use Rattle.krb_capture.specs.Labels.{label_in}
 use Rattle.krb_capture.specs.Sending.{Sent, end_if}
 use Rattle.krb_capture.specs.Streams.{found_with}
 use Rattle.krb_capture.specs.Taken.{Took, service_of}
@@ -95,7 +96,7 @@ pub record Follows (directions : Directions) (limit : ℕ) (table : Table) (due 
 pub record HasFollowedBut (capture : Capture) (settings : Settings) (progress : Progress) (rest : Option (Box Rest Global)) (left : List Finding) : Type 0 where
   pub port : capture.port ≡ settings.port
   pub profile : capture.profile ≡ settings.profile
-  pub label : capture.listing.label.now ≡ settings.label
+  pub label : label_in capture.listing.style ≡ settings.label
   pub fragments : capture.fragments ≡ progress.fragments
   pub table : HoldsSome capture.directions settings.limit progress.table capture.last rest left
   pub last : capture.last ≡ progress.last

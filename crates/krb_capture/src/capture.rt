@@ -10,14 +10,15 @@ ghost use Rattle.krb_capture.specs.Ends.{IsEnded, told_in};
 ghost use Rattle.krb_capture.specs.Flows.{moment_due, origin_of, service_of};
 ghost use Rattle.krb_capture.specs.Found.{Sent, totals, with_found};
 ghost use Rattle.krb_capture.specs.Happened.{told_at_first};
+ghost use Rattle.krb_capture.specs.Labels.{label_in, of_decoding, of_records};
 ghost use Rattle.krb_capture.specs.Rests.{Follows, HasFollowedBut, Lists};
 
 use crate::datagram::list_with_surplus;
 use crate::directions::{Directions, Rest};
 use crate::flow::{Due, Service};
 use crate::happened::Happened;
-use crate::labelled;
 use crate::listing::{Listing, Tally};
+use crate::style::{Decoding, Style, is_clean};
 use krb_der::{Memory, Profile};
 use krb_exchange::Header;
 use krb_file::FileWhy;
@@ -52,13 +53,6 @@ pub struct Capture<'a> {
     last: Due,
     /// A call was out of memory.
     has_failed: bool,
-}
-
-/// Returns whether nothing was refused or lost, and each packet was read.
-fn is_clean(totals: &CaptureCounts) -> bool
-    ensures { result ≡ is_clean totals.now }
-{
-    totals.refused == 0 && totals.lost == 0 && totals.unread == 0
 }
 
 /// Returns what happened in no packets, if it is told in a form.
@@ -165,17 +159,60 @@ impl<'a> Capture<'a> {
         limit: Limit,
         port: u16,
     ) -> Result<Capture<'a>, Memory>
-        ensures followed { IfOk result (λ capture. let settings : Settings = record { label = label.now; profile = profile; limit = limit; port = port } in HasFollowed capture settings at_first) }
+        ensures followed { IfOk result (λ capture. let settings : Settings = record { label = of_records label.now; profile = profile; limit = limit; port = port } in HasFollowed capture settings at_first) }
         ensures happened { IfOk result (λ capture. happened_in capture.happened ≡ told_at_first label.now.form) }
     {
-        Ok(Capture {
+        let happened = nothing_happened(alloc, label.form())?;
+        let style = Style {
+            label,
+            decoding: None,
+        };
+        Ok(Capture::begin(alloc, style, happened, profile, limit, port))
+    }
+
+    /// Creates an empty capture, as [`new`](Capture::new) does, in which messages are decoded: those
+    /// that are encrypted where they should be are lines of JSON, one each. What is refused, lost or
+    /// unread is said by its record, with the label, and that a message is not encrypted by its path.
+    /// The last record is said if the file is refused, and, if all packets are decoded, if something
+    /// was refused, lost or unread. Nothing is told of what happened.
+    pub fn decoding(
+        alloc: Global,
+        label: &'a Label,
+        decoding: Decoding,
+        profile: Profile,
+        limit: Limit,
+        port: u16,
+    ) -> Capture<'a>
+        ensures followed { let settings : Settings = record { label = of_decoding label.now decoding; profile = profile; limit = limit; port = port } in HasFollowed result settings at_first }
+        ensures happened { happened_in result.happened ≡ None }
+    {
+        let style = Style {
+            label,
+            decoding: Some(decoding),
+        };
+        Capture::begin(alloc, style, None, profile, limit, port)
+    }
+
+    /// Creates an empty capture that is written in a style.
+    fn begin(
+        alloc: Global,
+        style: Style<'a>,
+        happened: Option<Box<Happened>>,
+        profile: Profile,
+        limit: Limit,
+        port: u16,
+    ) -> Capture<'a>
+        ensures followed { let settings : Settings = record { label = label_in style.entry; profile = profile; limit = limit; port = port } in HasFollowed result settings at_first }
+        ensures happened { result.happened ≡ happened }
+    {
+        Capture {
             profile,
             port,
             fragments: Fragments::new(alloc),
             directions: Directions::new(alloc, limit),
             listing: Tally {
                 alloc,
-                label,
+                style,
                 counts: CaptureCounts {
                     packets: 0,
                     messages: 0,
@@ -184,13 +221,13 @@ impl<'a> Capture<'a> {
                     unread: 0,
                 },
             },
-            happened: nothing_happened(alloc, label.form())?,
+            happened,
             last: Due {
                 packet: 0,
                 time: None,
             },
             has_failed: false,
-        })
+        }
     }
 
     /// Takes the next packet, and appends the records that are due with it to a text, until that
@@ -420,6 +457,13 @@ impl<'a> Capture<'a> {
         listed
     }
 
+    /// Returns how many packets came, or the greatest number of 64 bits.
+    pub fn packets(&self) -> u64
+        ensures { result ≡ self.now.listing.counts.packets }
+    {
+        self.listing.counts.packets
+    }
+
     /// Returns whether no packet came yet.
     pub fn is_empty(&self) -> bool
         ensures { result ≡ has_no_packet self.now.listing.counts }
@@ -487,7 +531,7 @@ impl<'a> Capture<'a> {
         self.end_directions(text)?;
         let totals = self.totals();
         let told = self.told_counts();
-        labelled::put_end(text, self.listing.label, &totals, &told)?;
+        self.listing.style.put_end(text, &totals, &told)?;
         Ok(is_clean(&totals))
     }
 
@@ -529,16 +573,9 @@ impl<'a> Capture<'a> {
         self.end_directions(text)?;
         let totals = self.totals();
         let told = self.told_counts();
-        labelled::put_file_refusal(
-            text,
-            self.listing.label,
-            &totals,
-            &told,
-            place,
-            why,
-            path,
-            extent,
-        )?;
+        self.listing
+            .style
+            .put_file_refusal(text, &totals, &told, place, why, path, extent)?;
         Ok(())
     }
 }

@@ -2,6 +2,7 @@
 
 ghost use Rattle.std.specs.Prelude.{◌≡◌, ◌+◌, false, [], ◌∷◌, ◌++◌, IfNone, IfOk, OnOk};
 ghost use Rattle.krb_capture.specs.Happened.{again_counted, at_moment, end_news, error_heard, again_for, answer_counted, answer_for, answer_with, begun_heard, by_part, heard, kind_in, kind_role, kind_tells, message_event, missed, missed_record, moment_of, news_counted, news_line, news_origin, news_record, nothing_happened, part_count, password_event, request_heard, reply_heard, reset, segment_heard, span_between, telling, told_of, unread_event, waited};
+ghost use Rattle.krb_capture.specs.Labels.{of_records};
 ghost use Rattle.krb_capture.specs.Told.{listed};
 ghost use Rattle.krb_record.specs.Captures.{captured};
 ghost use Rattle.krb_record.specs.Forms.{record_line};
@@ -251,7 +252,7 @@ pub(crate) fn put_news(
     now: Moment,
     news: News,
 ) -> Result<(), AllocError>
-    ensures { OnOk result (text.new ≡ text.old ++ news_line label.now now news) }
+    ensures { OnOk result (text.new ≡ text.old ++ news_line (of_records label.now) now news) }
 {
     label.begin(text)?;
     put_news_record(text, label.form(), now, news)?;

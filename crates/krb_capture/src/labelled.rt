@@ -5,8 +5,9 @@ ghost use Rattle.std.specs.Option.{option_copied};
 ghost use Rattle.krb_record.specs.Captures.{capture_end_record, capture_refused_record, captured, password_record};
 ghost use Rattle.krb_record.specs.Labels.{line_of};
 ghost use Rattle.krb_text.specs.Messages.{PutsMessage, shown_record};
-ghost use Rattle.krb_capture.specs.Found.{Faulty, Joined, Missing, found_line};
+ghost use Rattle.krb_capture.specs.Found.{Faulty, Joined, Missing, listed_line};
 ghost use Rattle.krb_capture.specs.Found as found;
+ghost use Rattle.krb_capture.specs.Labels.{of_records};
 
 use krb_der::{Memory, Profile, Refusal};
 use krb_file::FileWhy;
@@ -45,7 +46,7 @@ pub(crate) fn put_refusal(
     path: Option<&str>,
     extent: Extent,
 ) -> Result<(), AllocError>
-    ensures { OnOk result (text.new ≡ text.old ++ found_line label.now origin.now (Faulty refusal (option_copied path.entry) extent)) }
+    ensures { OnOk result (text.new ≡ text.old ++ listed_line (of_records label.now) origin.now (Faulty refusal (option_copied path.entry) extent)) }
 {
     label.begin(text)?;
     krb_record::put_captured_refusal(text, label.form(), origin, refusal, path, extent)?;
@@ -58,7 +59,7 @@ pub(crate) fn put_joined(
     label: &Label,
     origin: &CaptureOrigin,
 ) -> Result<(), AllocError>
-    ensures { OnOk result (text.new ≡ text.old ++ found_line label.now origin.now Joined) }
+    ensures { OnOk result (text.new ≡ text.old ++ listed_line (of_records label.now) origin.now Joined) }
 {
     label.begin(text)?;
     krb_record::put_joined(text, label.form(), origin)?;
@@ -73,7 +74,7 @@ pub(crate) fn put_lost(
     lost: Lost,
     path: Option<&str>,
 ) -> Result<(), AllocError>
-    ensures { OnOk result (text.new ≡ text.old ++ found_line label.now origin.now (Missing lost.place lost.octets (option_copied path.entry))) }
+    ensures { OnOk result (text.new ≡ text.old ++ listed_line (of_records label.now) origin.now (Missing lost.place lost.octets (option_copied path.entry))) }
 {
     label.begin(text)?;
     krb_record::put_lost(text, label.form(), origin, lost.place, lost.octets, path)?;
@@ -87,7 +88,7 @@ pub(crate) fn put_unread(
     origin: &CaptureOrigin,
     unread: Unread,
 ) -> Result<(), AllocError>
-    ensures { OnOk result (text.new ≡ text.old ++ found_line label.now origin.now (found.Unread unread.place unread.octets unread.why)) }
+    ensures { OnOk result (text.new ≡ text.old ++ listed_line (of_records label.now) origin.now (found.Unread unread.place unread.octets unread.why)) }
 {
     let Unread { place, octets, why } = unread;
     label.begin(text)?;

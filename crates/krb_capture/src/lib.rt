@@ -3,6 +3,8 @@
 //!
 //! The main calls:
 //!
+//! - [`Capture::new`] begins a listing, and [`Capture::decoding`] one in which messages are decoded
+//!   ([`Decoding`]): they are lines of JSON, and records say what is left out.
 //! - [`Capture::take`] takes the next packet of a capture, and lists what is found with it. If that
 //!   is much, [`Capture::go_on`] lists what is left of it, step by step.
 //! - [`Capture::finish`] lists what is found at the end of the file, and the totals.
@@ -20,6 +22,7 @@
 
 mod capture;
 mod datagram;
+mod decoded;
 mod directions;
 mod ended;
 mod flow;
@@ -34,6 +37,8 @@ mod password;
 mod password_frames;
 mod recent;
 mod sending;
+mod style;
 
 pub use capture::Capture;
 pub use directions::Rest;
+pub use style::Decoding;

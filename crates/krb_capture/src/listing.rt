@@ -13,23 +13,23 @@ ghost use Rattle.krb_capture.specs.Told.{IsListedAs, TakesBegun, TakesEnded, pas
 
 use crate::flow::Due;
 use crate::happened::{Event, Happened, News, moment_of, put_news, telling};
-use crate::labelled;
 use crate::password::Header as PasswordHeader;
+use crate::style::Style;
 use krb_der::{Memory, Profile, Refusal};
 use krb_exchange::{Header, Moment};
 use krb_flow::{Lost, Unread};
-use krb_record::{CaptureCounts, CaptureOrigin, Extent, Form, IcmpError, Label, TextBuffer};
+use krb_record::{CaptureCounts, CaptureOrigin, Extent, Form, IcmpError, TextBuffer};
 use std::alloc::Global;
 use std::marker::Model;
 
 /// How many octets of text are written together: 64 KiB.
 const FULL_OCTETS: usize = 1 << 16;
 
-/// The label of the records of a capture, and how many of each kind there were in all.
+/// How what is found in a capture is written, and how many records of each kind there were in all.
 #[derive(Clone, Copy)]
 pub(crate) struct Tally<'a> {
     pub(crate) alloc: Global,
-    pub(crate) label: &'a Label,
+    pub(crate) style: Style<'a>,
     pub(crate) counts: CaptureCounts,
 }
 
@@ -45,10 +45,11 @@ pub(crate) struct Listing<'text> {
 impl<'text> Model for Listing<'text> {
     ghost use Rattle.krb_capture.specs.Boxed.{happened_in};
     ghost use Rattle.krb_capture.specs.Found.{Written};
+    ghost use Rattle.krb_capture.specs.Labels.{label_in};
 
     ghost Value = { Written };
 
-    ghost view = { λ listing. record { label = listing.tally.label.now; text = listing.text.now; counts = listing.tally.counts; happened = happened_in listing.happened; text_name = listing.text.ghost_name } };
+    ghost view = { λ listing. record { label = label_in listing.tally.style; text = listing.text.now; counts = listing.tally.counts; happened = happened_in listing.happened; text_name = listing.text.ghost_name } };
 }
 
 /// Returns a count with more, or the greatest one that there is.
@@ -103,7 +104,7 @@ impl<'text> Listing<'text> {
     pub(crate) fn form(&self) -> Form
         ensures { result ≡ self.now.label.form }
     {
-        self.tally.label.form()
+        self.tally.style.label.form()
     }
 
     /// Returns whether the text is long enough to be written.
@@ -165,7 +166,11 @@ impl<'text> Listing<'text> {
         requires { length octets.now < 2 ^ 31 }
         ensures { IfOk result (IsListedAs profile octets.now origin.now self.old self.new) }
     {
-        if !labelled::put_message(self.text, self.tally.label, origin, profile, octets)? {
+        if !self
+            .tally
+            .style
+            .put_message(self.text, origin, profile, octets)?
+        {
             return Ok(false);
         }
         self.tally.counts.messages = and_more(self.tally.counts.messages, 1);
@@ -214,7 +219,7 @@ impl<'text> Listing<'text> {
             return Ok(());
         };
         happened.count(news);
-        put_news(self.text, self.tally.label, now, news)?;
+        put_news(self.text, self.tally.style.label, now, news)?;
         Ok(())
     }
 
@@ -338,7 +343,9 @@ impl<'text> Listing<'text> {
         ensures { OnOk result (self.new ≡ with_found origin.now (Faulty refusal (option_copied path.entry) extent) self.old) }
     {
         let from = self.telling_of_unread(origin);
-        labelled::put_refusal(self.text, self.tally.label, &from, refusal, path, extent)?;
+        self.tally
+            .style
+            .put_refusal(self.text, &from, refusal, path, extent)?;
         self.tally.counts.refused = and_more(self.tally.counts.refused, 1);
         self.take_unread(origin)
     }
@@ -348,7 +355,7 @@ impl<'text> Listing<'text> {
     pub(crate) fn put_joined(&mut self, origin: &CaptureOrigin) -> Result<(), Memory>
         ensures { OnOk result (self.new ≡ with_found origin.now Joined self.old) }
     {
-        labelled::put_joined(self.text, self.tally.label, origin)?;
+        self.tally.style.put_joined(self.text, origin)?;
         Ok(())
     }
 
@@ -363,7 +370,7 @@ impl<'text> Listing<'text> {
         ensures { OnOk result (self.new ≡ with_found origin.now (Missing lost.place lost.octets (option_copied path.entry)) self.old) }
     {
         let from = self.telling_of_unread(origin);
-        labelled::put_lost(self.text, self.tally.label, &from, lost, path)?;
+        self.tally.style.put_lost(self.text, &from, lost, path)?;
         self.tally.counts.lost = and_more(self.tally.counts.lost, 1);
         self.take_unread(origin)
     }
@@ -377,7 +384,7 @@ impl<'text> Listing<'text> {
     ) -> Result<(), Memory>
         ensures { OnOk result (self.new ≡ with_found origin.now (found.Unread unread.place unread.octets unread.why) self.old) }
     {
-        labelled::put_unread(self.text, self.tally.label, origin, unread)?;
+        self.tally.style.put_unread(self.text, origin, unread)?;
         self.tally.counts.unread = and_more(self.tally.counts.unread, 1);
         Ok(())
     }
@@ -397,7 +404,9 @@ impl<'text> Listing<'text> {
     {
         let from = self.telling_of_password(origin, octets, ap);
         let PasswordHeader { version, ap: size } = header;
-        labelled::put_password(self.text, self.tally.label, &from, version, size, rest)?;
+        self.tally
+            .style
+            .put_password(self.text, &from, octets, version, size, rest)?;
         self.take_password(origin, octets, ap)?;
         self.expect_parts(size, rest);
         Ok(())

@@ -10,7 +10,7 @@ use Rattle.krb_exchange.specs.declared.sending.Sending.{Sending}
 use Rattle.krb_exchange_laws.specs.Events
 use Rattle.krb_msg.specs.declared.message.Kind.{Kind}
 use Rattle.krb_msg.specs.declared.message.Kind.TheVariants as kinds
-use Rattle.krb_record.specs.Labels.{Label}
+use Rattle.krb_capture.specs.Labels.{Label}
 use Rattle.krb_record.specs.declared.capture_origin.CaptureOrigin.{CaptureOrigin}
 use Rattle.krb_record.specs.declared.told.Request.{Request}
 use Rattle.krb_record.specs.declared.told.Request.TheVariants as requests

@@ -9,7 +9,7 @@ use Rattle.krb_exchange_laws.specs.Events
 use Rattle.krb_msg.specs.declared.message.Kind.{Kind}
 use Rattle.krb_msg.specs.declared.message.Kind.TheVariants as kinds
 use Rattle.krb_record.specs.Captures.{captured, unreachable_record}
-use Rattle.krb_record.specs.Labels.{Label, line_of}
+use Rattle.krb_capture.specs.Labels.{Label, line_of}
 use Rattle.krb_record.specs.declared.capture_origin.CaptureOrigin.{CaptureOrigin}
 use Rattle.krb_record.specs.declared.told.Request.TheVariants as requests
 use Rattle.krb_record.specs.declared.told.Told.{Told}

@@ -7,7 +7,8 @@ use Rattle.krb_file.specs.declared.fault.FileFault.TheVariants as faults
 use Rattle.krb_packet.specs.Captures.{packets}
 use Rattle.krb_packet.specs.Streaming.{ReturnsNext, PacketsModel, Reads}
 use Rattle.krb_packet.specs.declared.packet.Packet.{Packet}
-use Rattle.krb_record.specs.Labels.{Label}
+use Rattle.krb_capture.specs.Labels.{Label}
+use Rattle.krb_record.specs.Labels.{Label as RecordLabel}
 use Rattle.krb_capture.specs.Captures.{Finding, HasFollowed, Progress, Settings, at_first, counted_each, happened_each, happened_in, has_no_packet, lines_of, packet_told}
 use Rattle.krb_capture.specs.Found.{found_happened, found_text}
 use Rattle.krb_capture.specs.Happened.{told_at_first}
@@ -27,15 +28,15 @@ use Rattle.krb_run.specs.Records.{AddsLine}
 abbrev pub Promises : PacketsModel → Result (Option Packet) FileFault → PacketsModel → Type 0
 Promises old given new = (file : List ℕ) (count : ℕ) → Reads old file count → ReturnsNext file count given new
 
-here : {A : Type 0} (items prefix suffix : List A) (item : A) (count : ℕ) → length prefix ≡ count → items ≡ prefix ++ item ∷ suffix → drop count items ≡ item ∷ suffix
+pub here : {A : Type 0} (items prefix suffix : List A) (item : A) (count : ℕ) → length prefix ≡ count → items ≡ prefix ++ item ∷ suffix → drop count items ≡ item ∷ suffix
 here items prefix suffix item count counted parts = ap (drop count) parts ∙ drop_at prefix (item ∷ suffix) count counted
 
-there : {A : Type 0} (items prefix suffix : List A) (item : A) (count : ℕ) → length prefix ≡ count → items ≡ prefix ++ item ∷ suffix → drop (suc count) items ≡ suffix
+pub there : {A : Type 0} (items prefix suffix : List A) (item : A) (count : ℕ) → length prefix ≡ count → items ≡ prefix ++ item ∷ suffix → drop (suc count) items ≡ suffix
 there items prefix suffix item count counted parts =
     ap (drop (suc count)) (parts ∙ sym (append_assoc prefix (item ∷ []) suffix)) ∙ drop_at (prefix ++ item ∷ []) suffix (suc count) (omega (arith, counted, length-append prefix (item ∷ [])))
 
 -- the last records were added, if they alone are left
-ended_so : (IsLeft : RecordListing → Type 0) (before after : List ℕ) (ended : Option RunEnd) (end : RunEnd) (left last : RecordListing) → ended ≡ Some end → after ≡ before ++ last.last → left ≡ last → last.lines ≡ [] → last.end ≡ end → AddsLine IsLeft left before after (Ok ended)
+pub ended_so : (IsLeft : RecordListing → Type 0) (before after : List ℕ) (ended : Option RunEnd) (end : RunEnd) (left last : RecordListing) → ended ≡ Some end → after ≡ before ++ last.last → left ≡ last → last.lines ≡ [] → last.end ≡ end → AddsLine IsLeft left before after (Ok ended)
 ended_so IsLeft before after None end left last e a l n f = absurd cc
 ended_so IsLeft before after (Some x) end left last e a l n f =
     let x' : x ≡ end = cc in
@@ -52,7 +53,7 @@ each-append [] ys happened = refl
 each-append (x ∷ xs) ys happened = each-append xs ys (found_happened x.0 x.1 happened)
 
 -- some lines, and others after them
-after_both : (label : Label) (happened : Option Happened) (found listed others : List Finding) (left : RecordListing) → found ≡ listed ++ others → after_line (lines_of label happened found) left ≡ after_line (lines_of label happened listed) (after_line (lines_of label (happened_each listed happened) others) left)
+pub after_both : (label : Label) (happened : Option Happened) (found listed others : List Finding) (left : RecordListing) → found ≡ listed ++ others → after_line (lines_of label happened found) left ≡ after_line (lines_of label happened listed) (after_line (lines_of label (happened_each listed happened) others) left)
 after_both label happened found listed others left e =
     ap (λ l. after_line l left) (ap (lines_of label happened) e ∙ lines-append label happened listed others)
     ∙ ap (λ l. record left { lines = l }) (append_assoc (lines_of label happened listed) (lines_of label (happened_each listed happened) others) left.lines)
@@ -66,7 +67,7 @@ module _ (label : Label) (was now : Option Happened) (found listed others : List
       ∙ ap (λ h. after_line (lines_of label was listed) (after_line (lines_of label h others) (rest (happened_each others h)))) (sym same)
 
 -- what is left of the last packet
-pub rest_added : (label : Label) (model : PacketsModel) (was now : Capture) (rest : Box Rest Global) (next : Option (Box Rest Global)) (source : CaptureSource) (left : RecordListing) (before after : List ℕ) → IsCaptureLeft model was (Some rest) label source left → ((settings : Settings) (progress : Progress) (found : List Finding) → HasFollowedBut was settings progress (Some rest) found → Lists (happened_in was.happened) now settings (record { found = found; progress = progress }) next before after) → AddsLine (IsCaptureLeft model now next label source) left before after (Ok None)
+pub rest_added : (label : RecordLabel) (model : PacketsModel) (was now : Capture) (rest : Box Rest Global) (next : Option (Box Rest Global)) (source : CaptureSource) (left : RecordListing) (before after : List ℕ) → IsCaptureLeft model was (Some rest) label source left → ((settings : Settings) (progress : Progress) (found : List Finding) → HasFollowedBut was settings progress (Some rest) found → Lists (happened_in was.happened) now settings (record { found = found; progress = progress }) next before after) → AddsLine (IsCaptureLeft model now next label source) left before after (Ok None)
 rest_added label model was now rest next source left before after is_left goes_on =
     let lists = goes_on source.settings is_left.progress is_left.found is_left.followed in
     let rest_of = λ (h : Option Happened). listing_from source.settings (drop is_left.count (packets source.file).items) (packets source.file).end h is_left.progress in (
@@ -86,15 +87,15 @@ rest_added label model was now rest next source left before after is_left goes_o
     )
 
 -- nothing is left of the last packet
-record AreFollowed (model : PacketsModel) (capture : Capture) (label : Label) (source : CaptureSource) (left : RecordListing) : Type 0 where
+record AreFollowed (model : PacketsModel) (capture : Capture) (label : RecordLabel) (source : CaptureSource) (left : RecordListing) : Type 0 where
   count : ℕ
   progress : Progress
   reads : Reads model source.file count
   followed : HasFollowed capture source.settings progress
-  label_is : label ≡ source.settings.label
+  label_is : label.form ≡ source.settings.label.form
   is : left ≡ listing_from source.settings (drop count (packets source.file).items) (packets source.file).end (happened_in capture.happened) progress
 
-are_followed : (model : PacketsModel) (capture : Capture) (rest : Option (Box Rest Global)) (label : Label) (source : CaptureSource) (left : RecordListing) → rest ≡ None → IsCaptureLeft model capture rest label source left → AreFollowed model capture label source left
+are_followed : (model : PacketsModel) (capture : Capture) (rest : Option (Box Rest Global)) (label : RecordLabel) (source : CaptureSource) (left : RecordListing) → rest ≡ None → IsCaptureLeft model capture rest label source left → AreFollowed model capture label source left
 are_followed model capture (Some rest) label source left e l = absurd cc
 are_followed model capture None label source left e l = record {
   count = l.count;
@@ -113,7 +114,7 @@ are_followed model capture None label source left e l = record {
   is = l.is ∙ ap (λ found. after_line (lines_of source.settings.label (happened_in capture.happened) found) (listing_from source.settings (drop l.count (packets source.file).items) (packets source.file).end (happened_each found (happened_in capture.happened)) l.progress)) l.followed.table.1;
 }
 
-module _ (label : Label) (old new : PacketsModel) (was now : Capture) (rest : Option (Box Rest Global)) (none : rest ≡ None) (source : CaptureSource) (left : RecordListing) (before after : List ℕ) (given_left : IsCaptureLeft old was rest label source left) where
+module _ (label : RecordLabel) (old new : PacketsModel) (was now : Capture) (rest : Option (Box Rest Global)) (none : rest ≡ None) (source : CaptureSource) (left : RecordListing) (before after : List ℕ) (given_left : IsCaptureLeft old was rest label source left) where
   is_left : AreFollowed old was label source left
   is_left = are_followed old was rest label source left none given_left
 
@@ -179,18 +180,18 @@ pub less_said : {IsLeft : RecordListing → Type 0} (all other : RecordListing) 
 less_said {IsLeft = IsLeft} all other same WasLeft written_before written_after result listed weaker = ListsRecords-weaker other IsLeft WasLeft written_before written_after result weaker (subst (λ (l : RecordListing). ListsRecords l IsLeft written_before written_after result) same listed)
 
 -- before the first packet
-pub all_left : (settings : Settings) (file : List ℕ) (model : PacketsModel) (capture : Capture) → Reads model file 0 → HasFollowed capture settings at_first → happened_in capture.happened ≡ told_at_first settings.label.form → IsCaptureLeft model capture None settings.label (record { settings = settings; file = file }) (capture_listing settings file)
+pub all_left : (settings : Settings) (file : List ℕ) (model : PacketsModel) (capture : Capture) (label : RecordLabel) → label.form ≡ settings.label.form → Reads model file 0 → HasFollowed capture settings at_first → happened_in capture.happened ≡ told_at_first settings.label.form → IsCaptureLeft model capture None label (record { settings = settings; file = file }) (capture_listing settings file)
 unfolding capture_listing
-all_left settings file model capture reads h e = record {
+all_left settings file model capture label same reads h e = record {
   count = 0;
   progress = at_first;
   found = [];
   reads = reads;
   followed = record { profile = h.profile; port = h.port; label = h.label; fragments = h.fragments; table = (h.table, refl); last = h.last; counts = h.counts };
-  label_is = refl;
+  label_is = same;
   is = ap (λ x. listing_from settings (packets file).items (packets file).end x at_first) (sym e);
 }
 
 -- after any
-pub is_rest : (settings : Settings) (file : List ℕ) (model : PacketsModel) (capture : Capture) (rest : Option (Box Rest Global)) (label : Label) (left : RecordListing) → IsCaptureLeft model capture rest label (record { settings = settings; file = file }) left → IsCaptureRest settings file left
+pub is_rest : (settings : Settings) (file : List ℕ) (model : PacketsModel) (capture : Capture) (rest : Option (Box Rest Global)) (label : RecordLabel) (left : RecordListing) → IsCaptureLeft model capture rest label (record { settings = settings; file = file }) left → IsCaptureRest settings file left
 is_rest settings file model capture rest label left l = record { count = l.count; progress = l.progress; happened = happened_in capture.happened; found = l.found; is = l.is }

@@ -1,2 +1,3 @@
 pub mod FileRefusals
 mod CaptureLines
+mod DecodedLines

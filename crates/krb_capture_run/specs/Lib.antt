@@ -1,3 +1,4 @@
 pub mod Captures
+pub mod Decoded
 pub mod inner
 pub mod Laws

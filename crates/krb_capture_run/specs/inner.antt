@@ -1,1 +1,2 @@
 pub mod CaptureRuns
+pub mod DecodedRuns

@@ -2,9 +2,10 @@
 
 ghost use Rattle.std.specs.Prelude.{◌≡◌, ℕ, List, Some, IfErr, IfOk};
 ghost use Rattle.krb_capture_run.specs.Captures.{IsCaptureRest, capture_listing, refused_end};
+ghost use Rattle.krb_capture.specs.Labels.{of_records};
 ghost use Rattle.krb_file.specs.declared.fault.FileFault.TheVariants as faults;
 ghost use Rattle.krb_run.specs.Faults.{IsRead, IsWrite};
-ghost use Rattle.krb_run.specs.Records.{ListsRecords};
+ghost use Rattle.krb_run.specs.Records.{ListsRecords, WritesSome};
 ghost use Rattle.krb_capture_run.specs.inner.CaptureRuns.{AddsCaptureEnd, AddsFileRefusal, CaptureSource, FailsInPacket, IsCaptureLeft};
 
 use krb_capture::{Capture, Rest};
@@ -31,7 +32,10 @@ struct CaptureLines<'label, 'watch, R: Read> {
 }
 
 /// Appends the records of the end of a file.
-fn put_end(capture: &mut Capture<'_>, text: &mut TextBuffer) -> Result<Option<RunEnd>, RunFault>
+pub(crate) fn put_end(
+    capture: &mut Capture<'_>,
+    text: &mut TextBuffer,
+) -> Result<Option<RunEnd>, RunFault>
     ensures put { IfOk result (AddsCaptureEnd capture.old text.old text.new) }
     ensures fault { IfErr result (λ e. e ≡ RunFault.Memory) }
 {
@@ -53,39 +57,36 @@ fn refused_end(at_once: bool) -> RunEnd
     }
 }
 
-impl<R: Read> CaptureLines<'_, '_, R> {
-    /// Appends the records of a fault of the file, which ends the run. Faults of the reader have
-    /// none.
-    #[tactic(auto, using(crate::proofs::FileRefusals::same_refusal))]
-    fn put_fault(
-        &mut self,
-        alloc: Global,
-        fault: FileFault,
-        text: &mut TextBuffer,
-    ) -> Result<Option<RunEnd>, RunFault>
-        ensures put { IfOk result (AddsFileRefusal fault self.old.capture self.old.label.now text.old text.new) }
-        ensures fault { IfErr result (λ e. IsWrite e → ⊥) }
-        ensures kept { IfErr result (λ e. IsRead e → text.new ≡ text.old) }
-        ensures failed { IfErr result (λ e. IsRead e → fault ≡ faults.Read) }
-        ensures same_capture { IfErr result (λ e. IsRead e → self.new.capture ≡ self.old.capture) }
-        ensures same_packets { self.new.packets ≡ self.old.packets }
-    {
-        match fault {
-            FileFault::Refused(refusal) => {
-                let path = file_path(alloc, self.label.form(), FileItem::File, refusal.field)?;
-                let path = match &path {
-                    None => None,
-                    Some(path) => Some(path.as_str()),
-                };
-                let extent = extent_of(refusal);
-                let at_once = self.capture.is_empty();
-                self.capture
-                    .refuse(refusal.place, refusal.why, path, extent, text)?;
-                Ok(Some(refused_end(at_once)))
-            }
-            FileFault::Read => Err(RunFault::Read(self.watch.error())),
-            FileFault::Memory => Err(RunFault::Memory),
+/// Appends the records of a fault of the file, which ends the run. Faults of the reader have none.
+#[tactic(auto, using(crate::proofs::FileRefusals::same_refusal))]
+pub(crate) fn put_fault(
+    alloc: Global,
+    fault: FileFault,
+    capture: &mut Capture<'_>,
+    label: &Label,
+    watch: &Watch,
+    text: &mut TextBuffer,
+) -> Result<Option<RunEnd>, RunFault>
+    ensures put { IfOk result (AddsFileRefusal fault capture.old label.now text.old text.new) }
+    ensures fault { IfErr result (λ e. IsWrite e → ⊥) }
+    ensures kept { IfErr result (λ e. IsRead e → text.new ≡ text.old) }
+    ensures failed { IfErr result (λ e. IsRead e → fault ≡ faults.Read) }
+    ensures same_capture { IfErr result (λ e. IsRead e → capture.new ≡ capture.old) }
+{
+    match fault {
+        FileFault::Refused(refusal) => {
+            let path = file_path(alloc, label.form(), FileItem::File, refusal.field)?;
+            let path = match &path {
+                None => None,
+                Some(path) => Some(path.as_str()),
+            };
+            let extent = extent_of(refusal);
+            let at_once = capture.is_empty();
+            capture.refuse(refusal.place, refusal.why, path, extent, text)?;
+            Ok(Some(refused_end(at_once)))
         }
+        FileFault::Read => Err(RunFault::Read(watch.error())),
+        FileFault::Memory => Err(RunFault::Memory),
     }
 }
 
@@ -113,7 +114,14 @@ impl<R: Read> RecordLines for CaptureLines<'_, '_, R> {
                 Ok(None)
             }
             Ok(None) => put_end(&mut self.capture, text),
-            Err(fault) => self.put_fault(alloc, fault, text),
+            Err(fault) => put_fault(
+                alloc,
+                fault,
+                &mut self.capture,
+                self.label,
+                self.watch,
+                text,
+            ),
         }
     }
 }
@@ -131,7 +139,8 @@ pub fn run_capture<R: Read, W: Write>(
     limit: Limit,
     port: u16,
 ) -> Result<RunEnd, RunFault>
-    ensures listed { (file : List ℕ) → R.remaining reader.old ≡ Some file → ListsRecords (capture_listing (record { label = label.now; profile = profile; limit = limit; port = port }) file) (IsCaptureRest (record { label = label.now; profile = profile; limit = limit; port = port }) file) (W.contents writer.old) (W.contents writer.new) result }
+    ensures listed { (file : List ℕ) → R.remaining reader.old ≡ Some file → ListsRecords (capture_listing (record { label = of_records label.now; profile = profile; limit = limit; port = port }) file) (IsCaptureRest (record { label = of_records label.now; profile = profile; limit = limit; port = port }) file) (W.contents writer.old) (W.contents writer.new) result }
+    ensures written { WritesSome (W.contents writer.old) (W.contents writer.new) }
 {
     let watch = Watch::new();
     let watch = &watch;

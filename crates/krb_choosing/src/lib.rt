@@ -5,5 +5,8 @@
 #![tactic(auto)]
 
 mod choosing;
+mod given;
+pub mod law;
 
-pub use choosing::Choosing;
+pub use choosing::{Chooser, Choosing};
+pub use given::{Before, Given};

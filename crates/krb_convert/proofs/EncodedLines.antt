@@ -1,18 +1,19 @@
 -- Lines that are encoded, piece by piece.
-use Rattle.std.proofs.Common.{◌≡◌, ℕ, ◌+◌, ◌<◌, ◌≤◌, Bool, true, false, List, [], ◌∷◌, ◌++◌, length, Option, Some, None, refl, sym, ◌∙◌, ap, subst, arith, append-nil, length-append}
+use Rattle.std.proofs.Common.{◌≡◌, ℕ, ◌+◌, ◌^◌, ◌<◌, ◌≤◌, ◌⊎◌, inl, inr, Bool, true, false, List, [], ◌∷◌, ◌++◌, length, Option, Some, None, refl, sym, ◌∙◌, ap, subst, arith, append-nil, length-append}
 use Rattle.std.specs.Option.{option_map}
 use Rattle.std.proofs.lemmas.Bool.Decides.{nat_tests}
-use Rattle.std.specs.Prelude.{◌&&◌, ◌==◌, nat_lt, not, is_some, IsSome, IfSome, Result, Err}
+use Rattle.std.specs.Prelude.{◌&&◌, ◌==◌, nat_lt, not, is_some, IsSome, IfSome, Result, Ok, Err}
 use Rattle.krb_run.specs.Conversions.{Converted, Converts, FailsToConvert, after_text}
 use Rattle.krb_der.specs.declared.profile.Profile.{Profile}
-use Rattle.krb_convert.specs.Encoding.{Encodes, Ending, FailsToEncode, GoesOn as Goes, encoded, ended_encoded, Faulty, LongLine, SecondMessage, most_of_line, written_as, message_and, ending_of, ending_after, IsNoFault}
+use Rattle.krb_convert.specs.Encoding.{Encodes, Ending, FailsToEncode, GoesOn as Goes, encoded, ended_encoded, Faulty, LongLine, SecondMessage, line_spelled, most_of_line, written_as, message_and, ending_of, ending_after, IsNoFault}
 use Rattle.krb_run.specs.TextLines.{is_blank_line, lines_of}
 use Rattle.krb_der.specs.Octets.{when}
 use Rattle.krb_json.specs.Lines as lines
+use Rattle.krb_json.specs.Laws.{AreOfMessage, AreOfTicket, LinesSpellMessages, LinesSpellOctets}
 use Rattle.krb_json.specs.Reading.{AreSpelled, line_fault_of}
+use Rattle.krb_json.specs.Tickets.{line_octets}
 use Rattle.krb_json.specs.declared.line_fault.LineFault.{LineFault}
 use Rattle.krb_json.specs.declared.line_fault.LineFault.TheVariants as wrong
-use Rattle.krb_msg.specs.declared.message.Message.{Message}
 use Rattle.krb_convert.specs.declared.encode_run.EncodeEnd.{EncodeEnd}
 use Rattle.krb_convert.specs.declared.json_reader.EncodeRequest.{EncodeRequest}
 use Rattle.krb_convert.specs.declared.json_reader.JsonReader.{JsonReader}
@@ -65,12 +66,23 @@ module _ (request : EncodeRequest) (number : ℕ) (came : Bool) (line : List ℕ
   read-step blank full =
       short-step ∙ (λ i. when (blank i) (λ _. encoded_from request (number + 1) came more) (λ _. when (full i) (λ _. second number) (λ _. read_and request number line (encoded_from request (number + 1) true more))))
 
-pub message-step : (is_framed : Bool) (number : ℕ) (spells : Result Message lines.LineFault) (octets : List ℕ) (others : Converted Ending) → AreSpelled spells octets → message_and is_framed number spells others ≡ after_text (written_as is_framed octets) others
-message-step is_framed number spells octets others a = ap (λ s. message_and is_framed number s others) a.spelled ∙ ap (λ o. after_text (written_as is_framed o) others) (sym a.form)
+pub message-step : (is_framed : Bool) (number : ℕ) (spells : Result (List ℕ) lines.LineFault) (octets : List ℕ) (others : Converted Ending) → spells ≡ Ok octets → message_and is_framed number spells others ≡ after_text (written_as is_framed octets) others
+message-step is_framed number spells octets others e = ap (λ s. message_and is_framed number s others) e
 
-pub fault-step : (is_framed : Bool) (number : ℕ) (spells : Result Message lines.LineFault) (found : Option lines.LineFault) (others : Converted Ending) → IsSome found → IfSome found (λ fault. spells ≡ Err fault) → message_and is_framed number spells others ≡ faulty number found
+pub fault-step : (is_framed : Bool) (number : ℕ) (spells : Result (List ℕ) lines.LineFault) (found : Option lines.LineFault) (others : Converted Ending) → IsSome found → IfSome found (λ fault. spells ≡ Err fault) → message_and is_framed number spells others ≡ faulty number found
 fault-step is_framed number spells None others some e = absurd cc
 fault-step is_framed number spells (Some fault) others some e = ap (λ s. message_and is_framed number s others) e
+
+-- ---- the octets that a line spells are few
+pub framed-short : LinesSpellMessages → (profile : Profile) (limit : ℕ) (line octets : List ℕ) → limit < 2 ^ 31 → AreSpelled (lines.line_spells profile limit line) octets → length octets < 2 ^ 31
+framed-short spell profile limit line octets small a = let s = spell profile limit line a.message small a.spelled in omega (arith, s.short, small, ap length a.form)
+
+pub alone-short : LinesSpellOctets → (profile : Profile) (limit : ℕ) (line octets : List ℕ) → limit < 2 ^ 31 → line_octets profile limit line ≡ Ok octets → length octets < 2 ^ 31
+alone-short spell profile limit line octets small e = of (spell.some profile limit line octets small e)
+  where
+    of : AreOfMessage profile limit octets ⊎ AreOfTicket profile limit octets → length octets < 2 ^ 31
+    of (inl m) = omega (arith, m.spelled.short, small, ap length m.form)
+    of (inr t) = omega (arith, t.short, small)
 
 pub found_some : (fault : LineFault) → (fault ≡ wrong.Memory → ⊥) → IsSome (line_fault_of fault)
 found_some wrong.NotJson never = refl

@@ -3,10 +3,9 @@ use Rattle.std.specs.Prelude.{ℕ, ◌+◌, ◌*◌, ◌≤◌, ◌&&◌, nat_lt
 use Rattle.krb_der.specs.Octets.{when}
 use Rattle.krb_der.specs.declared.profile.Profile.{Profile}
 use Rattle.krb_frame.specs.Frame.{framed}
-use Rattle.krb_msg.specs.Views.{message_der}
-use Rattle.krb_msg.specs.declared.message.Message.{Message}
 use Rattle.krb_json.specs.Lines.{LineFault, line_spells}
 use Rattle.krb_json.specs.Reading.{line_fault_of}
+use Rattle.krb_json.specs.Tickets.{as_octets, line_octets}
 use Rattle.krb_run.specs.TextLines.{parts, lines_of, ended_of, last_of, is_blank_line}
 use Rattle.krb_run.specs.Conversions.{Converted, after_text, Converts, FailsToConvert}
 use Rattle.krb_run.specs.declared.run.RunFault.{RunFault}
@@ -34,9 +33,14 @@ abbrev pub written_as : (is_framed : Bool) → List ℕ → List ℕ
 written_as true octets = framed octets
 written_as false octets = octets
 
--- the message of a line before others, or its fault
-abbrev pub message_and : (is_framed : Bool) → (number : ℕ) → Result Message LineFault → Converted Ending → Converted Ending
-message_and is_framed number (Ok m) others = after_text (written_as is_framed (message_der m)) others
+-- The octets that a line spells: of a message, or, if there is just one, maybe of a Ticket.
+abbrev pub line_spelled : (is_framed : Bool) → Profile → (limit : ℕ) → List ℕ → Result (List ℕ) LineFault
+line_spelled true profile limit line = as_octets (line_spells profile limit line)
+line_spelled false profile limit line = line_octets profile limit line
+
+-- these before others, or the fault of the line
+abbrev pub message_and : (is_framed : Bool) → (number : ℕ) → Result (List ℕ) LineFault → Converted Ending → Converted Ending
+message_and is_framed number (Ok octets) others = after_text (written_as is_framed octets) others
 message_and is_framed number (Err fault) others = record { text = []; end = Faulty number (Some fault) }
 
 -- the end of lines, after a message or without one
@@ -56,7 +60,7 @@ encoded_lines is_framed profile limit number came (line ∷ lines) =
     when (nat_lt (most_of_line limit) (length line)) (λ _. record { text = []; end = LongLine number (most_of_line limit) })
     (λ _. when (is_blank_line line) (λ _. encoded_lines is_framed profile limit (number + 1) came lines)
     (λ _. when (not is_framed && came) (λ _. record { text = []; end = SecondMessage number })
-    (λ _. message_and is_framed number (line_spells profile limit line) (encoded_lines is_framed profile limit (number + 1) true lines))))
+    (λ _. message_and is_framed number (line_spelled is_framed profile limit line) (encoded_lines is_framed profile limit (number + 1) true lines))))
 
 -- of a text, whose messages are of a profile, each of at most n octets
 unfoldable pub encoded : (is_framed : Bool) → Profile → (limit : ℕ) → (text : List ℕ) → Converted Ending

@@ -7,7 +7,7 @@ use Rattle.krb_msg.specs.Grammar.{messages}
 use Rattle.krb_msg.specs.Stream.{Boundary, frames}
 use Rattle.krb_msg.specs.Views.{message_der}
 use Rattle.krb_msg.specs.declared.message.Message.{Message}
-use Rattle.krb_json.specs.Laws.{IsSpelled, IsText}
+use Rattle.krb_json.specs.Laws.{AreOfMessage, AreOfTicket, IsSpelled, IsText}
 use Rattle.krb_json.specs.Lines.{line_of}
 use Rattle.krb_json.specs.Masked.{masked_in}
 use Rattle.krb_json.specs.Unencrypted.{unencrypted_in}
@@ -35,17 +35,15 @@ pub record AreFrames (profile : Profile) (limit : ℕ) (octets : List ℕ) : Typ
   pub found : frames (messages profile) limit octets ≡ record { contents = map message_der framed_messages; end = Boundary }
   pub lines : AllByRecursion (λ m. unencrypted_in m ≡ None) framed_messages → decoding.decoded profile limit octets ≡ record { text = flat_map line_of framed_messages; end = decoding.All }
 
--- Octets are one such message, without its length.
-pub record IsOneMessage (profile : Profile) (limit : ℕ) (octets : List ℕ) : Type 0 where
-  pub message : Message
-  pub spelled : IsSpelled profile limit message
-  pub form : octets ≡ message_der message
+-- Octets are one such message, or a Ticket, without its length.
+abbrev pub IsAlone : Profile → (limit : ℕ) → List ℕ → Type 0
+IsAlone profile limit octets = AreOfMessage profile limit octets ⊎ AreOfTicket profile limit octets
 
 -- What is encoded of any text, with or without a fault, is that.
 pub record EncodedIsMessages : Type 0 where
   pub streams : (profile : Profile) (limit : ℕ) (text : List ℕ) → limit < 2 ^ 31 → AreFrames profile limit (encoding.encoded true profile limit text).text
-  pub some : (profile : Profile) (limit : ℕ) (text : List ℕ) → limit < 2 ^ 31 → ((encoding.encoded false profile limit text).text ≡ []) ⊎ IsOneMessage profile limit (encoding.encoded false profile limit text).text
-  pub all : (profile : Profile) (limit : ℕ) (text : List ℕ) → limit < 2 ^ 31 → (encoding.encoded false profile limit text).end ≡ encoding.All → IsOneMessage profile limit (encoding.encoded false profile limit text).text
+  pub some : (profile : Profile) (limit : ℕ) (text : List ℕ) → limit < 2 ^ 31 → ((encoding.encoded false profile limit text).text ≡ []) ⊎ IsAlone profile limit (encoding.encoded false profile limit text).text
+  pub all : (profile : Profile) (limit : ℕ) (text : List ℕ) → limit < 2 ^ 31 → (encoding.encoded false profile limit text).end ≡ encoding.All → IsAlone profile limit (encoding.encoded false profile limit text).text
 
 -- Two messages of a profile, of at most so many octets, that differ in nothing but the ciphers of EncryptedDatas of encryption type 0.
 pub record AreAlike (profile : Profile) (limit : ℕ) (both : Message × Message) : Type 0 where

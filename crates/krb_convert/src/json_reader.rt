@@ -1,7 +1,8 @@
 //! Lines of JSON as messages.
 
-ghost use Rattle.std.specs.Prelude.{◌≡◌, ◌+◌, ◌++◌, ◌<◌, ◌≤◌, ◌^◌, ◌&&◌, not, false, [], length, IfErr, IfOk, OnOk, None};
-ghost use Rattle.krb_convert.specs.Encoding.{most_of_line, written_as, ending_of};
+ghost use Rattle.std.specs.Prelude.{◌≡◌, ◌+◌, ◌++◌, ◌<◌, ◌≤◌, ◌^◌, ◌&&◌, not, false, [], length, IfErr, IfOk, OnOk, None, Ok};
+ghost use Rattle.krb_convert.specs.Encoding.{ending_of, line_spelled, most_of_line, written_as};
+ghost use Rattle.krb_json.specs.Tickets.{IsFaultIn};
 ghost use Rattle.krb_run.specs.TextLines.{is_blank_line};
 ghost use Rattle.krb_run.specs.declared.run.RunFault.TheVariants as fault;
 ghost use Rattle.krb_convert.specs.inner.EncodedLines.{IsFound, TakesLine, json_reading, rest_of};
@@ -11,8 +12,8 @@ ghost use Rattle.krb_run.specs.Pieces.{listing_of};
 use crate::encode_run::EncodeEnd;
 use krb_der::Profile;
 use krb_frame::Limit;
-use krb_json::law::lines_spell_messages;
-use krb_json::{LineFault, Scratch, read_line};
+use krb_json::law::{lines_spell_messages, lines_spell_octets};
+use krb_json::{LineFault, Scratch, read_line, read_line_or_ticket};
 use krb_run::{
     ListStream, PIECE_OCTETS, ReadLines, RunFault, end_lines, feed_lines, is_blank_line,
 };
@@ -91,13 +92,10 @@ impl JsonReader {
         ensures taken { IfOk result (TakesLine self.old self.new) }
         ensures fault { IfErr result (λ e. e ≡ fault.Memory) }
     {
-        lines_spell_messages();
-        let limit = self.request.limit.get();
-        match read_line(
+        match read_octets(
             self.alloc,
             &mut self.scratch,
-            self.request.profile,
-            limit,
+            &self.request,
             self.line.as_slice(),
         ) {
             Ok(octets) => {
@@ -124,6 +122,28 @@ impl JsonReader {
             None if self.came || self.request.is_framed => EncodeEnd::Clean,
             None => EncodeEnd::NoMessage,
         }
+    }
+}
+
+/// Returns the octets that a line spells: of a message, or, if one is written without its length,
+/// maybe of a Ticket.
+fn read_octets(
+    alloc: Global,
+    scratch: &mut Scratch,
+    request: &EncodeRequest,
+    line: &[u8],
+) -> Result<Vec<u8>, LineFault>
+    ensures octets { IfOk result (λ octets. line_spelled request.now.is_framed request.now.profile request.now.limit line.now ≡ Ok octets.items) }
+    ensures short { IfOk result (λ octets. length octets.items < 2 ^ 31) }
+    ensures fault { IfErr result (IsFaultIn (line_spelled request.now.is_framed request.now.profile request.now.limit line.now)) }
+{
+    lines_spell_messages();
+    lines_spell_octets();
+    let limit = request.limit.get();
+    if request.is_framed {
+        read_line(alloc, scratch, request.profile, limit, line)
+    } else {
+        read_line_or_ticket(alloc, scratch, request.profile, limit, line)
     }
 }
 

@@ -41,10 +41,10 @@ adds-both one other old between new a b = record {
   said = b.said ∙ ap (λ l. l ++ other.said) a.said ∙ append_assoc old.said one.said other.said;
 }
 
-both-nothing : (one : Added) → both one nothing ≡ one
+pub both-nothing : (one : Added) → both one nothing ≡ one
 both-nothing one = ap₂ (λ l s. record { lines = l; said = s }) (append-nil one.lines) (append-nil one.said)
 
-both-assoc : (a b c : Added) → both (both a b) c ≡ both a (both b c)
+pub both-assoc : (a b c : Added) → both (both a b) c ≡ both a (both b c)
 both-assoc a b c = ap₂ (λ l s. record { lines = l; said = s }) (append_assoc a.lines b.lines c.lines) (append_assoc a.said b.said c.said)
 
 -- what is not refused

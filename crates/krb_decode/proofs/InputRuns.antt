@@ -12,11 +12,11 @@ use Rattle.krb_run.specs.Files.{FileListing, IsSettled, ListsFile, ReadsSome}
 use Rattle.krb_run.specs.Records.{AppendsPrefix}
 use Rattle.krb_run.specs.declared.run.RunEnd.{RunEnd}
 use Rattle.krb_run.specs.declared.run.RunEnd.TheVariants as run
-use Rattle.krb_tool.specs.Messages.{IsMessageListing, message_listing}
+use Rattle.krb_tool.specs.Messages.{IsMessageListing, message_listing, octets_listing}
 use Rattle.krb_convert.specs.Decoding.{ReadsMost}
-use Rattle.krb_decode.specs.Decoded.{Added, decoded_by, decoded_input, decoded_spelled, refused}
+use Rattle.krb_decode.specs.Decoded.{Added, decoded_by, decoded_input, decoded_octets, decoded_spelled, refused}
 use Rattle.krb_decode.specs.Runs.{DecodesInput, FailsToDecodeInput}
-use Rattle.krb_decode.specs.inner.Inputs.{decoded_of}
+use Rattle.krb_decode.specs.Given.{decoded_given, decoded_of}
 use Rattle.krb_decode.specs.declared.input.DecodedInput.{DecodedInput}
 
 -- ---- the listing of an input
@@ -35,6 +35,11 @@ input-by profile label input left before said ended none empty l =
     ap (λ (x : FileListing). decoded_by x.end x.text (decoded_spelled profile (spelled input))) is
     ∙ ap (λ e. decoded_by e l.listing.text (decoded_spelled profile (spelled input))) (sym l.ended_so)
     ∙ ap (λ t. decoded_by ended t (decoded_spelled profile (spelled input))) (sym (l.added ∙ ap (λ (b : List ℕ). b ++ l.listing.text) empty))
+
+-- octets that are never read as text
+pub given-by : (profile : Profile) (octets : List ℕ) (listing : FileListing) → listing ≡ octets_listing form.NamedLines profile octets → decoded_given profile octets ≡ decoded_by listing.end listing.text (decoded_octets profile octets)
+unfolding decoded_given
+given-by profile octets listing is = ap (λ (x : FileListing). decoded_by x.end x.text (decoded_octets profile octets)) (sym is)
 
 -- one that is refused
 pub refused-by : (ended : RunEnd) (listed : List ℕ) (added : Added) → (ended ≡ run.Refused) ⊎ (ended ≡ run.RefusedAtOnce) → decoded_by ended listed added ≡ refused listed

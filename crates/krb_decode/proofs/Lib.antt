@@ -1,2 +1,4 @@
+mod CacheRuns
 mod Findings
 mod InputRuns
+mod StreamParts

@@ -1,3 +1,3 @@
 -- What the parts of a run promise each other.
 pub mod Adding
-pub mod Inputs
+pub mod StreamParts

@@ -21,7 +21,7 @@ use krb_token::{Found, open};
 use std::alloc::Global;
 
 /// The greatest number of octets of a message.
-const MOST_OCTETS: usize = 2147483647;
+pub(crate) const MOST_OCTETS: usize = 2147483647;
 
 /// Returns whether an EncryptedData is encrypted: its encryption type is not 0.
 fn is_sealed(sealed: &EncryptedDataView<'_>) -> bool
@@ -47,7 +47,7 @@ pub(crate) fn put_octets(parts: &mut Parts, profile: Profile, octets: &[u8]) -> 
 }
 
 /// Adds the line of a Ticket, or that it is not encrypted, by a view of its octets.
-fn put_ticket(
+pub(crate) fn put_ticket(
     parts: &mut Parts,
     origin: &str,
     path: &str,

@@ -5,7 +5,7 @@ ghost use Rattle.krb_input.specs.Inputs.{spelled};
 ghost use Rattle.krb_run.specs.declared.transfer.ReaderState.TheVariants as reader;
 ghost use Rattle.krb_decode.specs.Decoded.{accepted, decoded_input, decoded_octets, decoded_spelled, end_of, refused};
 ghost use Rattle.krb_decode.specs.Runs.{DecodesInput, FailsToDecodeInput};
-ghost use Rattle.krb_decode.specs.inner.Inputs.{decoded_of};
+ghost use Rattle.krb_decode.specs.Given.{decoded_given, decoded_of};
 
 use crate::found::put_octets;
 use crate::parts::Parts;
@@ -14,7 +14,7 @@ use krb_der::Profile;
 use krb_input::{InputFault, read_input};
 use krb_record::{Form, Label};
 use krb_run::{CountedReader, RunEnd, RunFault, write_all};
-use krb_tool::run_message_in;
+use krb_tool::{list_octets, run_message_in};
 use std::alloc::Global;
 use std::io::{Read, Write};
 
@@ -32,9 +32,11 @@ pub struct InputEnd {
 
 /// What is decoded of an input.
 #[derive(Drop)]
-struct DecodedInput {
-    lines: Vec<u8>,
-    end: InputEnd,
+pub struct DecodedInput {
+    /// Lines of JSON, of messages or Tickets.
+    pub lines: Vec<u8>,
+    /// What is said of it.
+    pub end: InputEnd,
 }
 
 /// Decodes one message of a profile that an input spells, as `krb_tool` reads it: writes its line of
@@ -87,6 +89,24 @@ fn decode_input(alloc: Global, profile: Profile, input: &[u8]) -> Result<Decoded
     }
 }
 
+/// Returns what is decoded of octets that are a message, a Ticket or a token, and are never read as
+/// text: what their listing says if they are refused, and else what they are.
+pub fn decode_given(
+    alloc: Global,
+    profile: Profile,
+    octets: &[u8],
+) -> Result<DecodedInput, RunFault>
+    ensures { IfOk result (λ made. decoded_of made ≡ decoded_given profile octets.now) }
+{
+    let listed = list_octets(alloc, Form::NamedLines, profile, octets)?;
+    match listed.end {
+        RunEnd::Clean => decode_octets(alloc, profile, octets),
+        RunEnd::Refused | RunEnd::RefusedAtOnce => {
+            Ok(refused(alloc, listed.text.into_string().into_bytes()))
+        }
+    }
+}
+
 /// Returns no line, of an input of whose refusal this is said.
 fn refused(alloc: Global, said: Vec<u8>) -> DecodedInput
     ensures { decoded_of result ≡ refused said.items }
@@ -130,8 +150,8 @@ fn finished(parts: Parts) -> DecodedInput
     }
 }
 
-/// Returns how a run ends that accepts an input of which something is said, or nothing.
-fn end_of(said: &[u8]) -> RunEnd
+/// Returns how a run ends that accepts a source of which something is said, or nothing.
+pub(crate) fn end_of(said: &[u8]) -> RunEnd
     ensures { result ≡ end_of said.now }
 {
     if said.is_empty() {

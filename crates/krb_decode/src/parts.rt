@@ -1,18 +1,23 @@
 //! What is decoded of a source: the lines that are written, and those that are said.
 
-ghost use Rattle.std.specs.Prelude.{◌≡◌, ◌^◌, ◌<◌, ◌++◌, [], length, OnOk};
+ghost use Rattle.std.specs.Prelude.{◌≡◌, ◌^◌, ◌<◌, ◌++◌, [], length, OnErr, OnOk};
+ghost use Rattle.std.specs.Io.KnownBytes.{Appends};
 ghost use Rattle.krb_msg.specs.Grammar.{ticket};
 ghost use Rattle.krb_msg.specs.Term.{Fits, Value, der};
 ghost use Rattle.krb_msg.specs.Views.{message_der, IsInProfile};
 ghost use Rattle.krb_msg.specs.declared.message.Message.{Message};
 ghost use Rattle.krb_json.specs.Lines.{line_of};
+ghost use Rattle.krb_run.specs.Records.{AppendsPrefix};
+ghost use Rattle.krb_decode.specs.Caches.{absent_field};
 ghost use Rattle.krb_decode.specs.Decoded.{decoded_message, not_encrypted, printed, said, ticket_line};
 ghost use Rattle.krb_decode.specs.inner.Adding.{Adds};
 
 use krb_der::{Memory, Profile};
 use krb_json::{put_text, put_ticket_text, unencrypted_path};
 use krb_record::TextBuffer;
+use krb_run::{RunFault, write_all};
 use std::alloc::Global;
+use std::io::Write;
 use std::mem;
 
 /// What is decoded of a source.
@@ -56,6 +61,27 @@ impl Parts {
         self.said.push_str(origin)?;
         self.said.push_str(path)?;
         self.said.push_str(": not encrypted, and so not printed\n")?;
+        Ok(())
+    }
+
+    /// Adds that what has an origin is absent.
+    pub(crate) fn put_absent(&mut self, origin: &str) -> Result<(), Memory>
+        ensures { OnOk result (Adds (said (absent_field origin.now)) self.old self.new) }
+    {
+        self.said.push_str(origin)?;
+        self.said.push_str("absent\n")?;
+        Ok(())
+    }
+
+    /// Writes the lines, and forgets them.
+    pub(crate) fn write_lines<W: Write>(&mut self, writer: &mut W) -> Result<(), RunFault>
+        ensures all { OnOk result (Appends (W.contents writer.old) (W.contents writer.new) self.old.lines.items) }
+        ensures none_kept { OnOk result (self.new.lines.items ≡ []) }
+        ensures prefix { OnErr result (AppendsPrefix (W.contents writer.old) (W.contents writer.new) self.old.lines.items) }
+        ensures same_said { self.new.said ≡ self.old.said }
+    {
+        write_all(writer, self.lines.as_slice())?;
+        self.lines.clear();
         Ok(())
     }
 

@@ -3,7 +3,7 @@
 ghost use Rattle.std.specs.Prelude.{◌≡◌, ℕ, List, Some};
 ghost use Rattle.krb_ccache.specs.Streaming.{Reads};
 ghost use Rattle.krb_record.specs.Labels.{no_label};
-ghost use Rattle.krb_run.specs.Records.{ListsRecords};
+ghost use Rattle.krb_run.specs.Records.{ListsRecords, WritesSome};
 ghost use Rattle.krb_file_run.specs.Files.{IsCcacheRest, IsKeytabRest, field_limit, keytab_listing, ccache_listing};
 ghost use Rattle.krb_file_run.specs.inner.RecordRuns.{AreRecordsLeft, AreCredentialsLeft, CacheSource, FailsInCredential, FailsInRecord, KeytabSource};
 
@@ -108,6 +108,7 @@ pub fn run_keytab<R: Read, W: Write>(
     writer: &mut W,
 ) -> Result<RunEnd, RunFault>
     ensures listed { (file : List ℕ) → R.remaining reader.old ≡ Some file → ListsRecords (keytab_listing (no_label Form.Lines) file) (IsKeytabRest (no_label Form.Lines) file) (W.contents writer.old) (W.contents writer.new) result }
+    ensures written { WritesSome (W.contents writer.old) (W.contents writer.new) }
 {
     run_keytab_in(alloc, &Label::none(Form::Lines), reader, writer)
 }
@@ -124,6 +125,7 @@ pub fn run_keytab_in<R: Read, W: Write>(
     writer: &mut W,
 ) -> Result<RunEnd, RunFault>
     ensures listed { (file : List ℕ) → R.remaining reader.old ≡ Some file → ListsRecords (keytab_listing label.now file) (IsKeytabRest label.now file) (W.contents writer.old) (W.contents writer.new) result }
+    ensures written { WritesSome (W.contents writer.old) (W.contents writer.new) }
 {
     let watch = Watch::new();
     let watch = &watch;
@@ -145,6 +147,7 @@ fn list_credentials<R: Read + Drop, W: Write>(
     writer: &mut W,
 ) -> Result<RunEnd, RunFault>
     ensures listed { (file : List ℕ) → Reads field_limit lines.old.credentials.reader lines.old.credentials.start lines.old.credentials.state file 0 → ListsRecords (ccache_listing lines.old.label.now lines.old.now file) (IsCcacheRest lines.old.label.now lines.old.now file) (W.contents writer.old) (W.contents writer.new) result }
+    ensures written { WritesSome (W.contents writer.old) (W.contents writer.new) }
 {
     let mut text = TextBuffer::new(alloc);
     let cache = &lines.credentials;
@@ -161,6 +164,7 @@ pub fn run_ccache<R: Read, W: Write>(
     now: Option<u32>,
 ) -> Result<RunEnd, RunFault>
     ensures listed { (file : List ℕ) → R.remaining reader.old ≡ Some file → ListsRecords (ccache_listing (no_label Form.Lines) now file) (IsCcacheRest (no_label Form.Lines) now file) (W.contents writer.old) (W.contents writer.new) result }
+    ensures written { WritesSome (W.contents writer.old) (W.contents writer.new) }
 {
     run_ccache_in(alloc, &Label::none(Form::Lines), reader, writer, now)
 }
@@ -177,6 +181,7 @@ pub fn run_ccache_in<R: Read, W: Write>(
     now: Option<u32>,
 ) -> Result<RunEnd, RunFault>
     ensures listed { (file : List ℕ) → R.remaining reader.old ≡ Some file → ListsRecords (ccache_listing label.now now file) (IsCcacheRest label.now now file) (W.contents writer.old) (W.contents writer.new) result }
+    ensures written { WritesSome (W.contents writer.old) (W.contents writer.new) }
 {
     let watch = Watch::new();
     let watch = &watch;

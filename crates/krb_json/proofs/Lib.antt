@@ -5,6 +5,7 @@ pub mod Fit
 pub mod KindTexts
 pub mod Printable
 mod Texts
+mod TicketLaws
 pub mod Messages
 mod FirstOctets
 mod Walks
@@ -15,6 +16,7 @@ mod Searches
 mod ReadLemmas
 mod ReadLists
 mod ReadMessages
+mod ReadTickets
 mod NumberTexts
 mod ScalarLemmas
 mod Unshown

@@ -1,10 +1,12 @@
 -- The laws of the JSON of messages. Each is the contract of a function of the module `law`.
-use Rattle.std.specs.Prelude.{ℕ, ◌+◌, ◌*◌, ◌<◌, ◌≤◌, ◌≡◌, ◌^◌, ◌&&◌, not, pos, negsuc, nat_lt, nat_le, int_le, Bool, true, List, take, length, Some, None, Ok}
+use Rattle.std.specs.Prelude.{ℕ, ◌+◌, ◌*◌, ◌<◌, ◌≤◌, ◌≡◌, ◌^◌, ◌⊎◌, ◌&&◌, not, pos, negsuc, nat_lt, nat_le, int_le, Bool, true, false, List, take, length, Some, None, Ok}
 use Rattle.std.specs.List.{list_all, AllByRecursion}
 use Rattle.std.specs.Str.{bytes_eq}
 use Rattle.json.specs.Json.{Json, document}
 use Rattle.json.specs.Strict.{HasUniqueKeys}
 use Rattle.krb_der.specs.declared.profile.Profile.{Profile}
+use Rattle.krb_msg.specs.Grammar.{ticket}
+use Rattle.krb_msg.specs.Profiles.{profile_term}
 use Rattle.krb_msg.specs.Term.{Term, Fields, Integer, Text, Octets, Time, Bits, Sequence, SequenceOf, Tagged, Application, End, Required, Optional, Value, Fits, der}
 use Rattle.krb_msg.specs.Views.{kind_term_in, message_der, IsInProfile}
 use Rattle.krb_msg.specs.declared.message.Kind.{Kind}
@@ -17,6 +19,7 @@ use Rattle.krb_json.specs.Lines.{message_text, line_spells, value_of_line}
 use Rattle.krb_json.specs.Masked.{masked_in}
 use Rattle.krb_json.specs.Reordered.{Reordered}
 use Rattle.krb_json.specs.OtherCase.{MessageInOtherCase}
+use Rattle.krb_json.specs.Tickets.{line_octets}
 use Rattle.krb_json.specs.Unencrypted.{unencrypted_in}
 
 -- ---- terms and names
@@ -84,6 +87,24 @@ pub record IsSpelled (profile : Profile) (limit : ℕ) (m : Message) : Type 0 wh
 
 abbrev pub LinesSpellMessages : Type 0
 LinesSpellMessages = (profile : Profile) (limit : ℕ) (text : List ℕ) (m : Message) → limit < 2147483648 → line_spells profile limit text ≡ Ok m → IsSpelled profile limit m
+
+-- Octets are those of such a message.
+pub record AreOfMessage (profile : Profile) (limit : ℕ) (octets : List ℕ) : Type 0 where
+  pub message : Message
+  pub spelled : IsSpelled profile limit message
+  pub form : octets ≡ message_der message
+
+-- Octets are the DER of a Ticket of the profile, no more than the limit.
+pub record AreOfTicket (profile : Profile) (limit : ℕ) (octets : List ℕ) : Type 0 where
+  pub value : Value (profile_term profile false ticket)
+  pub fits : Fits (profile_term profile false ticket) value
+  pub form : octets ≡ der (profile_term profile false ticket) value
+  pub short : length octets ≤ limit
+
+-- Where a line may spell a Ticket, too, it spells the one or the other, and each message as before.
+pub record LinesSpellOctets : Type 0 where
+  pub some : (profile : Profile) (limit : ℕ) (text octets : List ℕ) → limit < 2147483648 → line_octets profile limit text ≡ Ok octets → AreOfMessage profile limit octets ⊎ AreOfTicket profile limit octets
+  pub messages : (profile : Profile) (limit : ℕ) (text : List ℕ) (m : Message) → line_spells profile limit text ≡ Ok m → line_octets profile limit text ≡ Ok (message_der m)
 
 -- Of two messages that differ in nothing but the ciphers of EncryptedDatas of encryption type 0 the first path to one is the same; and if there is none, so is the text.
 pub record UnencryptedChangesNothing : Type 0 where

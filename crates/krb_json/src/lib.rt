@@ -6,6 +6,7 @@
 //! - [`read_line`] returns the DER of the message that a line spells, or the line's first fault
 //!   ([`LineFault`]). Members may come in any order; what `put_text` writes comes back. The memory
 //!   in which it reads ([`Scratch`]) is the caller's, who keeps it from line to line.
+//!   [`read_line_or_ticket`] takes a Ticket, too.
 //! - [`unencrypted_path`] returns where a message has an EncryptedData of encryption type 0, which
 //!   encrypts nothing. Look there before you show a text: a KRB-CRED may have session keys in it.
 //!
@@ -24,6 +25,7 @@ mod members;
 mod reading;
 mod scalars;
 mod ticket;
+mod ticket_reading;
 mod value_fault;
 mod writing;
 mod wrong;
@@ -33,5 +35,6 @@ pub use json::Scratch;
 pub use line_fault::{Fault, LineFault};
 pub use reading::read_line;
 pub use ticket::put_ticket_text;
+pub use ticket_reading::read_line_or_ticket;
 pub use writing::put_text;
 pub use wrong::Wrong;

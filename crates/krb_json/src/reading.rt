@@ -60,7 +60,7 @@ pub fn read_line(
 }
 
 /// Returns the name and the value of the sole member of an object.
-fn sole_member<'v, 'a>(value: &'v Value<'a>) -> Option<(&'a str, &'v Value<'a>)>
+pub(crate) fn sole_member<'v, 'a>(value: &'v Value<'a>) -> Option<(&'a str, &'v Value<'a>)>
     requires { HasNumbers (value_view value.now) }
     ensures sole { option_map (λ sole. (sole.0.now, value_view sole.1.now)) result ≡ option_and_then sole_member (as_object (value_view value.now)) }
     ensures numbers { IfSome result (λ sole. HasNumbers (value_view sole.1.now)) }
@@ -83,7 +83,7 @@ fn kind_named(name: &str) -> Option<Kind>
 }
 
 /// Returns the DER octets of the message that a value spells, or what is wrong with it.
-fn read_object(
+pub(crate) fn read_object(
     alloc: Global,
     profile: Profile,
     limit: u32,
@@ -147,7 +147,7 @@ fn within(alloc: Global, limit: u32, kind: Kind, octets: Vec<u8>) -> Result<Vec<
 
 /// Appends the DER octets of the value of a node's term that a JSON value spells.
 #[cycle(read)]
-fn read_item(
+pub(crate) fn read_item(
     alloc: Global,
     out: &mut Vec<u8>,
     node: u16,

@@ -16,6 +16,9 @@ use krb_msg::first_item;
 use krb_msg::grammar::{Row, tag_of};
 use std::alloc::{AllocError, Global};
 
+/// The name of a Ticket in an object.
+pub(crate) const TICKET: &str = "Ticket";
+
 /// The node of a Ticket (RFC 4120, 5.3).
 const NODE: u16 = Row::Ticket as u16;
 
@@ -49,7 +52,7 @@ fn put_ticket(alloc: Global, out: &mut Writer, octets: &[u8]) -> Result<(), Allo
         return Ok(());
     };
     out.begin_object()?;
-    out.key("Ticket")?;
+    out.key(TICKET)?;
     let mut room = Vec::with_capacity(alloc, 2 * octets.len())?;
     put_contents(alloc, &mut room, out, node, Names::Ticket, contents)?;
     out.end_object()

@@ -11,7 +11,7 @@ use Rattle.krb_run.specs.declared.run.RunEnd.{RunEnd}
 use Rattle.krb_run.specs.declared.run.RunFault.{RunFault}
 use Rattle.krb_run.specs.declared.run.RunFault.TheVariants as fault
 use Rattle.krb_run.specs.Faults.{IsFaultAt, IsRead, IsWrite}
-use Rattle.krb_run.specs.Records.{AddsLine, AddsRefusal, IsRefusal, RecordListing, text_of, after_line, AppendsPrefix, ListsFirst, ListsRecords}
+use Rattle.krb_run.specs.Records.{AddsLine, AddsRefusal, IsRefusal, RecordListing, text_of, after_line, AppendsPrefix, ListsFirst, ListsRecords, WritesSome}
 use Rattle.krb_run.specs.inner.RecordRuns.{Moves, WritesBefore}
 
 -- ---- what a run has written
@@ -164,3 +164,30 @@ pub refusal_is : (label : Label) (fault : FileFault) (listing : RecordListing) (
 refusal_is label faults.Read listing text ended is adds = absurd adds
 refusal_is label faults.Memory listing text ended is adds = absurd adds
 refusal_is label (faults.Refused fault) listing text ended is adds = (adds.1 ∙ ap text_of (sym is), adds.0 ∙ ap (λ (l : RecordListing). l.end) (sym is))
+
+-- ---- what is written only grows
+pub some-none : (written : Option (List ℕ)) → WritesSome written written
+some-none written = ([], Appends-nil written)
+
+pub some-same : (written_before written_after : Option (List ℕ)) → written_after ≡ written_before → WritesSome written_before written_after
+some-same written_before written_after same = subst (WritesSome written_before) (sym same) (some-none written_before)
+
+pub some-then : (written_before written_after after : Option (List ℕ)) → WritesSome written_before written_after → WritesSome written_after after → WritesSome written_before after
+some-then written_before written_after after first second = (first.0 ++ second.0, Appends-trans written_before written_after after first.0 second.0 first.1 second.1)
+
+pub some-moved : (written_before written_after : Option (List ℕ)) (old new : List ℕ) → Moves written_before written_after old new → WritesSome written_before written_after
+some-moved written_before written_after old new moves = (moves.0, moves.1)
+
+pub some-prefix : (written_before written_after : Option (List ℕ)) (text : List ℕ) → AppendsPrefix written_before written_after text → WritesSome written_before written_after
+some-prefix written_before written_after text prefix = (prefix.prefix, prefix.added)
+
+-- before a fault
+pub some-before : (e : RunFault) (written_before written_after : Option (List ℕ)) (text : List ℕ) (result : Result RunEnd RunFault) → WritesBefore e written_before written_after text result → WritesSome written_before written_after
+some-before (fault.Read e) written_before written_after text (Ok ended) w = absurd w
+some-before (fault.Read e) written_before written_after text (Err (fault.Read last)) w = (text, w)
+some-before (fault.Read e) written_before written_after text (Err (fault.Write last)) w = some-prefix written_before written_after text w
+some-before (fault.Read e) written_before written_after text (Err fault.Memory) w = absurd w
+some-before (fault.Write e) written_before written_after text (Ok ended) w = absurd w
+some-before (fault.Write e) written_before written_after text (Err last) w = absurd w
+some-before fault.Memory written_before written_after text (Ok ended) w = absurd w
+some-before fault.Memory written_before written_after text (Err last) w = some-same written_before written_after w.1

@@ -44,6 +44,10 @@ refused_listing label refusal = record { lines = []; last = fault_line label ref
 
 -- ---- what a run does
 
+-- What is written only grows: octets were appended to it, or none.
+abbrev pub WritesSome : Option (List ℕ) → Option (List ℕ) → Type 0
+WritesSome written_before written_after = (written : List ℕ) × Appends written_before written_after written
+
 -- A prefix of a text was appended to what is written. It may be all of the text, or none.
 pub record AppendsPrefix (written_before written_after : Option (List ℕ)) (text : List ℕ) : Type 0 where
   pub prefix : List ℕ

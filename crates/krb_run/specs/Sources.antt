@@ -24,23 +24,26 @@ Outcome = Result RunEnd RunFault
 abbrev pub Run : Type 1
 Run = Option (List ℕ) → Option (List ℕ) → Outcome → Type 0
 
--- ---- one source among several
+-- ---- a line before the listing of a source
 
--- The line of a name was not written whole, since a write failed or memory ran out.
-abbrev pub FailsName : Form → List ℕ → Option (List ℕ) → Option (List ℕ) → RunFault → Type 0
-FailsName form name written_before written_after (fault.Read error) = ⊥
-FailsName form name written_before written_after (fault.Write error) = AppendsPrefix written_before written_after (file_line form name)
-FailsName form name written_before written_after fault.Memory = written_after ≡ written_before
+-- It was not written whole, since a write failed or memory ran out.
+abbrev pub FailsLine : (line : List ℕ) → Option (List ℕ) → Option (List ℕ) → RunFault → Type 0
+FailsLine line written_before written_after (fault.Read error) = ⊥
+FailsLine line written_before written_after (fault.Write error) = AppendsPrefix written_before written_after line
+FailsLine line written_before written_after fault.Memory = written_after ≡ written_before
 
--- The line of the name was written, and then the source was listed.
-pub record ListsNamed (form : Form) (Lists : Run) (name : List ℕ) (written_before written_after : Option (List ℕ)) (outcome : Outcome) : Type 0 where
+-- It was written, and then the source was listed.
+pub record ListsNext (line : List ℕ) (Lists : Run) (written_before written_after : Option (List ℕ)) (outcome : Outcome) : Type 0 where
   pub between : Option (List ℕ)
-  pub named : Appends written_before between (file_line form name)
+  pub begun : Appends written_before between line
   pub listed : Lists between written_after outcome
 
-abbrev pub FailsFirst : Form → List ℕ → Run
-FailsFirst form name written_before written_after (Ok ended) = ⊥
-FailsFirst form name written_before written_after (Err fault) = FailsName form name written_before written_after fault
+abbrev pub FailsFirst : (line : List ℕ) → Run
+FailsFirst line written_before written_after (Ok ended) = ⊥
+FailsFirst line written_before written_after (Err fault) = FailsLine line written_before written_after fault
+
+abbrev pub ListsAfterLine : (line : List ℕ) → Run → Run
+ListsAfterLine line Lists written_before written_after outcome = ListsNext line Lists written_before written_after outcome ⊎ FailsFirst line written_before written_after outcome
 
 -- ---- with a label in each of its records
 
@@ -82,7 +85,7 @@ unnamed = record { has_record = false; has_label = false }
 
 abbrev pub ListsAfter : Form → (has_record : Bool) → (name : List ℕ) → Run → Run
 ListsAfter form false name Lists written_before written_after outcome = Lists written_before written_after outcome
-ListsAfter form true name Lists written_before written_after outcome = ListsNamed form Lists name written_before written_after outcome ⊎ FailsFirst form name written_before written_after outcome
+ListsAfter form true name Lists written_before written_after outcome = ListsAfterLine (file_line form name) Lists written_before written_after outcome
 
 -- a source is listed after the line of its name, if it has one, with a label, if its records have one
 abbrev pub ListsOne : Form → Named → (name : List ℕ) → (Label → Run) → Run

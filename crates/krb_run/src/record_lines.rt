@@ -6,7 +6,7 @@ ghost use Rattle.std.specs.Option.{option_map};
 ghost use Rattle.krb_run.specs.Begun.{octets_of};
 ghost use Rattle.krb_run.specs.Extents.{fault_line};
 ghost use Rattle.krb_run.specs.Faults.{IsFaultAt, IsRead, IsWrite};
-ghost use Rattle.krb_run.specs.Records.{AddsLine, AddsRefusal, AppendsPrefix, IsRefusal, ListsRecords, RecordListing, WasLeft, after_line, refused_in};
+ghost use Rattle.krb_run.specs.Records.{AddsLine, AddsRefusal, AppendsPrefix, IsRefusal, ListsRecords, RecordListing, WasLeft, WritesSome, after_line, refused_in};
 ghost use Rattle.krb_run.specs.inner.RecordRuns.{Moves, WritesBefore};
 
 use crate::extent::extent_of;
@@ -273,6 +273,7 @@ pub fn list_records<L: RecordLines, W: Write>(
     writer: &mut W,
 ) -> Result<RunEnd, RunFault>
     ensures listed { (source : L.Source) (left : RecordListing) → L.IsLeft lines.old 0 source left → ListsRecords (after_line text.old left) (WasLeft L.IsLeft L.Fails source lines.new) (W.contents writer.old) (W.contents writer.new) result }
+    ensures written { WritesSome (W.contents writer.old) (W.contents writer.new) }
 {
     'records: for count in 0..MOST_ASKS {
         let is_due = watch.may_wait() | (text.octets().len() >= PIECE_OCTETS);
@@ -299,6 +300,7 @@ pub fn list_refusal<W: Write>(
     writer: &mut W,
 ) -> Result<RunEnd, RunFault>
     ensures listed { (listing : RecordListing) → IsRefusal label.now fault listing → ListsRecords listing (λ left. left ≡ listing) (W.contents writer.old) (W.contents writer.new) result }
+    ensures written { WritesSome (W.contents writer.old) (W.contents writer.new) }
     ensures fault { IfErr result (λ e. IsFaultAt fault e ⊎ IsWrite e) }
 {
     let mut text = TextBuffer::new(alloc);

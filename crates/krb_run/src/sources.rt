@@ -3,7 +3,7 @@
 ghost use Rattle.std.specs.Prelude.{◌≡◌, ℕ, List, length, IfErr, IfOk, OnOk, true};
 ghost use Rattle.std.specs.Io.KnownBytes.{Appends};
 ghost use Rattle.krb_record.specs.Files.{file_line};
-ghost use Rattle.krb_run.specs.Sources.{Run, FailsName, ListsAfter, ListsLabelled, ListsOne, Reports, ListsEach, ends_run, label_of, named_of, names_of, unnamed};
+ghost use Rattle.krb_run.specs.Sources.{Run, FailsLine, ListsAfter, ListsLabelled, ListsOne, Reports, ListsEach, ends_run, label_of, named_of, names_of, unnamed};
 
 use crate::naming::Naming;
 use crate::run::{RunEnd, RunFault, status};
@@ -47,7 +47,7 @@ fn write_name<W: Write>(
     writer: &mut W,
 ) -> Result<(), RunFault>
     ensures written { OnOk result (Appends (W.contents writer.old) (W.contents writer.new) (file_line form name.now)) }
-    ensures fault { IfErr result (FailsName form name.now (W.contents writer.old) (W.contents writer.new)) }
+    ensures fault { IfErr result (FailsLine (file_line form name.now) (W.contents writer.old) (W.contents writer.new)) }
 {
     let mut line = TextBuffer::new(alloc);
     put_file(&mut line, form, name)?;

@@ -90,7 +90,8 @@ fn named(command: &Command) -> (&str, Option<u32>) {
         Command::Keytab => ("keytab", None),
         Command::Ccache(when) => timed("ccache", "ccache now", *when),
         Command::Capture(limit, profile, _) => (capture_name(*profile), Some(limit.get())),
-        Command::Decode(limit, profile, framing) => (
+        Command::Decode(limit, _, _, AfterRefusal::GoesOn, _) => ("decode on", Some(limit.get())),
+        Command::Decode(limit, profile, framing, ..) => (
             conversion_name(true, *profile, *framing),
             Some(limit.get()),
         ),
@@ -107,6 +108,15 @@ fn named(command: &Command) -> (&str, Option<u32>) {
 fn port_of(command: &Command) -> Option<u16> {
     match command {
         Command::Capture(_, _, port) => Some(*port),
+        Command::Decode(_, _, Framing::Framed, _, packets) => Some(packets.port),
+        _ => None,
+    }
+}
+
+/// Returns the number of the one packet of which a command decodes messages, if it is one alone.
+fn packet_of(command: &Command) -> Option<u32> {
+    match command {
+        Command::Decode(.., packets) => packets.number,
         _ => None,
     }
 }
@@ -152,6 +162,10 @@ fn shown_command_line(alloc: Global, command_line: &CommandLine) -> Result<Strin
     };
     if let Some(port) = port_of(&command_line.command) {
         let text = format!(in alloc; " {port}")?;
+        shown.push_str(text.as_str())?;
+    }
+    if let Some(packet) = packet_of(&command_line.command) {
+        let text = format!(in alloc; " packet {packet}")?;
         shown.push_str(text.as_str())?;
     }
     shown.push_str(form_name(command_line.form))?;
@@ -247,7 +261,10 @@ capture --limit 30 --port=65535 --json => capture 30 65535 json, -
 capture --names --port +0001 => capture 16777216 1 named, -
 capture --strict a => strict capture 16777216 88, a
 capture --port 90 --strict --limit=30 => strict capture 30 90, -
-decode a b => decode 16777216, a, b
+decode a b => decode 16777216 88, a, b
+decode --strict FILE:a => strict decode 16777216 88, FILE:a at a
+decode --keep-going --port 750 --packet 7 => decode on 16777216 750 packet 7, -
+decode --packet 4294967295 => decode 16777216 88 packet 4294967295, -
 decode --strict --limit 30 --unframed => strict decode one 30, -
 encode --unframed --file a => encode one 16777216, a
 encode --strict - => strict encode 16777216, -

@@ -3,7 +3,7 @@ use Rattle.std.proofs.Common.{◌≡◌, ℕ, List, [], ◌∷◌, ◌++◌, Opt
 use Rattle.krb_file.specs.Fields.{Fault}
 use Rattle.krb_packet.specs.Captures.{packets}
 use Rattle.krb_packet.specs.declared.packet.Packet.{Packet}
-use Rattle.krb_record.specs.Labels.{Label}
+use Rattle.krb_capture.specs.Labels.{Label}
 use Rattle.krb_capture.specs.Captures.{Finding, Progress, Settings, at_first, end_taken, end_text, happened_each, lines_of, packet_told, refusal_text}
 use Rattle.krb_capture.specs.Flows.{moment_due}
 use Rattle.krb_capture.specs.Happened.{end_lines, told_at_first}

@@ -1,5 +1,5 @@
 -- What is encoded is messages of the profile.
-use Rattle.std.proofs.Common.{◌≡◌, ℕ, ◌+◌, ◌^◌, ◌<◌, ◌⊎◌, inl, inr, Bool, true, false, List, [], ◌∷◌, ◌++◌, length, map, None, Result, Ok, Err, refl, ◌∙◌, ap, subst, arith, append-nil}
+use Rattle.std.proofs.Common.{◌≡◌, ℕ, ◌+◌, ◌^◌, ◌<◌, ◌⊎◌, inl, inr, Bool, true, false, List, [], ◌∷◌, ◌++◌, length, map, None, Result, Ok, Err, refl, sym, ◌∙◌, ap, subst, arith, append-nil}
 use Rattle.std.specs.Prelude.{nat_lt}
 use Rattle.std.specs.List.{AllByRecursion, flat_map}
 use Rattle.krb_der.specs.Octets.{AreOctets, when}
@@ -17,8 +17,9 @@ use Rattle.krb_msg.proofs.MessageOfDer.{message_of_der_is_message}
 use Rattle.krb_msg.proofs.Messages.{IsWhole-message}
 use Rattle.krb_msg.proofs.Streams.{IsMessage, frames-frame}
 use Rattle.krb_frame.specs.Frame.{framed}
-use Rattle.krb_json.specs.Laws.{IsSpelled, LinesSpellMessages}
+use Rattle.krb_json.specs.Laws.{IsSpelled, LinesSpellMessages, LinesSpellOctets}
 use Rattle.krb_json.specs.Lines.{LineFault, line_of, line_spells}
+use Rattle.krb_json.specs.Tickets.{as_octets, line_octets}
 use Rattle.krb_json.specs.Unencrypted.{unencrypted_in}
 use Rattle.krb_run.specs.Conversions.{Converted}
 use Rattle.krb_convert.specs.Decoding as decoding
@@ -26,7 +27,7 @@ use Rattle.krb_convert.specs.Decoding.{AllAreEncrypted, decoded, ending_at}
 use Rattle.krb_run.specs.TextLines.{lines_of}
 use Rattle.krb_convert.specs.Encoding.{Ending, All, LongLine, SecondMessage, most_of_line, message_and, encoded_lines, encoded}
 use Rattle.krb_run.specs.TextLines.{is_blank_line}
-use Rattle.krb_convert.specs.Laws.{AreFrames, EncodedIsMessages, IsOneMessage}
+use Rattle.krb_convert.specs.Laws.{AreFrames, EncodedIsMessages, IsAlone}
 use Rattle.krb_tool.specs.Paths.{found_path}
 use Rattle.krb_convert.specs.inner.JsonLines.{octets_line}
 use Rattle.krb_convert.proofs.DecodedFrames.{decoded-all, stream_ending}
@@ -90,12 +91,12 @@ are_frames profile limit octets m =
     let found = ap (frames (messages profile) limit) m.form ∙ frames_of profile limit m.those m.spelled in
     record { framed_messages = m.those; spelled = m.spelled; form = m.form; found = found; lines = decoded_of profile limit octets m.those found m.spelled }
 
-module _ (spell : LinesSpellMessages) (profile : Profile) (limit : ℕ) (small : limit < 2 ^ 31) where
+module _ (spell : LinesSpellMessages) (spell_octets : LinesSpellOctets) (profile : Profile) (limit : ℕ) (small : limit < 2 ^ 31) where
   -- as frames
   none : Messages profile limit []
   none = record { those = []; spelled = tt; form = refl }
 
-  message_first : (number : ℕ) (line : List ℕ) (spells : Result Message LineFault) (others : Converted Ending) → line_spells profile limit line ≡ spells → Messages profile limit others.text → Messages profile limit (message_and true number spells others).text
+  message_first : (number : ℕ) (line : List ℕ) (spells : Result Message LineFault) (others : Converted Ending) → line_spells profile limit line ≡ spells → Messages profile limit others.text → Messages profile limit (message_and true number (as_octets spells) others).text
   message_first number line (Ok m) others is rest = record {
     those = m ∷ rest.those;
     spelled = (spell profile limit line m small is, rest.spelled);
@@ -103,7 +104,7 @@ module _ (spell : LinesSpellMessages) (profile : Profile) (limit : ℕ) (small :
   }
   message_first number line (Err fault) others is rest = none
 
-  line_first : (number : ℕ) (line : List ℕ) (long blank : Bool) (after others : Converted Ending) → Messages profile limit after.text → Messages profile limit others.text → Messages profile limit (when long (λ _. too_long limit number) (λ _. when blank (λ _. after) (λ _. message_and true number (line_spells profile limit line) others))).text
+  line_first : (number : ℕ) (line : List ℕ) (long blank : Bool) (after others : Converted Ending) → Messages profile limit after.text → Messages profile limit others.text → Messages profile limit (when long (λ _. too_long limit number) (λ _. when blank (λ _. after) (λ _. message_and true number (as_octets (line_spells profile limit line)) others))).text
   line_first number line true blank after others a o = none
   line_first number line false true after others a o = a
   line_first number line false false after others a o = message_first number line (line_spells profile limit line) others refl o
@@ -118,8 +119,8 @@ module _ (spell : LinesSpellMessages) (profile : Profile) (limit : ℕ) (small :
   stream_encoded text = are_frames profile limit (encoded true profile limit text).text (all_lines_first 1 false (lines_of text))
 
   -- or one alone
-  abbrev IsAlone : Converted Ending → Type 0
-  IsAlone converted = ((converted.text ≡ []) × (converted.end ≡ All → ⊥)) ⊎ IsOneMessage profile limit converted.text
+  abbrev IsOne : Converted Ending → Type 0
+  IsOne converted = ((converted.text ≡ []) × (converted.end ≡ All → ⊥)) ⊎ IsAlone profile limit converted.text
 
   blank_or_second : (long blank : Bool) (number : ℕ) (after : Converted Ending) → after.text ≡ [] → (when long (λ _. too_long limit number) (λ _. when blank (λ _. after) (λ _. second number))).text ≡ []
   blank_or_second true blank number after empty = refl
@@ -130,42 +131,42 @@ module _ (spell : LinesSpellMessages) (profile : Profile) (limit : ℕ) (small :
   nothing_after number [] = refl
   nothing_after number (line ∷ lines) = blank_or_second (nat_lt (most_of_line limit) (length line)) (is_blank_line line) number (encoded_lines false profile limit (number + 1) true lines) (nothing_after (number + 1) lines)
 
-  message_alone : (number : ℕ) (line : List ℕ) (spells : Result Message LineFault) (others : Converted Ending) → line_spells profile limit line ≡ spells → others.text ≡ [] → IsAlone (message_and false number spells others)
-  message_alone number line (Ok m) others is rest =
-      inr (record { message = m; spelled = spell profile limit line m small is; form = ap (λ text. message_der m ++ text) rest ∙ append-nil (message_der m) })
+  message_alone : (number : ℕ) (line : List ℕ) (spells : Result (List ℕ) LineFault) (others : Converted Ending) → line_octets profile limit line ≡ spells → others.text ≡ [] → IsOne (message_and false number spells others)
+  message_alone number line (Ok octets) others is rest =
+      inr (subst (IsAlone profile limit) (sym (ap (λ text. octets ++ text) rest ∙ append-nil octets)) (spell_octets.some profile limit line octets small is))
   message_alone number line (Err fault) others is rest = inl (refl, λ e. cc)
 
-  line_alone : (number : ℕ) (line : List ℕ) (long blank : Bool) (after others : Converted Ending) → IsAlone after → others.text ≡ [] → IsAlone (when long (λ _. too_long limit number) (λ _. when blank (λ _. after) (λ _. message_and false number (line_spells profile limit line) others)))
+  line_alone : (number : ℕ) (line : List ℕ) (long blank : Bool) (after others : Converted Ending) → IsOne after → others.text ≡ [] → IsOne (when long (λ _. too_long limit number) (λ _. when blank (λ _. after) (λ _. message_and false number (line_octets profile limit line) others)))
   line_alone number line true blank after others a rest = inl (refl, λ e. cc)
   line_alone number line false true after others a rest = a
-  line_alone number line false false after others a rest = message_alone number line (line_spells profile limit line) others refl rest
+  line_alone number line false false after others a rest = message_alone number line (line_octets profile limit line) others refl rest
 
-  lines_alone : (number : ℕ) (lines : List (List ℕ)) → IsAlone (encoded_lines false profile limit number false lines)
+  lines_alone : (number : ℕ) (lines : List (List ℕ)) → IsOne (encoded_lines false profile limit number false lines)
   lines_alone number [] = inl (refl, λ e. cc)
   lines_alone number (line ∷ lines) =
       line_alone number line (nat_lt (most_of_line limit) (length line)) (is_blank_line line) (encoded_lines false profile limit (number + 1) false lines) (encoded_lines false profile limit (number + 1) true lines) (lines_alone (number + 1) lines) (nothing_after (number + 1) lines)
 
-  alone : (text : List ℕ) → IsAlone (encoded false profile limit text)
+  alone : (text : List ℕ) → IsOne (encoded false profile limit text)
   unfolding encoded
   alone text = lines_alone 1 (lines_of text)
 
-  some_of : (converted : Converted Ending) → IsAlone converted → (converted.text ≡ []) ⊎ IsOneMessage profile limit converted.text
+  some_of : (converted : Converted Ending) → IsOne converted → (converted.text ≡ []) ⊎ IsAlone profile limit converted.text
   some_of converted (inl none) = inl none.0
   some_of converted (inr one) = inr one
 
-  all_of : (converted : Converted Ending) → IsAlone converted → converted.end ≡ All → IsOneMessage profile limit converted.text
+  all_of : (converted : Converted Ending) → IsOne converted → converted.end ≡ All → IsAlone profile limit converted.text
   all_of converted (inl none) e = absurd (none.1 e)
   all_of converted (inr one) e = one
 
-  pub some_encoded : (text : List ℕ) → ((encoded false profile limit text).text ≡ []) ⊎ IsOneMessage profile limit (encoded false profile limit text).text
+  pub some_encoded : (text : List ℕ) → ((encoded false profile limit text).text ≡ []) ⊎ IsAlone profile limit (encoded false profile limit text).text
   some_encoded text = some_of (encoded false profile limit text) (alone text)
 
-  pub all_encoded : (text : List ℕ) → (encoded false profile limit text).end ≡ All → IsOneMessage profile limit (encoded false profile limit text).text
+  pub all_encoded : (text : List ℕ) → (encoded false profile limit text).end ≡ All → IsAlone profile limit (encoded false profile limit text).text
   all_encoded text e = all_of (encoded false profile limit text) (alone text) e
 
-pub encoded_is_messages : LinesSpellMessages → EncodedIsMessages
-encoded_is_messages spell = record {
-  streams = λ profile limit text small. stream_encoded spell profile limit small text;
-  some = λ profile limit text small. some_encoded spell profile limit small text;
-  all = λ profile limit text small. all_encoded spell profile limit small text;
+pub encoded_is_messages : LinesSpellMessages → LinesSpellOctets → EncodedIsMessages
+encoded_is_messages spell spell_octets = record {
+  streams = λ profile limit text small. stream_encoded spell spell_octets profile limit small text;
+  some = λ profile limit text small. some_encoded spell spell_octets profile limit small text;
+  all = λ profile limit text small. all_encoded spell spell_octets profile limit small text;
 }

@@ -47,14 +47,16 @@ use Rattle.krb_source.specs.declared.timestamp.Timestamp.{Timestamp}
 use Rattle.krb_source.specs.declared.unread_why.UnreadWhy.{UnreadWhy}
 use Rattle.krb_text.specs.Laws.{CapturedMessageIsOneLine}
 use Rattle.krb_text.specs.Messages.{shown_record}
+use Rattle.krb_capture.specs.Labels.{Label as CaptureLabel, of_records}
 use Rattle.krb_capture.specs.Captures.{Finding, Progress, Settings, all_counts, at_first, end_taken, happened_each, lines_of}
 use Rattle.krb_capture.specs.Flows.{moment_due}
 use Rattle.krb_capture.specs.Found.{Begun, Failed, Faulty, Found, Joined, Missing, Password, Sent, Unread, Whole, and_more, event_of, found_happened, found_heard, found_line, found_text, origin_with}
 use Rattle.krb_capture.specs.Happened.{Heard, again_counted, again_for, answer_counted, answer_for, answer_with, at_moment, begins_ap_req, by_part, each_counted, end_counts, end_lines, heard, kind_in, kind_role, kind_tells, message_event, missed, missed_counted, missed_record, moment_of, news_counted, news_line, news_lines, no_counts_told, password_event, password_role, reply_heard, request_heard, reset, role_heard, segment_heard, span_between, telling, told_at_first, told_of, unread_event, waited}
 use Rattle.krb_capture.specs.declared.happened.Happened.{Happened}
-use Rattle.krb_capture_run.specs.Captures.{after_packets}
+use Rattle.krb_capture_run.specs.Captures.{capture_listing, after_packets}
 use Rattle.krb_capture_run.specs.Laws.{capture_told, last_line}
-use Rattle.krb_tool_laws.specs.Listings.{AreLinesOf, CapturesAreLines, IsNamed}
+use Rattle.krb_run.specs.Records.{text_of}
+use Rattle.krb_tool_laws.specs.Listings.{AreLinesOf, AreRead, CapturesAreLines, IsNamed}
 use Rattle.krb_tool_laws.proofs.CaptureFindings.{AreFindings, IsProgress, after_is, first_is, told_are, totals_are}
 use Rattle.krb_tool_laws.proofs.CaptureListings.{captures_are_listed}
 use Rattle.krb_tool_laws.proofs.CaptureParts.{IsHost}
@@ -242,6 +244,10 @@ end_counts_are None is = no_counts
 end_counts_are (Some happened) is = each_made _ (open_in happened.sendings) happened.counts (λ sending counts are. missed_counts sending.what counts are) is.1
 
 module _ (p : Premises) (label : Label) (named : IsNamed label) where
+  -- how what is found is written
+  abbrev ours : CaptureLabel
+  ours = of_records label
+
   abbrev AreOurs : List ℕ → Type 0
   AreOurs = AreLinesOf label.form
 
@@ -262,29 +268,29 @@ module _ (p : Premises) (label : Label) (named : IsNamed label) where
       (p.json.unanswered (at_moment now sending.flow) kind (waited sending now) origin refl (waited_is sending now is at))
   one_missed now (whats.Syn number) sending at is = one_unreachable now sending.flow hows.Silent (waited sending now) at is.flow tt (waited_is sending now is at)
 
-  missed_lines : (now : Moment) (sending : Option Sending) → IsMoment now → IsTold sending → AreOurs (news_lines label now (missed sending))
+  missed_lines : (now : Moment) (sending : Option Sending) → IsMoment now → IsTold sending → AreOurs (news_lines ours now (missed sending))
   missed_lines now None at is = no_lines label.form
   missed_lines now (Some sending) at is = and_lines label.form _ [] (one_missed now sending.what sending at is) (no_lines label.form)
 
-  reset_lines : (now : Moment) (sending : Option Sending) → IsMoment now → IsTold sending → AreOurs (news_lines label now (reset sending))
+  reset_lines : (now : Moment) (sending : Option Sending) → IsMoment now → IsTold sending → AreOurs (news_lines ours now (reset sending))
   reset_lines now None at is = no_lines label.form
   reset_lines now (Some sending) at is = and_lines label.form _ [] (one_unreachable now sending.flow hows.Reset (waited sending now) at is.flow tt (waited_is sending now is at)) (no_lines label.form)
 
   -- one after another, each made of a sending
-  each_line : (now : Moment) (make : Sending → _) (sendings : List Sending) → ((sending : Sending) → IsSending sending → AreOurs (news_line label now (make sending))) → AreSendings sendings → AreOurs (news_lines label now (map make sendings))
+  each_line : (now : Moment) (make : Sending → _) (sendings : List Sending) → ((sending : Sending) → IsSending sending → AreOurs (news_line ours now (make sending))) → AreSendings sendings → AreOurs (news_lines ours now (map make sendings))
   each_line now make [] one are = no_lines label.form
-  each_line now make (first ∷ others) one are = and_lines label.form (news_line label now (make first)) (news_lines label now (map make others)) (one first are.0) (each_line now make others one are.1)
+  each_line now make (first ∷ others) one are = and_lines label.form (news_line ours now (make first)) (news_lines ours now (map make others)) (one first are.0) (each_line now make others one are.1)
 
-  both_news : (now : Moment) (one other : _) → AreOurs (news_lines label now one) → AreOurs (news_lines label now other) → AreOurs (news_lines label now (one ++ other))
-  both_news now one other a b = subst AreOurs (sym (parted one)) (and_lines label.form (news_lines label now one) (news_lines label now other) a b)
+  both_news : (now : Moment) (one other : _) → AreOurs (news_lines ours now one) → AreOurs (news_lines ours now other) → AreOurs (news_lines ours now (one ++ other))
+  both_news now one other a b = subst AreOurs (sym (parted one)) (and_lines label.form (news_lines ours now one) (news_lines ours now other) a b)
     where
-      parted : (some : _) → news_lines label now (some ++ other) ≡ news_lines label now some ++ news_lines label now other
+      parted : (some : _) → news_lines ours now (some ++ other) ≡ news_lines ours now some ++ news_lines ours now other
       parted [] = refl
-      parted (first ∷ others) = ap (λ l. news_line label now first ++ l) (parted others) ∙ sym (append_assoc (news_line label now first) (news_lines label now others) (news_lines label now other))
+      parted (first ∷ others) = ap (λ l. news_line ours now first ++ l) (parted others) ∙ sym (append_assoc (news_line ours now first) (news_lines ours now others) (news_lines ours now other))
 
   -- the lines of the news, what is remembered, and what is counted with the news
   record IsHeard (after : Heard) : Type 0 where
-    lines : (now : Moment) → IsMoment now → AreOurs (news_lines label now after.news)
+    lines : (now : Moment) → IsMoment now → AreOurs (news_lines ours now after.news)
     sendings : AreSendings after.happened.sendings
     counts : AreToldCounts (each_counted after.news after.happened.counts)
 
@@ -378,7 +384,7 @@ module _ (p : Premises) (label : Label) (named : IsNamed label) where
   each_is (first ∷ others) happened each are = each_is others (found_happened first.0 first.1 happened) each.1 (happened_is first.0 each.0.0 first.1 happened each.0.1 are)
 
   -- ---- lines
-  one_found : (origin : CaptureOrigin) (found : Found) → IsFlowOrigin origin → IsFound found → AreOurs (found_line label origin found)
+  one_found : (origin : CaptureOrigin) (found : Found) → IsFlowOrigin origin → IsFound found → AreOurs (found_line ours origin found)
   one_found origin (Whole octets) range is =
       its_line (λ form. captured form origin (shown_record form (message_of_der octets))) (p.message_line_is (base_in label.form) origin (message_of_der octets) range.in_range is)
       (subst (λ (r : Printed). PrintsJson (captured forms.Json origin r)) (sym (shown_json (message_of_der octets))) (p.json.message origin (message_of_der octets) range is))
@@ -395,22 +401,22 @@ module _ (p : Premises) (label : Label) (named : IsNamed label) where
   one_found origin (Sent header) range is = no_lines label.form
   one_found origin (Failed error) range is = no_lines label.form
 
-  one_text : (origin : CaptureOrigin) (found : Found) (happened : Option Happened) → IsFlowOrigin origin → IsFound found → IsHappened happened → AreOurs (found_text label origin found happened)
+  one_text : (origin : CaptureOrigin) (found : Found) (happened : Option Happened) → IsFlowOrigin origin → IsFound found → IsHappened happened → AreOurs (found_text ours origin found happened)
   one_text origin found None range is are = one_found origin found range is
   one_text origin found (Some happened) range is are =
       let with_event : CaptureOrigin = origin_with (event_of happened.parts found) origin happened in
-      and_lines label.form (found_line label with_event found) (news_lines label (moment_of origin) (found_heard origin found happened).news)
+      and_lines label.form (found_line ours with_event found) (news_lines ours (moment_of origin) (found_heard origin found happened).news)
       (one_found with_event found (with_is found origin happened range are) is)
       ((found_heard_is origin range found happened is are).lines (moment_of origin) (moment_is origin range))
 
-  each_text : (found : List Finding) (happened : Option Happened) → AreFindings found → IsHappened happened → AreOurs (lines_of label happened found)
+  each_text : (found : List Finding) (happened : Option Happened) → AreFindings found → IsHappened happened → AreOurs (lines_of ours happened found)
   each_text [] happened each are = no_lines label.form
   each_text (first ∷ others) happened each are =
-      and_lines label.form (found_text label first.0 first.1 happened) (lines_of label (found_happened first.0 first.1 happened) others) (one_text first.0 first.1 happened each.0.0 each.0.1 are)
+      and_lines label.form (found_text ours first.0 first.1 happened) (lines_of ours (found_happened first.0 first.1 happened) others) (one_text first.0 first.1 happened each.0.0 each.0.1 are)
       (each_text others (found_happened first.0 first.1 happened) each.1 (happened_is first.0 each.0.0 first.1 happened each.0.1 are))
 
   -- ---- the end
-  end_lines_are : (now : Moment) (happened : Option Happened) → IsMoment now → IsHappened happened → AreOurs (end_lines label now happened)
+  end_lines_are : (now : Moment) (happened : Option Happened) → IsMoment now → IsHappened happened → AreOurs (end_lines ours now happened)
   end_lines_are now None at are = no_lines label.form
   end_lines_are now (Some happened) at are = each_line now _ (open_in happened.sendings) (λ sending good. one_missed now sending.what sending at good) (open_is happened.sendings are.0)
 
@@ -426,14 +432,14 @@ module _ (p : Premises) (label : Label) (named : IsNamed label) where
       (p.file_line_is (base_in label.form) counts told fault.place fault.why (field_path fault.field) (extent_of fault) (path_octets places.File fault.field))
       (p.json.file counts told fault.place fault.why (field_path fault.field) (extent_of fault) are too small.place small.extent)
 
-  last_is : (settings : Settings) → settings.label ≡ label → (refusal : Option Fault) (happened : Option Happened) (progress : Progress) → IfSome refusal IsSmallFault → IsProgress progress → IsHappened happened → AreOurs (last_line (record settings { label = label }) refusal happened progress)
+  last_is : (settings : Settings) → settings.label ≡ ours → (refusal : Option Fault) (happened : Option Happened) (progress : Progress) → IfSome refusal IsSmallFault → IsProgress progress → IsHappened happened → AreOurs (last_line (record settings { label = ours }) refusal happened progress)
   last_is settings e refusal happened progress small is are =
-      let lines : AreOurs (end_lines label (moment_due progress.last) happened) = end_lines_are (moment_due progress.last) happened (record { packet = is.last.packet; time = is.last.time }) are in
-      let counts : CaptureCounts = all_counts (end_taken (record settings { label = label }) progress).progress in
-      let line : AreOurs (line_of label (last_record refusal counts (end_counts happened) label.form)) = counts_line refusal counts (end_counts happened) small (totals_are p.rules (record settings { label = label }) progress is) (end_counts_are happened are) in
-      by refusal (and_lines label.form (end_lines label (moment_due progress.last) happened) (line_of label (last_record refusal counts (end_counts happened) label.form)) lines line)
+      let lines : AreOurs (end_lines ours (moment_due progress.last) happened) = end_lines_are (moment_due progress.last) happened (record { packet = is.last.packet; time = is.last.time }) are in
+      let counts : CaptureCounts = all_counts (end_taken (record settings { label = ours }) progress).progress in
+      let line : AreOurs (line_of label (last_record refusal counts (end_counts happened) label.form)) = counts_line refusal counts (end_counts happened) small (totals_are p.rules (record settings { label = ours }) progress is) (end_counts_are happened are) in
+      by refusal (and_lines label.form (end_lines ours (moment_due progress.last) happened) (line_of label (last_record refusal counts (end_counts happened) label.form)) lines line)
     where
-      by : (end : Option Fault) → AreOurs (end_lines label (moment_due progress.last) happened ++ line_of label (last_record end (all_counts (end_taken (record settings { label = label }) progress).progress) (end_counts happened) label.form)) → AreOurs (last_line (record settings { label = label }) end happened progress)
+      by : (end : Option Fault) → AreOurs (end_lines ours (moment_due progress.last) happened ++ line_of label (last_record end (all_counts (end_taken (record settings { label = ours }) progress).progress) (end_counts happened) label.form)) → AreOurs (last_line (record settings { label = ours }) end happened progress)
       by None lines = lines
       by (Some fault) lines = lines
 
@@ -445,15 +451,21 @@ faults_are file few is = by (packets file).end refl is
     by None e is = tt
     by (Some fault) e is = small_fault fault (omega (arith, refusal_in_file file fault e, few)) is
 
-pub captures_are_lines : Premises → CapturesAreLines
-captures_are_lines p settings file named are =
+-- with the label of records
+records_are_lines : Premises → (label : Label) (settings : Settings) (file : List ℕ) → IsNamed label → AreRead file → AreLinesOf label.form (text_of (capture_listing (record settings { label = of_records label }) file))
+records_are_lines p label given file named are =
+    let settings : Settings = record given { label = of_records label } in
     let all : List Packet = (packets file).items in
     let each : ArePackets (packets file) = packets_are file are.0 are.1 in
     let told : List Finding = capture_told settings all in
     let told_good : AreFindings told = told_are p.rules settings all at_first each.each first_is in
-    let first : Option Happened = told_at_first settings.label.form in
-    let first_good : IsHappened first = first_remembered settings.label.form in
+    let first : Option Happened = told_at_first label.form in
+    let first_good : IsHappened first = first_remembered label.form in
     let last_good : IsProgress (after_packets settings all at_first) = after_is p.rules settings all at_first each.each first_is in
-    subst (AreLinesOf settings.label.form) (sym (captures_are_listed settings file))
-    (and_lines settings.label.form (lines_of settings.label first told) (last_line settings (packets file).end (happened_each told first) (after_packets settings all at_first)) (each_text p settings.label named told first told_good first_good)
-    (last_is p settings.label named settings refl (packets file).end (happened_each told first) (after_packets settings all at_first) (faults_are file are.1 each.end) last_good (each_is p settings.label named told first told_good first_good)))
+    subst (AreLinesOf label.form) (sym (captures_are_listed settings file))
+    (and_lines label.form (lines_of settings.label first told) (last_line settings (packets file).end (happened_each told first) (after_packets settings all at_first)) (each_text p label named told first told_good first_good)
+    (last_is p label named settings refl (packets file).end (happened_each told first) (after_packets settings all at_first) (faults_are file are.1 each.end) last_good (each_is p label named told first told_good first_good)))
+
+pub captures_are_lines : Premises → CapturesAreLines
+captures_are_lines p label settings file same named are =
+    subst (λ (s : Settings). AreLinesOf label.form (text_of (capture_listing s file))) (sym (ap (λ l. record settings { label = l }) same)) (records_are_lines p label settings file named are)

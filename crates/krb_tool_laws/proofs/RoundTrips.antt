@@ -25,15 +25,16 @@ use Rattle.krb_msg.proofs.Streams.{IsMessage, IsParse, frames-parse}
 use Rattle.krb_frame.specs.Frame.{framed}
 use Rattle.krb_judge.specs.Parses.{refusal_of}
 use Rattle.krb_judge.proofs.Slices.{message_in}
-use Rattle.krb_json.specs.Laws.{TextsAreJson, TextsAreShort, TextsComeBack}
+use Rattle.krb_json.specs.Laws.{LinesSpellOctets, TextsAreJson, TextsAreShort, TextsComeBack}
 use Rattle.krb_json.specs.Lines.{message_text, line_spells}
+use Rattle.krb_json.specs.Tickets.{as_octets}
 use Rattle.krb_json.specs.Unencrypted.{unencrypted_in}
 use Rattle.krb_run.specs.Conversions.{after_text}
 use Rattle.krb_convert.specs.Decoding as decoding
 use Rattle.krb_convert.specs.Decoding.{ending_at, line_and, decoded, message_decoded, decoded_whole, AllAreEncrypted}
 use Rattle.krb_convert.specs.Encoding as encoding
 use Rattle.krb_run.specs.TextLines.{parts, without_empty_last, lines_of}
-use Rattle.krb_convert.specs.Encoding.{most_of_line, written_as, encoded_lines, encoded}
+use Rattle.krb_convert.specs.Encoding.{line_spelled, most_of_line, written_as, encoded_lines, encoded}
 use Rattle.krb_run.specs.TextLines.{is_blank_line}
 use Rattle.krb_convert.specs.Laws.{StreamsComeBack, MessageComesBack, DecodedComesBack}
 use Rattle.krb_tool.specs.Paths.{found_path, refused_path}
@@ -94,21 +95,25 @@ not_blank m = refl
 record ComesBack (profile : Profile) (limit : ℕ) (octets : List ℕ) : Type 0 where
   one_line : All (λ octet. (octet == 10) ≡ false) (text_of octets)
   short : length (text_of octets) ≤ most_of_line limit
-  spelled : line_spells profile limit (text_of octets) ≡ Ok (message_of_der octets)
+  spelled : (is_framed : Bool) → line_spelled is_framed profile limit (text_of octets) ≡ Ok octets
   form : message_der (message_of_der octets) ≡ octets
 
 pub both_are : (first second : List ℕ) → AreOctets (first ++ second) → AreOctets first × AreOctets second
 both_are [] second are = (tt, are)
 both_are (octet ∷ first) second are = let rest = both_are first second are.1 in ((are.0, rest.0), rest.1)
 
-module _ (json : TextsAreJson) (short : TextsAreShort) (back : TextsComeBack) (profile : Profile) (limit : ℕ) where
+module _ (json : TextsAreJson) (short : TextsAreShort) (back : TextsComeBack) (spell_octets : LinesSpellOctets) (profile : Profile) (limit : ℕ) where
+  spelled-so : (octets : List ℕ) (m : Message) → line_spells profile limit (message_text m) ≡ Ok m → message_der m ≡ octets → (is_framed : Bool) → line_spelled is_framed profile limit (message_text m) ≡ Ok octets
+  spelled-so octets m spells form true = ap as_octets spells ∙ ap Ok form
+  spelled-so octets m spells form false = spell_octets.messages profile limit (message_text m) m spells ∙ ap Ok form
+
   comes_back : (octets : List ℕ) → AreMessage profile (length octets) octets → length octets ≤ limit → ComesBack profile limit octets
   comes_back octets m within =
       let o : IsOfMessage profile octets = of_message profile octets m in
       record {
         one_line = no_feed (text_of octets) (json profile (message_of_der octets) o.in_profile).printable;
         short = omega (arith, short profile (message_of_der octets) o.in_profile, within, ap length o.form);
-        spelled = back profile limit (message_of_der octets) o.in_profile (omega (arith, within, ap length o.form));
+        spelled = spelled-so octets (message_of_der octets) (back profile limit (message_of_der octets) o.in_profile (omega (arith, within, ap length o.form))) o.form;
         form = o.form;
       }
 
@@ -137,7 +142,7 @@ module _ (profile : Profile) (limit : ℕ) where
   first_back : (is_framed : Bool) (number : ℕ) (came : Bool) (octets : List ℕ) (lines : List (List ℕ)) → (not is_framed && came) ≡ false → ComesBack profile limit octets → encoded_lines is_framed profile limit number came (text_of octets ∷ lines) ≡ after_text (written_as is_framed octets) (encoded_lines is_framed profile limit (number + 1) true lines)
   first_back is_framed number came octets lines first back =
       read-step (record { is_framed = is_framed; profile = profile; limit = limit }) number came (text_of octets) lines back.short (not_blank (message_of_der octets)) first
-      ∙ message-step is_framed number (line_spells profile limit (text_of octets)) octets (encoded_lines is_framed profile limit (number + 1) true lines) (record { message = message_of_der octets; spelled = back.spelled; form = sym back.form })
+      ∙ message-step is_framed number (line_spelled is_framed profile limit (text_of octets)) octets (encoded_lines is_framed profile limit (number + 1) true lines) (back.spelled is_framed)
 
   lines_back : (number : ℕ) (came : Bool) (contents : List (List ℕ)) → AllByRecursion (ComesBack profile limit) contents → encoded_lines true profile limit number came (map text_of contents) ≡ record { text = flat_map framed contents; end = encoding.All }
   lines_back number came [] each = refl
@@ -159,10 +164,10 @@ module _ (profile : Profile) (limit : ℕ) where
 
 -- ---- a stream
 -- whose contents are these
-stream_back : TextsAreJson → TextsAreShort → TextsComeBack → (profile : Profile) (limit : ℕ) (stream : List ℕ) → AreOctets stream → IsParse (messages profile) limit stream (frames (messages profile) limit stream) → AllAreEncrypted (frames (messages profile) limit stream).contents → (frames (messages profile) limit stream).end ≡ Boundary → encoded true profile limit (decoded profile limit stream).text ≡ record { text = stream; end = encoding.All }
-stream_back json short back profile limit stream are parse encrypted boundary =
+stream_back : TextsAreJson → TextsAreShort → TextsComeBack → LinesSpellOctets → (profile : Profile) (limit : ℕ) (stream : List ℕ) → AreOctets stream → IsParse (messages profile) limit stream (frames (messages profile) limit stream) → AllAreEncrypted (frames (messages profile) limit stream).contents → (frames (messages profile) limit stream).end ≡ Boundary → encoded true profile limit (decoded profile limit stream).text ≡ record { text = stream; end = encoding.All }
+stream_back json short back spell_octets profile limit stream are parse encrypted boundary =
     ap (λ c. encoded true profile limit c.text) (decoded-all profile limit stream contents encrypted refl)
-    ∙ text_back profile limit contents (all_come_back json short back profile limit contents (subst AreOctets all are) parse.are_messages)
+    ∙ text_back profile limit contents (all_come_back json short back spell_octets profile limit contents (subst AreOctets all are) parse.are_messages)
     ∙ ap (λ t. record { text = t; end = encoding.All }) (sym all)
   where
     contents : List (List ℕ)
@@ -171,12 +176,12 @@ stream_back json short back profile limit stream are parse encrypted boundary =
     all : stream ≡ flat_map framed contents
     all = parse.parts ∙ ap (λ tail. flat_map framed contents ++ tail) (nothing_left (messages profile) limit parse.tail (parse.ended ∙ ap ends boundary)) ∙ append-nil (flat_map framed contents)
 
-streams_back : TextsAreJson → TextsAreShort → TextsComeBack → StreamsComeBack
+streams_back : TextsAreJson → TextsAreShort → TextsComeBack → LinesSpellOctets → StreamsComeBack
 unfolding decoded
-streams_back json short back profile limit stream are e =
+streams_back json short back spell_octets profile limit stream are e =
     let found : Frames = frames (messages profile) limit stream in
     let all = encrypted_all 0 found.contents (ending_at (length found.contents) found.end (found_path profile found stream)) e in
-    stream_back json short back profile limit stream are (frames-parse (messages profile) limit stream are) all.0 (at_boundary (length found.contents) found.end (found_path profile found stream) all.1)
+    stream_back json short back spell_octets profile limit stream are (frames-parse (messages profile) limit stream are) all.0 (at_boundary (length found.contents) found.end (found_path profile found stream) all.1)
 
 -- ---- octets that are one message
 -- those that are not refused, and no more than the limit
@@ -192,8 +197,8 @@ alone_of profile limit octets (Some refusal) unencrypted back f u e =
     let end : decoding.Refusing 0 refusal (refused_path profile octets refusal) ≡ decoding.All = sym (ap (λ r. (message_decoded profile octets r).end) f) ∙ e in
     absurd cc
 
-whole_back : TextsAreJson → TextsAreShort → TextsComeBack → MessageComesBack
-whole_back json short back profile limit octets are e = by (cases_Bool (nat_lt limit (length octets)))
+whole_back : TextsAreJson → TextsAreShort → TextsComeBack → LinesSpellOctets → MessageComesBack
+whole_back json short back spell_octets profile limit octets are e = by (cases_Bool (nat_lt limit (length octets)))
   where
     by : (nat_lt limit (length octets) ≡ true) ⊎ (nat_lt limit (length octets) ≡ false) → encoded false profile limit (decoded_whole profile limit octets).text ≡ record { text = octets; end = encoding.All }
     by (inl long) =
@@ -203,7 +208,7 @@ whole_back json short back profile limit octets are e = by (cases_Bool (nat_lt l
         let is = whole-short profile limit octets (refusal_of profile octets) few refl in
         let within : length octets ≤ limit = grind (arith, nat_tests, few) in
         ap (λ c. encoded false profile limit c.text) is
-        ∙ alone_of profile limit octets (refusal_of profile octets) (unencrypted_in (message_of_der octets)) (λ none. comes_back json short back profile limit octets (message_in profile octets are none) within) refl refl (sym (ap (λ c. c.end) is) ∙ e)
+        ∙ alone_of profile limit octets (refusal_of profile octets) (unencrypted_in (message_of_der octets)) (λ none. comes_back json short back spell_octets profile limit octets (message_in profile octets are none) within) refl refl (sym (ap (λ c. c.end) is) ∙ e)
 
-pub decoded_comes_back : TextsAreJson → TextsAreShort → TextsComeBack → DecodedComesBack
-decoded_comes_back json short back = record { streams = streams_back json short back; messages = whole_back json short back }
+pub decoded_comes_back : TextsAreJson → TextsAreShort → TextsComeBack → LinesSpellOctets → DecodedComesBack
+decoded_comes_back json short back spell_octets = record { streams = streams_back json short back spell_octets; messages = whole_back json short back spell_octets }

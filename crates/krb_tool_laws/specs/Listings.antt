@@ -3,6 +3,7 @@ use Rattle.std.specs.Prelude.{ℕ, ◌≡◌, ◌<◌, ◌^◌, false, List, ◌
 use Rattle.std.specs.List.{AllByRecursion, flat_map}
 use Rattle.json.specs.Json.{Json}
 use Rattle.krb_capture.specs.Captures.{Settings}
+use Rattle.krb_capture.specs.Labels.{of_records}
 use Rattle.krb_capture_run.specs.Captures.{capture_listing}
 use Rattle.krb_der.specs.Octets.{AreOctets}
 use Rattle.krb_der.specs.declared.profile.Profile.{Profile}
@@ -72,4 +73,4 @@ CachesAreLines = (label : Label) (now : Option ℕ) (file : List ℕ) → IsName
 -- ---- captures
 -- the listing of a capture
 abbrev pub CapturesAreLines : Type 0
-CapturesAreLines = (settings : Settings) (file : List ℕ) → IsNamed settings.label → AreRead file → AreLinesOf settings.label.form (text_of (capture_listing settings file))
+CapturesAreLines = (label : Label) (settings : Settings) (file : List ℕ) → settings.label ≡ of_records label → IsNamed label → AreRead file → AreLinesOf label.form (text_of (capture_listing settings file))

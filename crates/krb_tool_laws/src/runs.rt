@@ -9,7 +9,7 @@ ghost use Rattle.krb_tool_laws.specs.Holes.{HolesAreNotListed};
 use krb_file_laws::ccache::{session_keys_change_nothing_else, upgrade_holds_the_same};
 use krb_file_laws::keytab::keys_change_nothing_else;
 use krb_frame::law::refusals_are_at_offsets as refused_at_offsets;
-use krb_json::law::lines_spell_messages;
+use krb_json::law::{lines_spell_messages, lines_spell_octets};
 use krb_message_laws::message_json::{
     texts_are_json, texts_are_short, texts_come_back, unencrypted_changes_nothing,
 };
@@ -33,6 +33,7 @@ pub fn decoded_comes_back()
     texts_are_json();
     texts_are_short();
     texts_come_back();
+    lines_spell_octets();
 }
 
 /// Two files that differ in octets of one key alone have one listing in each form, up to the same
@@ -77,12 +78,13 @@ pub fn refusals_are_at_offsets()
 /// What [`run_encode`](krb_convert::run_encode) writes of any text is a stream of messages of the
 /// profile, none of more octets than the limit: nothing in it is refused, and it is decoded to the line
 /// of each message, if all are encrypted. What
-/// [`run_encode_unframed`](krb_convert::run_encode_unframed) writes is nothing or one such message, and
-/// the message if it ends without a fault.
+/// [`run_encode_unframed`](krb_convert::run_encode_unframed) writes is nothing or one such message or
+/// Ticket, and this if it ends without a fault.
 pub fn encoded_is_messages()
     ensures { EncodedIsMessages }
 {
     lines_spell_messages();
+    lines_spell_octets();
 }
 
 /// What is not encrypted is not decoded: streams that differ in nothing but the ciphers of

@@ -1,6 +1,5 @@
 -- Words with a separator between them, in a loop.
 use Rattle.std.proofs.Common.{◌≡◌, ◌∙◌, ◌++◌, ℕ, List, [], ◌∷◌, ap, append_assoc, refl, sym}
-use Rattle.std.proofs.lemmas.List.{append-nil}
 use Rattle.std.specs.List.{flat_map}
 use Rattle.krb_record.specs.Text.{joined}
 

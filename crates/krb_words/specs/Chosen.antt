@@ -158,6 +158,10 @@ IsChosenBy options kinds (Some words) choice header = IsRowsBy options kinds wor
 abbrev pub IsChosen : Options → Option Choice → Option Text → Type 0
 IsChosen options choice header = IsChosenBy options (option_map words_of options.only) options.fields choice header
 
+-- the rows of the names that a text has, of which the kinds have all
+abbrev pub AreRowsOf : List Listing → Text → Choice → Type 0
+AreRowsOf listings words choice = (names : List Name) × AreNames listings (words_of words) names × (choice ≡ rows_by None listings names (map column_of names))
+
 -- ---- what is said of words that are wrong
 abbrev pub error_text : Text → Text
 error_text text = codes "error: " ++ text ++ codes "\n\nFor more information, try '--help'.\n"
@@ -241,6 +245,14 @@ SaysKinds options (Some word) text = SaysKind options.listings word text
 -- what is wrong with options that choose nothing
 abbrev pub IsChoiceFault : Options → Text → Type 0
 IsChoiceFault options text = SaysKinds options (first_unknown (all_kinds options.listings) (words_if options.only)) text
+
+-- what is wrong with names that have no rows: the first word that is none, or that no kind has all of them
+abbrev pub SaysNoRowsBy : List Listing → (words : Text) → (unknown : Option Text) → Text → Type 0
+SaysNoRowsBy listings words None text = (names : List Name) × AreNames listings (words_of words) names × SaysNone listings names text
+SaysNoRowsBy listings words (Some word) text = SaysName listings word text
+
+abbrev pub SaysNoRows : List Listing → (words : Text) → Text → Type 0
+SaysNoRows listings words text = SaysNoRowsBy listings words (first_unknown (all_names listings) (words_of words)) text
 
 -- the text of an error that says what is wrong
 abbrev pub IsErrorOf : (Text → Type 0) → Text → Type 0

@@ -1,5 +1,5 @@
 -- The sources that a command line names, and where they lie.
-use Rattle.std.specs.Prelude.{◌||◌, List, [], ◌∷◌, ◌++◌, length, map, take, drop, Option, Some, None, codes, unwrap_or, if◌then◌else◌}
+use Rattle.std.specs.Prelude.{Bool, false, not, ◌&&◌, ◌||◌, List, [], ◌∷◌, ◌++◌, length, map, take, drop, Option, Some, None, codes, unwrap_or, if◌then◌else◌}
 use Rattle.std.specs.Option.{option_map_or}
 use Rattle.std.specs.Str.{bytes_eq}
 use Rattle.clap.specs.Words.{Row, Text, all_of, first_of}
@@ -19,6 +19,14 @@ place_of (source.File file) = File file.name.items file.path.items
 place_of (source.Directory directory) = Directory directory.name.items directory.path.items
 
 -- ---- names
+-- the names of `decode` are those of caches, but where a file is one message without its length
+abbrev pub is_true : Option Text → Bool
+is_true None = false
+is_true (Some value) = bytes_eq value (codes "true")
+
+abbrev pub names_like : Text → List Row → Text
+names_like command rows = if bytes_eq command (codes "decode") && not (is_true (first_of (codes "unframed") rows)) then codes "ccache" else command
+
 -- what follows a prefix
 abbrev pub after : Text → Text → Option Text
 after prefix name = if bytes_eq (take (length prefix) name) prefix then Some (drop (length prefix) name) else None
@@ -61,4 +69,4 @@ or_input command (first ∷ others) = first ∷ others
 
 -- the file of `--file`, and then those that words name
 abbrev pub sources_of : Text → List Row → List Place
-sources_of command rows = or_input command (file_place command (first_of (codes "file") rows) ++ map (word_place command) (words_of (all_of (codes "file names") rows)))
+sources_of command rows = or_input command (file_place (names_like command rows) (first_of (codes "file") rows) ++ map (word_place (names_like command rows)) (words_of (all_of (codes "file names") rows)))

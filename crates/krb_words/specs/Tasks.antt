@@ -22,7 +22,7 @@ text_of _ = None
 
 -- messages and lines of JSON are turned into each other
 abbrev pub is_conversion : Command → Bool
-is_conversion (commands.Decode limit profile how) = true
+is_conversion (commands.Decode limit profile how refused packets) = true
 is_conversion (commands.Encode limit profile how) = true
 is_conversion _ = false
 
@@ -35,6 +35,7 @@ writes_messages _ = false
 abbrev pub said_unopened : Command → (name : List ℕ) → Option (List ℕ)
 said_unopened (commands.List when) name = if is_command name then Some (codes "a command comes before options: krbls COMMAND [OPTIONS] [FILE]...") else other_cache name
 said_unopened (commands.Ccache when) name = other_cache name
+said_unopened (commands.Decode limit profile framing.Framed refused packets) name = other_cache name
 said_unopened _ name = None
 
 -- the command that lists a source of a kind, without options but a time
@@ -58,7 +59,7 @@ kind_used _ = None
 -- the name of a command that hints give again
 abbrev pub name_used : Command → Option (List ℕ)
 name_used (commands.Items profile) = Some (codes "items")
-name_used (commands.Decode limit profile how) = Some (codes "decode")
+name_used (commands.Decode limit profile how refused packets) = Some (codes "decode")
 name_used command = option_map kind_name (kind_used command)
 
 -- the time that a command compares credentials with
@@ -69,6 +70,6 @@ when_of _ = None
 
 -- how many octets of a source are awaited before its run begins: those by which a command or a hint is chosen, if one is
 abbrev pub octets_awaited : Command → ℕ
-octets_awaited (commands.Decode limit profile framing.Unframed) = 1
+octets_awaited (commands.Decode limit profile framing.Unframed refused packets) = 1
 octets_awaited (commands.Encode limit profile how) = 1
 octets_awaited _ = 16

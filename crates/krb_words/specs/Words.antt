@@ -18,6 +18,7 @@ use Rattle.krb_words.specs.declared.words.AfterRefusal.TheVariants as after
 use Rattle.krb_words.specs.declared.words.Inputs.{Inputs}
 use Rattle.krb_words.specs.declared.words.Inputs.TheVariants as inputs
 use Rattle.krb_words.specs.declared.words.Naming.{Naming}
+use Rattle.krb_words.specs.declared.words.Packets.{Packets}
 use Rattle.krb_words.specs.declared.words.Naming.TheVariants as naming
 use Rattle.krb_words.specs.declared.words.Framing.{Framing}
 use Rattle.krb_words.specs.declared.words.Framing.TheVariants as framing
@@ -43,7 +44,7 @@ option name = record (new_rule name) { long = Some name; action = Some Set; valu
 abbrev pub number_option : Text → ValueParser → Rule
 number_option name taken = record (option name) { parser = Some taken }
 
--- a length of a frame, a number of 32 bits, and a port
+-- a length of a frame, a number of 32 bits, a port, and the number of a packet
 abbrev pub limit_option : Rule
 limit_option = number_option (codes "limit") (parser.Signed (pos 1) (pos 2147483647))
 
@@ -52,6 +53,9 @@ now_option = option (codes "now")
 
 abbrev pub port_option : Rule
 port_option = number_option (codes "port") (parser.Signed (pos 1) (pos 65535))
+
+abbrev pub packet_option : Rule
+packet_option = number_option (codes "packet") (parser.Signed (pos 1) (pos 4294967295))
 
 abbrev pub file_option : Rule
 file_option = option (codes "file")
@@ -106,9 +110,9 @@ with_output app = with_rule (with_rule (with_rule (with_rule (with_forms app) on
 abbrev pub with_files : App → App
 with_files app = with_rule (with_rule app file_option) file_names
 
--- the options and words of a command that turns messages into another form
+-- the options of a command that turns messages into another form
 abbrev pub with_messages : App → App
-with_messages app = with_files (with_rule (with_rule (with_rule app limit_option) strict_flag) unframed_flag)
+with_messages app = with_rule (with_rule (with_rule app limit_option) strict_flag) unframed_flag
 
 abbrev pub list_app : App
 list_app = with_files (with_output (with_rule (new_app (codes "list")) now_option))
@@ -132,10 +136,10 @@ abbrev pub capture_app : App
 capture_app = with_files (with_output (with_rule (with_rule (with_rule (new_app (codes "capture")) limit_option) port_option) strict_flag))
 
 abbrev pub decode_app : App
-decode_app = with_messages (new_app (codes "decode"))
+decode_app = with_files (with_rule (with_rule (with_rule (with_messages (new_app (codes "decode"))) keep_going_flag) port_option) packet_option)
 
 abbrev pub encode_app : App
-encode_app = with_messages (new_app (codes "encode"))
+encode_app = with_files (with_messages (new_app (codes "encode")))
 
 -- the words have no program's name before them, `help` is no command, one is wanted, and `--version` is known
 abbrev pub krbls_top : App
@@ -222,6 +226,10 @@ pub record ChoosesNothing (command : Text) (rows : List Row) (text : Text) : Typ
 abbrev pub LacksFile : Text → List Row → Type 0
 LacksFile command rows = sources_of command rows ≡ []
 
+-- what is read of a capture: the port of Kerberos, and the number of a packet, if there is one
+abbrev pub ArePackets : List Row → Packets → Type 0
+ArePackets rows packets = IsNumberOr 88 (one_of (codes "port") rows) packets.port × IsNumber (one_of (codes "packet") rows) packets.number
+
 -- a command by its name and its options
 abbrev pub IsCommand : Text → List Row → Command → Type 0
 IsCommand name rows (commands.List when) = (name ≡ codes "list") × IsWhenIf (first_of (codes "now") rows) when
@@ -231,7 +239,7 @@ IsCommand name rows (commands.Items chosen) = (name ≡ codes "items") × IsProf
 IsCommand name rows commands.Keytab = name ≡ codes "keytab"
 IsCommand name rows (commands.Ccache when) = (name ≡ codes "ccache") × IsWhenIf (first_of (codes "now") rows) when
 IsCommand name rows (commands.Capture limit chosen port) = (name ≡ codes "capture") × IsNumberOr 16777216 (one_of (codes "limit") rows) limit × IsProfile (first_of (codes "strict") rows) chosen × IsNumberOr 88 (one_of (codes "port") rows) port
-IsCommand name rows (commands.Decode limit chosen framed) = (name ≡ codes "decode") × IsNumberOr 16777216 (one_of (codes "limit") rows) limit × IsProfile (first_of (codes "strict") rows) chosen × IsFraming (first_of (codes "unframed") rows) framed
+IsCommand name rows (commands.Decode limit chosen framed refused packets) = (name ≡ codes "decode") × IsNumberOr 16777216 (one_of (codes "limit") rows) limit × IsProfile (first_of (codes "strict") rows) chosen × IsFraming (first_of (codes "unframed") rows) framed × IsAfter (first_of (codes "keep-going") rows) refused × ArePackets rows packets
 IsCommand name rows (commands.Encode limit chosen framed) = (name ≡ codes "encode") × IsNumberOr 16777216 (one_of (codes "limit") rows) limit × IsProfile (first_of (codes "strict") rows) chosen × IsFraming (first_of (codes "unframed") rows) framed
 IsCommand name rows (commands.Help text) = ⊥
 IsCommand name rows (commands.Version text) = ⊥
@@ -270,11 +278,15 @@ abbrev pub IsNoNumber : (least greatest : ℕ) → Option Text → Type 0
 IsNoNumber least greatest None = ⊥
 IsNoNumber least greatest (Some text) = (number : ℕ) → Spells text number → least ≤ number → number ≤ greatest → ⊥
 
+-- the port or the packet of a capture is no number of its range
+abbrev pub AreNoPackets : List Row → Type 0
+AreNoPackets rows = IsNoNumber 1 65535 (one_of (codes "port") rows) ⊎ IsNoNumber 1 4294967295 (one_of (codes "packet") rows)
+
 -- an option with a value that is no number of its range, or no time, options that choose nothing, of which the text says why, or a command without a source
 abbrev pub IsUnfit : Text → List Row → Text → Type 0
 IsUnfit command rows text =
     IsNoNumber 1 2147483647 (one_of (codes "limit") rows) ⊎ (IsNoWhen (first_of (codes "now") rows)
-    ⊎ (IsNoNumber 1 65535 (one_of (codes "port") rows) ⊎ (ChoosesNothing command rows text ⊎ LacksFile command rows)))
+    ⊎ (AreNoPackets rows ⊎ (ChoosesNothing command rows text ⊎ LacksFile command rows)))
 
 abbrev pub FindsUnfit : Option (Text × List Row) → Text → Type 0
 FindsUnfit None text = ⊥

@@ -1,13 +1,13 @@
 //! Which records are kept, and what is printed of them: `--only`, `--fields` and `--header`.
 
-ghost use Rattle.std.specs.Prelude.{◌≡◌, ◌∷◌, ◌++◌, [], false, true, IfErr, IfNone, IfOk, MatchOption, OnOk, codes, map, string_bytes};
+ghost use Rattle.std.specs.Prelude.{◌≡◌, ◌∷◌, ◌++◌, [], false, true, IfErr, IfNone, IfOk, MatchOption, OnOk, map, string_bytes};
 ghost use Rattle.std.specs.List.{filter, list_all};
 ghost use Rattle.std.specs.Option.{option_map};
 ghost use Rattle.clap.specs.Words.{Text, found_of, rows_of};
 ghost use Rattle.krb_choice.specs.Choices.{Whole};
 ghost use Rattle.krb_fields.specs.Names.{all_kinds, all_names, chooses, is_among, name_text, within_text};
 ghost use Rattle.krb_record.specs.Text.{joined};
-ghost use Rattle.krb_words.specs.Chosen.{AreNames, HaveNone, IfSaid, IsChoiceFault, IsChosen, IsChosenBy, IsErrorOf, IsRowsBy, SaysKind, SaysName, SaysNames, SaysNone, SaysRest, SaysTold, base_of, column_of, error_text, file_column, file_name, first_row, first_unknown, is_between, is_told, kinds_chosen, listed, listings_of, near_or_all, near_or_none, none_text, path_of, rows_by, told_text, words_if, words_of};
+ghost use Rattle.krb_words.specs.Chosen.{AreNames, AreRowsOf, HaveNone, IfSaid, IsChoiceFault, IsChosen, IsChosenBy, IsErrorOf, IsRowsBy, SaysKind, SaysName, SaysNames, SaysNone, SaysNoRows, SaysRest, SaysTold, base_of, column_of, error_text, file_column, file_name, first_row, first_unknown, is_between, is_told, kinds_chosen, listed, listings_of, near_or_all, near_or_none, none_text, path_of, rows_by, told_text, words_if, words_of};
 ghost use Rattle.krb_words.specs.Words.{Chooses};
 ghost use Rattle.krb_words.specs.inner.Options.{IsOkOf, SaysFirst, options_of};
 
@@ -413,6 +413,27 @@ fn rows_of(
             Ok(Choice::rows(kinds, columns))
         }
     }
+}
+
+/// Returns the choice of the records that have all of some names, a text with commas between them.
+pub(crate) fn rows_named(
+    alloc: Global,
+    listings: &'static [Listing],
+    words: &str,
+) -> Result<Choice, WordsFault>
+    ensures choice { IfOk result (AreRowsOf listings.now words.now) }
+    ensures fault { IfErr result (λ e. IfSaid e (IsErrorOf (SaysNoRows listings.now words.now))) }
+{
+    let names = names_of(alloc, listings, words)?;
+    let options = Options {
+        listings,
+        only: None,
+        fields: None,
+        has_header: false,
+        form: Form::Lines,
+        naming: Naming::Before,
+    };
+    rows_of(alloc, &options, None, names.as_slice())
 }
 
 /// Returns whether records of a kind are told, and so are in no plain line.

@@ -3,7 +3,7 @@
 ghost use Rattle.std.specs.Prelude.{◌≡◌, false, map, IfOk};
 ghost use Rattle.clap.specs.Words.{app_of, new_app, rule_of, with_subcommand};
 ghost use Rattle.clap.specs.declared.builder.command.Command.TheViews.{out-Command};
-ghost use Rattle.krb_words.specs.Words.{now_option, option, number_option, limit_option, port_option, flag, file_names, file_option, json_flag, keep_going_flag, lines_flag, names_flag, only_option, fields_option, header_flag, strict_flag, unframed_flag, with_filename_flag, krbls_top, krbls};
+ghost use Rattle.krb_words.specs.Words.{now_option, option, number_option, limit_option, port_option, packet_option, flag, file_names, file_option, json_flag, keep_going_flag, lines_flag, names_flag, only_option, fields_option, header_flag, strict_flag, unframed_flag, with_filename_flag, krbls_top, krbls};
 ghost use Rattle.krb_words.specs.inner.Makes.{Makes};
 ghost use Rattle.krb_words.specs.inner.Parts.{app_for, apps, rule_for, with_apps, with_rules};
 
@@ -61,7 +61,7 @@ fn now_option<'a>(alloc: Global) -> Arg<'a>
         alloc,
         "now",
         "WHEN",
-        "Compares expiry with now, a date, or seconds since 1970",
+        "Compares expiry with now, a date or seconds since 1970",
     )
 }
 
@@ -144,7 +144,7 @@ fn only_option<'a>(alloc: Global) -> Arg<'a>
         alloc,
         "only",
         "KIND,..",
-        "Keeps records of these kinds, or with one of these inside",
+        "Keeps records of these kinds, or with one inside",
     )
 }
 
@@ -157,7 +157,7 @@ fn fields_option<'a>(alloc: Global) -> Arg<'a>
         alloc,
         "fields",
         "NAME,..",
-        "Prints these members of objects, with tabs between them",
+        "Prints these members of objects, with tabs between",
     )
 }
 
@@ -233,6 +233,20 @@ fn port_option<'a>(alloc: Global) -> Arg<'a>
     )
 }
 
+/// Returns the option `--packet N`.
+fn packet_option<'a>(alloc: Global) -> Arg<'a>
+    ensures rule { rule_of result ≡ packet_option }
+    ensures local { result.global ≡ false }
+{
+    number_option(
+        alloc,
+        "packet",
+        value_parser!(u32).range(1..),
+        "N",
+        "Only messages that end in packet N of a capture",
+    )
+}
+
 /// Returns the option `--file PATH`.
 fn file_option<'a>(alloc: Global) -> Arg<'a>
     ensures rule { rule_of result ≡ file_option }
@@ -287,6 +301,8 @@ pub(crate) enum Parameter {
     Limit,
     /// `--port PORT`.
     Port,
+    /// `--packet N`.
+    Packet,
     /// `--keep-going`.
     KeepGoing,
     /// `--strict`, of messages that are listed.
@@ -325,6 +341,7 @@ impl Parameter {
             Parameter::Now => now_option(alloc),
             Parameter::Limit => limit_option(alloc),
             Parameter::Port => port_option(alloc),
+            Parameter::Packet => packet_option(alloc),
             Parameter::KeepGoing => keep_going_flag(alloc),
             Parameter::Strict => strict_flag(alloc),
             Parameter::StrictForm => strict_form_flag(alloc),
@@ -347,6 +364,7 @@ impl Parameter {
             Parameter::Now => name == "--now",
             Parameter::Limit => name == "--limit",
             Parameter::Port => name == "--port",
+            Parameter::Packet => name == "--packet",
             Parameter::KeepGoing => name == "--keep-going",
             Parameter::Strict | Parameter::StrictForm => name == "--strict",
             Parameter::Lines => name == "--lines",
@@ -486,6 +504,9 @@ static PARTS: [Part; 9] = [
             Parameter::Limit,
             Parameter::StrictForm,
             Parameter::Unframed,
+            Parameter::KeepGoing,
+            Parameter::Port,
+            Parameter::Packet,
             Parameter::File,
             Parameter::FileNames,
         ],

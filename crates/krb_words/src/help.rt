@@ -179,20 +179,24 @@ pub(crate) const DECODE_HELP: CommandHelp = CommandHelp {
     about: "Writes messages as JSON",
     usage: "krbls decode [OPTIONS] [FILE]...",
     below: "\
-Reads frames as `krbls stream` does, or, if the first octets of a file say so,
-one message, Ticket or token as `krbls message` does. Writes a line for each: a
-JSON object of one member, with the names of RFC 4120, appendix A. Octets are in
-hexadecimal. `krbls encode` makes the same frames of messages again.
+Reads frames as `krbls stream` does, or, if the first octets of a file say so, a
+capture as `krbls capture` does, one message, Ticket or token as `krbls message`
+does, or a credential cache, for its tickets. Writes a line for each: a JSON
+object of one member, with the names of RFC 4120, appendix A. Octets are in
+hexadecimal. `krbls encode` makes the same frames of messages again. Names are
+those of `krbls FILE`.
 
-A refusal ends a file: the standard error says at which octet of the frame it
-is, why and in which field. So does anything that is not encrypted (encryption
-type 0): it could be a key. What is encrypted is printed; treat it as a secret,
-since weak passwords can be guessed from it. Of a .kirbi file that is not
-encrypted the tickets are printed all the same. With --strict a message that has
-a note is refused, too: `krbls help stream` says which have one.
+A refusal ends a stream, unless --keep-going is given: the standard error says
+at which octet of the frame it is, why and in which field. So does anything that
+is not encrypted (encryption type 0): it could be a key. A capture goes on. What
+is encrypted is printed; treat it as a secret, since weak passwords can be
+guessed from it. Of a .kirbi file that is not encrypted the tickets are printed
+all the same. With --strict a message that has a note is refused, too: `krbls
+help stream` says which have one.
 
 Examples:
   krbls decode kdc.stream > kdc.jsonl
+  krbls decode --packet 7 trace.pcap
   krbls decode ticket.kirbi",
 };
 
@@ -201,7 +205,8 @@ pub(crate) const ENCODE_HELP: CommandHelp = CommandHelp {
     usage: "krbls encode [OPTIONS] [FILE]...",
     below: "\
 Reads a JSON object in each line, as `krbls decode` writes them, and writes the
-frame of each message. Lines of blanks are passed over.
+frame of each message; with --unframed one message or Ticket alone. Lines of
+blanks are passed over.
 
 A line that is at fault ends a file: the standard error has its number, the path
 of a field and what is wrong with that. So does a line that has more octets than

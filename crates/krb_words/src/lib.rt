@@ -11,6 +11,7 @@
 //!   source of a kind.
 //! - [`When`] is the time that credentials are compared with: the clock's, which the program reads,
 //!   or a number of seconds.
+//! - [`rows_of_names`] returns the choice of names alone, for who has no command line.
 //! - [`ShellWord`] writes a name as a shell reads it, and [`Command::said_unopened`] says what a name
 //!   is that cannot be opened.
 //!
@@ -23,6 +24,7 @@ mod choice;
 mod commands;
 mod help;
 mod names;
+mod rows;
 mod shell;
 mod sources;
 mod tasks;
@@ -33,9 +35,11 @@ mod words;
 pub use commands::VERSION;
 pub use krb_der::{Limit, Profile};
 pub use krb_record::Form;
+pub use rows::rows_of_names;
 pub use shell::ShellWord;
 pub use sources::{NamedPath, Source};
 pub use when::When;
 pub use words::{
-    AfterRefusal, Command, CommandLine, Framing, Inputs, Naming, USUAL_PORT, WordsFault, read_words,
+    AfterRefusal, Command, CommandLine, Framing, Inputs, Naming, Packets, USUAL_PORT, WordsFault,
+    read_words,
 };

@@ -52,7 +52,7 @@ fn stands_alone(word: &[u8]) -> bool
 /// Returns the word that `clap` reads in place of a word: its octets as the names of files are
 /// shown, so that what `clap` quotes of it does not command a terminal. The name is got back from
 /// it, whatever its octets are.
-fn shown(alloc: Global, word: &[u8]) -> Result<String, AllocError>
+pub(crate) fn shown(alloc: Global, word: &[u8]) -> Result<String, AllocError>
     ensures text { IfOk result (λ text. string_bytes text ≡ name_text word.now) }
     ensures back { IfOk result (λ text. named (string_bytes text) ≡ word.now) }
 {

@@ -3,7 +3,7 @@
 ghost use Rattle.std.specs.Prelude.{◌≡◌, ◌∷◌, ◌++◌, [], codes, map, IfOk, OnOk};
 ghost use Rattle.std.specs.Option.{option_map};
 ghost use Rattle.clap.specs.Words.{found_of, rows_of, all_of, first_of};
-ghost use Rattle.krb_words.specs.Sources.{after, cache_place, file_place, files_path, given_place, name_place, place_of, or_input, sources_of, word_place, words_of};
+ghost use Rattle.krb_words.specs.Sources.{after, cache_place, file_place, files_path, given_place, is_true, name_place, names_like, place_of, or_input, sources_of, word_place, words_of};
 
 use crate::names::named;
 use clap::ArgMatches;
@@ -158,6 +158,28 @@ fn put_input(command: &str, sources: &mut Vec<Source>) -> Result<(), AllocError>
     Ok(())
 }
 
+/// Returns whether the flag is given of a message without its length.
+fn is_unframed(found: &ArgMatches<'_>) -> bool
+    ensures { result ≡ is_true (first_of (codes "unframed") (rows_of (found_of found.now))) }
+{
+    match found.get_str("unframed") {
+        Some(value) => value == "true",
+        None => false,
+    }
+}
+
+/// Returns the command whose names those of a command are: `decode` takes those of caches, but where
+/// a file is one message without its length.
+fn names_like<'a>(command: &'a str, found: &ArgMatches<'_>) -> &'a str
+    ensures { result.now ≡ names_like command.now (rows_of (found_of found.now)) }
+{
+    if command == "decode" && !is_unframed(found) {
+        "ccache"
+    } else {
+        command
+    }
+}
+
 /// Returns the sources of a command in order: the file of `--file`, and then those that words name.
 /// If there are none of either, it is the standard input, but of `list` there is none.
 pub(crate) fn sources_of(
@@ -167,8 +189,9 @@ pub(crate) fn sources_of(
 ) -> Result<Vec<Source>, AllocError>
     ensures { IfOk result (λ sources. map place_of sources.items ≡ sources_of command.now (rows_of (found_of found.now))) }
 {
-    let mut sources = file_of(alloc, command, found)?;
-    put_names(alloc, command, found, &mut sources)?;
+    let naming = names_like(command, found);
+    let mut sources = file_of(alloc, naming, found)?;
+    put_names(alloc, naming, found, &mut sources)?;
     put_input(command, &mut sources)?;
     Ok(sources)
 }

@@ -61,7 +61,9 @@ impl Command {
     {
         match self {
             Command::List(_) if is_command(name) => Some(COMMAND_FIRST),
-            Command::List(_) | Command::Ccache(_) => other_cache(name),
+            Command::List(_) | Command::Ccache(_) | Command::Decode(_, _, Framing::Framed, ..) => {
+                other_cache(name)
+            }
             _ => None,
         }
     }
@@ -113,7 +115,7 @@ impl Command {
         ensures { result ≡ octets_awaited self.now }
     {
         match self {
-            Command::Decode(_, _, Framing::Unframed) | Command::Encode(..) => 1,
+            Command::Decode(_, _, Framing::Unframed, ..) | Command::Encode(..) => 1,
             _ => 16,
         }
     }

@@ -5,7 +5,7 @@ ghost use Rattle.clap.specs.Words.{found_of, kind_of, rows_of, subcommand_rows_o
 ghost use Rattle.krb_words.specs.Chosen.{IfSaid};
 ghost use Rattle.krb_words.specs.Sources.{place_of, sources_of};
 ghost use Rattle.krb_words.specs.Times.{IsNoWhen, IsWhenIf};
-ghost use Rattle.krb_words.specs.Words.{IsTextBy, IsCommand, IsProfile, IsAfter, IsFraming, IsInputs, IsNaming, IsForm, IsGiven, IsCommandLineFor, IsCommandLineOf, IsCommandLineIn, IsFaultFor, IsFaultIn, IsNumber, IsNumberOr, IsNoNumber, LacksFile, form_chosen};
+ghost use Rattle.krb_words.specs.Words.{IsTextBy, IsCommand, IsProfile, IsAfter, IsFraming, IsInputs, IsNaming, IsForm, IsGiven, IsCommandLineFor, IsCommandLineOf, IsCommandLineIn, IsFaultFor, IsFaultIn, IsNumber, IsNumberOr, IsNoNumber, ArePackets, AreNoPackets, LacksFile, form_chosen};
 ghost use Rattle.krb_words.specs.declared.words.WordsFault.TheVariants as fault;
 ghost use Rattle.krb_words.specs.inner.NotRead.{FindsNoJob, IfWrong, IsNoJob, IsNoText};
 ghost use Rattle.krb_words.specs.inner.Options.{IsOkOf};
@@ -39,6 +39,15 @@ pub enum Framing {
     Framed,
     /// One alone, without its length.
     Unframed,
+}
+
+/// What is read of a capture.
+#[derive(Clone, Copy, PartialEq, Eq, Debug)]
+pub struct Packets {
+    /// The port of Kerberos.
+    pub port: u16,
+    /// The number of the one packet of which messages are wanted, if it is one alone.
+    pub number: Option<u32>,
 }
 
 /// What an input of messages is.
@@ -79,8 +88,9 @@ pub enum Command {
     /// A capture, with frames of at most the limit's octets, the profile by which messages are
     /// judged, and the port of Kerberos.
     Capture(Limit, Profile, u16),
-    /// Messages of a profile, of at most the limit's octets, which are turned into lines of JSON.
-    Decode(Limit, Profile, Framing),
+    /// Messages of a profile, of at most the limit's octets, which are turned into lines of JSON; what
+    /// becomes of a stream after a refusal, and what is read of a capture.
+    Decode(Limit, Profile, Framing, AfterRefusal, Packets),
     /// Lines of JSON, which are turned into messages of a profile, of at most the limit's octets.
     Encode(Limit, Profile, Framing),
     /// Nothing: this help is to be printed.
@@ -204,6 +214,17 @@ fn port_of(alloc: Global, found: &ArgMatches<'_>) -> Result<u16, WordsFault>
             Err(_) => Err(not_read(alloc)),
         },
     }
+}
+
+/// Returns what is read of a capture.
+fn packets_of(alloc: Global, found: &ArgMatches<'_>) -> Result<Packets, WordsFault>
+    ensures packets { IfOk result (ArePackets (rows_of (found_of found.now))) }
+    ensures fault { IfErr result (λ e. IfWrong e (AreNoPackets (rows_of (found_of found.now)))) }
+{
+    Ok(Packets {
+        port: port_of(alloc, found)?,
+        number: number_of(alloc, found, "packet")?,
+    })
 }
 
 /// Returns the time that is given, if there is one.
@@ -334,6 +355,8 @@ fn command_of(alloc: Global, name: &str, found: &ArgMatches<'_>) -> Result<Comma
             limit_of(alloc, found)?,
             profile_of(found),
             framing_of(found),
+            after_refusal_of(found),
+            packets_of(alloc, found)?,
         )),
         "encode" => Ok(Command::Encode(
             limit_of(alloc, found)?,

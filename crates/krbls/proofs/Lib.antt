@@ -1,3 +1,5 @@
 mod EachSource
 mod Commands
 mod Hinted
+mod Written
+mod Chosen

@@ -1,7 +1,7 @@
 -- What is done with a source by a command: the run of its command, with the label of the source and by the profile, the limit and the numbers of the command.
-use Rattle.std.specs.Prelude.{ℕ, ◌≡◌, ◌⊎◌, List, [], ◌∷◌, Option, Some, None, Ok, Err, IfOk, IfErr}
+use Rattle.std.specs.Prelude.{ℕ, ◌≡◌, ◌⊎◌, Bool, true, false, List, [], ◌∷◌, ◌++◌, Option, Some, None, Ok, Err, IfOk, IfErr}
+use Rattle.std.specs.Io.KnownBytes.{Appends}
 use Rattle.std.specs.Option.{option_and_then}
-use Rattle.krb_der.specs.declared.profile.Profile.{Profile}
 use Rattle.krb_input.specs.Hints.{hint_for}
 use Rattle.krb_input.specs.Sources.{command_for}
 use Rattle.krb_input.specs.declared.hint.Hint.{Hint}
@@ -10,12 +10,15 @@ use Rattle.krb_input.specs.declared.source_kind.SourceKind.{SourceKind}
 use Rattle.krb_input.specs.declared.source_kind.SourceKind.TheVariants as kind
 use Rattle.krb_record.specs.Labels.{Label}
 use Rattle.krb_choice.specs.Choices.{Choice}
+use Rattle.krb_choosing.specs.Listings.{chosen_listing, told_listing}
+use Rattle.krb_capture.specs.Labels.{of_records}
 use Rattle.krb_capture_run.specs.Captures.{IsCaptureRest, capture_listing}
 use Rattle.krb_convert.specs.Conversions.{DecodesBy, EncodesBy, FailsToDecodeBy, is_framed}
 use Rattle.krb_convert.specs.Ends.{decode_end_line, decode_run_end, encode_end_line, encode_run_end}
 use Rattle.krb_convert.specs.Encoding.{FailsToEncode}
-use Rattle.krb_run.specs.Records.{ListsRecords}
+use Rattle.krb_run.specs.Records.{AppendsPrefix, ListsRecords}
 use Rattle.krb_file_run.specs.Files.{IsCcacheRest, IsKeytabRest, ccache_listing, keytab_listing}
+use Rattle.krb_run.specs.Faults.{IsWrite}
 use Rattle.krb_run.specs.Files.{FailsFile, ListsFile}
 use Rattle.krb_tool.specs.GoingOn.{FailsAll, ListsAll}
 use Rattle.krb_tool.specs.Listing.{Fails, Lists}
@@ -24,6 +27,7 @@ use Rattle.krb_tool.specs.Messages.{IsMessageListing}
 use Rattle.krb_items_run.specs.Items.{IsItemsListing}
 use Rattle.krb_run.specs.Sources.{Outcome, Run}
 use Rattle.krb_run.specs.declared.run.RunEnd.{RunEnd}
+use Rattle.krb_run.specs.declared.run.RunEnd.TheVariants as run
 use Rattle.krb_run.specs.declared.run.RunFault.{RunFault}
 use Rattle.krb_run.specs.declared.run.RunFault.TheVariants as fault
 use Rattle.krb_words.specs.Tasks.{kind_used, listing_for}
@@ -32,6 +36,7 @@ use Rattle.krb_words.specs.declared.words.Framing.TheVariants as framing
 use Rattle.krb_words.specs.declared.words.Inputs.TheVariants as inputs
 use Rattle.krb_words.specs.declared.words.Command.{Command}
 use Rattle.krb_words.specs.declared.words.Command.TheVariants as commands
+use Rattle.krbls.specs.declared.decoding.Decoding.{Decoding}
 
 -- What is said of a source is told, if something is.
 abbrev pub TellsSaid : (IsTold : List ℕ → Type 0) → (said : List ℕ) → Type 0
@@ -55,14 +60,14 @@ abbrev pub chosen : Command → (first : List ℕ) → Command
 chosen (commands.List when) first = listing_for (command_for first) when
 chosen named first = named
 
--- the profile of a command that decodes each source as its first octets say
-abbrev pub decoding_of : Command → Option Profile
-decoding_of (commands.Decode limit profile framing.Framed) = Some profile
+-- how a command decodes each source as its first octets say, if it does
+abbrev pub decoding_of : Command → Option Decoding
+decoding_of (commands.Decode limit profile framing.Framed refused packets) = Some (record { limit = limit; profile = profile; refused = refused; packets = packets })
 decoding_of _ = None
 
 -- the kind of the sources that a command reads, if hints are told of them
 abbrev pub kind_read : Command → Option SourceKind
-kind_read (commands.Decode limit profile framing.Framed) = Some kind.Stream
+kind_read (commands.Decode limit profile framing.Framed refused packets) = Some kind.Stream
 kind_read used = kind_used used
 
 -- from HTTP headers are taken that are read line by line, which `items` does not do
@@ -95,9 +100,9 @@ Does IsTold label now commands.Keytab had left written_before written_after outc
 Does IsTold label now (commands.Ccache when) had left written_before written_after outcome =
     (file : List ℕ) → had ≡ Some file → ListsRecords (ccache_listing label now file) (IsCcacheRest label now file) written_before written_after outcome
 Does IsTold label now (commands.Capture limit profile port) had left written_before written_after outcome =
-    (file : List ℕ) → had ≡ Some file → ListsRecords (capture_listing (record { label = label; profile = profile; limit = limit; port = port }) file)
-    (IsCaptureRest (record { label = label; profile = profile; limit = limit; port = port }) file) written_before written_after outcome
-Does IsTold label now (commands.Decode limit profile how) had left written_before written_after outcome =
+    (file : List ℕ) → had ≡ Some file → ListsRecords (capture_listing (record { label = of_records label; profile = profile; limit = limit; port = port }) file)
+    (IsCaptureRest (record { label = of_records label; profile = profile; limit = limit; port = port }) file) written_before written_after outcome
+Does IsTold label now (commands.Decode limit profile how refused packets) had left written_before written_after outcome =
     IfOk outcome (Turns (DecodesBy how profile limit had left written_before written_after) (decode_end_line how) decode_run_end IsTold)
     × IfErr outcome (FailsToTurn (DecodesBy how profile limit had left written_before written_after) (FailsToDecodeBy how profile limit had left written_before written_after))
 Does IsTold label now (commands.Encode limit profile how) had left written_before written_after outcome =
@@ -108,25 +113,46 @@ Does IsTold label now (commands.Help text) had left written_before written_after
 Does IsTold label now (commands.Version text) had left written_before written_after outcome = written_after ≡ written_before
 
 -- ---- with a choice
--- a write of what is chosen failed, or memory ran out for it
-abbrev pub IsOfChoice : RunFault → Type 0
-IsOfChoice (fault.Read error) = ⊥
-IsOfChoice (fault.Write error) = Unit {0}
-IsOfChoice fault.Memory = Unit {0}
+-- the listing of a command goes on after each refusal, so that none ends it
+abbrev pub goes_on : Command → Bool
+goes_on (commands.Stream limit profile after.GoesOn) = true
+goes_on (commands.Message profile inputs.EachLine) = true
+goes_on _ = false
 
-abbrev pub FailsChoice : Outcome → Type 0
-FailsChoice (Ok ended) = ⊥
-FailsChoice (Err failed) = IsOfChoice failed
+-- What is chosen of a listing was written, or a first part of that if a write failed. If a read failed or memory ran out, the listing is what came of it before.
+abbrev pub WritesChosen : (chosen : List ℕ) → Run
+WritesChosen chosen written_before written_after (Ok ended) = Appends written_before written_after chosen
+WritesChosen chosen written_before written_after (Err (fault.Read error)) = Appends written_before written_after chosen
+WritesChosen chosen written_before written_after (Err (fault.Write error)) = AppendsPrefix written_before written_after chosen
+WritesChosen chosen written_before written_after (Err fault.Memory) = Appends written_before written_after chosen
 
--- A source was listed to what writes the records that are chosen, and ends as its listing does. What of it is written, and what is told of its last record, is not said here.
-pub record ListsChosen (Lists : Run) (outcome : Outcome) : Type 0 where
-  pub given_before : Option (List ℕ)
-  pub given_after : Option (List ℕ)
+abbrev pub FailsToWrite : Outcome → Type 0
+FailsToWrite (Ok ended) = ⊥
+FailsToWrite (Err failed) = IsWrite failed
+
+-- Of a source that was not read as a whole, which its status says, the line is told that tells of the last record, if that is not kept.
+abbrev pub TellsLast : (IsTold : List ℕ → Type 0) → (told : List ℕ) → Outcome → Type 0
+TellsLast IsTold told (Ok run.Clean) = Unit {0}
+TellsLast IsTold told (Ok run.Refused) = TellsSaid IsTold told
+TellsLast IsTold told (Ok run.RefusedAtOnce) = TellsSaid IsTold told
+TellsLast IsTold told (Err failed) = Unit {0}
+
+-- A source was listed to a writer that had octets, and this is its listing.
+pub record ListsTo (Lists : Run) (listing : List ℕ) (result : Outcome) : Type 0 where
+  pub had : List ℕ
+  pub lists : Lists (Some had) (Some (had ++ listing)) result
+
+-- A source was listed to what chooses, what is chosen of its listing was written, and it ends as the listing does, unless a write failed.
+pub record ListsChosen (c : Choice) (goes_on : Bool) (IsTold : List ℕ → Type 0) (Lists : Run) (written_before written_after : Option (List ℕ)) (outcome : Outcome) : Type 0 where
+  pub listing : List ℕ
   pub result : Outcome
-  pub lists : Lists given_before given_after result
-  pub ends : (outcome ≡ result) ⊎ FailsChoice outcome
+  pub listed : ListsTo Lists listing result
+  pub chosen : WritesChosen (chosen_listing c goes_on listing) written_before written_after outcome
+  pub told : TellsLast IsTold (told_listing c goes_on listing) outcome
+  pub ends : (outcome ≡ result) ⊎ FailsToWrite outcome
 
 -- what is written of a source is its listing, or what is chosen of it
 abbrev pub DoesWith : Option Choice → (IsTold : List ℕ → Type 0) → Label → (now : Option ℕ) → Command → (had left : Option (List ℕ)) → Run
 DoesWith None IsTold label now command had left written_before written_after outcome = Does IsTold label now command had left written_before written_after outcome
-DoesWith (Some choice) IsTold label now command had left written_before written_after outcome = ListsChosen (Does IsTold label now command had left) outcome ⊎ FailsChoice outcome
+DoesWith (Some c) IsTold label now command had left written_before written_after outcome =
+    ListsChosen c (goes_on command) IsTold (Does IsTold label now command had left) written_before written_after outcome

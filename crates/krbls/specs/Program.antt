@@ -1,11 +1,14 @@
 -- What the program does by its words: to the standard output, to the standard error, and its status.
-use Rattle.std.specs.Prelude.{ℕ, ◌≡◌, ◌++◌, ◌⊎◌, ◌&&◌, max, Bool, true, false, if◌then◌else◌, List, length, map, Option, Some, None, Result, Ok, Err, IfErr, IfOk, OnErr, codes, string_bytes}
+use Rattle.std.specs.Prelude.{ℕ, ◌≡◌, ◌++◌, ◌⊎◌, ◌&&◌, max, nat_lt, Bool, true, false, if◌then◌else◌, List, length, map, Option, Some, None, Result, Ok, Err, IfErr, IfOk, OnErr, codes, string_bytes}
 use Rattle.std.specs.Io.KnownBytes.{Appends, Keeps}
 use Rattle.std.specs.List.{list_any}
 use Rattle.std.specs.Option.{option_map}
 use Rattle.krb_choice.specs.Choices.{Choice}
-use Rattle.krb_decode.specs.Hints.{keytab_text}
-use Rattle.krb_decode.specs.Runs.{DecodesInput, FailsToDecodeInput}
+use Rattle.krb_choice.specs.Wanted.{choice_form}
+use Rattle.krb_choosing.specs.Listings.{chosen_listing}
+use Rattle.krb_decode.specs.Hints.{hint_text as decoded_hint_text, keytab_text}
+use Rattle.krb_decode.specs.Caches.{decoded_cache}
+use Rattle.krb_decode.specs.Runs.{DecodesCache, DecodesInput, FailsToDecodeInput}
 use Rattle.krb_decode.specs.declared.input.InputEnd.{InputEnd}
 use Rattle.krb_der.specs.declared.profile.Profile.{Profile}
 use Rattle.krb_input.specs.Hints.{hint_for, hint_text}
@@ -13,13 +16,14 @@ use Rattle.krb_input.specs.Sources.{command_for}
 use Rattle.krb_input.specs.declared.hint.Hint.{Hint}
 use Rattle.krb_input.specs.declared.source_kind.SourceKind.{SourceKind}
 use Rattle.krb_input.specs.declared.source_kind.SourceKind.TheVariants as kind
+use Rattle.krb_record.specs.Files.{file_line}
 use Rattle.krb_record.specs.Labels.{Label}
 use Rattle.krb_record.specs.Text.{line_feed}
 use Rattle.krb_record.specs.declared.form.Form.{Form}
 use Rattle.krb_record.specs.declared.form.Form.TheVariants as forms
 use Rattle.krb_run.specs.Faults.{IsWrite}
 use Rattle.krb_run.specs.Begun.{IsEnough}
-use Rattle.krb_run.specs.Sources.{ListsEach, ListsOne, Named, Outcome, Reports, Run, RunOver, names_of, unnamed}
+use Rattle.krb_run.specs.Sources.{FailsLine, ListsAfterLine, ListsEach, ListsOne, Named, Outcome, Reports, Run, RunOver, names_of, unnamed}
 use Rattle.krb_run.specs.declared.naming.Naming.{Naming as Labels}
 use Rattle.krb_run.specs.declared.naming.Naming.TheVariants as labels
 use Rattle.krb_run.specs.declared.begun.Then.{Then}
@@ -37,6 +41,9 @@ use Rattle.krb_words.specs.declared.sources.Source.TheVariants as source
 use Rattle.krb_words.specs.declared.when.When.{When}
 use Rattle.krb_words.specs.declared.when.When.TheVariants as when
 use Rattle.krb_words.specs.declared.words.Command.{Command}
+use Rattle.krb_words.specs.declared.words.Command.TheVariants as commands
+use Rattle.krb_words.specs.declared.words.AfterRefusal.{AfterRefusal}
+use Rattle.krb_words.specs.declared.words.AfterRefusal.TheVariants as after
 use Rattle.krb_words.specs.declared.words.Naming.{Naming}
 use Rattle.krb_words.specs.declared.words.Naming.TheVariants as naming
 use Rattle.krb_words.specs.declared.words.CommandLine.{CommandLine}
@@ -44,7 +51,8 @@ use Rattle.krb_words.specs.declared.words.WordsFault.{WordsFault}
 use Rattle.krb_words.specs.declared.words.WordsFault.TheVariants as words_fault
 use Rattle.krb_host.specs.Around.{Around}
 use Rattle.krb_host.specs.Expanded.{Expands}
-use Rattle.krbls.specs.Commands.{DoesWith, FailsChoice, IsOfChoice, TellsSaid, chosen, decoding_of, hint_by}
+use Rattle.krbls.specs.declared.decoding.Decoding.{Decoding}
+use Rattle.krbls.specs.Commands.{DoesWith, TellsSaid, chosen, decoding_of, hint_by}
 
 -- the name of a source, as it was given
 abbrev pub name_of : Source → List ℕ
@@ -68,16 +76,21 @@ IsUnread (Err (fault.Read error)) = Unit {0}
 IsUnread (Err (fault.Write error)) = ⊥
 IsUnread (Err fault.Memory) = Unit {0}
 
--- a hint for a source is told, if there is one; it gives the command as it was given, and the name as a word of a shell
-abbrev pub IsHinted : Around → Source → (given : Option (List ℕ)) → Option Hint → Type 0
-IsHinted around s given None = Unit {0}
-IsHinted around s given (Some hint) = around.IsHintTold s (hint_text hint given (shell_word (name_of s)))
+-- what a hint says of a file: it gives the command as it was given, and where that decodes no other
+abbrev pub text_for : Command → Hint → (file : List ℕ) → List ℕ
+text_for (commands.Decode limit profile how refused packets) hint file = decoded_hint_text hint file
+text_for command hint file = hint_text hint (name_used command) file
+
+-- a hint for a source is told, if there is one, with the name as a word of a shell
+abbrev pub IsHinted : Around → Source → Command → Option Hint → Type 0
+IsHinted around s command None = Unit {0}
+IsHinted around s command (Some hint) = around.IsHintTold s (text_for command hint (shell_word (name_of s)))
 
 -- a hint for a source is told if its run is refused at once: the first record of its listing is that of a refusal, by `items` the last
-abbrev pub Hints : Around → Source → (given : Option (List ℕ)) → Option Hint → RunEnd → Type 0
-Hints around s given hint run.Clean = Unit {0}
-Hints around s given hint run.Refused = Unit {0}
-Hints around s given hint run.RefusedAtOnce = IsHinted around s given hint
+abbrev pub Hints : Around → Source → Command → Option Hint → RunEnd → Type 0
+Hints around s command hint run.Clean = Unit {0}
+Hints around s command hint run.Refused = Unit {0}
+Hints around s command hint run.RefusedAtOnce = IsHinted around s command hint
 
 -- A command is done with a source that begins with some octets, and a hint is told.
 pub record ListsBy (around : Around) (choice : Option Choice) (label : Label) (now : Option ℕ) (command : Command) (s : Source) (used : Command) (first : List ℕ) (had written_before written_after : Option (List ℕ)) (outcome : Outcome) : Type 0 where
@@ -85,7 +98,7 @@ pub record ListsBy (around : Around) (choice : Option Choice) (label : Label) (n
   pub result : Outcome
   pub does : DoesWith choice (around.IsEndTold s) label now used had left written_before written_after result
   pub ends : (outcome ≡ result) ⊎ (outcome ≡ Err fault.Memory)
-  pub hinted : IfOk outcome (Hints around s (name_used command) (hint_by used first))
+  pub hinted : IfOk outcome (Hints around s command (hint_by used first))
 
 -- ---- a source that is decoded as its first octets say
 abbrev pub ended_of : Result InputEnd RunFault → Outcome
@@ -100,7 +113,13 @@ pub record DecodesSpelled (around : Around) (command : Command) (profile : Profi
   pub failed : OnErr result (FailsToDecodeInput profile had left written_before written_after)
   pub told : IfOk result (λ end. TellsSaid (around.IsEndTold s) end.said.items)
   pub ends : (outcome ≡ ended_of result) ⊎ (outcome ≡ Err fault.Memory)
-  pub hinted : IfOk outcome (Hints around s (name_used command) (hint_for kind.Message first))
+  pub hinted : IfOk outcome (Hints around s command (hint_for kind.Message first))
+
+-- The tickets of a credential cache were decoded: their lines were written, and what is left out is told, unless memory ran out.
+pub record DecodesCredentials (around : Around) (s : Source) (had written_before written_after : Option (List ℕ)) (outcome : Outcome) : Type 0 where
+  pub said : List ℕ
+  pub decoded : (file : List ℕ) → had ≡ Some file → DecodesCache (decoded_cache file) written_before written_after said outcome
+  pub told : (outcome ≡ Err fault.Memory → ⊥) → TellsSaid (around.IsEndTold s) said
 
 -- Of a keytab, which has no messages, that is told, and which command lists it.
 pub record TellsKeytab (around : Around) (s : Source) (written_before written_after : Option (List ℕ)) (outcome : Outcome) : Type 0 where
@@ -108,14 +127,21 @@ pub record TellsKeytab (around : Around) (s : Source) (written_before written_af
   pub ends : (outcome ≡ Ok run.Refused) ⊎ (outcome ≡ Err fault.Memory)
   pub unwritten : written_after ≡ written_before
 
--- It is one message or a keytab if its first octets say so, and else a stream.
-abbrev pub DecodesBegun : SourceKind → Around → Option Choice → Label → Option ℕ → Command → Profile → Source → (first : List ℕ) → (had written_before written_after : Option (List ℕ)) → Outcome → Type 0
-DecodesBegun kind.Message around choice label now command profile s first had written_before written_after outcome = DecodesSpelled around command profile s first had written_before written_after outcome
-DecodesBegun kind.Keytab around choice label now command profile s first had written_before written_after outcome = TellsKeytab around s written_before written_after outcome
-DecodesBegun other around choice label now command profile s first had written_before written_after outcome = ListsBy around choice label now command s (chosen command first) first had written_before written_after outcome
+-- A stream is decoded up to what is refused, or goes on: what that becomes is not said here, but that a hint is told if its first frame is refused.
+abbrev pub DecodesFrames : AfterRefusal → Around → Option Choice → Label → Option ℕ → Command → Source → (first : List ℕ) → (had written_before written_after : Option (List ℕ)) → Outcome → Type 0
+DecodesFrames after.Ends around choice label now command s first had written_before written_after outcome = ListsBy around choice label now command s (chosen command first) first had written_before written_after outcome
+DecodesFrames after.GoesOn around choice label now command s first had written_before written_after outcome = IfOk outcome (Hints around s command (hint_for kind.Stream first))
 
-abbrev pub BegunBy : Option Profile → Around → Option Choice → Label → Option ℕ → Command → Source → (first : List ℕ) → (had written_before written_after : Option (List ℕ)) → Outcome → Type 0
-BegunBy (Some profile) around choice label now command s first had written_before written_after outcome = DecodesBegun (command_for first) around choice label now command profile s first had written_before written_after outcome
+-- It is one message, a cache, a keytab or a capture if its first octets say so, and else a stream. What a capture becomes is not said here.
+abbrev pub DecodesBegun : SourceKind → Around → Option Choice → Label → Option ℕ → Command → Decoding → Source → (first : List ℕ) → (had written_before written_after : Option (List ℕ)) → Outcome → Type 0
+DecodesBegun kind.Message around choice label now command decoding s first had written_before written_after outcome = DecodesSpelled around command decoding.profile s first had written_before written_after outcome
+DecodesBegun kind.Ccache around choice label now command decoding s first had written_before written_after outcome = DecodesCredentials around s had written_before written_after outcome
+DecodesBegun kind.Keytab around choice label now command decoding s first had written_before written_after outcome = TellsKeytab around s written_before written_after outcome
+DecodesBegun kind.Capture around choice label now command decoding s first had written_before written_after outcome = Unit {0}
+DecodesBegun kind.Stream around choice label now command decoding s first had written_before written_after outcome = DecodesFrames decoding.refused around choice label now command s first had written_before written_after outcome
+
+abbrev pub BegunBy : Option Decoding → Around → Option Choice → Label → Option ℕ → Command → Source → (first : List ℕ) → (had written_before written_after : Option (List ℕ)) → Outcome → Type 0
+BegunBy (Some decoding) around choice label now command s first had written_before written_after outcome = DecodesBegun (command_for first) around choice label now command decoding s first had written_before written_after outcome
 BegunBy None around choice label now command s first had written_before written_after outcome = ListsBy around choice label now command s (chosen command first) first had written_before written_after outcome
 
 abbrev pub DoesBegun : Around → Option Choice → Label → Option ℕ → Command → Source → (first : List ℕ) → (had written_before written_after : Option (List ℕ)) → Outcome → Type 0
@@ -143,17 +169,28 @@ DoesSource around choice label now command s written_before written_after outcom
     DoesOpened around choice label now command s written_before written_after outcome
     ⊎ ((written_after ≡ written_before) × IsUnread outcome)
 
--- without a choice nothing is written before a listing
-abbrev pub NamesSource : Option Choice → (written_before written_after : Option (List ℕ)) → Result (Unit {0}) RunFault → Type 0
-NamesSource None written_before written_after result = (result ≡ Ok tt) × (written_after ≡ written_before)
-NamesSource (Some choice) written_before written_after result = IfErr result IsOfChoice
+-- what a choice keeps of the record with the name of a source
+abbrev pub name_chosen : Choice → Source → List ℕ
+name_chosen c s = chosen_listing c false (file_line (choice_form c) (name_of s))
 
--- With a choice, the record of the name of a source was written before its listing, if there is one and it is chosen, of which nothing is said here; or that failed.
-abbrev pub DoesFrom : Around → Option Choice → Label → Option ℕ → Command → Source → Run
-DoesFrom around None label now command s written_before written_after outcome = DoesSource around None label now command s written_before written_after outcome
-DoesFrom around (Some choice) label now command s written_before written_after outcome =
-    ((between : Option (List ℕ)) × DoesSource around (Some choice) label now command s between written_after outcome)
-    ⊎ FailsChoice outcome
+-- where records are chosen and each source has one with its name, that is chosen from before the listing
+abbrev pub name_line : Option Choice → (is_named : Bool) → Source → Option (List ℕ)
+name_line None is_named s = None
+name_line (Some c) false s = None
+name_line (Some c) true s = Some (name_chosen c s)
+
+abbrev pub ListsAfterName : (line : Option (List ℕ)) → Run → Run
+ListsAfterName None DoesListing written_before written_after outcome = DoesListing written_before written_after outcome
+ListsAfterName (Some line) DoesListing written_before written_after outcome = ListsAfterLine line DoesListing written_before written_after outcome
+
+-- that was written, if there is one, or that failed
+abbrev pub NamesSource : (line : Option (List ℕ)) → (written_before written_after : Option (List ℕ)) → Result (Unit {0}) RunFault → Type 0
+NamesSource None written_before written_after result = (result ≡ Ok tt) × (written_after ≡ written_before)
+NamesSource (Some line) written_before written_after (Ok done) = Appends written_before written_after line
+NamesSource (Some line) written_before written_after (Err failed) = FailsLine line written_before written_after failed
+
+abbrev pub DoesFrom : Around → Option Choice → (is_named : Bool) → Label → Option ℕ → Command → Source → Run
+DoesFrom around choice is_named label now command s = ListsAfterName (name_line choice is_named s) (DoesSource around choice label now command s)
 
 -- Each cache of a directory has its record, even if it is the only one.
 abbrev pub is_directory : Source → Bool
@@ -167,6 +204,12 @@ labels_by naming.Before sources = if list_any is_directory sources then labels.E
 
 abbrev pub labels_of : CommandLine → Labels
 labels_of command_line = labels_by command_line.naming command_line.sources.items
+
+-- each of so many sources has a record with its name
+abbrev pub is_named : Labels → (sources : ℕ) → Bool
+is_named labels.Labels sources = false
+is_named labels.Each sources = true
+is_named labels.Several sources = nat_lt 1 sources
 
 -- which names are printed of so many sources; what sources become is written without their names
 abbrev pub names_for : CommandLine → ℕ → Named
@@ -188,7 +231,7 @@ form_for command_line = if is_conversion command_line.command then forms.Lines e
 
 abbrev pub ListsSources : Around → CommandLine → Option ℕ → List Source → RunOver
 ListsSources around command_line now sources =
-    ListsEach (λ s. Reports (IsFaultReported around command_line.command s) (ListsOne (form_for command_line) (names_for command_line (length sources)) (name_of s) (λ label. DoesFrom around command_line.choice label now command_line.command s))) sources
+    ListsEach (λ s. Reports (IsFaultReported around command_line.command s) (ListsOne (form_for command_line) (names_for command_line (length sources)) (name_of s) (λ label. DoesFrom around command_line.choice (is_named (labels_of command_line) (length sources)) label now command_line.command s))) sources
 
 -- The command of a command line is done with each of its sources, each cache of a directory among them, and the fault by which a run ends is told.
 pub record DoesEach (around : Around) (command_line : CommandLine) (written_before written_after : Option (List ℕ)) (status : ℕ) : Type 0 where

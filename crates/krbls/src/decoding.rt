@@ -3,29 +3,72 @@
 ghost use Rattle.std.specs.Option.{option_copied};
 ghost use Rattle.std.specs.Prelude.{◌≡◌, ◌⊎◌, IfOk};
 ghost use Rattle.krb_decode.specs.Hints.{keytab_text};
+ghost use Rattle.krb_input.specs.Hints.{hint_for};
 ghost use Rattle.krb_input.specs.Sources.{command_for};
+ghost use Rattle.krb_input.specs.declared.source_kind.SourceKind.TheVariants as kind;
 ghost use Rattle.krb_run.specs.Begun.{begun_remaining, first_of};
 ghost use Rattle.krbls.specs.Commands.{decoding_of};
 ghost use Rattle.krb_words.specs.Shell.{shell_word};
-ghost use Rattle.krbls.specs.Program.{DecodesBegun, DecodesSpelled, DoesBegun, name_of};
+ghost use Rattle.krbls.specs.Program.{DecodesBegun, DecodesCredentials, DecodesFrames, DecodesSpelled, DoesBegun, Hints, name_of};
 
 use crate::lister::{Lister, name_word};
-use krb_decode::{keytab_text, run_decode_input};
+use krb_capture_run::run_decode_capture;
+use krb_decode::{
+    Sorting, Tell, keytab_text, run_decode_ccache, run_decode_input, run_decode_stream,
+};
 use krb_host::Host;
 use krb_input::{SourceKind, hint_of, kind_of};
-use krb_record::Label;
+use krb_record::{Label, TextBuffer};
 use krb_run::{Begun, RunEnd, RunFault};
-use krb_tool::Profile;
-use krb_words::{Command, Framing, Source};
+use krb_tool::{Limit, Profile};
+use krb_words::{AfterRefusal, Command, Framing, Packets, Source};
 use std::io::{Read, Write};
 
-/// Returns the profile of a command that decodes each source as its first octets say.
-fn decoding_of(command: &Command) -> Option<Profile>
+/// How sources are decoded as their first octets say.
+#[derive(Clone, Copy)]
+pub(crate) struct Decoding {
+    limit: Limit,
+    profile: Profile,
+    refused: AfterRefusal,
+    packets: Packets,
+}
+
+/// Returns how a command decodes each source as its first octets say, if it does.
+fn decoding_of(command: &Command) -> Option<Decoding>
     ensures { result ≡ decoding_of command.now }
 {
     match command {
-        Command::Decode(_, profile, Framing::Framed) => Some(*profile),
+        Command::Decode(limit, profile, Framing::Framed, refused, packets) => Some(Decoding {
+            limit: *limit,
+            profile: *profile,
+            refused: *refused,
+            packets: *packets,
+        }),
         _ => None,
+    }
+}
+
+/// What tells lines of a source.
+#[derive(Clone, Copy)]
+struct Telling<'a, H> {
+    host: &'a H,
+    source: &'a Source,
+}
+
+impl<H: Host> Tell for Telling<'_, H> {
+    fn tell(&self, line: &[u8]) {
+        self.host.tell_end(self.source, line);
+    }
+}
+
+/// Returns how a run ends that was refused at once, or of which something was told, or nothing.
+fn told_end(end: RunEnd, has_told: bool) -> RunEnd {
+    if end == RunEnd::RefusedAtOnce {
+        RunEnd::RefusedAtOnce
+    } else if has_told {
+        RunEnd::Refused
+    } else {
+        RunEnd::Clean
     }
 }
 
@@ -41,28 +84,99 @@ impl<H: Host> Lister<'_, H> {
         ensures { DoesBegun (H.around self.now.host.now) (option_copied self.now.choice) label.now self.now.time self.now.command.now source.now (first_of reader.old) (begun_remaining R.remaining reader.old) (W.contents writer.old) (W.contents writer.new) result }
     {
         match decoding_of(self.command) {
-            Some(profile) => self.decode_begun(source, profile, label, reader, writer),
+            Some(decoding) => self.decode_begun(source, decoding, label, reader, writer),
             None => self.list_begun(source, label, reader, writer),
         }
     }
 
-    /// Decodes what a reader reads of a source: one message or a keytab if its first octets say so, and
-    /// else a stream.
+    /// Decodes what a reader reads of a source: one message, a credential cache or a keytab if its first
+    /// octets say so, and else a stream.
     fn decode_begun<R: Read, W: Write>(
         &self,
         source: &Source,
-        profile: Profile,
+        decoding: Decoding,
         label: &Label,
         reader: &mut Begun<R>,
         writer: &mut W,
     ) -> Result<RunEnd, RunFault>
-        ensures { DecodesBegun (command_for (first_of reader.old)) (H.around self.now.host.now) (option_copied self.now.choice) label.now self.now.time self.now.command.now profile source.now (first_of reader.old) (begun_remaining R.remaining reader.old) (W.contents writer.old) (W.contents writer.new) result }
+        ensures { DecodesBegun (command_for (first_of reader.old)) (H.around self.now.host.now) (option_copied self.now.choice) label.now self.now.time self.now.command.now decoding source.now (first_of reader.old) (begun_remaining R.remaining reader.old) (W.contents writer.old) (W.contents writer.new) result }
     {
         match kind_of(reader.first()) {
-            SourceKind::Message => self.decode_input(source, profile, reader, writer),
+            SourceKind::Message => self.decode_input(source, decoding.profile, reader, writer),
+            SourceKind::Ccache => self.decode_credentials(source, reader, writer),
             SourceKind::Keytab => self.tell_keytab(source),
-            _ => self.list_begun(source, label, reader, writer),
+            SourceKind::Capture => self.decode_capture(source, decoding, reader, writer),
+            SourceKind::Stream => self.decode_frames(source, decoding, label, reader, writer),
         }
+    }
+
+    /// Decodes a stream, up to what is refused or after that, too.
+    fn decode_frames<R: Read, W: Write>(
+        &self,
+        source: &Source,
+        decoding: Decoding,
+        label: &Label,
+        reader: &mut Begun<R>,
+        writer: &mut W,
+    ) -> Result<RunEnd, RunFault>
+        ensures { DecodesFrames decoding.refused (H.around self.now.host.now) (option_copied self.now.choice) label.now self.now.time self.now.command.now source.now (first_of reader.old) (begun_remaining R.remaining reader.old) (W.contents writer.old) (W.contents writer.new) result }
+    {
+        match decoding.refused {
+            AfterRefusal::Ends => self.list_begun(source, label, reader, writer),
+            AfterRefusal::GoesOn => self.decode_stream(source, decoding, reader, writer),
+        }
+    }
+
+    /// Decodes a capture, and tells what is left out of it.
+    fn decode_capture<R: Read, W: Write>(
+        &self,
+        source: &Source,
+        decoding: Decoding,
+        reader: &mut Begun<R>,
+        writer: &mut W,
+    ) -> Result<RunEnd, RunFault> {
+        let telling = Telling {
+            host: self.host,
+            source,
+        };
+        let mut sorting = Sorting::new(self.alloc, writer, &telling);
+        let Packets { port, number } = decoding.packets;
+        let end = run_decode_capture(
+            self.alloc,
+            decoding.profile,
+            reader,
+            &mut sorting,
+            decoding.limit,
+            port,
+            number,
+        )?;
+        Ok(told_end(end, sorting.has_told()))
+    }
+
+    /// Decodes a stream that goes on after what is refused, tells what is left out of it, and a hint if
+    /// its first frame is refused.
+    fn decode_stream<R: Read, W: Write>(
+        &self,
+        source: &Source,
+        decoding: Decoding,
+        reader: &mut Begun<R>,
+        writer: &mut W,
+    ) -> Result<RunEnd, RunFault>
+        ensures { IfOk result (Hints (H.around self.now.host.now) source.now self.now.command.now (hint_for kind.Stream (first_of reader.old))) }
+    {
+        let hint = hint_of(SourceKind::Stream, reader.first());
+        let telling = Telling {
+            host: self.host,
+            source,
+        };
+        let mut sorting = Sorting::new(self.alloc, writer, &telling);
+        let Decoding { limit, profile, .. } = decoding;
+        let end = run_decode_stream(self.alloc, profile, reader, &mut sorting, limit)?;
+        let end = told_end(end, sorting.has_told());
+        if end == RunEnd::RefusedAtOnce {
+            self.tell_hint(source, hint)?;
+        }
+        Ok(end)
     }
 
     /// Decodes the one message that an input spells, and tells what is left out of it, and a hint if
@@ -83,6 +197,25 @@ impl<H: Host> Lister<'_, H> {
             self.tell_hint(source, hint)?;
         }
         Ok(end.end)
+    }
+
+    /// Decodes the tickets of a credential cache, and tells what is left out of it.
+    fn decode_credentials<R: Read, W: Write>(
+        &self,
+        source: &Source,
+        reader: &mut Begun<R>,
+        writer: &mut W,
+    ) -> Result<RunEnd, RunFault>
+        ensures { DecodesCredentials (H.around self.now.host.now) source.now (begun_remaining R.remaining reader.old) (W.contents writer.old) (W.contents writer.new) result }
+    {
+        let mut said = TextBuffer::new(self.alloc);
+        let ended = run_decode_ccache(self.alloc, reader, writer, &mut said);
+        if let Err(RunFault::Memory) = &ended {
+            // The last line may not be whole.
+            return ended;
+        }
+        self.tell_said(source, said.octets());
+        ended
     }
 
     /// Tells that a source is a keytab, which has no messages.

@@ -1,21 +1,24 @@
 //! The runs over sources.
 
-ghost use Rattle.std.specs.Prelude.{◌≡◌, IfErr, IfOk, OnOk, string_bytes};
+ghost use Rattle.std.specs.Prelude.{◌≡◌, ◌++◌, ℕ, List, Err, IfErr, IfOk, IfSome, None, OnOk, string_bytes};
 ghost use Rattle.std.specs.Option.{option_and_then, option_copied};
 ghost use Rattle.krb_run.specs.Begun.{begun_remaining, first_of};
+ghost use Rattle.krb_run.specs.Faults.{IsWrite};
+ghost use Rattle.krb_run.specs.Records.{WritesSome};
 ghost use Rattle.krb_convert.specs.Encoding.{FailsToEncode};
 ghost use Rattle.krb_words.specs.Shell.{shell_word};
-ghost use Rattle.krb_words.specs.Tasks.{name_used, said_unopened};
+ghost use Rattle.krb_words.specs.Tasks.{said_unopened};
 ghost use Rattle.krb_convert.specs.Conversions.{DecodesBy, EncodesBy, FailsToDecodeBy, is_framed};
 ghost use Rattle.krb_convert.specs.Ends.{decode_end_line, decode_run_end, encode_end_line, encode_run_end};
 ghost use Rattle.krb_input.specs.Hints.{hint_for};
-ghost use Rattle.krbls.specs.Commands.{Does, DoesWith, FailsToTurn, TellsSaid, Turns, chosen, fitting as fitting_hint, hint_by, kind_read, unless_http as hint_unless_http};
-ghost use Rattle.krbls.specs.Program.{DoesFrom, DoesSource, IsFaultReported, IsHinted, IsTold, ListsBy, NamesSource, name_of};
+ghost use Rattle.krbls.specs.Commands.{Does, DoesWith, FailsToTurn, ListsTo, TellsLast, TellsSaid, Turns, chosen, fitting as fitting_hint, goes_on, hint_by, kind_read, unless_http as hint_unless_http};
+ghost use Rattle.krbls.specs.Program.{DoesFrom, DoesSource, IsFaultReported, IsHinted, IsTold, ListsBy, NamesSource, name_line, name_of, text_for as text_by};
 
 use krb_capture_run::run_capture;
 use krb_choice::Choice;
 use krb_choosing::Choosing;
 use krb_convert::{decode, encode, put_decode_end, put_encode_end};
+use krb_decode::hint_text;
 use krb_file_run::{run_ccache_in, run_keytab_in};
 use krb_host::Host;
 use krb_input::{Hint, SourceKind, hint_of, kind_of};
@@ -25,6 +28,7 @@ use krb_run::{Begun, ListSource, RunEnd, RunFault, write_all};
 use krb_tool::{Limit, Profile, run_lines_in, run_message_in, run_stream_in};
 use krb_words::{AfterRefusal, Command, Framing, Inputs, ShellWord, Source};
 use std::alloc::{AllocError, Global};
+use std::io;
 use std::io::{Read, Write};
 
 /// What does the command of a command line with sources.
@@ -51,7 +55,8 @@ impl<H: Host> Lister<'_, H> {
         reader: &mut R,
         writer: &mut W,
     ) -> Result<RunEnd, RunFault>
-        ensures { Does ((H.around self.now.host.now).IsEndTold source.now) label.now self.now.time command.now (R.remaining reader.old) (R.remaining reader.new) (W.contents writer.old) (W.contents writer.new) result }
+        ensures does { Does ((H.around self.now.host.now).IsEndTold source.now) label.now self.now.time command.now (R.remaining reader.old) (R.remaining reader.new) (W.contents writer.old) (W.contents writer.new) result }
+        ensures written { WritesSome (W.contents writer.old) (W.contents writer.new) }
     {
         let alloc = self.alloc;
         match command {
@@ -73,7 +78,7 @@ impl<H: Host> Lister<'_, H> {
             Command::Capture(limit, profile, port) => {
                 run_capture(alloc, label, *profile, reader, writer, *limit, *port)
             }
-            Command::Decode(limit, profile, framing) => {
+            Command::Decode(limit, profile, framing, ..) => {
                 self.run_decode(source, *framing, *profile, reader, writer, *limit)
             }
             Command::Encode(limit, profile, framing) => {
@@ -136,8 +141,37 @@ impl<H: Host> Lister<'_, H> {
     }
 }
 
+/// Returns what a run returned, or the fault of a write that failed.
+fn unless_failed<T: Drop>(
+    failed: Option<io::Error>,
+    outcome: Result<T, RunFault>,
+) -> Result<T, RunFault>
+    ensures none { failed ≡ None → result ≡ outcome }
+    ensures fault { IfSome failed (λ error. result ≡ Err (RunFault.Write error)) }
+{
+    match failed {
+        None => outcome,
+        Some(error) => Err(RunFault::Write(error)),
+    }
+}
+
+/// Writes octets to what chooses of them.
+fn write_into<W: Write>(choosing: &mut Choosing<'_, W>, octets: &[u8]) -> Result<(), RunFault>
+    ensures all { OnOk result (choosing.new.given.octets ≡ choosing.old.given.octets ++ octets.now) }
+    ensures prefix { (part : List ℕ) × (rest : List ℕ) × (choosing.new.given.octets ≡ choosing.old.given.octets ++ part) × (octets.now ≡ part ++ rest) }
+    ensures fault { IfErr result IsWrite }
+    ensures same_writer { choosing.new.writer.ghost_name ≡ choosing.old.writer.ghost_name }
+    ensures same_before { W.contents choosing.new.before.value ≡ W.contents choosing.old.before.value }
+    ensures same_choice { choosing.new.chooser.choice.now ≡ choosing.old.chooser.choice.now }
+    ensures same_goes_on { choosing.new.chooser.goes_on ≡ choosing.old.chooser.goes_on }
+{
+    write_all(choosing, octets)
+}
+
 /// Returns whether the listing of a command goes on after each refusal.
-fn goes_on(command: &Command) -> bool {
+fn goes_on(command: &Command) -> bool
+    ensures { result ≡ goes_on command.now }
+{
     matches!(
         command,
         Command::Stream(_, _, AfterRefusal::GoesOn) | Command::Message(_, Inputs::EachLine)
@@ -149,7 +183,7 @@ fn kind_read(command: &Command) -> Option<SourceKind>
     ensures { result ≡ kind_read command.now }
 {
     match command {
-        Command::Decode(_, _, Framing::Framed) => Some(SourceKind::Stream),
+        Command::Decode(_, _, Framing::Framed, ..) => Some(SourceKind::Stream),
         _ => command.kind(),
     }
 }
@@ -194,15 +228,44 @@ fn hint_by(command: &Command, first: &[u8]) -> Option<Hint>
 impl<H: Host> Lister<'_, H> {
     /// Tells what a source is, if that is known.
     pub(crate) fn tell_hint(&self, source: &Source, hint: Option<Hint>) -> Result<(), AllocError>
-        ensures { OnOk result (IsHinted (H.around self.now.host.now) source.now (name_used self.now.command.now) hint) }
+        ensures { OnOk result (IsHinted (H.around self.now.host.now) source.now self.now.command.now hint) }
     {
         let Some(hint) = hint else {
             return Ok(());
         };
         let name = name_word(self.alloc, source)?;
-        let text = hint.text(self.alloc, self.command.name(), name.as_str())?;
+        let text = text_for(self.alloc, self.command, hint, name.as_str())?;
         self.host.tell_hint(source, text.as_str());
         Ok(())
+    }
+
+    /// Lists what a reader reads of a source by a command, to what chooses of it.
+    fn run_into<R: Read, W: Write>(
+        &self,
+        source: &Source,
+        command: &Command,
+        label: &Label,
+        reader: &mut R,
+        choosing: &mut Choosing<'_, W>,
+    ) -> Result<RunEnd, RunFault>
+        ensures given { (listing : List ℕ) × (choosing.new.given.octets ≡ choosing.old.given.octets ++ listing) × ListsTo (Does ((H.around self.now.host.now).IsEndTold source.now) label.now self.now.time command.now (R.remaining reader.old) (R.remaining reader.new)) listing result }
+        ensures same_writer { choosing.new.writer.ghost_name ≡ choosing.old.writer.ghost_name }
+        ensures same_before { W.contents choosing.new.before.value ≡ W.contents choosing.old.before.value }
+        ensures same_choice { choosing.new.chooser.choice.now ≡ choosing.old.chooser.choice.now }
+        ensures same_goes_on { choosing.new.chooser.goes_on ≡ choosing.old.chooser.goes_on }
+    {
+        self.run(source, command, label, reader, choosing)
+    }
+
+    /// Tells of the last record of a source by a line, if there is one and the source was not read as a
+    /// whole.
+    fn tell_last(&self, source: &Source, line: &[u8], outcome: &Result<RunEnd, RunFault>)
+        ensures { TellsLast ((H.around self.now.host.now).IsEndTold source.now) line.now outcome.now }
+    {
+        match outcome {
+            Ok(RunEnd::Refused | RunEnd::RefusedAtOnce) => self.tell_said(source, line),
+            Ok(RunEnd::Clean) | Err(_) => {}
+        }
     }
 
     /// Lists what a reader reads of a source by a command: all of it, or what is chosen. If that was not
@@ -220,17 +283,17 @@ impl<H: Host> Lister<'_, H> {
         let Some(choice) = self.choice else {
             return self.run(source, command, label, reader, writer);
         };
-        let mut choosing = Choosing::new(self.alloc, choice, goes_on(command), writer)?;
-        let end = self.run(source, command, label, reader, &mut choosing)?;
-        if end != RunEnd::Clean {
-            self.tell_said(source, choosing.told());
-        }
-        Ok(end)
+        let mut choosing = Choosing::new(self.alloc, choice, goes_on(command), writer);
+        let outcome = self.run_into(source, command, label, reader, &mut choosing);
+        let outcome = unless_failed(choosing.fault(), outcome);
+        self.tell_last(source, choosing.told(), &outcome);
+        let _ = &*choosing.finish();
+        outcome
     }
 
-    /// Writes the record with the name of a source, if there is one and it is kept.
+    /// Writes what is kept of the record with the name of a source, if there is one.
     fn write_name<W: Write>(&self, source: &Source, writer: &mut W) -> Result<(), RunFault>
-        ensures { NamesSource (option_copied self.now.choice) (W.contents writer.old) (W.contents writer.new) result }
+        ensures { NamesSource (name_line (option_copied self.now.choice) self.now.names_sources source.now) (W.contents writer.old) (W.contents writer.new) result }
     {
         let Some(choice) = self.choice else {
             return Ok(());
@@ -240,8 +303,11 @@ impl<H: Host> Lister<'_, H> {
         }
         let mut line = TextBuffer::new(self.alloc);
         put_file(&mut line, choice.form(), octets_name(source))?;
-        let mut choosing = Choosing::new(self.alloc, choice, false, writer)?;
-        write_all(&mut choosing, line.octets())
+        let mut choosing = Choosing::new(self.alloc, choice, false, writer);
+        let outcome = write_into(&mut choosing, line.octets());
+        let outcome = unless_failed(choosing.fault(), outcome);
+        let _ = &*choosing.finish();
+        outcome
     }
 
     /// Lists what a reader reads of a source by a command, and tells a hint if its first record is that
@@ -314,6 +380,16 @@ impl<H: Host> Lister<'_, H> {
     }
 }
 
+/// Returns what a hint says of a file that was read by a command, whose name is a word of a shell.
+fn text_for(alloc: Global, command: &Command, hint: Hint, file: &str) -> Result<String, AllocError>
+    ensures { IfOk result (λ text. string_bytes text ≡ text_by command.now hint file.now) }
+{
+    match command {
+        Command::Decode(..) => hint_text(alloc, hint, file),
+        _ => hint.text(alloc, command.name(), file),
+    }
+}
+
 /// Returns the name of a source as a word of a shell.
 pub(crate) fn name_word(alloc: Global, source: &Source) -> Result<String, AllocError>
     ensures { IfOk result (λ name. string_bytes name ≡ shell_word (name_of source.now)) }
@@ -334,7 +410,7 @@ fn octets_name(source: &Source) -> &[u8]
 impl<H: Host> ListSource<Source> for Lister<'_, H> {
     ghost called = { name_of };
 
-    ghost Lists = { λ lister source label. DoesFrom (H.around lister.host.now) (option_copied lister.choice) label lister.time lister.command.now source };
+    ghost Lists = { λ lister source label. DoesFrom (H.around lister.host.now) (option_copied lister.choice) lister.names_sources label lister.time lister.command.now source };
 
     ghost IsReported = { λ lister source fault. IsFaultReported (H.around lister.host.now) lister.command.now source fault };
 

@@ -7,7 +7,7 @@ ghost use Rattle.std.specs.Process.{exit_status};
 ghost use Rattle.krb_record.specs.Text.{line_feed};
 ghost use Rattle.krb_run.specs.Faults.{IsWrite};
 ghost use Rattle.krb_words.specs.Tasks.{when_of};
-ghost use Rattle.krbls.specs.Program.{RunsCommand, DoesAny, DoesSources, DoesUnlessShown, IsTime, ListsSources, Prints, Refuses, Runs, is_directory, labels_of};
+ghost use Rattle.krbls.specs.Program.{RunsCommand, DoesAny, DoesSources, DoesUnlessShown, IsTime, ListsSources, Prints, Refuses, Runs, is_directory, is_named, labels_of};
 
 use crate::lister::Lister;
 use krb_host::{Host, expand};
@@ -114,7 +114,9 @@ fn labels_of(command_line: &CommandLine) -> Labels
 }
 
 /// Returns whether a record of its name precedes each of so many sources.
-fn names_sources(naming: Labels, sources: usize) -> bool {
+fn names_sources(naming: Labels, sources: usize) -> bool
+    ensures { result ≡ is_named naming sources }
+{
     match naming {
         Labels::Labels => false,
         Labels::Each => true,

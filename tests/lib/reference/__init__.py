@@ -23,7 +23,7 @@ JSON, and `der` has the octets of values. `converted` has that of a source, and 
 from functools import partial
 
 from .captures import capture
-from .codec import written
+from .codec import decoded_parts, written
 from .files import ccache, keytab
 from .frames import stream, stream_going_on
 from .grammar import MESSAGES, STRICT_MESSAGES
@@ -90,8 +90,18 @@ def listing(command, octets, now=None):
     return lines_of(found, command.split()), status
 
 
+def conversion_options(words):
+    """What the words of `decode` and `encode` say of how a source is read."""
+    numbers = {**taken_number(words, "limit"), **taken_number(words, "port"), **taken_number(words, "packet")}
+    return {**numbers, "messages": STRICT_MESSAGES if "--strict" in words else MESSAGES, "keep_going": "--keep-going" in words}
+
+
 def converted(command, octets):
     """What `decode` or `encode` writes of a source, as `encode --strict --limit 300` does, and what it says in the end, or None."""
     words = command.split()
-    messages = STRICT_MESSAGES if "--strict" in words else MESSAGES
-    return written(words[0], octets, messages=messages, unframed="--unframed" in words, **taken_number(words, "limit"))
+    return written(words[0], octets, unframed="--unframed" in words, **conversion_options(words))
+
+
+def decoded_in_order(command, octets):
+    """What `decode` writes and says of a capture, or of a stream with --keep-going, in order."""
+    return decoded_parts(octets, **conversion_options(command.split()))

@@ -137,6 +137,13 @@ def with_counts(last, happened):
     return last._replace(fields={**last.fields, **told_counts})
 
 
+def last_record(followed, refusal=None):
+    """The record that ends a capture, or that of why the rest of its file is not read."""
+    totals = shown(followed.totals())
+    last = Record("end", totals) if refusal is None else refused(refusal, totals, FILE_REASONS)
+    return with_counts(last, followed.happened)
+
+
 def capture(octets, limit=LIMIT, port=PORT, messages=MESSAGES):
     """The records of a capture, and the status of the program."""
     followed = Capture(limit, port, messages)
@@ -146,9 +153,8 @@ def capture(octets, limit=LIMIT, port=PORT, messages=MESSAGES):
             records.extend(followed.take(packet))
     except Refused as refusal:
         records.extend(followed.end())
-        last = refused(refusal, shown(followed.totals()), FILE_REASONS)
-        return [*records, with_counts(last, followed.happened)], 1
+        return [*records, last_record(followed, refusal)], 1
     records.extend(followed.end())
     totals = followed.totals()
     is_clean = not any(totals[name] for name in ("refused", "lost", "unread"))
-    return [*records, with_counts(Record("end", shown(totals)), followed.happened)], 0 if is_clean else 1
+    return [*records, last_record(followed)], 0 if is_clean else 1

@@ -1,9 +1,12 @@
 """What `krbls decode` and `krbls encode` write of a source, and what they say of one that is refused or at fault."""
 
+from .captures import PORT
+from .decoding import NOT_ENCRYPTED, Part, decoded_capture, decoded_going_on, decoded_packet
 from .der import der
 from .documents import NotJson, document
+from .files import FILE_REASONS, Fields, cache_start, credentials_of
 from .frames import LIMIT, found_in_by
-from .grammar import MESSAGES, STRICT_MESSAGES
+from .grammar import MESSAGES, STRICT_MESSAGES, TICKET
 from .hints import command_for, hint
 from .inputs import spelled
 from .judging import Refused, judge, whole
@@ -14,9 +17,6 @@ from .tokens import Token
 from .values import count
 
 BLANKS = b" \t\r"
-
-NOT_ENCRYPTED = "not encrypted, and so not printed"
-
 
 class Ends(Exception):
     """What ends a source, in words."""
@@ -109,6 +109,35 @@ def decoded_input(octets, messages):
     return b"".join(lines), "\n".join(said) or None
 
 
+def ticket_or_said(octets):
+    """The line of the Ticket that a field of a credential has, and what is said if it has none."""
+    if not octets:
+        return b"", "absent"
+    try:
+        value = whole(octets, {"Ticket": TICKET})[1]
+    except Refused as refusal:
+        return b"", named_line(without_extent(refused(refusal)))
+    if value["enc-part"]["etype"] == 0:
+        return b"", f"Ticket.enc-part: {NOT_ENCRYPTED}"
+    return ticket_line(value), None
+
+
+def decoded_cache(octets):
+    """The lines of the tickets of a credential cache, and what is said of what has none, or None."""
+    lines, said = [], []
+    fields = Fields(octets)
+    try:
+        version, _, _ = cache_start(fields)
+        for index, read in enumerate(credentials_of(fields, version)):
+            if not read.is_config:
+                line, text = ticket_or_said(read.ticket)
+                lines.append(line)
+                said += [] if text is None else [f"credential[{index}].ticket: {text}"]
+    except Refused as refusal:
+        said.append(named_line(refused(refusal, reasons=FILE_REASONS)))
+    return b"".join(lines), "\n".join(said) or None
+
+
 def frame(octets, unframed):
     return octets if unframed else len(octets).to_bytes(4, "big") + octets
 
@@ -124,13 +153,14 @@ def most_of_line(limit):
     return 8 * limit + 65536
 
 
-def message_of_line(line, limit, messages):
-    """The octets of the message that a line spells."""
+def message_of_line(line, limit, messages, unframed):
+    """The octets of the message that a line spells, or, without its length, of the Ticket."""
+    terms = {**messages, "Ticket": TICKETS[messages is STRICT_MESSAGES]} if unframed else messages
     try:
-        name, value = message_of(document(line), messages)
+        name, value = message_of(document(line), terms)
     except NotJson:
         raise Wrong(None, "not JSON; each line is a whole object") from None
-    octets = der(messages[name], value)
+    octets = der(terms[name], value)
     if len(octets) > limit:
         raise Wrong(name, f"longer than {limit} octets")
     return octets
@@ -148,7 +178,7 @@ def frames_of(text, limit, messages, unframed):
             raise Ends(f"line {number}: a second message")
         is_first = False
         try:
-            yield frame(message_of_line(line, limit, messages), unframed)
+            yield frame(message_of_line(line, limit, messages, unframed), unframed)
         except Wrong as wrong:
             path = "" if wrong.path is None else f"{wrong.path}: "
             raise Ends(f"line {number}: {path}{wrong.text}") from None
@@ -159,14 +189,33 @@ def frames_of(text, limit, messages, unframed):
 WRITTEN = {"decode": lines_of, "encode": frames_of}
 
 
-def written(command, octets, limit=LIMIT, messages=MESSAGES, unframed=False):
+def decoded_parts(octets, limit=LIMIT, messages=MESSAGES, keep_going=False, port=PORT, packet=None):
+    """The parts of a capture, or of a stream that goes on after refusals, with a hint if the first record is a refusal; None of all else."""
+    kind = command_for(octets)
+    if kind == "capture":
+        of_packet = packet is not None
+        parts, is_refused = decoded_packet(octets, packet, limit, port, messages) if of_packet else decoded_capture(octets, limit, port, messages)
+    elif kind == "stream" and keep_going:
+        parts, is_refused = decoded_going_on(octets, limit, messages)
+    else:
+        return None
+    help_of = hint(octets, kind, "decode", "-") if is_refused else None
+    return parts + ([Part(said=help_of)] if help_of else [])
+
+
+def written(command, octets, limit=LIMIT, messages=MESSAGES, unframed=False, keep_going=False, port=PORT, packet=None):
     """What a command writes of the octets of a source, and what it says of what it left out, in lines, or None."""
     chooses = command == "decode" and not unframed
     kind = command_for(octets) if chooses else None
     if kind == "message":
         return decoded_input(octets, messages)
+    if kind == "ccache":
+        return decoded_cache(octets)
     if kind == "keytab":
         return b"", "this is a keytab, which has no messages: krbls keytab -"
+    parts = decoded_parts(octets, limit, messages, keep_going, port, packet) if chooses else None
+    if parts is not None:
+        return b"".join(part.line for part in parts), "\n".join(part.said for part in parts if part.said) or None
     found = []
     try:
         for part in WRITTEN[command](octets, limit, messages, unframed):

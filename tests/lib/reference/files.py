@@ -1,5 +1,7 @@
 """The records of keytabs and of credential caches."""
 
+from collections import namedtuple
+
 from .fields import ticket_server
 from .grammar import TICKET
 from .judging import Refused, whole
@@ -220,8 +222,11 @@ def config_value(names, value):
     return quoted(value) if len(names) > 1 and names[1] in SHOWN_KEYS else ABSENT
 
 
-def credential(fields, path, version, now):
-    """The record of a credential or of a configuration entry."""
+Credential = namedtuple("Credential", "client server enctype key times is_skey flags addresses authdata ticket second is_config")
+
+
+def read_credential(fields, path, version):
+    """A credential or a configuration entry."""
     client = file_principal(fields, f"{path}.client")
     server = file_principal(fields, f"{path}.server")
     enctype = fields.number(f"{path}.enctype", 2)
@@ -235,33 +240,53 @@ def credential(fields, path, version, now):
     authdata = typed_items(fields, f"{path}.authdata")
     ticket = fields.data(f"{path}.ticket", 4)
     second = fields.data(f"{path}.second-ticket", 4)
-    whose = {"client": principal(*client), "server": principal(*server)}
-    _, server_names, server_realm = server
-    if server_realm == b"X-CACHECONF:" and server_names[:1] == [b"krb5_ccache_conf_data"]:
-        return Record("config", {**whose, "size": count(ticket), "value": told(config_value(server_names, ticket))})
-    ticket_part, ticket_principal = ticket_and_server(ticket)
+    _, names, realm = server
+    is_config = realm == b"X-CACHECONF:" and names[:1] == [b"krb5_ccache_conf_data"]
+    return Credential(client, server, enctype, key, times, is_skey, flags, addresses, authdata, ticket, second, is_config)
+
+
+def credential(read, now):
+    """The record of a credential or of a configuration entry."""
+    whose = {"client": principal(*read.client), "server": principal(*read.server)}
+    if read.is_config:
+        _, names, _ = read.server
+        return Record("config", {**whose, "size": count(read.ticket), "value": told(config_value(names, read.ticket))})
+    ticket_part, ticket_principal = ticket_and_server(read.ticket)
     shown = {
         **whose,
-        "enctype": named(enctype, ENCRYPTION_TYPES),
-        "key": count(key),
-        **dict(zip(("auth", "start", "end", "renew"), map(file_time, times))),
-        "skey": number(is_skey),
-        "flags": ticket_flags(flags),
-        "state": state(times[2], now),
-        "addresses": number(addresses),
-        "authdata": number(authdata),
+        "enctype": named(read.enctype, ENCRYPTION_TYPES),
+        "key": count(read.key),
+        **dict(zip(("auth", "start", "end", "renew"), map(file_time, read.times))),
+        "skey": number(read.is_skey),
+        "flags": ticket_flags(read.flags),
+        "state": state(read.times[2], now),
+        "addresses": number(read.addresses),
+        "authdata": number(read.authdata),
         "ticket": ticket_part,
         "tserver": ticket_principal,
-        "second": count(second),
+        "second": count(read.second),
     }
     return Record("cred", shown)
 
 
-def ccache_records(octets, now):
-    fields = Fields(octets)
+def credentials_of(fields, version):
+    """The credentials and configuration entries of a cache, after its principal."""
+    index = 0
+    while not fields.at_end():
+        yield read_credential(fields, f"credential[{index}]", version)
+        index += 1
+
+
+def cache_start(fields):
+    """The version of a cache, the fields of its header, and its principal."""
     version = fields.version(3, 4)
     header_fields = header(fields) if version == 4 else []
-    owner = file_principal(fields, "principal")
+    return version, header_fields, file_principal(fields, "principal")
+
+
+def ccache_records(octets, now):
+    fields = Fields(octets)
+    version, header_fields, owner = cache_start(fields)
     shown = {
         "principal": principal(*owner),
         "type": named(owner[0], NAME_TYPES),
@@ -270,8 +295,8 @@ def ccache_records(octets, now):
     }
     yield Record("cache", shown)
     credentials = 0
-    while not fields.at_end():
-        yield credential(fields, f"credential[{credentials}]", version, now)
+    for read in credentials_of(fields, version):
+        yield credential(read, now)
         credentials += 1
     yield Record("end", {"credentials": number(credentials)})
 

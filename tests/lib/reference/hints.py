@@ -82,12 +82,13 @@ def hint(octets, used, given, name):
         if first.startswith(beginning):
             command = "" if given == "list" else f"{given} "
             return f"this is {what} file: {shows} {name} | krbls {command}-"
-    said = said_of_other(first, name)
+    decodes = given == "decode"
+    said = said_of_other(first, name, "decode" if decodes else "capture")
     if said is not None:
         return said
     if first.startswith(b"tkt") and not set(first) & set(b" \t") and used in ("ccache", "message"):
-        return "this may be the primary file of a collection: krbls ccache DIR:DIRECTORY"
-    found = other_command(first)
+        return f"this may be the primary file of a collection: krbls {'decode' if decodes else 'ccache'} DIR:DIRECTORY"
+    found = None if decodes else other_command(first)
     if found is None or found[1] == used:
         return said_of_message(first) if used == "message" else None
     return f"{found[0]}: krbls {found[1]} {name}"
@@ -135,15 +136,15 @@ def lacks_token(octets):
     return size == 0 or len(fields) > 1 and fields[0] in tags and size == fields[1] + 2
 
 
-def said_of_other(first, name):
-    """What is said of files that no command reads."""
+def said_of_other(first, name, command):
+    """What is said of files that no command reads; the command reads what a capture of another form becomes."""
     if first.startswith(VERSION_1):
         return "this is a keytab or credential cache of version 1, which krbls does not read"
     if first.startswith(VERSION_2):
         return "this is a keytab, or a cache of version 2, which krbls does not read"
     for beginnings, what in ((MODIFIED_PCAP, "modified pcap"), (SNOOP, "snoop capture")):
         if first.startswith(beginnings):
-            return f"this is a {what}: editcap -F pcap {name} - | krbls capture -"
+            return f"this is a {what}: editcap -F pcap {name} - | krbls {command} -"
     if first.startswith(b"-----BEGIN"):
         return "this is PEM, which holds certificates or keys and no Kerberos"
     if first.startswith(b"SQLite"):

@@ -29,7 +29,7 @@ pub record IsCaptureLeft (model : PacketsModel) (capture : Capture) (rest : Opti
   pub found : List Finding
   pub reads : Reads model source.file count
   pub followed : HasFollowedBut capture source.settings progress rest found
-  pub label_is : label ≡ source.settings.label
+  pub label_is : label.form ≡ source.settings.label.form
   pub is : left ≡ after_line (lines_of source.settings.label (happened_in capture.happened) found) (listing_from source.settings (drop count (packets source.file).items) (packets source.file).end (happened_each found (happened_in capture.happened)) progress)
 
 -- A read failed after the packets that were followed: the reader is at that fault, nothing was left of the last packet, and no other was followed.
@@ -46,6 +46,6 @@ AddsCaptureEnd capture old new ended =
 -- the record of a refused file was added; other faults have none
 abbrev pub AddsFileRefusal : FileFault → Capture → Label → List ℕ → List ℕ → Option RunEnd → Type 0
 AddsFileRefusal (faults.Refused fault) capture label old new ended =
-    (settings : Settings) (progress : Progress) → HasFollowed capture settings progress → label ≡ settings.label → (ended ≡ Some (refused_end (has_no_packet capture.listing.counts))) × (new ≡ old ++ refusal_text settings (happened_in capture.happened) progress fault.place fault.why (field_path fault.field) (extent_of fault))
+    (settings : Settings) (progress : Progress) → HasFollowed capture settings progress → label.form ≡ settings.label.form → (ended ≡ Some (refused_end (has_no_packet capture.listing.counts))) × (new ≡ old ++ refusal_text settings (happened_in capture.happened) progress fault.place fault.why (field_path fault.field) (extent_of fault))
 AddsFileRefusal faults.Read capture label old new ended = ⊥
 AddsFileRefusal faults.Memory capture label old new ended = ⊥

@@ -1,11 +1,10 @@
 -- What a reader of lines does with a stream.
 use Rattle.std.specs.Prelude.{ℕ, ◌≡◌, ◌+◌, ◌≤◌, length, IsSome, Bool, true, false, List, [], ◌∷◌, ◌++◌, Option, Some, None}
 use Rattle.std.specs.Option.{option_map}
-use Rattle.krb_json.specs.Lines.{line_spells}
 use Rattle.krb_json.specs.Reading.{line_fault_of}
 use Rattle.krb_json.specs.declared.line_fault.LineFault.{LineFault}
 use Rattle.krb_run.specs.Conversions.{Converted, after_text}
-use Rattle.krb_convert.specs.Encoding.{Ending, ending_of, message_and, most_of_line, encoded_lines, IsNoFault}
+use Rattle.krb_convert.specs.Encoding.{Ending, ending_of, line_spelled, message_and, most_of_line, encoded_lines, IsNoFault}
 use Rattle.krb_convert.specs.declared.encode_run.EncodeEnd.{EncodeEnd}
 use Rattle.krb_convert.specs.declared.json_reader.EncodeRequest.{EncodeRequest}
 use Rattle.krb_convert.specs.declared.json_reader.JsonReader.{JsonReader}
@@ -17,7 +16,7 @@ encoded_from request number came lines = encoded_lines request.is_framed request
 
 -- the message of a line, before others
 abbrev pub read_and : EncodeRequest → (number : ℕ) → List ℕ → Converted Ending → Converted Ending
-read_and request number line others = message_and request.is_framed number (line_spells request.profile request.limit line) others
+read_and request number line others = message_and request.is_framed number (line_spelled request.is_framed request.profile request.limit line) others
 
 -- a fault was found, and is this one
 pub record IsFound (fault found : LineFault) : Type 0 where

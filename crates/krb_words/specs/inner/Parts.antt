@@ -1,7 +1,7 @@
 -- What the commands of the program make of a command for `clap`.
 use Rattle.std.specs.Prelude.{List, [], ◌∷◌}
 use Rattle.clap.specs.Words.{App, Rule, new_app, with_rule, with_subcommand}
-use Rattle.krb_words.specs.Words.{now_option, limit_option, port_option, keep_going_flag, strict_flag, lines_flag, unframed_flag, names_flag, json_flag, only_option, fields_option, header_flag, with_filename_flag, file_option, file_names, list_app, stream_app, message_app, items_app, keytab_app, ccache_app, capture_app, decode_app, encode_app}
+use Rattle.krb_words.specs.Words.{now_option, limit_option, port_option, packet_option, keep_going_flag, strict_flag, lines_flag, unframed_flag, names_flag, json_flag, only_option, fields_option, header_flag, with_filename_flag, file_option, file_names, list_app, stream_app, message_app, items_app, keytab_app, ccache_app, capture_app, decode_app, encode_app}
 use Rattle.krb_words.specs.declared.commands.Parameter.{Parameter}
 use Rattle.krb_words.specs.declared.commands.Parameter.TheVariants as parameter
 use Rattle.krb_words.specs.declared.commands.Part.{Part}
@@ -10,6 +10,7 @@ abbrev pub rule_for : Parameter → Rule
 rule_for parameter.Now = now_option
 rule_for parameter.Limit = limit_option
 rule_for parameter.Port = port_option
+rule_for parameter.Packet = packet_option
 rule_for parameter.KeepGoing = keep_going_flag
 rule_for parameter.Strict = strict_flag
 rule_for parameter.StrictForm = strict_flag

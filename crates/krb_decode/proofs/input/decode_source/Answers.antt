@@ -2,7 +2,7 @@ use Rattle.std.proofs.Common.{◌≡◌, subst}
 use Rattle.std.specs.Io.KnownBytes.{Appends}
 use Rattle.krb_run.specs.Records.{AppendsPrefix}
 use Rattle.krb_decode.specs.Decoded.{decoded_input}
-use Rattle.krb_decode.specs.inner.Inputs.{decoded_of}
+use Rattle.krb_decode.specs.Given.{decoded_of}
 use Rattle.krb_decode.proofs.InputRuns.{DecodesInput-made, input-unwritten, input-written}
 use Rattle.krb_decode.proofs.input.decode_source.Goals as goal
 

@@ -10,7 +10,7 @@ use Rattle.krb_file_run.specs.Lines.{cache_line, credential_line}
 use Rattle.krb_run.specs.Records.{RecordListing, after_line}
 use Rattle.krb_file_run.specs.Files.{IsCcacheRest, field_limit, ccache_last, credentials_listing, ccache_listing, items_left}
 use Rattle.krb_file_run.specs.inner.RecordRuns.{AreCredentialsLeft, CacheSource}
-use Rattle.krb_run.proofs.Records.{none_written}
+use Rattle.krb_run.proofs.Records.{none_written, some-none}
 use Rattle.krb_file_run.proofs.Records.{less_said}
 use Rattle.krb_file_run.proofs.CredentialLines.{first_line}
 use Rattle.krb_file_run.proofs.file_run.list_credentials.Goals as goal
@@ -33,6 +33,7 @@ returns g c = record {
       less_said _ (ccache_listing lines.label.now lines.now file) whole (IsCcacheRest lines.label.now lines.now file) _ _ c.list_records.result
       (c.list_records.ensures.listed source listing (record { same = (refl, refl); reads = reads; is = refl }))
       (λ rest was. is_rest source was.lines.label.now was.lines.now was.lines.credentials.reader was.lines.credentials.start was.lines.credentials.state was.count rest was.is_left);
+  written = c.list_records.ensures.written;
 }
 
 pub returns-in_err-put_cache : goal.returns-in_err-put_cache
@@ -41,4 +42,5 @@ returns-in_err-put_cache g c = record {
       let lines = c.args.lines.now in
       let p = err_from_is_err_and c.from_residual.result c.from_residual.ensures.1 in
       rw p.1 (none_written (ccache_listing lines.label.now lines.now file) (IsCcacheRest lines.label.now lines.now file) (g.W.Write.contents c.args.writer.now) p.0 p.2);
+  written = some-none (g.W.Write.contents c.args.writer.now);
 }

@@ -30,4 +30,5 @@ returns g c = record {
       less_said _ (keytab_listing label file) (ap (λ (text : List ℕ). after_line text (keytab_listing label file)) c.new-text.ensures) (IsKeytabRest label file) _ _ c.list_records.result
       (c.list_records.ensures.listed source (keytab_listing label file) left)
       (λ rest was. is_rest label was.lines.label.now file was.lines.records.reader was.lines.records.state was.count rest was.is_left);
+  written = c.list_records.ensures.written;
 }

@@ -2,7 +2,7 @@ use Rattle.std.proofs.Common.{◌≡◌, [], inr, refl, subst}
 use Rattle.std.specs.Io.KnownBytes.{Appends}
 use Rattle.std.proofs.lemmas.Result.{err_from_is_err_and}
 use Rattle.krb_run.specs.Records.{AppendsPrefix}
-use Rattle.krb_run.proofs.Records.{Listed-start, Listed-before, refusal_is, fault_stays, write-fault}
+use Rattle.krb_run.proofs.Records.{Listed-start, Listed-before, refusal_is, fault_stays, some-before, some-prefix, write-fault}
 use Rattle.krb_run.proofs.record_lines.list_refusal.Goals as goal
 
 pub returns-in-Ok-clause-listed : goal.returns-in-Ok-clause-listed
@@ -30,3 +30,12 @@ returns-clause-listed g c = λ listing refused.
 
 pub returns-clause-fault : goal.returns-clause-fault
 returns-clause-fault g c = fault_stays c.args.fault c.in-Err.fault (g.W.Write.contents c.args.writer.now) (g.W.Write.contents c.write_before.new.writer) c.put_fault.new.text c.write_before.result c.in-Err.ensures.fault c.write_before.ensures
+
+pub returns-in_err-write_all-in-Ok-clause-written : goal.returns-in_err-write_all-in-Ok-clause-written
+returns-in_err-write_all-in-Ok-clause-written g c = some-prefix _ _ _ c.in_err-write_all-in-Ok.ensures.prefix
+
+pub returns-clause-written : goal.returns-clause-written
+returns-clause-written g c = some-before c.in-Err.fault _ _ _ _ c.write_before.ensures
+
+pub returns-in-Ok-clause-written : goal.returns-in-Ok-clause-written
+returns-in-Ok-clause-written g c = (_, c.in_ok-write_all-in-Ok.ensures.all)

@@ -1,4 +1,4 @@
-use Rattle.std.proofs.Common.{◌∙◌, codes, map, string_bytes}
+use Rattle.std.proofs.Common.{◌∙◌, codes, string_bytes}
 use Rattle.std.proofs.lemmas.Result.{IfErr-weaker, IfOk-weaker}
 use Rattle.std.specs.Option.{option_map}
 use Rattle.clap.proofs.WalkLemmas.{first_value-rows}

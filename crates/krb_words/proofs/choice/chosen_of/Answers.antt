@@ -2,7 +2,7 @@ use Rattle.std.proofs.Common.{ap, map, string_bytes}
 use Rattle.std.proofs.lemmas.Result.{IfErr-weaker, IfOk-weaker}
 use Rattle.std.specs.Option.{option_map}
 use Rattle.krb_words.specs.inner.Options.{options_of}
-use Rattle.krb_words.proofs.Said.{chosen_kinds, chosen_names, error_by, fault_first, fault_kinds, fault_names, said_by}
+use Rattle.krb_words.proofs.Said.{chosen_kinds, chosen_names, error_by, fault_kinds, fault_names, said_by}
 use Rattle.krb_words.proofs.choice.chosen_of.Goals as goal
 
 pub returns-in-Some-clause-chosen : goal.returns-in-Some-clause-chosen

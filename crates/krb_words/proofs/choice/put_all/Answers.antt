@@ -1,6 +1,6 @@
 use Rattle.std.proofs.Common.{◌≡◌, ◌∙◌, ◌++◌, ap, ap₂, append_assoc, codes, map, string_bytes}
 use Rattle.std.proofs.lemmas.Result.{IfOk-weaker}
-use Rattle.krb_words.specs.Chosen.{listed, near_or_all}
+use Rattle.krb_words.specs.Chosen.{listed}
 use Rattle.krb_words.proofs.choice.put_all.Goals as goal
 
 pub returns : goal.returns

@@ -3,6 +3,7 @@ use Rattle.std.proofs.lemmas.Result.{IfOk-weaker}
 use Rattle.krb_record.specs.declared.capture.CaptureCounts.{CaptureCounts}
 use Rattle.krb_capture.specs.Captures.{Progress, and_counted, contents_event, contents_in, contents_taken, happened_in, packet_taken, packet_told, with_event, with_packet}
 use Rattle.krb_capture.specs.Found.{and_more}
+use Rattle.krb_capture.specs.Labels.{label_in}
 use Rattle.krb_capture.specs.Rests.{Lists}
 use Rattle.krb_capture.proofs.capture.Capture.take_packet.Goals as goal
 
@@ -14,7 +15,7 @@ returns c = IfOk-weaker c.take_contents.result _ _
     let listed = k settings start (record {
       profile = h.profile;
       port = h.port;
-      label = ap (λ w. w.label.now) c.count_packet.ensures ∙ h.label;
+      label = ap (λ w. label_in w.style) c.count_packet.ensures ∙ h.label;
       fragments = h.fragments;
       table = h.table;
       last = c.with-self.ensures;

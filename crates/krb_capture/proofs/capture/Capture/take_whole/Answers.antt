@@ -2,6 +2,7 @@ use Rattle.std.proofs.Common.{None, refl, sym, ◌∙◌, ap, append-nil, subst}
 use Rattle.std.proofs.lemmas.Result.{IfOk-weaker}
 use Rattle.krb_capture.specs.Captures.{and_counted, happened_in, nothing_in, whole_event, whole_taken, with_event, with_unread}
 use Rattle.krb_capture.specs.Flows.{service_of}
+use Rattle.krb_capture.specs.Labels.{label_in}
 use Rattle.krb_capture.specs.Rests.{Lists}
 use Rattle.krb_capture.specs.Found.{and_more}
 use Rattle.krb_capture.specs.declared.capture.Capture.{Capture}
@@ -36,7 +37,7 @@ returns-in-Unread c = λ settings progress h.
     (record {
       profile = h.profile;
       port = h.port;
-      label = ap (λ w. w.label.now) c.count_unread.ensures ∙ h.label;
+      label = ap (λ w. label_in w.style) c.count_unread.ensures ∙ h.label;
       fragments = h.fragments;
       table = h.table;
       last = h.last;

@@ -27,4 +27,4 @@ pub returns-in-Err-clause-line : goal.returns-in-Err-clause-line
 returns-in-Err-clause-line g c = λ source left is_left.
     let lines = c.args.self.now in
     refusal_added lines.label.now lines.packets c.next_packet.new.self lines.capture lines.capture lines.rest (sym c.take.ensures.value ∙ c.in_default.is) source left c.args.text.now c.put_fault.new.text is_left
-    (λ left'. IsCaptureLeft c.put_fault.new.self.packets c.put_fault.new.self.capture c.put_fault.new.self.rest c.put_fault.new.self.label.now source left') c.in-Err.fault c.put_fault.result c.in-Err.ensures.next c.put_fault.ensures.put
+    (λ left'. IsCaptureLeft c.next_packet.new.self c.put_fault.new.capture c.take.new.self lines.label.now source left') c.in-Err.fault c.put_fault.result c.in-Err.ensures.next c.put_fault.ensures.put

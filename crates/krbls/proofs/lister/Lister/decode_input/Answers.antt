@@ -4,7 +4,6 @@ use Rattle.krb_input.specs.declared.source_kind.SourceKind.TheVariants as kind
 use Rattle.krb_run.specs.Begun.{begun_remaining, first_of}
 use Rattle.krb_run.specs.declared.run.RunEnd.TheVariants as run
 use Rattle.std.specs.Prelude.{Ok}
-use Rattle.krb_words.specs.Tasks.{name_used}
 use Rattle.krbls.specs.Commands.{TellsSaid}
 use Rattle.krbls.specs.Program.{IsHinted}
 use Rattle.krbls.proofs.Hinted.{hinted-after}
@@ -14,7 +13,7 @@ use Rattle.krbls.proofs.lister.Lister.decode_input.Goals.{then-eq+in_ok-tell_hin
 pub returns : goal.returns
 returns g c =
     let around = g.H.Host.around c.args.self.now.host.now in
-    let told : c.in_ok-end.end.end ≡ run.RefusedAtOnce → IsHinted around c.args.source.now (name_used c.args.self.now.command.now) c.hint_of-hint.result = elim c.if-eq.branch [ then-eq+in_ok-tell_hint w ↦ λ _. w.in_ok-tell_hint.ensures | else-eq w ↦ λ e. absurd (let same = rw e at c.eq.ensures in let other = w.if-eq.false in cc) ] in
+    let told : c.in_ok-end.end.end ≡ run.RefusedAtOnce → IsHinted around c.args.source.now c.args.self.now.command.now c.hint_of-hint.result = elim c.if-eq.branch [ then-eq+in_ok-tell_hint w ↦ λ _. w.in_ok-tell_hint.ensures | else-eq w ↦ λ e. absurd (let same = rw e at c.eq.ensures in let other = w.if-eq.false in cc) ] in
     record {
       left = begun_remaining g.R.Read.remaining c.run_decode_input.new.reader;
       result = Ok c.in_ok-end.end;
@@ -22,5 +21,5 @@ returns g c =
       failed = tt;
       told = subst (λ (said : List ℕ). TellsSaid (around.IsEndTold c.args.source.now) said) c.as_slice.ensures.value c.tell_said.ensures;
       ends = inl refl;
-      hinted = hinted-after around c.args.source.now (name_used c.args.self.now.command.now) c.hint_of-hint.result (hint_for kind.Message (first_of c.args.reader.now)) c.in_ok-end.end.end (c.hint_of-hint.ensures ∙ ap (hint_for kind.Message) c.first.ensures) told;
+      hinted = hinted-after around c.args.source.now c.args.self.now.command.now c.hint_of-hint.result (hint_for kind.Message (first_of c.args.reader.now)) c.in_ok-end.end.end (c.hint_of-hint.ensures ∙ ap (hint_for kind.Message) c.first.ensures) told;
     }

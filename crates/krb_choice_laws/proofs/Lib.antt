@@ -1,0 +1,16 @@
+pub mod Marks
+pub mod Spelled
+pub mod Reading
+pub mod Wants
+pub mod Rows
+pub mod Numbers
+pub mod Whole
+pub mod Kept
+pub mod RowLines
+pub mod Decoded
+pub mod Lists
+pub mod KeptKinds
+pub mod Lines
+pub mod Values
+pub mod InsideWords
+pub mod MessagesPlain

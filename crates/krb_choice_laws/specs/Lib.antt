@@ -1,0 +1,4 @@
+pub mod Plain
+pub mod Laws
+pub mod Listing
+pub mod Messages

@@ -1,0 +1,57 @@
+//! Laws of what is chosen. Each is the contract of a function that does nothing.
+
+ghost use Rattle.krb_choice_laws.specs.Listing.{ListingsAreChosen};
+ghost use Rattle.krb_choice_laws.specs.Messages.{CapturedCiphersAreNotChosen, CapturedMessagesArePlain, CiphersAreNotChosen, KeysAreNotChosen, MessagesArePlain, SessionKeysAreNotChosen};
+ghost use Rattle.krb_choice_laws.specs.Laws.{AllKindsAreKept, FileNamesAreApart, KeptKindsAreShown, NumberListsAreApart, NumbersAreApart, RowsArePrintable, StringListsAreApart, StringsAreApart, StringsAreThere, WrittenIsChosen};
+
+/// What a choice writes of the text of a record, in the form in which it lists records, is what it has of
+/// the record itself: nothing if it does not keep it, and else its rows, or its line or its object.
+pub fn written_is_chosen()
+    ensures { WrittenIsChosen }
+{}
+
+/// Each row is blanks and graphic characters of ASCII in as many cells as there are columns, a tab between
+/// two, and a line feed.
+pub fn rows_are_printable()
+    ensures { RowsArePrintable }
+{}
+
+/// Strings that differ, alone or in lists, have cells that differ, and none has the cell of what is
+/// absent; so have numbers of 64 bits, and names of files that are not empty.
+pub fn cells_are_apart()
+    ensures strings { StringsAreApart }
+    ensures string_lists { StringListsAreApart }
+    ensures names { FileNamesAreApart }
+    ensures there { StringsAreThere }
+    ensures numbers { NumbersAreApart }
+    ensures number_lists { NumberListsAreApart }
+{}
+
+/// A message that a choice keeps is of a kind that is shown in the form of the choice, and a choice by
+/// kinds keeps each record of one of these.
+pub fn kinds_are_kept()
+    ensures shown { KeptKindsAreShown }
+    ensures all { AllKindsAreKept }
+{}
+
+/// Of a listing, in the form in which a choice lists records, is written what it has of each record, in
+/// order.
+pub fn listings_are_chosen()
+    ensures { ListingsAreChosen }
+{}
+
+/// The texts of the record of a message are printable, with an origin and of a capture too: so the laws
+/// above hold of it.
+pub fn messages_are_plain()
+    ensures message { MessagesArePlain }
+    ensures capture { CapturedMessagesArePlain }
+{}
+
+/// What is written of messages, keytabs and caches is as of the same with every octet 00 of each key,
+/// cipher and checksum.
+pub fn keys_are_not_chosen()
+    ensures message { CiphersAreNotChosen }
+    ensures capture { CapturedCiphersAreNotChosen }
+    ensures keytab { KeysAreNotChosen }
+    ensures cache { SessionKeysAreNotChosen }
+{}

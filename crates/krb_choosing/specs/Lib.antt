@@ -1,0 +1,4 @@
+pub mod Listings
+pub mod Writes
+pub mod Laws
+pub mod inner
