@@ -4,8 +4,8 @@
  * answers for every number that it can be passed, and promises nothing unless its caller keeps to this:
  *
  * - A pointer to octets and the number after it are octets that are there, initialised, and that nobody changes during
- *   the call; `text` and `room` are memory that nobody else uses meanwhile. What a call writes (`text`, `*size`,
- *   `*place`) overlaps nothing that it reads, and no other that it writes.
+ *   the call; `text` and `room`, `said` and `said_room`, `spans` and `room` are memory that nobody else uses meanwhile. What
+ *   a call writes (these, `*size`, `*said_size`, `*place`) overlaps nothing that it reads, and no other that it writes.
  * - No pointer is NULL, also where the number after it is 0.
  * - The stack has room for 64 KiB. No call is made by a signal handler.
  *
@@ -22,8 +22,8 @@
 /* The same as one number: 65536 times the first of its numbers, 256 times the second, and the third. */
 #define KRBLS_VERSION_NUMBER 0x010000
 
-/* The arguments of all calls come in one order: the form, the profile, how many octets a message has or a frame may have,
- * what else is chosen; the octets and their number; and what is written. */
+/* The arguments of all calls come in one order: the form or the listing, the profile, how many octets a message has or a
+ * frame may have, what else is chosen; what is read, with its number of octets; what is written; and what is said of it. */
 
 #ifdef __cplusplus
 extern "C" {
@@ -35,6 +35,10 @@ enum krbls_profile { KRBLS_LENIENT = 0, KRBLS_STRICT = 1 };
 
 /* Forms of listings: lines, lines with the names of numbers (`--names`), JSON (`--json`). Any number above 1 is JSON. */
 enum krbls_form { KRBLS_LINES = 0, KRBLS_NAMED_LINES = 1, KRBLS_JSON = 2 };
+
+/* What octets are listed as: what their first octets say, as `krbls FILE`, or as the command of that name. Any number above
+ * 5 is by first octets. */
+enum krbls_listing { KRBLS_BY_FIRST_OCTETS = 0, KRBLS_STREAM = 1, KRBLS_MESSAGE = 2, KRBLS_KEYTAB = 3, KRBLS_CCACHE = 4, KRBLS_CAPTURE = 5 };
 
 /* What a judgement returns: that octets are a message, the reason for which they are none, or that nothing is decided
  * yet. The sections are those of X.690 (DER) unless RFC 4120 is named. */
@@ -60,8 +64,9 @@ enum krbls_answer {
     KRBLS_MORE = 255                /* nothing is decided yet: more octets are needed */
 };
 
-/* What a listing returns: the status of its command. krbls_path returns 0 if there is a path, and 1 if there is none. */
-enum krbls_status { KRBLS_CLEAN = 0, KRBLS_REFUSED = 1, KRBLS_OUT_OF_MEMORY = 3 };
+/* What a listing returns: the status of its command. krbls_path returns 0 if there is a path, and 1 if there is none. Wrong
+ * names are told by krbls_fields alone. */
+enum krbls_status { KRBLS_CLEAN = 0, KRBLS_REFUSED = 1, KRBLS_WRONG_NAMES = 2, KRBLS_OUT_OF_MEMORY = 3 };
 
 /* An enumeration is passed and returned as a number of 32 bits. A compiler that has shorter ones (-fshort-enums) stops here. */
 typedef char krbls_enumerations_have_32_bits[sizeof(enum krbls_answer) == 4 && sizeof(enum krbls_form) == 4 ? 1 : -1];
@@ -137,6 +142,42 @@ enum krbls_status krbls_ccache(enum krbls_form form, uint32_t now, const uint8_t
 /* A capture, a pcap or a pcapng. The limit is that of krbls_frame, and the port that of KDCs, of which 0 is 88. */
 enum krbls_status krbls_capture(enum krbls_form form, uint32_t limit, uint16_t port, const uint8_t *octets,
                                 size_t octets_size, uint8_t *text, size_t room, size_t *size);
+
+/* Rows of cells, as `krbls --fields` prints them: of each record that has all of the names a line, in which the members of
+ * that names come with a tab between. The names are those of `--fields`, with commas between them, as
+ * "client,ticket.etype_name". The limit, going_on and port are those of the listings above, and so is now.
+ * If not all was read (KRBLS_REFUSED), and the record that says so has no row, `said` has its line. Names that no record of
+ * the listing has are KRBLS_WRONG_NAMES: there is no row, and `said` has a line that says which one is wrong, and what is
+ * near it, or that no kind of record has all of them. */
+enum krbls_status krbls_fields(enum krbls_listing listing, enum krbls_profile profile, uint32_t limit, uint32_t going_on,
+                               uint32_t now, uint16_t port, const uint8_t *names, size_t names_size,
+                               const uint8_t *octets, size_t octets_size, uint8_t *text, size_t room, size_t *size,
+                               uint8_t *said, size_t said_room, size_t *said_size);
+
+/* Where the octets lie of each record that octets are listed as, by what their first octets say, in JSON: two numbers for
+ * each, the place of its first octet and how many there are. `room` and *size count these numbers. They are: of a message
+ * or a Ticket, in a frame or in a token, its own; of a refused frame all, with its length, as far as they are there; of a
+ * refused message all; of an entry or a hole those after its length; of a cache those of its default principal; of a
+ * credential or a configuration entry its own; of each record of a packet those of that packet in the file; and of the last
+ * record, none from where reading ended, or, if it is a refusal, those from where the part begins that is refused. */
+enum krbls_status krbls_spans(enum krbls_profile profile, uint32_t limit, uint32_t going_on, uint16_t port,
+                              const uint8_t *octets, size_t octets_size, uint64_t *spans, size_t room, size_t *size);
+
+/* ---- Conversions. Each writes two texts: what it makes, and into `said` a line for all that is left out, as the command of
+ * its name has it on the standard error after `krbls: NAME: `, without hints. It returns KRBLS_REFUSED if something is said. */
+
+/* Messages whole, as `krbls decode` prints them, a line of JSON each, by what the first octets say; treat them like the octets
+ * themselves. The limit and going_on are those of krbls_stream, and the port that of KDCs, of which 0 is 88; a packet that is
+ * not 0 is the number of the one packet of a capture of which messages are decoded. Octets are never read as text. */
+enum krbls_status krbls_decode(enum krbls_profile profile, uint32_t limit, uint32_t going_on, uint16_t port, uint32_t packet,
+                               const uint8_t *octets, size_t octets_size, uint8_t *text, size_t room, size_t *size,
+                               uint8_t *said, size_t said_room, size_t *said_size);
+
+/* The messages that lines of JSON spell, as `krbls encode` writes them: each after four octets of its length, or, unless
+ * unframed is 0, the one message without them. A message may have at most `limit` octets, as a frame of krbls_frame. */
+enum krbls_status krbls_encode(enum krbls_profile profile, uint32_t limit, uint32_t unframed, const uint8_t *lines,
+                               size_t lines_size, uint8_t *octets, size_t room, size_t *size, uint8_t *said,
+                               size_t said_room, size_t *said_size);
 
 #ifdef __cplusplus
 }

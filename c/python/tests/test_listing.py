@@ -212,6 +212,56 @@ class Library(unittest.TestCase):
         self.assertEqual(krbls.frame(frame).refusal, krbls.Refusal(12, "Range", "AP-REP.pvno"))
         self.assertFalse(krbls.front(31, AP_REP[:20]).is_whole)
 
+    def test_conversions(self):
+        """What the library decodes and encodes is what the program does."""
+        from krbls import library
+
+        for name in ("morning.stream", "morning.pcap", "user.ccache", "service.keytab", "ap-rep.stream"):
+            octets = (EXAMPLES / name).read_bytes()
+            for options in ({}, {"keep_going": True}, {"strict": True, "limit": 300}, {"port": 464, "packet": 6}):
+                with self.subTest(name, **options), mock.patch.object(library, "is_there", return_value=False):
+                    wanted = krbls.decode(octets, **options)
+                with self.subTest(name, **options), mock.patch.object(krbls.codec, "Run", side_effect=AssertionError):
+                    self.assertEqual(krbls.decode(octets, **options), wanted)
+        with mock.patch.object(krbls.codec, "Run", side_effect=AssertionError):
+            octets = (EXAMPLES / "morning.stream").read_bytes()
+            self.assertEqual(krbls.encode(krbls.decode(octets).messages), octets)
+            with self.assertRaises(krbls.NotEncoded) as caught:
+                krbls.encode({"AP-REP": {"pvno": 4}})
+            self.assertEqual(str(caught.exception), "line 1: AP-REP.pvno: not 5")
+            with self.assertRaises(krbls.WrongOption):
+                krbls.encode([], limit=0)
+
+    def test_spans(self):
+        frame = len(AP_REP).to_bytes(4, "big") + AP_REP
+        self.assertEqual(krbls.spans(frame * 2), [(4, 31), (39, 31), (70, 0)])
+        wrong = frame.replace(b"\5", b"\4", 1)
+        self.assertEqual(krbls.spans(frame + wrong + frame), [(4, 31), (35, 70)])
+        self.assertEqual(krbls.spans(frame + wrong + frame, keep_going=True), [(4, 31), (35, 35), (74, 31), (105, 0)])
+        for name in ("morning.pcap", "user.ccache", "service.keytab"):
+            octets = (EXAMPLES / name).read_bytes()
+            listing = krbls.list(octets)
+            records = [*listing, listing.end]
+            spans = krbls.spans(octets)
+            self.assertEqual(len(spans), len(records))
+            self.assertEqual(spans[-1], (len(octets), 0))
+            for record, (at, length) in zip(records, spans):
+                self.assertLessEqual(at + length, len(octets))
+                if record["kind"] in ("entry", "hole"):
+                    self.assertEqual(abs(int.from_bytes(octets[at - 4 : at], "big", signed=True)), length)
+
+    def test_fields(self):
+        octets = MORNING.read_bytes()
+        names = "packet,client.text,code_name"
+        self.assertEqual(krbls.fields(octets, names).rows, [("6", "alice@CORPUS.TEST", "KDC_ERR_PREAUTH_REQUIRED")])
+        self.assertEqual(krbls.fields(octets, names.split(","), listing="capture"), krbls.fields(octets, names))
+        with self.assertRaises(krbls.WrongOption) as caught:
+            krbls.fields(octets, "clinet")
+        self.assertIn("near it: client", str(caught.exception))
+        cut = krbls.fields(octets[:-1], "packet,client.text,code_name")
+        self.assertEqual(len(cut.rows), 1)
+        self.assertTrue(cut.said[0].startswith("refused packets="))
+
 
 class Modules(unittest.TestCase):
     def test_doctest(self):

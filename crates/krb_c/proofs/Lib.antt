@@ -1,2 +1,4 @@
 mod Frames
 mod Slices
+mod Framed
+mod Sorted

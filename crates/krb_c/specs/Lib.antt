@@ -3,4 +3,7 @@ pub mod Judged
 pub mod Written
 pub mod Listed
 pub mod Paths
+pub mod Turned
+pub mod Rows
+pub mod Spans
 pub mod inner

@@ -1,7 +1,6 @@
 -- The listings that C is given: those of the commands.
 use Rattle.std.specs.Prelude.{ℕ, ◌≡◌, Bool, List, [], Option, Some}
 use Rattle.krb_der.specs.declared.profile.Profile.{Profile}
-use Rattle.krb_der.specs.declared.profile.Profile.TheVariants.{Lenient}
 use Rattle.krb_record.specs.Labels.{no_label}
 use Rattle.krb_record.specs.declared.form.Form.{Form}
 use Rattle.krb_capture.specs.Labels.{of_records}
@@ -35,5 +34,5 @@ IsKeytabListing form octets = IsRecords (keytab_listing (no_label form) octets)
 abbrev pub IsCcacheListing : Form → Option ℕ → List ℕ → List ℕ → RunEnd → Type 0
 IsCcacheListing form now octets = IsRecords (ccache_listing (no_label form) now octets)
 
-abbrev pub IsCaptureListing : Form → (limit port : ℕ) → List ℕ → List ℕ → RunEnd → Type 0
-IsCaptureListing form limit port octets = IsRecords (capture_listing (record { label = of_records (no_label form); profile = Lenient; limit = limit; port = port }) octets)
+abbrev pub IsCaptureListing : Form → Profile → (limit port : ℕ) → List ℕ → List ℕ → RunEnd → Type 0
+IsCaptureListing form profile limit port octets = IsRecords (capture_listing (record { label = of_records (no_label form); profile = profile; limit = limit; port = port }) octets)

@@ -38,3 +38,33 @@ WroteOption None before after size_after answer = IsCopied [] before after size_
 
 abbrev pub IsGiven : Option (List ℕ) → (before after : List ℕ) → (size_before size_after answer : ℕ) → Type 0
 IsGiven text before after size_before size_after answer = WroteNothing before after size_before size_after answer ⊎ WroteOption text before after size_after answer
+
+-- ---- two texts: one, and what is said of it
+-- memory of the caller and the number beside it, before a call and after it
+pub record Room : Type 0 where
+  pub before : List ℕ
+  pub after : List ℕ
+  pub size_before : ℕ
+  pub size_after : ℕ
+
+abbrev pub IsIn : List ℕ → Room → Type 0
+IsIn text room = IsCopied text room.before room.after room.size_after
+
+abbrev pub IsKept : (answer : ℕ) → Room → Type 0
+IsKept answer room = WroteNothing room.before room.after room.size_before room.size_after answer
+
+pub record WroteBoth (Makes : (text said : List ℕ) → RunEnd → Type 0) (text said : Room) (answer : ℕ) : Type 0 where
+  pub made_text : List ℕ
+  pub made_said : List ℕ
+  pub end : RunEnd
+  pub made : Makes made_text made_said end
+  pub copied : IsIn made_text text
+  pub told : IsIn made_said said
+  pub answered : answer ≡ answer_of end
+
+abbrev pub IsToldOf : (Makes : (text said : List ℕ) → RunEnd → Type 0) → (text said : Room) → (answer : ℕ) → Type 0
+IsToldOf Makes text said answer = (IsKept answer text × IsKept answer said) ⊎ WroteBoth Makes text said answer
+
+-- No text, and this is said: words were wrong.
+abbrev pub SaysWrong : (IsSaid : List ℕ → Type 0) → (text said : Room) → (answer : ℕ) → Type 0
+SaysWrong IsSaid text said answer = (line : List ℕ) × IsSaid line × IsIn [] text × IsIn line said × (answer ≡ 2)

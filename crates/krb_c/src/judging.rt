@@ -88,7 +88,7 @@ fn contents_verdict(profile: Profile, size: u32, contents: &[u8]) -> Verdict
 }
 
 /// Returns the verdict on the frame with which a stream begins.
-fn frame_verdict(profile: Profile, limit: Limit, stream: &[u8]) -> Verdict
+pub(crate) fn frame_verdict(profile: Profile, limit: Limit, stream: &[u8]) -> Verdict
     ensures { result ≡ frame_verdict profile limit stream.now }
 {
     let Some((length, contents)) = stream.split_first_chunk::<LENGTH_OCTETS>() else {
@@ -108,7 +108,7 @@ fn frame_verdict(profile: Profile, limit: Limit, stream: &[u8]) -> Verdict
 
 /// Returns how many octets the frame has with which a stream begins, with those of its length: 4 if
 /// these are not there yet, and 0 if their high bit is set.
-fn frame_size(stream: &[u8]) -> u32
+pub(crate) fn frame_size(stream: &[u8]) -> u32
     ensures { result ≡ frame_size stream.now }
 {
     match stream.first_chunk::<LENGTH_OCTETS>() {

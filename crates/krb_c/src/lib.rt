@@ -7,9 +7,15 @@
 //! that C promises to be there, as `krbls.h` says.
 #![tactic(auto)]
 
+mod capture_spans;
+mod file_spans;
+mod frame_spans;
 mod judging;
 mod listing;
 mod numbers;
 mod paths;
+mod rows;
+mod spans;
+mod turning;
 mod version;
 mod writing;

@@ -1,6 +1,7 @@
 //! Octets that are listed, as `krbls` lists them.
 
 ghost use Rattle.std.specs.Prelude.{IfOk};
+ghost use Rattle.krb_der.specs.declared.profile.Profile.TheVariants.{Lenient};
 ghost use Rattle.krb_c.specs.Numbers.{form_of, goes_on, limit_of, now_of, port_of, profile_of};
 ghost use Rattle.krb_c.specs.Listed.{IsCaptureListing, IsCcacheListing, IsKeytabListing, IsMessageListing, IsStreamListing};
 ghost use Rattle.krb_c.specs.Written.{IsListed};
@@ -15,7 +16,7 @@ use krb_tool::{Form, Limit, Profile, list_octets, run_stream_in};
 use std::alloc::Global;
 
 /// Returns the line of a message of a profile, or of its refusal.
-fn message_listing(
+pub(crate) fn message_listing(
     alloc: Global,
     form: Form,
     profile: Profile,
@@ -30,7 +31,7 @@ fn message_listing(
 }
 
 /// Returns the listing of a stream, which may go on after refusals.
-fn stream_listing(
+pub(crate) fn stream_listing(
     alloc: Global,
     goes_on: bool,
     form: Form,
@@ -55,7 +56,7 @@ fn stream_listing(
 }
 
 /// Returns the listing of a keytab.
-fn keytab_listing(alloc: Global, form: Form, octets: &[u8]) -> Result<Listing, RunFault>
+pub(crate) fn keytab_listing(alloc: Global, form: Form, octets: &[u8]) -> Result<Listing, RunFault>
     ensures { IfOk result (λ made. IsKeytabListing form octets.now made.text.items made.end) }
 {
     let mut reader = octets;
@@ -65,7 +66,7 @@ fn keytab_listing(alloc: Global, form: Form, octets: &[u8]) -> Result<Listing, R
 }
 
 /// Returns the listing of a credential cache.
-fn ccache_listing(
+pub(crate) fn ccache_listing(
     alloc: Global,
     form: Form,
     now: Option<u32>,
@@ -80,21 +81,22 @@ fn ccache_listing(
 }
 
 /// Returns the listing of a capture.
-fn capture_listing(
+pub(crate) fn capture_listing(
     alloc: Global,
     form: Form,
+    profile: Profile,
     limit: Limit,
     port: u16,
     octets: &[u8],
 ) -> Result<Listing, RunFault>
-    ensures { IfOk result (λ made. IsCaptureListing form limit port octets.now made.text.items made.end) }
+    ensures { IfOk result (λ made. IsCaptureListing form profile limit port octets.now made.text.items made.end) }
 {
     let mut reader = octets;
     let mut text = Vec::new(alloc);
     let end = run_capture(
         alloc,
         &Label::none(form),
-        Profile::Lenient,
+        profile,
         &mut reader,
         &mut text,
         limit,
@@ -188,8 +190,15 @@ pub extern "C" fn krbls_capture(
     text: &mut [u8],
     size: &mut usize,
 ) -> u32
-    ensures { IsListed (IsCaptureListing (form_of form) (limit_of limit) (port_of port) octets.now) text.old text.new size.old size.new result }
+    ensures { IsListed (IsCaptureListing (form_of form) Lenient (limit_of limit) (port_of port) octets.now) text.old text.new size.old size.new result }
 {
-    let listing = capture_listing(alloc, form_of(form), limit_of(limit), port_of(port), octets);
+    let listing = capture_listing(
+        alloc,
+        form_of(form),
+        Profile::Lenient,
+        limit_of(limit),
+        port_of(port),
+        octets,
+    );
     answer(listing, text, size)
 }

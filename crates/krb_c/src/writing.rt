@@ -15,6 +15,14 @@ pub(crate) struct Listing {
     pub end: RunEnd,
 }
 
+/// A text with what is said of it, and how it ends.
+#[derive(Drop)]
+pub(crate) struct Told {
+    pub text: Vec<u8>,
+    pub said: Vec<u8>,
+    pub end: RunEnd,
+}
+
 /// Copies as much of a text as there is room for, and writes how much it is in all.
 pub(crate) fn copy_out(made: &[u8], text: &mut [u8], size: &mut usize)
     ensures { IsCopied made.now text.old text.new size.new }
@@ -42,6 +50,26 @@ pub(crate) fn answer(listing: Result<Listing, RunFault>, text: &mut [u8], size: 
         Ok(listing) => {
             copy_out(listing.text.as_slice(), text, size);
             answer_of(listing.end)
+        }
+        Err(_) => MEMORY,
+    }
+}
+
+/// Copies a text and what is said of it out, and returns the status.
+pub(crate) fn answer_told(
+    made: Result<Told, RunFault>,
+    text: &mut [u8],
+    size: &mut usize,
+    said: &mut [u8],
+    said_size: &mut usize,
+) -> u32
+    ensures { MatchResult made (λ made. (IsCopied made.text.items text.old text.new size.new × IsCopied made.said.items said.old said.new said_size.new) × (result ≡ answer_of made.end)) (λ _. WroteNothing text.old text.new size.old size.new result × WroteNothing said.old said.new said_size.old said_size.new result) }
+{
+    match made {
+        Ok(made) => {
+            copy_out(made.text.as_slice(), text, size);
+            copy_out(made.said.as_slice(), said, said_size);
+            answer_of(made.end)
         }
         Err(_) => MEMORY,
     }

@@ -1,4 +1,5 @@
-"""libkrbls by ctypes: judgements and the record of a message, of octets in memory, without a process.
+"""libkrbls by ctypes, of octets in memory, without a process: judgements, the record of a message, messages as JSON and back,
+rows of cells, and where the octets lie of what is listed.
 
 The library is the one that the environment variable KRBLS_LIBRARY names, or libkrbls.so.1 where the system looks. It is loaded
 at the first call. Calls keep nothing, so threads may call at once; MemoryError is raised if memory runs out.
@@ -9,11 +10,14 @@ from __future__ import annotations
 import ctypes
 import functools
 import os
-from typing import Any, Callable, NamedTuple, Optional, Tuple
+from typing import Any, Callable, Iterable, List, NamedTuple, Optional, Tuple, Union
 
-from .errors import LibraryNotFound
+from .errors import LibraryNotFound, WrongOption
 
-__all__ = ["Judged", "REASONS", "Refusal", "frame", "front", "is_there", "judge", "message_line"]
+__all__ = [
+    "Judged", "REASONS", "Refusal", "Rows", "Span", "are_octets", "decoded", "encoded", "fields", "frame", "front", "is_there",
+    "judge", "message_line", "spans",
+]  # fmt: skip
 
 #: The reasons by their numbers, from 1 on.
 REASONS = (
@@ -24,7 +28,14 @@ REASONS = (
 _NOT_FOUND = """no libkrbls.so.1; build and install it in the sources of krbls, by `make library` and `make install`, and run \
 ldconfig; or name one by the environment variable KRBLS_LIBRARY"""
 
-_OK, _MORE, _OUT_OF_MEMORY, _JSON = 0, 255, 3, 2
+_OK, _MORE, _WRONG_NAMES, _OUT_OF_MEMORY, _JSON = 0, 255, 2, 3, 2
+
+#: What octets may be listed as, by the numbers that the library has for them.
+_LISTINGS = ("list", "stream", "message", "keytab", "ccache", "capture")
+
+_TEXT = bytes(range(0x20, 0x7F)) + b"\t\n\r"
+# With these, or with one that is no text, an input begins that is read as octets if one of all is no text.
+_FIRST = bytes([0x60, 0x61, *range(0x6A, 0x70), 0x74, 0x75, 0x76, 0x7E])
 
 
 class Refusal(NamedTuple):
@@ -50,6 +61,24 @@ class Judged(NamedTuple):
     refusal: Optional[Refusal]
 
 
+class Span(NamedTuple):
+    """Where octets lie."""
+
+    #: The place of the first of them, from 0.
+    at: int
+    #: How many they are.
+    length: int
+
+
+class Rows(NamedTuple):
+    """Records as rows of cells."""
+
+    #: The cells of each row, as `krbls --fields` prints them: `-` is what is absent.
+    rows: List[Tuple[str, ...]]
+    #: The last record, if not all was read and it has no row.
+    said: List[str]
+
+
 @functools.lru_cache(maxsize=None)
 def _library() -> Any:
     name = os.environ.get("KRBLS_LIBRARY")
@@ -58,16 +87,24 @@ def _library() -> Any:
     except OSError as error:
         raise LibraryNotFound(f"{name}: {error}" if name else _NOT_FOUND) from None
     number, size, octets = ctypes.c_uint32, ctypes.c_size_t, ctypes.c_char_p
-    given, made, place = [octets, size], [octets, size, ctypes.POINTER(size)], ctypes.POINTER(number)
+    port, given, place = ctypes.c_uint16, [octets, size], ctypes.POINTER(number)
+    made = [octets, size, ctypes.POINTER(size)]
+    numbers = [ctypes.POINTER(ctypes.c_uint64), size, ctypes.POINTER(size)]
     arguments = {
         "krbls_judge": [number, *given, place],
         "krbls_front": [number, size, *given, place],
         "krbls_frame": [number, number, *given, place, place],
         "krbls_path": [number, size, *given, *made],
         "krbls_message": [number, number, *given, *made],
+        "krbls_decode": [number, number, number, port, number, *given, *made, *made],
+        "krbls_encode": [number, number, number, *given, *made, *made],
+        "krbls_fields": [number, number, number, number, number, port, *given, *given, *made, *made],
+        "krbls_spans": [number, number, number, port, *given, *numbers],
     }
     for call, types in arguments.items():
-        function = getattr(library, call)
+        function = getattr(library, call, None)
+        if function is None:
+            raise LibraryNotFound(f"{name or 'libkrbls.so.1'} has no {call}; it is older than this package")
         function.restype, function.argtypes = number, types
     return library
 
@@ -92,6 +129,26 @@ def _text(call: Callable[..., int], *arguments: object) -> Tuple[int, str]:
         if size.value <= room:
             return answer, text.raw[: size.value].decode("ascii")
         room = size.value
+
+
+def _two_texts(call: Callable[..., int], *arguments: object) -> Tuple[int, bytes, List[str]]:
+    """What a call answers, what it makes, and the lines that it says."""
+    size, said_size, room, said_room = ctypes.c_size_t(), ctypes.c_size_t(), 1 << 16, 4096
+    while True:
+        text, said = ctypes.create_string_buffer(room), ctypes.create_string_buffer(said_room)
+        answer = call(*arguments, text, room, ctypes.byref(size), said, said_room, ctypes.byref(said_size))
+        if answer == _OUT_OF_MEMORY:
+            raise MemoryError
+        if size.value <= room and said_size.value <= said_room:
+            return answer, text.raw[: size.value], said.raw[: said_size.value].decode("ascii").splitlines()
+        room, said_room = max(size.value, 1), max(said_size.value, 1)
+
+
+def _number(name: str, number: Optional[int], most: int) -> int:
+    """An option of the library; None is 0, which stands for the usual one, or for none."""
+    if number is not None and not 1 <= number <= most:
+        raise WrongOption(f"{name} {number} is not from 1 to {most}")
+    return number or 0
 
 
 def _refusal(answer: int, place: int, strict: bool, n: int, octets: bytes) -> Refusal:
@@ -135,3 +192,77 @@ def frame(octets: bytes, *, strict: bool = False, limit: int = 0) -> Judged:
 def message_line(octets: bytes, strict: bool) -> str:
     """The line of JSON that `krbls message --json` prints of octets, which are never read as text. LibraryNotFound."""
     return _text(_library().krbls_message, _JSON, int(strict), octets, len(octets))[1]
+
+
+def are_octets(octets: bytes) -> bool:
+    """Whether the program reads these as octets and not as text (FORMATS, 8)."""
+    if not octets.translate(None, _TEXT) or octets.startswith(b"\xef\xbb\xbf"):
+        return False
+    return octets[0] in _FIRST or octets[:1] not in _TEXT
+
+
+def decoded(
+    octets: bytes, strict: bool, limit: Optional[int], keep_going: bool, port: Optional[int], packet: Optional[int]
+) -> Tuple[bytes, List[str]]:
+    """The lines of JSON of the messages of octets, which are never read as text, and what is said. LibraryNotFound."""
+    numbers = int(strict), _number("limit", limit, 2**31 - 1), int(keep_going), _number("port", port, 2**16 - 1)
+    call, one = _library().krbls_decode, _number("packet", packet, 2**32 - 1)
+    _, text, said = _two_texts(call, *numbers, one, octets, len(octets))
+    return text, said
+
+
+def encoded(lines: bytes, unframed: bool, strict: bool, limit: Optional[int]) -> Tuple[bytes, List[str]]:
+    """The messages that lines of JSON spell, and what is said. LibraryNotFound."""
+    numbers = int(strict), _number("limit", limit, 2**31 - 1), int(unframed)
+    _, octets, said = _two_texts(_library().krbls_encode, *numbers, lines, len(lines))
+    return octets, said
+
+
+def spans(
+    octets: bytes,
+    *,
+    strict: bool = False,
+    limit: Optional[int] = None,
+    keep_going: bool = False,
+    port: Optional[int] = None,
+) -> List[Span]:
+    """Where the octets lie of each record that `list` has of octets, its last one too: of a message, a Ticket, an entry, a
+    hole, a credential, or of a cache's principal; of a record of a capture its packet's; of a refused frame all of it.
+    LibraryNotFound."""
+    octets = bytes(octets)
+    numbers = int(strict), _number("limit", limit, 2**31 - 1), int(keep_going), _number("port", port, 2**16 - 1)
+    size, room = ctypes.c_size_t(), 1024
+    while True:
+        found = (ctypes.c_uint64 * room)()
+        if _library().krbls_spans(*numbers, octets, len(octets), found, room, ctypes.byref(size)) == _OUT_OF_MEMORY:
+            raise MemoryError
+        if size.value <= room:
+            return [Span(found[i], found[i + 1]) for i in range(0, size.value, 2)]
+        room = size.value
+
+
+def fields(
+    octets: bytes,
+    names: Union[str, Iterable[str]],
+    *,
+    listing: str = "list",
+    strict: bool = False,
+    limit: Optional[int] = None,
+    keep_going: bool = False,
+    now: Optional[int] = None,
+    port: Optional[int] = None,
+) -> Rows:
+    """Members of the records of octets that have all of the names, such as `client,ticket.etype_name`, as rows of cells.
+
+    `listing` is the command whose records these are, `list` that of the first octets; octets are never read as text.
+    Raises WrongOption if a name is none, or if no kind of record has all of them. LibraryNotFound.
+    """
+    if listing not in _LISTINGS:
+        raise WrongOption(f"listing {listing!r} is none of {', '.join(_LISTINGS)}")
+    octets, words = bytes(octets), (names if isinstance(names, str) else ",".join(names)).encode("utf-8", "surrogateescape")
+    numbers = _LISTINGS.index(listing), int(strict), _number("limit", limit, 2**31 - 1), int(keep_going)
+    more = _number("now", now, 2**32 - 1), _number("port", port, 2**16 - 1)
+    answer, text, said = _two_texts(_library().krbls_fields, *numbers, *more, words, len(words), octets, len(octets))
+    if answer == _WRONG_NAMES:
+        raise WrongOption("; ".join(said))
+    return Rows([tuple(row.split("\t")) for row in text.decode("ascii").splitlines()], said)

@@ -1,0 +1,121 @@
+-- What C is given of messages as lines of JSON, and of lines as messages: what the commands do.
+use Rattle.std.specs.Prelude.{ℕ, ◌≡◌, ◌==◌, ◌++◌, Bool, true, false, if◌then◌else◌, List, [], ◌∷◌, codes, Option, Some}
+use Rattle.std.specs.Option.{unwrap_or}
+use Rattle.krb_der.specs.declared.profile.Profile.{Profile}
+use Rattle.krb_input.specs.Sources.{command_for}
+use Rattle.krb_input.specs.declared.source_kind.SourceKind.{SourceKind}
+use Rattle.krb_input.specs.declared.source_kind.SourceKind.TheVariants as kind
+use Rattle.krb_run.specs.declared.run.RunEnd.{RunEnd}
+use Rattle.krb_run.specs.declared.run.RunEnd.TheVariants as run
+use Rattle.krb_words.specs.declared.words.Framing.{Framing}
+use Rattle.krb_words.specs.declared.words.Framing.TheVariants as framing
+use Rattle.krb_convert.specs.Conversions.{DecodesBy, EncodesBy}
+use Rattle.krb_convert.specs.Ends.{decode_end_line, decode_run_end, encode_end_line, encode_run_end}
+use Rattle.krb_convert.specs.declared.decode_run.DecodeEnd.{DecodeEnd}
+use Rattle.krb_convert.specs.declared.encode_run.EncodeEnd.{EncodeEnd}
+use Rattle.krb_decode.specs.Decoded.{Decoded}
+use Rattle.krb_decode.specs.Caches.{decoded_cache}
+use Rattle.krb_decode.specs.Given.{decoded_given}
+use Rattle.krb_decode.specs.Streams.{DecodesStream}
+use Rattle.krb_decode.specs.Hints.{keytab_text}
+use Rattle.krb_record.specs.Text.{line_feed}
+
+-- 0 is to write each message after its length, and any other number one message without it
+abbrev pub framing_of : ℕ → Framing
+framing_of number = if number == 0 then framing.Framed else framing.Unframed
+
+-- The messages that lines spell. The run over them had all lines, and wrote the octets after nothing; those after a fault that ends it may be left.
+pub record IsEncoded (how : Framing) (profile : Profile) (limit : ℕ) (lines octets said : List ℕ) (end : RunEnd) : Type 0 where
+  pub left : List ℕ
+  pub ended : EncodeEnd
+  pub encoded : EncodesBy how profile limit (Some lines) (Some left) (Some []) (Some octets) ended
+  pub says : said ≡ encode_end_line ended
+  pub ends : end ≡ encode_run_end ended
+
+-- The lines of the messages of a stream, in the same manner.
+pub record IsStreamDecoded (profile : Profile) (limit : ℕ) (octets lines said : List ℕ) (end : RunEnd) : Type 0 where
+  pub left : List ℕ
+  pub ended : DecodeEnd
+  pub decoded : DecodesBy framing.Framed profile limit (Some octets) (Some left) (Some []) (Some lines) ended
+  pub says : said ≡ decode_end_line framing.Framed ended
+  pub ends : end ≡ decode_run_end ended
+
+-- those of a message, a Ticket or a token
+abbrev pub IsDecodedAs : Decoded → (lines said : List ℕ) → RunEnd → Type 0
+IsDecodedAs decoded lines said end = (lines ≡ decoded.lines) × (said ≡ decoded.said) × (end ≡ decoded.end)
+
+-- a keytab has none
+abbrev pub IsKeytabTold : (lines said : List ℕ) → RunEnd → Type 0
+IsKeytabTold lines said end = (lines ≡ []) × (said ≡ keytab_text (codes "-") ++ line_feed) × (end ≡ run.Refused)
+
+-- a run that is refused at once stays so; else it is clean if nothing is said
+abbrev pub told_end : RunEnd → (said : List ℕ) → RunEnd
+told_end run.RefusedAtOnce said = run.RefusedAtOnce
+told_end end [] = run.Clean
+told_end end (octet ∷ said) = run.Refused
+
+-- ---- one text, of lines of messages and of lines that are said
+pub record Texts : Type 0 where
+  pub lines : List ℕ
+  pub said : List ℕ
+
+-- an octet of a line of a message, or of one that is said
+abbrev pub of_lines : (of_message : Bool) → ℕ → List ℕ
+of_lines true octet = octet ∷ []
+of_lines false octet = []
+
+abbrev pub of_said : (of_message : Bool) → ℕ → List ℕ
+of_said true octet = []
+of_said false octet = octet ∷ []
+
+abbrev pub octet_and : (of_message : Bool) → ℕ → Texts → Texts
+octet_and of_message octet others = record { lines = of_lines of_message octet ++ others.lines; said = of_said of_message octet ++ others.said }
+
+-- a line is of a message if it begins with a brace (7B); it is known of one that has begun, which a line feed ends
+abbrev pub is_of_message : Option Bool → ℕ → Bool
+is_of_message begun octet = unwrap_or begun (octet == 0x7B)
+
+abbrev pub begun_after : (of_message : Bool) → ℕ → Option Bool
+begun_after of_message octet = if octet == 10 then None else Some of_message
+
+abbrev pub sorted : (begun : Option Bool) → List ℕ → Texts
+sorted begun [] = record { lines = []; said = [] }
+sorted begun (octet ∷ text) = octet_and (is_of_message begun octet) octet (sorted (begun_after (is_of_message begun octet) octet) text)
+
+abbrev pub IsSorted : (text : List ℕ) → RunEnd → (lines said : List ℕ) → RunEnd → Type 0
+IsSorted text ended lines said end = (lines ≡ (sorted None text).lines) × (said ≡ (sorted None text).said) × (end ≡ told_end ended said)
+
+-- the lines of a stream that goes on
+pub record IsStreamDecodedOn (profile : Profile) (limit : ℕ) (octets lines said : List ℕ) (end : RunEnd) : Type 0 where
+  pub left : List ℕ
+  pub text : List ℕ
+  pub ended : RunEnd
+  pub decoded : DecodesStream profile limit (Some octets) (Some left) (Some []) (Some text) ended
+  pub is : IsSorted text ended lines said end
+
+-- Those of a capture are some text. Which, is not said here.
+abbrev pub IsCaptureDecoded : (lines said : List ℕ) → RunEnd → Type 0
+IsCaptureDecoded lines said end = (text : List ℕ) × (ended : RunEnd) × IsSorted text ended lines said end
+
+-- ---- which of the messages of octets are decoded
+pub record Options : Type 0 where
+  pub profile : Profile
+  pub limit : ℕ
+  pub goes_on : Bool
+  pub port : ℕ
+  pub packet : Option ℕ
+
+abbrev pub IsStream : (goes_on : Bool) → Profile → (limit : ℕ) → (octets lines said : List ℕ) → RunEnd → Type 0
+IsStream false profile limit octets lines said end = IsStreamDecoded profile limit octets lines said end
+IsStream true profile limit octets lines said end = IsStreamDecodedOn profile limit octets lines said end
+
+-- by what octets are
+abbrev pub IsDecodedBy : SourceKind → Options → (octets lines said : List ℕ) → RunEnd → Type 0
+IsDecodedBy kind.Message options octets lines said end = IsDecodedAs (decoded_given options.profile octets) lines said end
+IsDecodedBy kind.Keytab options octets lines said end = IsKeytabTold lines said end
+IsDecodedBy kind.Ccache options octets lines said end = IsDecodedAs (decoded_cache octets) lines said end
+IsDecodedBy kind.Capture options octets lines said end = IsCaptureDecoded lines said end
+IsDecodedBy kind.Stream options octets lines said end = IsStream options.goes_on options.profile options.limit octets lines said end
+
+abbrev pub IsDecoded : Options → (octets lines said : List ℕ) → RunEnd → Type 0
+IsDecoded options octets lines said end = IsDecodedBy (command_for octets) options octets lines said end
