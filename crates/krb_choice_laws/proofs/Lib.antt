@@ -14,3 +14,6 @@ pub mod Lines
 pub mod Values
 pub mod InsideWords
 pub mod MessagesPlain
+pub mod RecordsPlain
+pub mod CapturesPlain
+pub mod FilesPlain

@@ -3,6 +3,7 @@
 ghost use Rattle.krb_choice_laws.specs.Listing.{ListingsAreChosen};
 ghost use Rattle.krb_choice_laws.specs.Messages.{CapturedCiphersAreNotChosen, CapturedMessagesArePlain, CiphersAreNotChosen, KeysAreNotChosen, MessagesArePlain, SessionKeysAreNotChosen};
 ghost use Rattle.krb_choice_laws.specs.Laws.{AllKindsAreKept, FileNamesAreApart, KeptKindsAreShown, NumberListsAreApart, NumbersAreApart, RowsArePrintable, StringListsAreApart, StringsAreApart, StringsAreThere, WrittenIsChosen};
+ghost use Rattle.krb_choice_laws.specs.Records.{CapturesArePlain, EndsArePlain, FilesArePlain, LabelsArePlain, TicketsArePlain};
 
 /// What a choice writes of the text of a record, in the form in which it lists records, is what it has of
 /// the record itself: nothing if it does not keep it, and else its rows, or its line or its object.
@@ -45,6 +46,15 @@ pub fn listings_are_chosen()
 pub fn messages_are_plain()
     ensures message { MessagesArePlain }
     ensures capture { CapturedMessagesArePlain }
+{}
+
+/// So are those of each other record that is listed, in each form, and also with the name of its file.
+pub fn records_are_plain()
+    ensures ticket { TicketsArePlain }
+    ensures end { EndsArePlain }
+    ensures capture { CapturesArePlain }
+    ensures file { FilesArePlain }
+    ensures label { LabelsArePlain }
 {}
 
 /// What is written of messages, keytabs and caches is as of the same with every octet 00 of each key,
