@@ -8,16 +8,16 @@ use Rattle.krb_record.specs.Forms.{escaped_if, is_mistaken, item_cell, item_octe
 use Rattle.krb_record.specs.Text.{two_hex}
 
 -- ---- what a text with escapes shows
-data State : Type 0 where
+pub data State : Type 0 where
   Outside : State
   Slash : State
   High : State
   Low : (high : ℕ) → State
 
-abbrev digit : ℕ → ℕ
+abbrev pub digit : ℕ → ℕ
 digit c = if nat_le c 57 then c - 48 else c - 87
 
-abbrev decoded : State → List ℕ → List ℕ
+abbrev pub decoded : State → List ℕ → List ℕ
 decoded state [] = []
 decoded Outside (c ∷ others) = if c == 92 then decoded Slash others else c ∷ decoded Outside others
 decoded Slash (c ∷ others) = decoded High others
@@ -34,7 +34,7 @@ escaped o rest h =
 
 -- ---- octets of strings
 -- each octet is itself, if it is no backslash, or escaped
-record Shows (show : ℕ → List ℕ) : Type 0 where
+pub record Shows (show : ℕ → List ℕ) : Type 0 where
   pub is : (o : ℕ) (rest : List ℕ) → o < 256 → decoded Outside (show o ++ rest) ≡ o ∷ decoded Outside rest
 
 slash : (o : ℕ) → (nat_le 0x20 o && nat_le o 0x7E && not (o == 0x5C)) ≡ true → (o == 92) ≡ false
@@ -44,17 +44,17 @@ shown-by : (o : ℕ) (rest : List ℕ) → o < 256 → (plain : Bool) → (nat_l
 shown-by o rest h true e = ap (λ b. cond b (decoded Slash rest) (o ∷ decoded Outside rest)) (slash o e)
 shown-by o rest h false e = escaped o rest h
 
-shown-shows : Shows shown_octet
+pub shown-shows : Shows shown_octet
 shown-shows = record { is = λ o rest h. shown-by o rest h (nat_le 0x20 o && nat_le o 0x7E && not (o == 0x5C)) refl }
 
 item-by : (o : ℕ) (rest : List ℕ) → o < 256 → (comma : Bool) → (o == 0x2C) ≡ comma → decoded Outside (cond comma (codes "\\x2c") (shown_octet o) ++ rest) ≡ o ∷ decoded Outside rest
 item-by o rest h true e = let is : o ≡ 0x2C = grind (arith, nat_tests) in ap (λ n. n ∷ decoded Outside rest) (sym is)
 item-by o rest h false e = shown-shows.is o rest h
 
-item-shows : Shows item_octet
+pub item-shows : Shows item_octet
 item-shows = record { is = λ o rest h. item-by o rest h (o == 0x2C) refl }
 
-all-decoded : (show : ℕ → List ℕ) → Shows show → (octets : List ℕ) → AreOctets octets → decoded Outside (flat_map show octets) ≡ octets
+pub all-decoded : (show : ℕ → List ℕ) → Shows show → (octets : List ℕ) → AreOctets octets → decoded Outside (flat_map show octets) ≡ octets
 all-decoded show s [] h = refl
 all-decoded show s (o ∷ octets) h = s.is o (flat_map show octets) h.0 ∙ ap (λ l. o ∷ l) (all-decoded show s octets h.1)
 
@@ -83,7 +83,7 @@ module _ (show : ℕ → List ℕ) (s : Shows show) where
   not-empty : (first : ℕ) (others : List ℕ) → AreOctets (first ∷ others) → string_of show (first ∷ others) ≡ codes "\"\"" → ⊥
   not-empty first others h e = escapes (codes "\"\"") refl refl (λ f. omega (arith, f)) first others h e
 
-  not-dash : (octets : List ℕ) → AreOctets octets → string_of show octets ≡ codes "-" → ⊥
+  pub not-dash : (octets : List ℕ) → AreOctets octets → string_of show octets ≡ codes "-" → ⊥
   not-dash [] h e = omega (arith, ap head e)
   not-dash (first ∷ others) h e = escapes (codes "-") refl refl (λ f. omega (arith, f)) first others h e
 

@@ -17,3 +17,7 @@ pub mod MessagesPlain
 pub mod RecordsPlain
 pub mod CapturesPlain
 pub mod FilesPlain
+pub mod Texts
+pub mod MembersAt
+pub mod Words
+pub mod CellsSay

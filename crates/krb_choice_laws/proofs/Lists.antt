@@ -15,10 +15,10 @@ use Rattle.krb_choice_laws.specs.Laws.{AreNumbers}
 use Rattle.krb_choice_laws.proofs.Decoded.{item-not-none, items-apart}
 
 -- ---- texts without commas
-abbrev is_no_comma : ℕ → Bool
+abbrev pub is_no_comma : ℕ → Bool
 is_no_comma c = not (c == 44)
 
-abbrev has_no_comma : List ℕ → Bool
+abbrev pub has_no_comma : List ℕ → Bool
 has_no_comma text = list_all is_no_comma text
 
 none-append : (xs ys : List ℕ) → has_no_comma xs ≡ true → has_no_comma ys ≡ true → has_no_comma (xs ++ ys) ≡ true
@@ -34,7 +34,7 @@ abbrev split : List ℕ → List (List ℕ)
 split [] = [] ∷ []
 split (c ∷ others) = if c == 44 then [] ∷ split others else onto c (split others)
 
-no-comma : (c : ℕ) → is_no_comma c ≡ true → (c == 44) ≡ false
+pub no-comma : (c : ℕ) → is_no_comma c ≡ true → (c == 44) ≡ false
 no-comma c h = grind (arith, nat_tests)
 
 split-last : (text : List ℕ) → has_no_comma text ≡ true → split text ≡ text ∷ []
@@ -90,7 +90,7 @@ same-list [] (y ∷ ys) h k e = absurd (not-empty y ys k e)
 same-list (x ∷ xs) [] h k e = absurd (not-empty x xs h (sym e))
 same-list (x ∷ xs) (y ∷ ys) h k e = sym (split-list x xs h) ∙ ap split e ∙ split-list y ys k
 
-joined-map : {A : Type 0} (text : A → List ℕ) (all : List A) → joined (codes "[]") (codes ",") text all ≡ in_list (map text all)
+pub joined-map : {A : Type 0} (text : A → List ℕ) (all : List A) → joined (codes "[]") (codes ",") text all ≡ in_list (map text all)
 joined-map text [] = refl
 joined-map text (first ∷ others) = ap (λ l. text first ++ l) (rest others)
   where
@@ -102,7 +102,7 @@ joined-map text (first ∷ others) = ap (λ l. text first ++ l) (rest others)
 glyph : (d : ℕ) → d < 16 → is_no_comma (digit_glyph false d) ≡ true
 glyph d h = grind (arith, nat_tests)
 
-hex-comma : (o : ℕ) → o < 256 → has_no_comma (codes "\\x" ++ two_hex o) ≡ true
+pub hex-comma : (o : ℕ) → o < 256 → has_no_comma (codes "\\x" ++ two_hex o) ≡ true
 hex-comma o h = and_from (is_no_comma (digit_glyph false (o / 16))) (has_no_comma (digit_glyph false (o % 16) ∷ [])) (glyph (o / 16) (omega arith)) (and_from (is_no_comma (digit_glyph false (o % 16))) true (glyph (o % 16) (omega arith)) refl)
 
 octet-comma : (o : ℕ) → o < 256 → has_no_comma (item_octet o) ≡ true

@@ -3,3 +3,4 @@ pub mod Laws
 pub mod Listing
 pub mod Messages
 pub mod Records
+pub mod Cells
