@@ -1,5 +1,5 @@
 -- Records of captures are of printable texts.
-use Rattle.std.proofs.Common.{◌≡◌, ℕ, Bool, true, false, Option, Some, None, IfSome, List, [], ◌∷◌, ◌++◌, pos, refl, codes, if◌then◌else◌}
+use Rattle.std.proofs.Common.{ℕ, Bool, true, false, Option, Some, None, IfSome, List, [], ◌++◌, pos, refl, codes, if◌then◌else◌}
 use Rattle.std.specs.Net.Addr.{IsIpv4Addr, IsIpv6Addr, MatchIp}
 use Rattle.krb_der.specs.Octets.{AreOctets}
 use Rattle.krb_der.specs.Reasons.{reason_name, reason_number}
@@ -8,13 +8,13 @@ use Rattle.krb_source.specs.FileReasons.{file_reason_name, file_reason_number}
 use Rattle.krb_source.specs.declared.file_why.FileWhy.{FileWhy}
 use Rattle.krb_source.specs.declared.unread_why.UnreadWhy.{UnreadWhy}
 use Rattle.krb_msg.specs.Term.{IfPresent}
-use Rattle.krb_record.specs.Captures.{answer_fields, capture_end_record, capture_refused_record, captured, count_fields, lost_record, password_record, request_name, four_counts, told_counts, unanswered_record, unreachable_record, unread_record}
+use Rattle.krb_record.specs.Captures.{capture_end_record, capture_refused_record, captured, count_fields, lost_record, password_record, request_name, four_counts, told_counts, unanswered_record, unreachable_record, unread_record}
 use Rattle.krb_record.specs.Forms.{is_plain_form}
 use Rattle.krb_record.specs.Laws.{OriginIsInRange}
 use Rattle.krb_record.specs.Refusals.{extent_in, known_path, path_in, refusal_record, refused_file}
 use Rattle.krb_record.specs.Text.{IsPrintable}
 use Rattle.krb_record.specs.Unreachables.{code_name, error_of, type_name, version_name}
-use Rattle.krb_record.specs.Values.{Field, Number, Word, printed, the}
+use Rattle.krb_record.specs.Values.{Number, printed, the}
 use Rattle.krb_record.specs.declared.capture.CaptureCounts.{CaptureCounts}
 use Rattle.krb_record.specs.declared.capture_origin.CaptureOrigin.{CaptureOrigin}
 use Rattle.krb_record.specs.declared.extent.Extent.{Extent}
@@ -30,7 +30,7 @@ use Rattle.krb_record.specs.declared.unreachable.IcmpVersion.{IcmpVersion}
 use Rattle.krb_record.specs.declared.unreachable.IcmpVersion.TheVariants as versions
 use Rattle.krb_record.proofs.Printable.{word}
 use Rattle.krb_record.proofs.Reasons as reasons
-use Rattle.krb_text_laws.proofs.EachForm.{AreShown, IsShown, plain_name}
+use Rattle.krb_text_laws.proofs.EachForm.{AreShown, plain_name}
 use Rattle.krb_text_laws.proofs.EndOneLine.{number_shown}
 use Rattle.krb_text_laws.proofs.Unreachables.{IsPlain as IsPlainName, code_plain, type_plain}
 use Rattle.krb_choice_laws.specs.Plain.{ArePlain, IsPlain}

@@ -1,15 +1,15 @@
 -- The cell of a value is what the member at its path says.
-use Rattle.std.proofs.Common.{◌≡◌, ◌∙◌, ℕ, ℤ, pos, ◌*◌, ◌-◌, ◌^◌, ◌<◌, Bool, true, false, cond, Option, Some, None, IfSome, List, [], ◌∷◌, ◌++◌, length, map, append-nil, sym, refl, ap, ap₂, codes}
+use Rattle.std.proofs.Common.{◌≡◌, ◌∙◌, ℕ, ℤ, pos, Bool, true, false, cond, Option, Some, None, IfSome, List, [], ◌∷◌, map, append-nil, sym, refl, ap, ap₂, codes}
 use Rattle.std.proofs.lemmas.Slice.Eq.{bytes_eq-Decides}
 use Rattle.std.specs.Fmt.{decimal, signed_decimal}
 use Rattle.std.specs.List.{AllByRecursion, flat_map}
 use Rattle.std.specs.Net.Addr.{IsIpv4Addr, IsIpv6Addr, MatchIp}
 use Rattle.std.specs.Net.Text.{ip_text}
 use Rattle.std.specs.Prelude.{bytes_eq}
-use Rattle.json.specs.Json.{Items, Json, array, boolean, item, member, no_items, no_members, null, number, object, string}
+use Rattle.json.specs.Json.{Items, Json, array, boolean, null, number, string}
 use Rattle.json.specs.Value.{items_of}
 use Rattle.krb_der.specs.Octets.{AreOctets}
-use Rattle.krb_der.specs.Reasons.{reason_name, reason_number}
+use Rattle.krb_der.specs.Reasons.{reason_name}
 use Rattle.krb_der.specs.declared.verdict.Refusal.{Refusal}
 use Rattle.krb_registry.specs.Rows.{name_of}
 use Rattle.krb_registry.specs.declared.registry.Registry.{Registry}
@@ -17,16 +17,16 @@ use Rattle.krb_registry.specs.declared.registry.Registry.TheVariants as registri
 use Rattle.krb_source.specs.Layers.{layer_name}
 use Rattle.krb_source.specs.declared.endpoint.Endpoint.{Endpoint}
 use Rattle.krb_source.specs.declared.layer.Layer.{Layer}
-use Rattle.krb_record.specs.Flows.{endpoint_text, flow_text, transport_name}
-use Rattle.krb_record.specs.Forms.{address_cell, cell, digest_cell, encrypted_cell, flags_cell, flow_cell, four_octets, is_mistaken, item_cell, item_octet, list_cell, name_cell, name_or_dash, named_cell, numbers_cell, offset_cell, or_empty, principal_cell, refused_cell, set_names, shown_octet, string_cell, string_of, true_or_false, value_text, whole_cell}
+use Rattle.krb_record.specs.Flows.{transport_name}
+use Rattle.krb_record.specs.Forms.{address_cell, cell, digest_cell, encrypted_cell, flags_cell, flow_cell, four_octets, is_mistaken, item_cell, list_cell, name_cell, name_or_dash, named_cell, numbers_cell, offset_cell, or_empty, principal_cell, refused_cell, set_names, shown_octet, string_cell, string_of, true_or_false, value_text, whole_cell}
 use Rattle.krb_record.specs.Text.{AllAreOctets, hex, joined, or_dash, principal_text}
-use Rattle.krb_record.specs.Values.{Absent, Address, Called, Digest, Encrypted, ErrorCode, Field, FileName, Flags, Flow, Hex, Host, Layers, Named, NoReason, NoTicket, Number, Numbers, Offset, Principal, Quoted, Reason, RefusedTicket, Span, Status, String, TicketFlags, Value, Word, YesNo, the}
+use Rattle.krb_record.specs.Values.{Absent, Address, Called, Digest, Encrypted, ErrorCode, Field, FileName, Flags, Flow, Hex, Host, Layers, Named, NoReason, NoTicket, Number, Numbers, Offset, Principal, Quoted, Reason, RefusedTicket, Span, Status, String, TicketFlags, Value, Word, YesNo}
 use Rattle.krb_record.specs.declared.flow.Transport.{Transport}
 use Rattle.krb_record.specs.declared.path.Path.{Path}
 use Rattle.krb_record.specs.declared.path.Path.TheVariants as paths
-use Rattle.krb_laws.specs.Json.{address_json, count_of, digest_json, encrypted_json, flags_json, if_known, json_of_value, list_of, name_json, number_of, octets_of, offset_json, principal_json, refused_json, endpoint_json, object_of}
+use Rattle.krb_laws.specs.Json.{address_json, digest_json, encrypted_json, flags_json, if_known, json_of_value, list_of, name_json, number_of, octets_of, offset_json, principal_json, refused_json}
 use Rattle.krb_choice_laws.specs.Cells.{IsWord, Speaks, character, item_said, items_said, line_part, member_at, object_with, said}
-use Rattle.krb_choice_laws.proofs.Decoded.{item-shows, not-dash}
+use Rattle.krb_choice_laws.proofs.Decoded.{item-not-dash}
 use Rattle.krb_choice_laws.proofs.Lists.{joined-map}
 use Rattle.krb_choice_laws.proofs.MembersAt.{at-is, at_json, name_beside, names_beside}
 use Rattle.krb_choice_laws.proofs.Texts.{a-word, file-names, hexes, item-strings, strings, word-cells, word-items, words}
@@ -38,7 +38,7 @@ found-said : (line : List ℕ) (found : Option (List ℕ)) → IfSome found IsWo
 found-said line None h = refl
 found-said line (Some name) h = words name h
 
-its-word : (registry : Registry) (n : ℤ) (found : Option (List ℕ)) → name_of registry n ≡ found → IfSome found IsWord
+pub its-word : (registry : Registry) (n : ℤ) (found : Option (List ℕ)) → name_of registry n ≡ found → IfSome found IsWord
 its-word registry n None e = tt
 its-word registry n (Some name) e = (its-name registry n name e).word
 
@@ -50,7 +50,7 @@ items-map : {A : Type 0} (json : A → Json) (text : A → List ℕ) (P : A → 
 items-map json text P is [] h = refl
 items-map json text P is (a ∷ all) h = ap₂ (λ t ts. t ∷ ts) (is a h.0) (items-map json text P is all h.1)
 
-every : {A : Type 0} (all : List A) → AllByRecursion (λ a. Unit {0}) all
+pub every : {A : Type 0} (all : List A) → AllByRecursion (λ a. Unit {0}) all
 every [] = tt
 every (a ∷ all) = (tt, every all)
 
@@ -93,8 +93,7 @@ joined-said : {A : Type 0} (json : A → Json) (text : A → List ℕ) (P : A �
 joined-said json text P is other all h = joined-map text all ∙ list-is (map text all) (all-others text P other all h) ∙ ap list_cell (sym (items-map json text P is all h))
 
 item-other : (octets : List ℕ) → AreOctets octets → IsOther (item_cell octets)
-unfolding item_cell
-item-other octets h e = not-dash item_octet item-shows octets h (sym e)
+item-other octets h e = item-not-dash octets h (sym e)
 
 components-said : (components : List (List ℕ)) → AllAreOctets components → joined (codes "[]") (codes ",") item_cell components ≡ list_cell (items_said (items_of (map octets_of components)))
 components-said components h = joined-said octets_of item_cell AreOctets (λ octets k. item-strings octets k) item-other components h

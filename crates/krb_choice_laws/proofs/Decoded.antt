@@ -51,7 +51,7 @@ item-by : (o : ℕ) (rest : List ℕ) → o < 256 → (comma : Bool) → (o == 0
 item-by o rest h true e = let is : o ≡ 0x2C = grind (arith, nat_tests) in ap (λ n. n ∷ decoded Outside rest) (sym is)
 item-by o rest h false e = shown-shows.is o rest h
 
-pub item-shows : Shows item_octet
+item-shows : Shows item_octet
 item-shows = record { is = λ o rest h. item-by o rest h (o == 0x2C) refl }
 
 pub all-decoded : (show : ℕ → List ℕ) → Shows show → (octets : List ℕ) → AreOctets octets → decoded Outside (flat_map show octets) ≡ octets
@@ -65,7 +65,7 @@ string-decoded show s first others h = by (is_mistaken (first ∷ others)) ∙ a
     by true = escaped first (flat_map show others) h.0
     by false = s.is first (flat_map show others) h.0
 
-abbrev head : List ℕ → ℕ
+abbrev pub head : List ℕ → ℕ
 head [] = 0
 head (c ∷ others) = c
 
@@ -83,13 +83,17 @@ module _ (show : ℕ → List ℕ) (s : Shows show) where
   not-empty : (first : ℕ) (others : List ℕ) → AreOctets (first ∷ others) → string_of show (first ∷ others) ≡ codes "\"\"" → ⊥
   not-empty first others h e = escapes (codes "\"\"") refl refl (λ f. omega (arith, f)) first others h e
 
-  pub not-dash : (octets : List ℕ) → AreOctets octets → string_of show octets ≡ codes "-" → ⊥
+  not-dash : (octets : List ℕ) → AreOctets octets → string_of show octets ≡ codes "-" → ⊥
   not-dash [] h e = omega (arith, ap head e)
   not-dash (first ∷ others) h e = escapes (codes "-") refl refl (λ f. omega (arith, f)) first others h e
 
   not-none : (octets : List ℕ) → AreOctets octets → string_of show octets ≡ codes "[]" → ⊥
   not-none [] h e = omega (arith, ap head e)
   not-none (first ∷ others) h e = escapes (codes "[]") refl refl (λ f. omega (arith, f)) first others h e
+
+  not-one : (octets : List ℕ) → AreOctets octets → string_of show octets ≡ codes "[-]" → ⊥
+  not-one [] h e = omega (arith, ap head e)
+  not-one (first ∷ others) h e = escapes (codes "[-]") refl refl (λ f. omega (arith, f)) first others h e
 
   same-string : (octets others : List ℕ) → AreOctets octets → AreOctets others → string_of show octets ≡ string_of show others → octets ≡ others
   same-string [] [] h k e = refl
@@ -108,6 +112,14 @@ strings-there octets h e = not-dash shown_octet shown-shows octets h e
 pub items-apart : (octets others : List ℕ) → AreOctets octets → AreOctets others → item_cell octets ≡ item_cell others → octets ≡ others
 unfolding item_cell
 items-apart octets others h k e = same-string item_octet item-shows octets others h k e
+
+pub item-not-dash : (octets : List ℕ) → AreOctets octets → item_cell octets ≡ codes "-" → ⊥
+unfolding item_cell
+item-not-dash octets h e = not-dash item_octet item-shows octets h e
+
+pub item-not-one : (octets : List ℕ) → AreOctets octets → item_cell octets ≡ codes "[-]" → ⊥
+unfolding item_cell
+item-not-one octets h e = not-one item_octet item-shows octets h e
 
 pub item-not-none : (octets : List ℕ) → AreOctets octets → item_cell octets ≡ codes "[]" → ⊥
 unfolding item_cell

@@ -1,5 +1,5 @@
 -- Records of keytabs and of caches, and of Tickets, are of printable texts.
-use Rattle.std.proofs.Common.{ℕ, zero, suc, ◌^◌, ◌<◌, ◌==◌, nat_lt, Bool, true, false, Option, Some, None, List, [], ◌∷◌, ◌++◌, length, map, refl, codes, if◌then◌else◌}
+use Rattle.std.proofs.Common.{ℕ, zero, suc, ◌^◌, ◌<◌, ◌==◌, nat_lt, Bool, true, false, Option, Some, None, List, [], ◌∷◌, length, map, refl, codes, if◌then◌else◌}
 use Rattle.krb_der.specs.Octets.{AreOctets, when}
 use Rattle.krb_der.specs.declared.profile.Profile.TheVariants as profiles
 use Rattle.krb_der.specs.declared.verdict.Refusal.{Refusal}
@@ -39,7 +39,7 @@ use Rattle.krb_list.specs.Laws.{CredentialIsOfOctets, PrincipalIsOfOctets, Recor
 use Rattle.krb_text_laws.proofs.EachForm.{IsShown}
 use Rattle.krb_text_laws.proofs.FieldsOneLine.{always, of_ticket}
 use Rattle.krb_text_laws.proofs.Tuples.{◌&◌}
-use Rattle.krb_choice_laws.specs.Plain.{ArePlain, IsPlain}
+use Rattle.krb_choice_laws.specs.Plain.{IsPlain}
 use Rattle.krb_choice_laws.proofs.RecordsPlain.{end-kind, from-message, of-fields, told-plain}
 use Rattle.krb_choice_laws.proofs.RowLines.{all-plain}
 use Rattle.krb_choice_laws.proofs.Values.{plain-field, plain-fields}

@@ -21,3 +21,5 @@ pub mod Texts
 pub mod MembersAt
 pub mod Words
 pub mod CellsSay
+pub mod CellsApart
+pub mod MembersTold

@@ -1,14 +1,14 @@
 -- The member at a path of the object of a field alone.
-use Rattle.std.proofs.Common.{◌≡◌, ◌∙◌, ℕ, ℤ, pos, ◌+◌, Bool, true, false, cond, List, [], ◌∷◌, ◌++◌, length, length-append, refl, ap, ap₂, arith, codes}
+use Rattle.std.proofs.Common.{◌≡◌, ◌∙◌, ℕ, pos, Bool, true, false, cond, List, [], ◌∷◌, ◌++◌, length, length-append, refl, ap, ap₂, arith, codes}
 use Rattle.std.proofs.lemmas.Slice.Eq.{bytes_eq-Decides}
 use Rattle.std.specs.Prelude.{bytes_eq}
-use Rattle.json.specs.Json.{Json, Members, array, boolean, member, no_members, null, number, object, string}
+use Rattle.json.specs.Json.{Json, Members, member, no_members, null, object, string}
 use Rattle.krb_registry.specs.declared.registry.Registry.TheVariants as registries
-use Rattle.krb_record.specs.Values.{Called, ErrorCode, Field, Named, NoReason, Numbers, Reason, Status, Value, the}
+use Rattle.krb_record.specs.Values.{Called, ErrorCode, Named, NoReason, Numbers, Reason, Status, Value, the}
 use Rattle.krb_record.specs.declared.path.Path.{Path}
 use Rattle.krb_record.specs.declared.path.Path.TheVariants as paths
-use Rattle.krb_laws.specs.Json.{field_members, if_known, json_of_value, list_of, members_of, name_json, names_of_value, object_of}
-use Rattle.krb_choice_laws.specs.Cells.{member_at, member_in, member_of, member_within, names_of, object_with, unless_null}
+use Rattle.krb_laws.specs.Json.{if_known, json_of_value, list_of, members_of, name_json, names_of_value}
+use Rattle.krb_choice_laws.specs.Cells.{member_at, member_in, member_within, names_of, object_with, unless_null}
 
 -- ---- names
 alike : (name : List ℕ) → bytes_eq name name ≡ true

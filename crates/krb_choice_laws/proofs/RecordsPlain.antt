@@ -1,7 +1,6 @@
 -- Records of refusals, ends and captures are of printable texts.
-use Rattle.std.proofs.Common.{◌≡◌, ℕ, ◌&&◌, Bool, true, false, Option, Some, None, IfSome, List, [], ◌∷◌, ◌++◌, pos, refl, codes, if◌then◌else◌}
+use Rattle.std.proofs.Common.{◌≡◌, ℕ, true, false, Option, Some, None, IfSome, List, [], ◌∷◌, ◌++◌, pos, refl, codes, if◌then◌else◌}
 use Rattle.std.specs.List.{list_all}
-use Rattle.std.specs.Net.Addr.{IsIpv4Addr, IsIpv6Addr, MatchIp}
 use Rattle.krb_der.specs.Octets.{AreOctets}
 use Rattle.krb_der.specs.declared.why.Why.{Why}
 use Rattle.krb_der.specs.declared.why.Why.TheVariants as whys
@@ -10,10 +9,9 @@ use Rattle.krb_source.specs.declared.layer.Layer.{Layer}
 use Rattle.krb_source.specs.declared.spelling.Spelling.{Spelling}
 use Rattle.krb_source.specs.declared.spelling.Spelling.TheVariants as spellings
 use Rattle.krb_msg.specs.Stream.{Boundary, End, Refused, Within}
-use Rattle.krb_msg.specs.Term.{IfPresent}
-use Rattle.krb_record.specs.Captures.{answer_fields, captured as captured_record, count_fields, last_fields, origin_fields, request_name, told_counts}
+use Rattle.krb_record.specs.Captures.{captured as captured_record}
 use Rattle.krb_record.specs.Files.{file_origin, file_record, unless_some}
-use Rattle.krb_record.specs.Forms.{base_of, field, fields_text, heading, is_plain_form, is_unmarked_plain, labelled, match_base, opening, opening_from, origin_text}
+use Rattle.krb_record.specs.Forms.{base_of, field, fields_text, heading, is_plain_form, is_unmarked_plain, labelled, match_base, opening, opening_from}
 use Rattle.krb_record.specs.Inputs.{input_kind, input_member, input_refused_record, input_told, input_word}
 use Rattle.krb_record.specs.Labels.{file_field, on_json, with_file_if}
 use Rattle.krb_record.specs.Laws.{OriginIsInRange}
@@ -21,15 +19,11 @@ use Rattle.krb_record.specs.Origins.{message_origin}
 use Rattle.krb_der.specs.Reasons.{reason_name, reason_number}
 use Rattle.krb_der.specs.declared.verdict.Refusal.{Refusal}
 use Rattle.krb_source.specs.FileReasons.{file_reason_name, file_reason_number}
-use Rattle.krb_source.specs.UnreadReasons.{unread_reason_name, unread_reason_number}
 use Rattle.krb_source.specs.declared.file_why.FileWhy.{FileWhy}
-use Rattle.krb_source.specs.declared.unread_why.UnreadWhy.{UnreadWhy}
-use Rattle.krb_record.specs.Refusals.{at_field, extent_in, file_refused_record, form_field, known_path, length_field, message_refused_record, path_in, refusal_record, spelling_in, told}
+use Rattle.krb_record.specs.Refusals.{extent_in, file_refused_record, form_field, known_path, message_refused_record, path_in, spelling_in, told}
 use Rattle.krb_record.specs.Streams.{counted_end, counted_end_record, refused_record}
 use Rattle.krb_record.specs.Text.{IsPrintable}
-use Rattle.krb_record.specs.Unreachables.{code_name, error_of, type_name, version_name}
-use Rattle.krb_record.specs.Values.{Absent, Called, Field, FileName, LastLine, NoReason, Number, Printed, Reason, String, Word, if_there, printed, the, told_by, with_first, with_last, with_origin}
-use Rattle.krb_record.specs.declared.capture.CaptureCounts.{CaptureCounts}
+use Rattle.krb_record.specs.Values.{Field, FileName, LastLine, Number, Printed, Reason, String, Word, if_there, printed, the, told_by, with_first, with_last, with_origin}
 use Rattle.krb_record.specs.declared.capture_origin.CaptureOrigin.{CaptureOrigin}
 use Rattle.krb_record.specs.declared.extent.Extent.{Extent}
 use Rattle.krb_record.specs.declared.form.Base.{Base}
@@ -38,22 +32,13 @@ use Rattle.krb_record.specs.declared.form.Form.{Form}
 use Rattle.krb_record.specs.declared.form.Form.TheVariants as forms
 use Rattle.krb_record.specs.declared.input.InputFault.{InputFault}
 use Rattle.krb_record.specs.declared.input.InputFault.TheVariants as faults
-use Rattle.krb_record.specs.declared.told.Answer.{Answer}
-use Rattle.krb_record.specs.declared.told.Request.{Request}
-use Rattle.krb_record.specs.declared.told.Request.TheVariants as requests
-use Rattle.krb_record.specs.declared.told.ToldCounts.{ToldCounts}
-use Rattle.krb_record.specs.declared.unreachable.How.{How}
-use Rattle.krb_record.specs.declared.unreachable.How.TheVariants as hows
-use Rattle.krb_record.specs.declared.unreachable.IcmpVersion.{IcmpVersion}
-use Rattle.krb_record.specs.declared.unreachable.IcmpVersion.TheVariants as versions
 use Rattle.krb_record.proofs.Printable.{Prints, is_printable, join, word}
 use Rattle.krb_record.proofs.Reasons as reasons
 use Rattle.krb_text.specs.StreamEnds.{end_record}
-use Rattle.krb_text_laws.proofs.EachForm.{IsShown, plain_name}
+use Rattle.krb_text_laws.proofs.EachForm.{IsShown}
 use Rattle.krb_text_laws.proofs.EndOneLine.{number_shown, origin_is_plain, origin_shown}
-use Rattle.krb_text_laws.proofs.Unreachables.{code_plain, type_plain, IsPlain as IsPlainName}
 use Rattle.krb_choice_laws.specs.Plain.{ArePlain, IsPlain, IsPlainField, line_text}
-use Rattle.krb_choice_laws.proofs.MessagesPlain.{answer_shown, plain-last, plain-origin}
+use Rattle.krb_choice_laws.proofs.MessagesPlain.{plain-last, plain-origin}
 use Rattle.krb_choice_laws.proofs.RowLines.{all-plain}
 use Rattle.krb_choice_laws.proofs.Values.{plain-field, plain-fields}
 

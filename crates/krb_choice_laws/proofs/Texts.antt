@@ -1,6 +1,6 @@
 -- Texts that a cell has as they are: words, digits, addresses, and strings as objects have them.
-use Rattle.std.proofs.Common.{◌≡◌, ◌∙◌, ℕ, zero, suc, ◌+◌, ◌-◌, ◌*◌, ◌/◌, ◌%◌, ◌^◌, ◌<◌, ◌≤◌, ◌==◌, nat_le, ◌&&◌, ◌||◌, not, Bool, true, false, cond, inl, inr, List, [], ◌∷◌, ◌++◌, length, drop, map, append-nil, sym, refl, ap, ap₂, subst, arith, codes, if◌then◌else◌}
-use Rattle.std.proofs.lemmas.Bool.{and_from, and_parts, or_cases}
+use Rattle.std.proofs.Common.{◌≡◌, ◌∙◌, ℕ, zero, suc, ◌/◌, ◌%◌, ◌<◌, ◌==◌, nat_le, ◌&&◌, ◌||◌, not, Bool, true, false, cond, inl, inr, List, [], ◌∷◌, ◌++◌, sym, refl, ap, ap₂, subst, arith, codes}
+use Rattle.std.proofs.lemmas.Bool.{and_parts, or_cases}
 use Rattle.std.proofs.lemmas.Bool.Decides.{nat_tests}
 use Rattle.std.proofs.lemmas.Grind.{flat_map-append}
 use Rattle.std.proofs.lemmas.Slice.Eq.{bytes_eq-Decides}
@@ -10,7 +10,7 @@ use Rattle.std.specs.Prelude.{bytes_eq}
 use Rattle.krb_der.specs.Octets.{AreOctets}
 use Rattle.krb_record.specs.Forms.{escaped_if, is_mistaken, item_cell, item_octet, name_cell, or_empty, shown_octet, string_cell, string_of}
 use Rattle.krb_record.specs.Text.{hex, two_hex}
-use Rattle.krb_choice_laws.specs.Cells.{IsWord, character, is_word, item_character}
+use Rattle.krb_choice_laws.specs.Cells.{IsWord, character, item_character}
 use Rattle.krb_choice_laws.proofs.Decoded.{Outside, all-decoded, decoded, shown-shows}
 use Rattle.krb_choice_laws.proofs.Lists.{has_no_comma, hex-comma, is_no_comma, no-comma}
 
@@ -18,7 +18,7 @@ use Rattle.krb_choice_laws.proofs.Lists.{has_no_comma, hex-comma, is_no_comma, n
 abbrev five : List (List ℕ)
 five = codes "-" ∷ codes "\"\"" ∷ codes "[]" ∷ codes "[-]" ∷ codes ".." ∷ []
 
-one-of : (P : List ℕ → Type 0) (words : List (List ℕ)) → AllByRecursion P words → (text : List ℕ) → list_any (λ other. bytes_eq other text) words ≡ true → P text
+pub one-of : (P : List ℕ → Type 0) (words : List (List ℕ)) → AllByRecursion P words → (text : List ℕ) → list_any (λ other. bytes_eq other text) words ≡ true → P text
 one-of P [] h text e = cc
 one-of P (word ∷ others) h text e =
     elim (or_cases (bytes_eq word text) (list_any (λ other. bytes_eq other text) others) e) [
@@ -169,9 +169,9 @@ word-cells text e = let w = a-word text e in strings text w.octets ∙ ap (strin
 pub word-items : (text : List ℕ) → IsWord text → has_no_comma text ≡ true → string_of item_character text ≡ text
 word-items text e k = let w = a-word text e in item-as-it-is text w.some w.unmistaken k
 
--- ---- texts that begin as none of the five do
+-- ---- texts that begin as none of the five do, nor as an octet that is escaped
 abbrev pub is_mark : ℕ → Bool
-is_mark c = c == 45 || (c == 34 || (c == 91 || c == 46))
+is_mark c = c == 45 || (c == 34 || (c == 91 || (c == 46 || c == 92)))
 
 abbrev pub begins_marked : List ℕ → Bool
 begins_marked [] = false
@@ -190,9 +190,12 @@ begins-so (c ∷ others) rest h = h
 glyph-mark : (d : ℕ) → d < 16 → is_mark (digit_glyph false d) ≡ false
 glyph-mark d h = grind (arith, nat_tests)
 
+pub hex-begins : (o : ℕ) (octets : List ℕ) → o < 256 → Begins (hex (o ∷ octets))
+hex-begins o octets h = (tt, glyph-mark (o / 16) (omega arith))
+
 pub hexes : (octets : List ℕ) → AreOctets octets → or_empty (hex octets) ≡ string_of character (hex octets)
 hexes [] h = refl
-hexes (o ∷ octets) h = begun (hex (o ∷ octets)) (tt, glyph-mark (o / 16) (omega (arith, h.0)))
+hexes (o ∷ octets) h = begun (hex (o ∷ octets)) (hex-begins o octets h.0)
 
 glyphs : (k n : ℕ) (after : List ℕ) → Begins after → Begins (digits_onto k 10 false n after)
 glyphs zero n after h = h

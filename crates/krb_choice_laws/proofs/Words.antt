@@ -1,5 +1,5 @@
 -- Names, reasons, layers and addresses are words, so cells have them as they are.
-use Rattle.std.proofs.Common.{◌≡◌, ◌∙◌, ℕ, ℤ, ◌+◌, ◌/◌, ◌%◌, ◌^◌, ◌<◌, ◌≤◌, ◌==◌, nat_le, nat_lt, ◌&&◌, ◌||◌, not, Bool, true, false, cond, inl, inr, Option, Some, None, List, [], ◌∷◌, ◌++◌, length, get_or, take, drop, map, sym, refl, ap, subst, arith, codes, if◌then◌else◌}
+use Rattle.std.proofs.Common.{◌≡◌, ◌∙◌, ℕ, ℤ, ◌+◌, ◌/◌, ◌%◌, ◌^◌, ◌<◌, ◌==◌, nat_le, nat_lt, ◌&&◌, ◌||◌, not, Bool, true, false, cond, inl, inr, Some, List, [], ◌∷◌, ◌++◌, length, get_or, take, drop, map, sym, refl, ap, subst, arith, codes, if◌then◌else◌}
 use Rattle.std.proofs.NetLemmas.Alphabet.{All-hex_groups_text, IsHexOrColon}
 use Rattle.std.proofs.lemmas.Bool.{and_parts}
 use Rattle.std.proofs.lemmas.Bool.Decides.{nat_tests}
@@ -7,9 +7,9 @@ use Rattle.std.proofs.lemmas.List.Elements.{recursion_from_All}
 use Rattle.std.proofs.lemmas.List.Folds.{list_any-append}
 use Rattle.std.proofs.lemmas.Option.{none-some, same_Some}
 use Rattle.std.specs.Char.{digit_char}
-use Rattle.std.specs.List.{AllByRecursion, filter, find, flat_map, list_all, list_any}
+use Rattle.std.specs.List.{AllByRecursion, filter, find, list_all, list_any}
 use Rattle.std.specs.Net.Addr.{IsIpv4Addr, IsIpv6Addr, MatchIp, ipv4_octets, ipv6_segments, octets_of}
-use Rattle.std.specs.Net.Text.{compressed_text, groups_text, hex, hex_groups_text, ip_text, ipv4_text, ipv6_text, leading_zero_digits, longest_zero_run}
+use Rattle.std.specs.Net.Text.{groups_text, hex, hex_groups_text, ip_text, ipv4_text, ipv6_text, longest_zero_run}
 use Rattle.std.specs.Option.{option_map}
 use Rattle.std.specs.Ordering.{int_eq}
 use Rattle.std.specs.Prelude.{bytes_eq, unsigned_abs}
@@ -25,14 +25,14 @@ use Rattle.krb_source.specs.Layers.{layer_name}
 use Rattle.krb_source.specs.declared.layer.Layer.{Layer}
 use Rattle.krb_source.specs.declared.layer.Layer.TheVariants as layers
 use Rattle.krb_record.specs.Flows.{transport_name}
-use Rattle.krb_record.specs.Forms.{is_mistaken, is_set, set_names, string_of}
+use Rattle.krb_record.specs.Forms.{is_set, set_names, string_of}
 use Rattle.krb_record.specs.Text.{components_text, escape, principal_text}
 use Rattle.krb_record.specs.declared.flow.Transport.{Transport}
 use Rattle.krb_record.specs.declared.flow.Transport.TheVariants as transports
 use Rattle.krb_record.specs.inner.Flags.{names_set}
-use Rattle.krb_choice_laws.specs.Cells.{IsWord, character, is_word, item_character}
+use Rattle.krb_choice_laws.specs.Cells.{IsWord, character, is_word}
 use Rattle.krb_choice_laws.proofs.Lists.{has_no_comma}
-use Rattle.krb_choice_laws.proofs.Texts.{Begins, IsSome, a-word, as-it-is, begins-so, begun, is_mark, no-mistake, number-begins, words}
+use Rattle.krb_choice_laws.proofs.Texts.{Begins, IsSome, as-it-is, begins-so, begun, is_mark, no-mistake, number-begins}
 
 -- ---- names of registries
 abbrev pub is_item : List ℕ → Bool
@@ -107,7 +107,7 @@ reason-word whys.HighBit = refl
 reason-word other = refl
 
 -- ---- principals: they have `@`, as none of the texts that are mistaken
-abbrev has_at : List ℕ → Bool
+abbrev pub has_at : List ℕ → Bool
 has_at text = list_any (λ c. c == 64) text
 
 or-true : (b : Bool) → (b || true) ≡ true
@@ -127,13 +127,16 @@ some-after : (before text : List ℕ) → IsSome text → IsSome (before ++ text
 some-after [] text h = h
 some-after (c ∷ before) text h = tt
 
+pub principal-has : (components : List (List ℕ)) (realm : List ℕ) → not (has_at (principal_text components realm)) ≡ false
+unfolding principal_text
+principal-has components realm = ap not (has-within (components_text components) (escape realm))
+
 pub principals : (components : List (List ℕ)) (realm : List ℕ) → principal_text components realm ≡ string_of character (principal_text components realm)
 unfolding principal_text
 principals components realm =
     let text = (components_text components ++ codes "@") ++ escape realm in
-    let has : not (has_at text) ≡ false = ap not (has-within (components_text components) (escape realm)) in
     sym (as-it-is text (some-before (components_text components ++ codes "@") (escape realm) (some-after (components_text components) (codes "@") tt))
-    (no-mistake (λ text. not (has_at text)) (refl, (refl, (refl, (refl, (refl, tt))))) text has))
+    (no-mistake (λ text. not (has_at text)) (refl, (refl, (refl, (refl, (refl, tt))))) text (principal-has components realm)))
 
 -- ---- addresses
 -- each octet is a digit or a colon, so none begins as a text that is mistaken
@@ -177,7 +180,7 @@ decimal-begins octets =
 groups-begin : (segments : List ℕ) → length segments ≡ 8 → ((k : ℕ) → get_or segments k 0 < 2 ^ 16) → Begins (hex_groups_text segments)
 groups-begin segments h k = begins-hex (hex_groups_text segments) (recursion_from_All IsHexOrColon (hex_groups_text segments) (All-hex_groups_text segments k)) (some-segments segments h)
 
-address-begins : (a : IpAddr) → MatchIp a IsIpv4Addr IsIpv6Addr → Begins (ip_text a)
+pub address-begins : (a : IpAddr) → MatchIp a IsIpv4Addr IsIpv6Addr → Begins (ip_text a)
 unfolding ipv6_text
 address-begins (addresses.V4 a) h = decimal-begins (ipv4_octets a)
 address-begins (addresses.V6 a) h =

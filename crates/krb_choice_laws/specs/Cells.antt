@@ -7,7 +7,7 @@ use Rattle.krb_der.specs.Octets.{AreOctets}
 use Rattle.krb_record.specs.Flows.{endpoint_text}
 use Rattle.krb_record.specs.Forms.{cell, is_mistaken, list_cell, string_of, true_or_false, value_text}
 use Rattle.krb_record.specs.Text.{AllAreOctets}
-use Rattle.krb_record.specs.Values.{Absent, Address, Called, Field, FileName, Flags, Flow, Hex, Host, Principal, Quoted, Reason, Status, String, TicketFlags, Value, Word}
+use Rattle.krb_record.specs.Values.{Address, Called, Field, FileName, Flags, Flow, Hex, Host, Principal, Quoted, Reason, Status, String, TicketFlags, Value, Word}
 use Rattle.krb_record.specs.declared.path.Path.{Path}
 use Rattle.krb_record.specs.declared.path.Path.TheVariants as paths
 use Rattle.krb_laws.specs.Json.{field_members, object_of}
