@@ -33,7 +33,7 @@ use Rattle.krb_capture.specs.declared.happened.Happened.{Happened}
 use Rattle.krb_capture_run.specs.Captures.{after_packets, last_records, lines_from}
 use Rattle.krb_capture_run.specs.Decoded.{Ending, Ends, Next, decoded_capture, decoding, ending, ending_lines, few_text, followed, missing, missing_text, none_text}
 use Rattle.krb_capture_run.specs.Laws.{last_line}
-use Rattle.krb_decode.specs.Sorted.{is_of_message}
+use Rattle.krb_decode.specs.Sorted.{is_of_message, told_lines}
 use Rattle.krb_run.specs.Extents.{extent_of}
 use Rattle.krb_run.specs.Paths.{field_path}
 use Rattle.krb_run.specs.Records.{text_of}
@@ -44,7 +44,7 @@ use Rattle.krb_tool_laws.proofs.Labelled.{before}
 use Rattle.krb_tool_laws.proofs.ListedFiles.{path_octets}
 use Rattle.krb_tool_laws.proofs.PacketOctets.{IsPacket, packets_are}
 use Rattle.krb_decode_laws.proofs.FoundLines.{RecordLines, decoding_label, each-sorted, front, texts}
-use Rattle.krb_decode_laws.proofs.SortedTexts.{Sorted, a-told, both, none}
+use Rattle.krb_decode_laws.proofs.SortedTexts.{Sorted, a-told, both, none, told-both, told-line}
 
 pub record Premises : Type 0 where
   pub rules : Rules
@@ -208,6 +208,19 @@ module _ (p : Premises) (profile : Profile) (limit port : ℕ) (packet : Option 
   closing-sorted Next progress = none
   closing-sorted (Ends refusal) progress = subst (λ h. Sorted (last_line settings refusal h progress) []) (sym (none-each (end_taken settings progress).found)) (last-sorted refusal progress)
 
+  -- a refusal of the file is told
+  pub refusal-told : (fault : Fault) (progress : Progress) → told_lines (closing_line settings (Ends (Some fault)) progress) ≡ [] → ⊥
+  refusal-told fault progress nothing =
+      let counts : CaptureCounts = all_counts (end_taken settings progress).progress in
+      let line : List ℕ = decoded_refusal NamedLines counts fault.place fault.why (field_path fault.field) (extent_of fault) in
+      never
+      (sym (told-line line (refusal-one-line p.file_line_is counts fault.place fault.why (field_path fault.field) (extent_of fault) (path_octets places.File fault.field)) (refusal-first counts fault.place fault.why (field_path fault.field) (extent_of fault)))
+      ∙ ap (λ h. told_lines (last_line settings (Some fault) h progress)) (sym (none-each (end_taken settings progress).found))
+      ∙ nothing)
+    where
+      never : {first : List ℕ} {others : List (List ℕ)} → first ∷ others ≡ [] → ⊥
+      never e = cc
+
   -- what is found in a file
   abbrev pub found_of : List ℕ → List Finding
   found_of file = found_in settings (followed packet (packets file).items) (ending packet (packets file).items (packets file).end) at_first
@@ -244,3 +257,21 @@ module _ (p : Premises) (profile : Profile) (limit port : ℕ) (packet : Option 
       subst (λ text. Sorted text (texts packet (found_of file))) (sym (text-parts file))
       (subst (λ all. Sorted ((lines_of settings.label None (found_of file) ++ closing_of file) ++ missing_in file) all) (append-nil (texts packet (found_of file) ++ []) ∙ append-nil (texts packet (found_of file)))
       (both (both (found-sorted file are) (rest-sorted file)) (missing-sorted packet (length (followed packet (packets file).items)) (lines_in file))))
+
+  nothing-after : {A : Type 0} (a b : List A) → a ++ b ≡ [] → b ≡ []
+  nothing-after [] b e = e
+  nothing-after (x ∷ a) b e = absurd cc
+
+  nothing-before : {A : Type 0} (a b : List A) → a ++ b ≡ [] → a ≡ []
+  nothing-before [] b e = refl
+  nothing-before (x ∷ a) b e = absurd cc
+
+  -- if nothing is told, nothing is told of the end
+  pub end-untold : (file : List ℕ) → AreRead file → told_lines (text_of (decoded_capture profile limit port packet file)) ≡ [] → told_lines (closing_of file) ≡ []
+  end-untold file are nothing =
+      let first : Sorted (lines_of settings.label None (found_of file)) (texts packet (found_of file)) = found-sorted file are in
+      let said : Sorted (missing_in file) [] = missing-sorted packet (length (followed packet (packets file).items)) (lines_in file) in
+      let all : told_lines ((lines_of settings.label None (found_of file) ++ closing_of file) ++ missing_in file) ≡ [] = ap told_lines (sym (text-parts file)) ∙ nothing in
+      nothing-after (told_lines (lines_of settings.label None (found_of file))) (told_lines (closing_of file))
+      (sym (told-both first (rest-sorted file))
+      ∙ nothing-before (told_lines (lines_of settings.label None (found_of file) ++ closing_of file)) (told_lines (missing_in file)) (sym (told-both (both first (rest-sorted file)) said) ∙ all))

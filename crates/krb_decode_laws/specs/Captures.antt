@@ -1,6 +1,6 @@
 -- The laws of what is decoded of a capture. Each is the contract of a function of the module `captures`.
-use Rattle.std.specs.Prelude.{ℕ, zero, suc, ◌≡◌, ◌+◌, ◌-◌, ◌^◌, ◌<◌, min, Bool, true, false, List, [], ◌∷◌, ◌++◌, length, Option, Some, None}
-use Rattle.std.specs.List.{AllByRecursion, Contains, filter, flat_map}
+use Rattle.std.specs.Prelude.{ℕ, ◌≡◌, ◌-◌, ◌^◌, ◌<◌, min, Bool, true, false, List, [], ◌∷◌, ◌++◌, length, Option, Some, None}
+use Rattle.std.specs.List.{AllByRecursion, Contains, filter, flat_map, range_with_len}
 use Rattle.krb_der.specs.declared.profile.Profile.{Profile}
 use Rattle.krb_msg.specs.Views.{message_of_der}
 use Rattle.krb_msg.specs.declared.message.Message.{Message}
@@ -66,16 +66,11 @@ abbrev pub DecodedIsTheListing : Type 0
 DecodedIsTheListing = (settings : Settings) (file : List ℕ) → AreRead file → IsTheListing settings file
 
 -- ---- packets
--- so many numbers, from the first
-abbrev pub numbers_from : (first count : ℕ) → List ℕ
-numbers_from first zero = []
-numbers_from first (suc count) = first ∷ numbers_from (first + 1) count
-
 -- The messages of each packet, one after another, are those of the capture.
 abbrev pub PacketsAreTheCapture : Type 0
 PacketsAreTheCapture =
     (settings : Settings) (file : List ℕ) → AreRead file
-    → flat_map (λ number. message_lines (text_of (decoded_by settings (Some number) file))) (numbers_from 1 (length (packets file).items)) ≡ message_lines (text_of (decoded_by settings None file))
+    → flat_map (λ number. message_lines (text_of (decoded_by settings (Some number) file))) (range_with_len 1 (length (packets file).items)) ≡ message_lines (text_of (decoded_by settings None file))
 
 -- ---- how it ends
 abbrev pub counts_of : Settings → (file : List ℕ) → CaptureCounts
