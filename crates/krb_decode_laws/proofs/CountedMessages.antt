@@ -34,7 +34,8 @@ use Rattle.krb_run.specs.Records.{text_of}
 use Rattle.krb_run.specs.declared.run.RunEnd.{RunEnd}
 use Rattle.krb_run.specs.declared.run.RunEnd.TheVariants as run
 use Rattle.krb_tool_laws.specs.Listings.{AreRead}
-use Rattle.krb_decode_laws.specs.Captures.{CapturesEndAsTold, IsTold, counts_of, decoded_by, is_sealed, is_sealed_by, message_in, messages_in, sealed_in}
+use Rattle.krb_decode_laws.specs.Captures.{CapturesEndAsTold, IsTold, counts_of, decoded_by, message_in, messages_in, sealed_in}
+use Rattle.krb_decode_laws.specs.Messages.{is_sealed, is_sealed_by}
 use Rattle.krb_decode_laws.proofs.DecodedCaptures.{Premises, closing_line, end-untold, refusal-told}
 use Rattle.krb_decode_laws.proofs.Findings.{all-wanted}
 use Rattle.krb_decode_laws.proofs.FoundLines.{texts}
@@ -167,7 +168,7 @@ module _ (settings : Settings) where
       omega (arith, first, rest, messages-both taken.found (told_after settings taken.progress others))
 
 -- ---- nothing is told only if all messages are sealed
-nothing-there : {A : Type 0} (all : List A) (one : A) → all ≡ [] → Contains all one → ⊥
+pub nothing-there : {A : Type 0} (all : List A) (one : A) → all ≡ [] → Contains all one → ⊥
 nothing-there all one e is = omega (arith, is.1, ap length e)
 
 must-be-sealed : (text : List ℕ) (origin : CaptureOrigin) (octets : List ℕ) → told_lines text ≡ [] → IsTold text (origin, Whole octets) → (unencrypted : Option (List ℕ)) → unencrypted_in (message_of_der octets) ≡ unencrypted → is_sealed_by unencrypted ≡ true

@@ -11,7 +11,8 @@ use Rattle.krb_capture.specs.Captures.{Finding, Progress, Settings, end_taken, p
 use Rattle.krb_capture.specs.Labels.{Label}
 use Rattle.krb_capture_run.specs.Decoded.{Ending, Ends, Next}
 use Rattle.krb_capture_run.specs.Laws.{told_after}
-use Rattle.krb_decode_laws.specs.Captures.{is_sealed, message_in, messages_in, sealed_in}
+use Rattle.krb_decode_laws.specs.Captures.{message_in, messages_in, sealed_in}
+use Rattle.krb_decode_laws.specs.Messages.{is_sealed}
 use Rattle.krb_decode_laws.proofs.DecodedCaptures.{end_found, found_in}
 use Rattle.krb_decode_laws.proofs.FoundLines.{texts, wanted}
 use Rattle.krb_decode_laws.proofs.SortedTexts.{with_feed}

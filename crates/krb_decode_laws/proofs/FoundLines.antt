@@ -39,7 +39,8 @@ use Rattle.krb_capture.specs.Labels.{Label, is_wanted, of_decoding}
 use Rattle.krb_tool_laws.proofs.CaptureFindings.{AreFindings, IsFinding}
 use Rattle.krb_tool_laws.proofs.FoundParts.{IsFound}
 use Rattle.krb_tool_laws.proofs.Labelled.{before}
-use Rattle.krb_decode_laws.specs.Captures.{IsTold, is_sealed, is_sealed_by, message_in, messages_in, sealed_in}
+use Rattle.krb_decode_laws.specs.Captures.{IsTold, message_in, messages_in, sealed_in}
+use Rattle.krb_decode_laws.specs.Messages.{is_sealed, is_sealed_by}
 use Rattle.krb_decode.specs.Sorted.{is_of_message, told_lines}
 use Rattle.krb_decode_laws.proofs.SortedTexts.{Sorted, a-message, a-told, both, it-is-told, none, told-left, told-right}
 
@@ -138,7 +139,7 @@ unfolding opening_from labelled
 named-origin origin path = refl
 
 -- and each message does
-braced : (m : Message) → is_of_message (message_text m) ≡ true
+pub braced : (m : Message) → is_of_message (message_text m) ≡ true
 unfolding print_from
 braced m = refl
 

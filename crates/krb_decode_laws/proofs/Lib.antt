@@ -6,3 +6,4 @@ pub mod FoundLines
 pub mod ListedMessages
 pub mod OnePacket
 pub mod SortedTexts
+pub mod StreamLines

@@ -1,5 +1,5 @@
 -- The laws of what is decoded of a capture. Each is the contract of a function of the module `captures`.
-use Rattle.std.specs.Prelude.{ℕ, ◌≡◌, ◌-◌, ◌^◌, ◌<◌, min, Bool, true, false, List, [], ◌∷◌, ◌++◌, length, Option, Some, None}
+use Rattle.std.specs.Prelude.{ℕ, ◌≡◌, ◌-◌, ◌^◌, min, List, [], ◌∷◌, length, Option, Some, None}
 use Rattle.std.specs.List.{AllByRecursion, Contains, filter, flat_map, range_with_len}
 use Rattle.krb_der.specs.declared.profile.Profile.{Profile}
 use Rattle.krb_msg.specs.Views.{message_of_der}
@@ -21,17 +21,10 @@ use Rattle.krb_tool_laws.specs.Listings.{ArePrintedLines, AreRead}
 use Rattle.krb_capture_run.specs.Captures.{after_packets}
 use Rattle.krb_capture_run.specs.Decoded.{decoded_capture}
 use Rattle.krb_capture_run.specs.Laws.{capture_told}
+use Rattle.krb_decode_laws.specs.Messages.{is_sealed}
 use Rattle.krb_decode.specs.Sorted.{lines_after, message_lines, sorted_end, told_lines}
 
 -- ---- messages
--- a message is sealed if nothing in it is of encryption type 0
-abbrev pub is_sealed_by : (unencrypted : Option (List ℕ)) → Bool
-is_sealed_by None = true
-is_sealed_by (Some path) = false
-
-abbrev pub is_sealed : Message → Bool
-is_sealed m = is_sealed_by (unencrypted_in m)
-
 -- the message of a record that is one's
 abbrev pub message_in : Found → List Message
 message_in (Whole octets) = message_of_der octets ∷ []
