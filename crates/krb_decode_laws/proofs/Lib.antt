@@ -6,4 +6,5 @@ pub mod FoundLines
 pub mod ListedMessages
 pub mod OnePacket
 pub mod SortedTexts
+pub mod StreamEnds
 pub mod StreamLines

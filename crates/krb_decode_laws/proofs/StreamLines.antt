@@ -45,7 +45,7 @@ use Rattle.krb_decode.specs.Sorted.{is_of_message, lines_after, message_lines, s
 use Rattle.krb_decode.specs.Streams.{IsDecoded, end_part, message_opening, named, part_by, part_of, parts_after}
 use Rattle.krb_decode_laws.specs.Messages.{is_sealed, is_sealed_by}
 use Rattle.krb_decode_laws.specs.Streams.{DecodedIsPrinted, DecodedIsTheListing, GoingOnChangesNothing, OthersAreTold, StreamsEndAsTold, whole_in}
-use Rattle.krb_decode_laws.proofs.CountedMessages.{clean-end, nothing-there, silent-end}
+
 use Rattle.krb_decode_laws.proofs.FoundLines.{braced, unencrypted-path}
 use Rattle.krb_decode_laws.proofs.SortedTexts.{Sorted, a-message, a-told, both, it-is-told, none, sorted-count, sorted-messages, sorted-printed, told-left, told-right, with_feed}
 
@@ -74,15 +74,15 @@ end-first count refused = refl
 
 module _ (p : Premises) (profile : Profile) (limit : ℕ) where
   -- a message of a frame is one of the profile
-  in-profile : (m : Message) → IsGood profile limit (message_der m) → IsInProfile profile m
+  pub in-profile : (m : Message) → IsGood profile limit (message_der m) → IsInProfile profile m
   in-profile m good =
       let found : AreMessage profile (length (message_der m)) (message_der m) = whole_is_message profile (length (message_der m)) (message_der m) good.1.short good.0 (omega arith) (ap verdict_of good.1.whole) in
       subst (IsInProfile profile) (p.prefix_free found.message m [] [] (ap (λ d. d ++ []) found.form)).0 found.in_profile
 
-  abbrev AreGood : List Listed → Type 0
+  abbrev pub AreGood : List Listed → Type 0
   AreGood found = AllByRecursion (IsGoodEntry p.inside profile limit) (map entry_of found)
 
-  abbrev texts : List Listed → List (List ℕ)
+  abbrev pub texts : List Listed → List (List ℕ)
   texts found = map message_text (filter is_sealed (whole_in found))
 
   part-sorted : (count : ℕ) (m : Message) (unencrypted : Option (List ℕ)) → IsGood profile limit (message_der m) → unencrypted_in m ≡ unencrypted → Sorted (part_by unencrypted count m) (map message_text (cond (is_sealed_by unencrypted) (m ∷ []) []))
@@ -145,7 +145,7 @@ module _ (p : Premises) (profile : Profile) (limit : ℕ) where
 
   -- ---- a stream
   module _ (stream text : List ℕ) (are : AreRead stream) (decoding : IsDecoded profile limit stream text) where
-    good : AreGood decoding.found
+    pub good : AreGood decoding.found
     unfolding entries
     good = subst (AllByRecursion (IsGoodEntry p.inside profile limit)) (sym decoding.in_frames) (good_entries p.inside profile limit (length stream) stream are.0 are.1)
 
