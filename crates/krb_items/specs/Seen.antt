@@ -2,7 +2,7 @@
 use Rattle.std.specs.Prelude.{ℕ, Bool, ◌^◌, ◌<◌, List, map, Option, IfSome}
 use Rattle.std.specs.Option.{option_map}
 use Rattle.krb_items.specs.Heads.{Begun, Headed}
-use Rattle.krb_items.specs.Items.{Item, Items, Part, Here, cut_in}
+use Rattle.krb_items.specs.Items.{Item, Items, Part, Here, Limits, cut_in}
 use Rattle.krb_items.specs.declared.begun.Begun.{Begun as BegunOfCode}
 use Rattle.krb_items.specs.Records.{Context}
 use Rattle.krb_items.specs.declared.listing.Source.{Source}
@@ -11,6 +11,7 @@ use Rattle.krb_items.specs.declared.listing.Item.{Item as ItemOfCode}
 
 abbrev pub begun_of : BegunOfCode → Begun
 begun_of begun = record {
+  layers = begun.layers.now;
   at = begun.at;
   depth = begun.depth;
   next = begun.next;
@@ -35,10 +36,13 @@ pub record IsNear (begun : BegunOfCode) : Type 0 where
   pub size : IfSome begun.size (λ size. size < 2 ^ 40)
 
 abbrev pub here_of : HereOfCode → Here
-here_of here = record { name = here.name.now; place = here.place; depth = here.depth; number = here.number }
+here_of here = record { layers = here.layers.now; name = here.name.now; place = here.place; depth = here.depth; number = here.number }
 
 abbrev pub cut_of : Option (List ℕ) → BegunOfCode → Bool → Items
 cut_of name begun counted = cut_in name (begun_of begun) counted
 
 abbrev pub context_of : Source → Context
-context_of source = record { form = source.form; begin = source.begin.now; last = source.last.now; layers = source.layers.now; octets = source.octets.now; fault = source.fault }
+context_of source = record { form = source.form; begin = source.begin.now; last = source.last.now; octets = source.octets.now; fault = source.fault }
+
+abbrev pub limits_of : Source → Limits
+limits_of source = record { limit = source.limit; fault = option_map (λ refusal. refusal.place) source.fault }

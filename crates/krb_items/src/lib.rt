@@ -12,13 +12,16 @@
 mod begun;
 mod head;
 mod held;
+mod identifier;
 mod label;
 mod listing;
 mod reaching;
 mod shape;
 mod tag;
+mod tokens;
 mod walk;
 mod words;
 
 pub use listing::{Listed, Shown};
 pub use reaching::{Lies, believed, list_octets};
+pub use shape::NegToken;

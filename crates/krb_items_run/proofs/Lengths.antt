@@ -54,7 +54,10 @@ start-fits profile lies.Ticket size octets refusal few small e =
 start-fits profile lies.Alone size octets refusal few small e =
     let within = message-within profile size octets refusal few e in
     omega (arith, within, few, small)
-start-fits profile (lies.Within place depth) size octets refusal few small e =
+start-fits profile lies.Gss size octets refusal few small e =
+    let within = message-within profile size octets refusal few e in
+    omega (arith, within, few, small)
+start-fits profile (lies.Spnego neg) size octets refusal few small e =
     let within = message-within profile size octets refusal few e in
     omega (arith, within, few, small)
 
@@ -65,13 +68,13 @@ first-few octets size count is =
     ap (λ n. take n octets) least ∙ take-few size octets
 
 pub believed-listed : (label : Label) (profile : Profile) (found : Listable) (octets text : List ℕ) (believing : Option ℕ) (size count : ℕ) (listed : Listed) (after : List ℕ) (fault : Option Refusal) → Some size ≡ believing → count ≡ min (length octets) size
-    → after ≡ text ++ line_of label (believed_record size (length octets)) → fault ≡ front_fault profile found.lies size (take count octets) → listed ≡ reached label after found.layers found.lies (take count octets) fault
+    → after ≡ text ++ line_of label (believed_record size (length octets)) → fault ≡ front_fault profile found.lies size (take count octets) → listed ≡ reached label after found.lies (take count octets) fault
     → listed.text ≡ believed_text label profile found octets text believing
 unfolding believed_text
 believed-listed label profile found octets text believing size count listed after fault some least put judged made =
     let before : List ℕ = text ++ line_of label (believed_record size (length octets)) in
     ap (λ (l : Listed). l.text) made
-    ∙ ap (λ a. (reached label a found.layers found.lies (take count octets) fault).text) put
-    ∙ ap (λ f. (reached label before found.layers found.lies (take count octets) f).text) judged
-    ∙ ap (λ front. (reached label before found.layers found.lies front (front_fault profile found.lies size front)).text) (first-few octets size count least)
+    ∙ ap (λ a. (reached label a found.lies (take count octets) fault).text) put
+    ∙ ap (λ f. (reached label before found.lies (take count octets) f).text) judged
+    ∙ ap (λ front. (reached label before found.lies front (front_fault profile found.lies size front)).text) (first-few octets size count least)
     ∙ ap (λ b. believed_text label profile found octets text b) some

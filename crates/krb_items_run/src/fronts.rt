@@ -75,7 +75,7 @@ fn front_verdict(profile: Profile, lies: Lies, size: u32, octets: &[u8]) -> Verd
     match lies {
         Lies::Framed => frame_verdict(profile, size, octets),
         Lies::Ticket => ticket_verdict(profile, size, octets),
-        Lies::Alone | Lies::Within { .. } => judged(profile, size, octets),
+        Lies::Alone | Lies::Gss | Lies::Spnego(_) => judged(profile, size, octets),
     }
 }
 

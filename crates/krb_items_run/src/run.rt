@@ -1,7 +1,7 @@
 //! A run over one message, which an input spells, that lists its items.
 
 ghost use Rattle.std.specs.Prelude.{◌≡◌, ◌^◌, ◌<◌, Some, length, IfErr, IfOk};
-ghost use Rattle.krb_items.specs.Reached.{IsShallow, believed, reached};
+ghost use Rattle.krb_items.specs.Reached.{believed, reached};
 ghost use Rattle.krb_run.specs.Files.{FailsFile, ListsFile, shown};
 ghost use Rattle.krb_items_run.specs.Items.{IsItemsListing, believed_text, found_items, octets_items, refused_after, whole_items};
 ghost use Rattle.krb_items_run.specs.Seen.{listable_of};
@@ -43,11 +43,9 @@ impl SpelledItems<'_> {
         fault: Option<Refusal>,
     ) -> Result<Listed, AllocError>
         requires short { length octets.now < 2 ^ 32 }
-        requires shallow { IsShallow found.lies }
-        ensures { IfOk result (λ listed. listed ≡ reached self.entry.label.now text found.layers.now found.lies octets.now fault) }
+        ensures { IfOk result (λ listed. listed ≡ reached self.entry.label.now text found.lies octets.now fault) }
     {
-        let layers = found.layers;
-        list_octets(alloc, self.label, text, layers, found.lies, octets, fault)
+        list_octets(alloc, self.label, text, found.lies, octets, fault)
     }
 
     /// Returns a text and, if the first length is believed, the records of the octets of that length.
@@ -60,7 +58,6 @@ impl SpelledItems<'_> {
         refusal: Refusal,
     ) -> Result<TextBuffer, AllocError>
         requires short { length octets.now < 2 ^ 31 }
-        requires shallow { IsShallow found.lies }
         ensures { IfOk result (λ made. made ≡ believed_text self.entry.label.now self.entry.profile (listable_of found) octets.now text (believed found.lies octets.now refusal)) }
     {
         let Some(size) = believed(found.lies, octets, refusal) else {
@@ -106,11 +103,15 @@ impl SpelledItems<'_> {
         input: &[u8],
     ) -> Result<FileText, RunFault>
         requires short { length octets.now < 2 ^ 31 }
-        requires shallow { IsShallow found.lies }
         ensures listed { IfOk result (λ made. shown made ≡ found_items self.entry.label.now self.entry.profile octets.now (Some (listable_of found)) (message_listing self.entry.label.now self.entry.profile input.now)) }
         ensures fault { IfErr result (λ e. e ≡ RunFault.Memory) }
     {
         let text = TextBuffer::new(alloc);
+        if let Some(place) = found.ntlm {
+            let front = &octets[..octets.len().min(place as usize)];
+            let listed = self.reach(alloc, found, text, front, None)?;
+            return self.list_fault(alloc, listed.text, input);
+        }
         let listed = self.reach(alloc, found, text, octets, found.fault)?;
         match found.fault {
             None => self.list_whole(listed),
