@@ -1,15 +1,20 @@
 -- The items of octets, in order of place, up to one in which the octets end or that is at fault: a recursion over types and whole lists, with a case for each of the judgement's.
 -- The octets are those up to and with one that is refused, or all that are there. The first of them, up to a limit, are right. So what holds no items is one once its last octet is right, and a SEQUENCE once its last length octet is.
-use Rattle.std.specs.Prelude.{ℕ, ℤ, zero, suc, ◌+◌, ◌-◌, Bool, true, false, nat_lt, ◌==◌, bytes_eq, if◌then◌else◌, List, [], ◌∷◌, ◌++◌, length, take, drop, codes, Option, Some, None}
+use Rattle.std.specs.Prelude.{ℕ, ℤ, zero, suc, ◌+◌, ◌-◌, Bool, true, false, not, ◌&&◌, ◌||◌, nat_lt, ◌==◌, nat_eq, bytes_eq, if◌then◌else◌, List, [], ◌∷◌, ◌++◌, length, take, drop, codes, Option, Some, None}
+use Rattle.std.specs.List.{starts_with}
 use Rattle.krb_der.specs.Octets.{when, begins_with, number}
+use Rattle.krb_der.specs.declared.verdict.Refusal.{Refusal}
+use Rattle.krb_der.specs.declared.why.Why.{Why}
+use Rattle.krb_der.specs.declared.why.Why.TheVariants as why
 use Rattle.krb_source.specs.declared.layer.Layer.{Layer}
 use Rattle.krb_source.specs.declared.layer.Layer.TheVariants.{Frame, Gss, Spnego}
 use Rattle.krb_msg.specs.Views.{kind_with_tag, kind_name}
 use Rattle.krb_msg.specs.declared.message.Kind.{Kind}
+use Rattle.krb_token.specs.Gss.{negotiation}
 use Rattle.krb_items.specs.Heads.{Begun, Headed, begun_at, contents_in, count_in, headed, octet_of, size_of, with_head, with_octets, with_unknown}
 use Rattle.krb_items.specs.Held.{held_name, leaf_after, number_after, opened}
 use Rattle.krb_items.specs.Names.{element_path, field_path}
-use Rattle.krb_items.specs.Shapes.{Field, ItemType, fields_of, held_type, identifier_type, item_of, message_of, neg_name, neg_type, negotiation, ticket}
+use Rattle.krb_items.specs.Shapes.{Field, ItemType, fields_of, held_type, identifier_type, item_of, message_of, neg_name, neg_type, ticket}
 use Rattle.krb_items.specs.declared.shape.Held.{Held}
 use Rattle.krb_items.specs.declared.shape.Leaf.{Leaf}
 use Rattle.krb_items.specs.declared.shape.Leaf.TheVariants as leaves
@@ -56,10 +61,10 @@ followed_by first next = goes_on first.items first.cut next
 abbrev pub after_item : Item → Items → Items
 after_item item others = record { items = item ∷ others.items; cut = others.cut }
 
--- how many of the octets are right, and the place of the one that is refused, if one is
+-- how many of the octets are right, and what is refused of them, if something is
 pub record Limits : Type 0 where
   pub limit : ℕ
-  pub fault : Option ℕ
+  pub fault : Option Refusal
 
 -- ---- containers
 -- what the items that are left of a container have in common: what they lie in, its path, where they begin, in how many items they are, and the last number before them in the container
@@ -186,9 +191,9 @@ kerberos_items item limits here octets =
     (kerberos_message item limits (passed here 2 None) (drop 2 octets))
 
 -- All items of a token of SPNEGO are right. If something is refused, its token is left out.
-abbrev pub left_out : Option ℕ → NegToken → Here → Items
+abbrev pub left_out : Option Refusal → NegToken → Here → Items
 left_out None neg here = whole []
-left_out (Some place) neg here = missing here (neg_name neg)
+left_out (Some refusal) neg here = missing here (neg_name neg)
 
 abbrev pub spnego_items : (Here → ItemType → List ℕ → Items) → Limits → NegToken → Here → List ℕ → Items
 spnego_items item limits neg here octets =
@@ -234,15 +239,31 @@ token_in item limits here (tag ∷ octets) =
     when (tag == 0x60) (λ _. gss_items item limits (here_at (gss_in here.layers) (codes "GSS") here.place here.depth) (tag ∷ octets))
     (λ _. token_message item limits (Some here.name) here (tag ∷ octets))
 
--- whether what is refused, if anything is, is no octet after the token
-abbrev pub is_gone_into : Option ℕ → (end : ℕ) → Bool
-is_gone_into None end = true
-is_gone_into (Some place) end = nat_lt place end
+-- with which each message of NTLM begins (MS-NLMP, 2.2.1)
+abbrev pub ntlm : List ℕ
+ntlm = codes "NTLMSSP" ++ 0 ∷ []
+
+-- whether octets of so many are of a message of NTLM, or may yet be
+abbrev pub may_be_ntlm : (size : ℕ) → List ℕ → Bool
+may_be_ntlm size octets = starts_with nat_eq octets ntlm || (nat_lt (length octets) size && starts_with nat_eq ntlm octets)
+
+abbrev pub is_cut : Why → Bool
+is_cut why.Truncated = true
+is_cut reason = false
+
+-- Octets that were cut are gone into unless they may be of NTLM. Where an octet is refused, they are if it is not after them.
+abbrev pub is_reached : Refusal → (next size : ℕ) → List ℕ → Bool
+is_reached refusal next size octets = if is_cut refusal.why then not (may_be_ntlm size octets) else nat_lt refusal.place (next + size)
+
+-- whether a token of so many octets, from a place on, is gone into
+abbrev pub is_gone_into : Option Refusal → (next size : ℕ) → List ℕ → Bool
+is_gone_into None next size octets = true
+is_gone_into (Some refusal) next size octets = is_reached refusal next size octets
 
 -- It is an item once its last length octet is right, if it is gone into.
 abbrev pub token_items : (Here → ItemType → List ℕ → Items) → Limits → Here → Begun → List ℕ → Items
 token_items item limits here begun octets =
-    when (is_gone_into limits.fault (begun.next + size_of begun.size))
+    when (is_gone_into limits.fault begun.next (size_of begun.size) octets)
     (λ _. after_item (record { name = here.name; begun = begun; shown = Some (leaves.Counted (size_of begun.size), []) }) (token_in item limits (here_in here.name begun) octets))
     (λ _. leaf_items item limits here begun leaves.Hidden octets)
 

@@ -1,6 +1,5 @@
 -- What is listed of octets, by what they are, and by what is refused of them.
 use Rattle.std.specs.Prelude.{ℕ, ◌+◌, ◌^◌, ◌<◌, ◌&&◌, ◌==◌, nat_le, Bool, true, false, if◌then◌else◌, List, [], ◌∷◌, length, take, codes, Option, Some, None}
-use Rattle.std.specs.Option.{option_map}
 use Rattle.krb_der.specs.declared.verdict.Refusal.{Refusal}
 use Rattle.krb_der.specs.declared.why.Why.{Why}
 use Rattle.krb_der.specs.declared.why.Why.TheVariants as why
@@ -50,7 +49,7 @@ abbrev pub context_by : Label → List ℕ → Option Refusal → Context
 context_by label octets fault = record { form = label.form; begin = begin_text label; last = last_members label; octets = octets; fault = fault }
 
 abbrev pub limits_by : List ℕ → Option Refusal → Limits
-limits_by octets fault = record { limit = right fault octets; fault = option_map (λ refusal. refusal.place) fault }
+limits_by octets fault = record { limit = right fault octets; fault = fault }
 
 -- What is listed after a text: the items of octets, up to the one at fault if something is refused
 unfoldable pub reached : Label → List ℕ → Lies → List ℕ → Option Refusal → Listed
@@ -73,8 +72,8 @@ abbrev pub announced : Lies → List ℕ → Option FirstHead
 announced lies.Alone octets = announced_by (head_in octets)
 announced lies.Ticket octets = announced_by (head_in octets)
 announced lies.Framed octets = announced_frame (frame_size octets)
-announced lies.Gss octets = None
-announced (lies.Spnego neg) octets = None
+announced lies.Gss octets = announced_by (head_in octets)
+announced (lies.Spnego neg) octets = announced_by (head_in octets)
 
 -- octets were cut, or more follows
 abbrev pub is_of_length : Why → Bool

@@ -1,5 +1,4 @@
 -- What is in the items of messages by type: a line of a SEQUENCE is a line of RFC 4120, appendix A, or of the document of pre-authentication data, with what is shown of the field. asn1/generate wrote this from asn1/krb5.asn1 and asn1/padata.asn1
-use Rattle.krb_der.specs.Hex.{hex}
 use Rattle.std.specs.Prelude.{ℕ, Bool, true, false, List, [], ◌∷◌, codes}
 use Prim.Native.String.{String}
 use Rattle.krb_msg.specs.declared.message.Kind.{Kind}
@@ -306,7 +305,3 @@ neg_type negs.Response = in_tag 1 (sequence_type sequences.NegTokenResp)
 abbrev pub neg_name : NegToken → List ℕ
 neg_name negs.Init = codes "mechToken"
 neg_name negs.Response = codes "responseToken"
-
--- the mechanism 1.3.6.1.5.5.2
-abbrev pub negotiation : List ℕ
-negotiation = hex (codes "2B 06 01 05 05 02")

@@ -10,6 +10,7 @@
 #![tactic(auto)]
 
 mod begun;
+mod fronts;
 mod head;
 mod held;
 mod identifier;
@@ -22,6 +23,7 @@ mod tokens;
 mod walk;
 mod words;
 
+pub use fronts::{judge_gss, judge_spnego};
 pub use listing::{Listed, Shown};
 pub use reaching::{Lies, believed, list_octets};
 pub use shape::NegToken;

@@ -104,7 +104,7 @@ fn announced(lies: Lies, octets: &[u8]) -> Option<FirstHead>
     ensures { result ≡ announced lies octets.now }
 {
     match lies {
-        Lies::Alone | Lies::Ticket => {
+        Lies::Alone | Lies::Ticket | Lies::Gss | Lies::Spnego(_) => {
             let head = read_head(octets)?;
             Some(FirstHead {
                 header: head.header,
@@ -118,7 +118,6 @@ fn announced(lies: Lies, octets: &[u8]) -> Option<FirstHead>
                 all: 4 + size,
             })
         }
-        Lies::Gss | Lies::Spnego(_) => None,
     }
 }
 

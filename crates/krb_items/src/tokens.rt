@@ -1,8 +1,8 @@
 //! The layers of tokens, as items: GSS-API (RFC 2743, 3.1; RFC 4121, 4.1) and SPNEGO (RFC 4178, 4.2).
 
 ghost use Rattle.std.specs.Prelude.{◌≡◌, ◌+◌, ◌^◌, ◌<◌, ◌≤◌, length, IfOk};
-ghost use Rattle.std.specs.Option.{option_copied, option_map};
-ghost use Rattle.krb_items.specs.Items.{gss_in, gss_items, identified_items, is_gone_into, item_items, kerberos_items, kerberos_message, left_out, mechanism_items, not_identified, spnego_in_gss, spnego_items, token_in, token_items, token_message};
+ghost use Rattle.std.specs.Option.{option_copied};
+ghost use Rattle.krb_items.specs.Items.{gss_in, gss_items, identified_items, is_gone_into, item_items, kerberos_items, kerberos_message, left_out, may_be_ntlm, mechanism_items, not_identified, spnego_in_gss, spnego_items, token_in, token_items, token_message};
 ghost use Rattle.krb_items.specs.Records.{Lists};
 ghost use Rattle.krb_items.specs.Seen.{IsNear, begun_of, context_of, here_of, limits_of};
 
@@ -13,12 +13,15 @@ use crate::listing::{End, Item, Listed, Source};
 use crate::shape::{Leaf, NegToken, identifier_type};
 use crate::tag::Tag;
 use crate::walk::{Here, field_name};
-use krb_der::Refusal;
+use krb_der::{Refusal, Why};
 use krb_source::Layer;
 use std::alloc::AllocError;
 
 /// The identifier of SPNEGO (RFC 4178, 4).
-const NEGOTIATION: [u8; 6] = [0x2B, 0x06, 0x01, 0x05, 0x05, 0x02];
+pub(crate) const NEGOTIATION: [u8; 6] = [0x2B, 0x06, 0x01, 0x05, 0x05, 0x02];
+
+/// What each message of NTLM begins with (MS-NLMP, 2.2.1).
+const NTLM: [u8; 8] = [0x4E, 0x54, 0x4C, 0x4D, 0x53, 0x53, 0x50, 0x00];
 
 /// What a GSS-API token lies in that is in a token of SPNEGO in these layers.
 fn gss_in(layers: &[Layer]) -> &'static [Layer]
@@ -30,13 +33,25 @@ fn gss_in(layers: &[Layer]) -> &'static [Layer]
     }
 }
 
-/// Returns whether what is refused, if anything is, is no octet after a token that ends so.
-fn is_gone_into(fault: Option<Refusal>, end: u64) -> bool
-    ensures { result ≡ is_gone_into (option_map (λ refusal. refusal.place) fault) end }
+/// Returns whether octets of so many are of a message of NTLM, or may yet be.
+pub(crate) fn may_be_ntlm(size: u64, octets: &[u8]) -> bool
+    ensures { result ≡ may_be_ntlm size octets.now }
+{
+    octets.starts_with(&NTLM) || (octets.len() as u64) < size && NTLM.starts_with(octets)
+}
+
+/// Returns whether a token of so many octets, from a place on, is gone into: if it was cut unless it may
+/// be one of NTLM, and if an octet is refused unless that is after it.
+fn is_gone_into(fault: Option<Refusal>, next: u64, size: u64, octets: &[u8]) -> bool
+    requires { next + size < 2 ^ 64 }
+    ensures { result ≡ is_gone_into fault next size octets.now }
 {
     match fault {
         None => true,
-        Some(refusal) => u64::from(refusal.place) < end,
+        Some(refusal) => match refusal.why {
+            Why::Truncated => !may_be_ntlm(size, octets),
+            _ => u64::from(refusal.place) < next + size,
+        },
     }
 }
 
@@ -133,7 +148,7 @@ impl<'a> Source<'a> {
     /// Lists that the token of a token of SPNEGO is left out, if something is refused.
     fn left_out(self, out: &mut Listed, neg: NegToken, here: Here<'_>) -> Result<End, AllocError>
         requires { here.place < 2 ^ 40 }
-        ensures { IfOk result (Lists (context_of self.entry) (left_out (option_map (λ refusal. refusal.place) self.entry.fault) neg (here_of here.entry)) out.old out.new) }
+        ensures { IfOk result (Lists (context_of self.entry) (left_out self.entry.fault neg (here_of here.entry)) out.old out.new) }
     {
         match self.fault {
             None => Ok(End::Whole),
@@ -290,7 +305,7 @@ impl<'a> Source<'a> {
         requires shallow { begun.now.depth + levels + 2 < 2 ^ 32 }
         ensures { IfOk result (Lists (context_of self.entry) (token_items (item_items levels (limits_of self.entry)) (limits_of self.entry) (here_of here.entry) (begun_of begun.now) octets.now) out.old out.new) }
     {
-        if !is_gone_into(self.fault, begun.next + begun.count()) {
+        if !is_gone_into(self.fault, begun.next, begun.count(), octets) {
             return self.leaf(out, levels, here, begun, Leaf::Hidden, octets);
         }
         let none: &[u8] = &[];

@@ -431,7 +431,7 @@ impl<'a> Rest<'a> {
 }
 
 /// Returns whether octets begin with the first of tags.
-fn begin_as(tags: &[Tag], octets: &[u8]) -> bool
+pub(crate) fn begin_as(tags: &[Tag], octets: &[u8]) -> bool
     ensures { result ≡ begins_as tags.now octets.now }
 {
     match tags.first() {
