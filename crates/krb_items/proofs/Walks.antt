@@ -1,13 +1,15 @@
 -- The steps of a walk.
-use Rattle.std.proofs.Common.{◌≡◌, ℕ, ℤ, zero, suc, ◌+◌, ◌-◌, ◌≤◌, true, false, List, [], ◌∷◌, length, get_or, take, take_all, drop, map, Option, Some, None, Ok, Result, IfOk, refl, sym, ap, ◌∙◌, subst, arith}
+use Rattle.std.proofs.Common.{◌≡◌, ℕ, ℤ, zero, suc, ◌+◌, ◌-◌, ◌≤◌, true, false, List, [], ◌∷◌, length, get_or, take, take_all, drop, map, codes, Option, Some, None, Ok, Result, IfOk, refl, sym, ap, ◌∙◌, subst, arith}
 use Rattle.std.specs.List.{slice_get}
 use Rattle.std.proofs.lemmas.Result.{IfOk-weaker}
-use Rattle.krb_items.specs.Heads.{Begun, Headed, count_in, headed}
+use Rattle.krb_der.specs.Octets.{begins_with}
+use Rattle.krb_items.specs.Heads.{Begun, Headed, contents_in, count_in, headed, octet_of}
 use Rattle.krb_items.specs.Held.{number_after}
-use Rattle.krb_items.specs.Items.{Here, Items, Limits, begins_as, begun_here, contents_items, element_items, ended, field_items, here_at, item_items, kind_items, message_items, named, of_headed, passed}
+use Rattle.krb_items.specs.Items.{Here, Items, Limits, begins_as, begun_here, contents_items, element_items, ended, field_items, here_at, identified_items, item_items, kind_items, mechanism_items, message_items, named, of_headed, passed}
 use Rattle.krb_items.specs.Names.{element_path, field_path}
 use Rattle.krb_items.specs.Records.{Context, Lists}
-use Rattle.krb_items.specs.Shapes.{Field, ItemType, field_of, message_of, type_of}
+use Rattle.krb_items.specs.Shapes.{Field, ItemType, field_of, identifier_type, message_of, type_of}
+use Rattle.krb_items.specs.declared.tag.Tag.TheVariants as tags
 use Rattle.krb_msg.specs.Views.{kind_name, kind_with_tag}
 use Rattle.krb_msg.specs.declared.message.Kind.{Kind}
 use Rattle.krb_items.specs.declared.listing.End.{End}
@@ -132,3 +134,23 @@ message-goes item here (octet ∷ octets) first kind own name of some tag own-is
     ∙ ap (λ (n : List ℕ). item (here_at here.layers n here.place here.depth) (message_of kind) (octet ∷ octets)) (sym name-is)
     ∙ ap (λ (h : Here). item h (message_of kind) (octet ∷ octets)) (sym own-is)
     ∙ ap (λ (o : ItemType). item own o (octet ∷ octets)) (sym of-is)
+
+-- ---- a layer
+-- the identifier of a mechanism, and what follows it
+pub identified-then : (context : Context) (item : Here → ItemType → List ℕ → Items) (limits : Limits) (here own after : Here) (of : ItemType) (octets identifier rest : List ℕ) (count : ℕ) (old mid new : Listed) (first end : End) →
+    begins_with (octet_of tags.ObjectIdentifier) octets ≡ true → own ≡ named here (field_path here.name (codes "oid")) → of ≡ identifier_type → Lists context (item own of octets) old mid first → first ≡ ends.Whole
+    → count ≡ count_in octets → after ≡ passed here count None → identifier ≡ contents_in (tags.ObjectIdentifier ∷ []) octets → rest ≡ drop count octets
+    → Lists context (mechanism_items item limits after identifier rest) mid new end → Lists context (identified_items item limits here octets) old new end
+identified-then context item limits here own after of octets identifier rest count old mid new first end begin own-is of-is listed whole count-is after-is identifier-is rest-is others =
+    rw begin (lists-then context _ _ old mid new end
+    (lists-at context item identifier_type octets own _ old mid first ends.Whole own-is whole (subst (λ (o : ItemType). Lists context (item own o octets) old mid first) of-is listed))
+    (subst (λ (n : ℕ). Lists context (mechanism_items item limits (passed here n None) (contents_in (tags.ObjectIdentifier ∷ []) octets) (drop n octets)) mid new end) count-is
+    (subst (λ (h : Here). Lists context (mechanism_items item limits h (contents_in (tags.ObjectIdentifier ∷ []) octets) (drop count octets)) mid new end) after-is
+    (subst (λ (i : List ℕ). Lists context (mechanism_items item limits after i (drop count octets)) mid new end) identifier-is
+    (subst (λ (o : List ℕ). Lists context (mechanism_items item limits after identifier o) mid new end) rest-is others)))))
+
+-- an item of a type, at a place
+pub item-listed : {E : Type 0} (context : Context) (item : Here → ItemType → List ℕ → Items) (here own : Here) (of made : ItemType) (octets : List ℕ) (old new : Listed) (result : Result End E) → own ≡ here → made ≡ of
+    → IfOk result (Lists context (item own made octets) old new) → IfOk result (Lists context (item here of octets) old new)
+item-listed context item here own of made octets old new result own-is made-is listed =
+    subst (λ (h : Here). IfOk result (Lists context (item h of octets) old new)) own-is (subst (λ (o : ItemType). IfOk result (Lists context (item own o octets) old new)) made-is listed)

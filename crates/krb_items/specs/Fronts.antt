@@ -12,7 +12,7 @@ use Rattle.krb_token.specs.Gss.{is_kerberos, message_tag, negotiation}
 use Rattle.krb_token.specs.Tokens.{is_message_tag}
 use Rattle.krb_items.specs.Heads.{count_in, octet_of}
 use Rattle.krb_items.specs.Items.{begins_as, may_be_ntlm}
-use Rattle.krb_items.specs.Shapes.{Field, ItemType, fields_of, neg_type}
+use Rattle.krb_items.specs.Shapes.{Field, fields_of, neg_type}
 use Rattle.krb_items.specs.declared.fronts.Stop.{Stop}
 use Rattle.krb_items.specs.declared.fronts.Stop.TheVariants as stop
 use Rattle.krb_items.specs.declared.shape.Leaf.{Leaf}
@@ -87,10 +87,8 @@ outcome_at place (Done count) = Ok tt
 
 -- An OBJECT IDENTIFIER is numbers of seven bits an octet, and 80 begins none (X.690, 8.19.2).
 abbrev pub identifier_outcome : (begins : Bool) → (index room : ℕ) → List ℕ → Outcome
-identifier_outcome begins index zero octets = if begins then Done index else Bad (index - 1) why.Range
-identifier_outcome begins index (suc room) [] = Open
-identifier_outcome begins index (suc room) (octet ∷ octets) =
-    when (begins && (octet == 0x80)) (λ _. Bad index why.IntegerNotMinimal) (λ _. identifier_outcome (nat_lt octet 0x80) (index + 1) room octets)
+identifier_outcome begins index room [] = if nat_lt index room then Open else if begins then Done index else Bad (index - 1) why.Range
+identifier_outcome begins index room (octet ∷ octets) = when (begins && (octet == 0x80)) (λ _. Bad index why.IntegerNotMinimal) (λ _. identifier_outcome (nat_lt octet 0x80) (index + 1) room octets)
 
 -- whether a leaf of a token has values of so many octets; a number is an ENUMERATED from 0 to 3
 abbrev pub leaf_has_size : Leaf → ℕ → Bool

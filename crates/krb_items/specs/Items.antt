@@ -183,10 +183,14 @@ abbrev pub kerberos_message : (Here → ItemType → List ℕ → Items) → Lim
 kerberos_message item limits here [] = missing here (codes "message")
 kerberos_message item limits here (octet ∷ octets) = token_message item limits None here (octet ∷ octets)
 
+-- how many of octets are right
+abbrev pub right_of : Limits → Here → List ℕ → ℕ
+right_of limits here octets = length (take (limits.limit - here.place) octets)
+
 -- the two octets that say which message follows, and that message
 abbrev pub kerberos_items : (Here → ItemType → List ℕ → Items) → Limits → Here → List ℕ → Items
 kerberos_items item limits here octets =
-    if nat_lt limits.limit (here.place + 2) then missing here (codes "token-id")
+    if nat_lt (right_of limits here octets) 2 then missing here (codes "token-id")
     else after_item (record { name = field_path here.name (codes "token-id"); begun = with_octets (begun_here here) tags.Octets 2; shown = Some (leaves.Octets, take 2 octets) })
     (kerberos_message item limits (passed here 2 None) (drop 2 octets))
 

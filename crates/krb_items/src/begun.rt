@@ -9,7 +9,7 @@ ghost use Rattle.krb_items.specs.Seen.{IsNear, begun_of, headed_of, here_of};
 
 use crate::head::{begins, front, part, read_head};
 use crate::tag::Tag;
-use crate::walk::Here;
+use crate::walk::{Here, Rest};
 use krb_source::Layer;
 use std::alloc::{AllocError, Global};
 
@@ -139,6 +139,17 @@ impl<'a> Begun<'a> {
         ensures { here_of result ≡ here_in name.now (begun_of self.now) }
     {
         Here::new(self.layers, name, self.next, self.depth + 1)
+    }
+
+    /// Returns what is in it, of which these octets are there.
+    pub(crate) fn rest(&self, octets: &'a [u8]) -> Rest<'a>
+        ensures room { result.room ≡ size_of self.now.size }
+        ensures octets { result.octets.now ≡ octets.now }
+    {
+        Rest {
+            room: self.count(),
+            octets,
+        }
     }
 
     /// Returns the place of the contents, if the last length is known.

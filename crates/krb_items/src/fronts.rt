@@ -3,13 +3,10 @@
 //! It judges GSS-API tokens and those of SPNEGO that were cut, and the message in them. Whole ones are
 //! judged by `krb_token`.
 
-ghost use Rattle.std.specs.Prelude.{◌≡◌, ◌+◌, ◌^◌, ◌<◌, ◌≤◌, length, map, true, IfOk, MatchResult, Ok, Err};
-ghost use Rattle.krb_der.specs.Octets.{when};
-ghost use Rattle.krb_registry.specs.declared.registry.Registry.{Registry};
-ghost use Rattle.krb_msg.specs.Judgement.{fitting, judgement, long_head, short_head};
+ghost use Rattle.std.specs.Prelude.{◌≡◌, ◌+◌, ◌^◌, ◌<◌, ◌≤◌, length, map, pos, true, IfOk, MatchResult, Ok, Err};
+ghost use Rattle.krb_msg.specs.Judgement.{bits_contents, fitting, integer_contents, long_head, short_head};
 ghost use Rattle.krb_token.specs.Gss.{is_kerberos, message_tag};
-ghost use Rattle.krb_token.specs.Tokens.{is_message_tag};
-ghost use Rattle.krb_items.specs.Fronts.{all_entered, ended_front, entered, fault_at, fields_front, first_octet, front_after, front_in, front_of_size, gss_front, gss_verdict, headed_front, identifier_front, identifier_outcome, identifiers_front, inner_mechanism, kerberos_by, kerberos_front, leaf_front, leaf_has_size, leaf_outcome, message_front, message_of_tag, neg_front, outcome_at, outer_mechanism, sequence_front, shape_front, spnego_front, spnego_in_gss_front, spnego_verdict, token_by, token_front, verdict_of};
+ghost use Rattle.krb_items.specs.Fronts.{all_entered, ended_front, entered, fault_at, fields_front, first_octet, front_after, front_of_size, gss_front, gss_verdict, headed_front, identifier_front, identifier_outcome, identifiers_front, inner_mechanism, kerberos_front, leaf_front, message_front, message_of_tag, neg_front, outcome_at, outer_mechanism, sequence_front, shape_front, spnego_front, spnego_in_gss_front, spnego_verdict, token_front, verdict_of};
 ghost use Rattle.krb_items.specs.Seen.{IsInRoom, front_of, token_by as judged_by};
 ghost use Rattle.krb_items.specs.Shapes.{field_of};
 
@@ -20,7 +17,6 @@ use crate::tokens::{NEGOTIATION, may_be_ntlm};
 use crate::walk::begin_as;
 use krb_der::{Profile, Refusal, Verdict, Why, last_or_zero, number_of};
 use krb_judge::judge_in;
-use krb_registry::Registry;
 
 /// The identifier of Kerberos V5, 1.2.840.113554.1.2.2 (RFC 4121, 4.1).
 const KERBEROS: [u8; 9] = [0x2A, 0x86, 0x48, 0x86, 0xF7, 0x12, 0x01, 0x02, 0x02];
@@ -215,7 +211,7 @@ impl<'a> Front<'a> {
     fn number_contents(self) -> Result<(), Stop>
         requires one { self.room ≡ 1 }
         requires room { IsInRoom self }
-        ensures { result ≡ outcome_at self.entry.place (leaf_outcome Leaf.Number self.entry.room self.entry.octets.now) }
+        ensures { result ≡ outcome_at self.entry.place (integer_contents (pos 0) (pos 3) self.entry.room self.entry.octets.now) }
     {
         match self.octets.first() {
             None => Err(Stop::End),
@@ -228,7 +224,7 @@ impl<'a> Front<'a> {
     fn flags_contents(self) -> Result<(), Stop>
         requires room { IsInRoom self }
         requires some { 0 < self.room }
-        ensures { (registry : Registry) → result ≡ outcome_at self.entry.place (leaf_outcome (Leaf.Flags registry) self.entry.room self.entry.octets.now) }
+        ensures { result ≡ outcome_at self.entry.place (bits_contents 0 self.entry.room self.entry.octets.now) }
     {
         let [unused, bits @ ..] = self.octets else {
             return Err(Stop::End);
@@ -302,7 +298,11 @@ impl<'a> Front<'a> {
             let _identifier = rest.identifier()?;
             rest = rest.after(count_of(rest.octets));
         }
-        if rest.room == 0 { Ok(()) } else { Err(Stop::End) }
+        if rest.room == 0 {
+            Ok(())
+        } else {
+            Err(Stop::End)
+        }
     }
 
     /// Judges that a SEQUENCE ends here.
@@ -329,7 +329,7 @@ impl Judge {
     #[cycle(judged)]
     fn fields(self, levels: u8, fields: &[Field], front: Front<'_>) -> Result<(), Stop>
         requires { IsInRoom front }
-        ensures { result ≡ fields_front (shape_front (sequence_front levels (judged_by self.entry)) (judged_by self.entry)) (map field_of fields.now) (front_of front.entry) }
+        ensures { result ≡ fields_front (shape_front (sequence_front levels (judged_by self)) (judged_by self)) (map field_of fields.now) (front_of front.entry) }
     {
         let [field, others @ ..] = fields else {
             return front.ended();
@@ -346,7 +346,7 @@ impl Judge {
     #[cycle(judged)]
     fn contents(self, levels: u8, shape: Shape, front: Front<'_>) -> Result<(), Stop>
         requires { IsInRoom front }
-        ensures { result ≡ shape_front (sequence_front levels (judged_by self.entry)) (judged_by self.entry) shape (front_of front.entry) }
+        ensures { result ≡ shape_front (sequence_front levels (judged_by self)) (judged_by self) shape (front_of front.entry) }
     {
         match shape {
             Shape::Leaf(leaf) => front.leaf(leaf),
@@ -365,7 +365,7 @@ impl Judge {
     #[cycle(judged)]
     fn sequence(self, levels: u8, sequence: Sequence, front: Front<'_>) -> Result<(), Stop>
         requires { IsInRoom front }
-        ensures { result ≡ sequence_front levels (judged_by self.entry) sequence (front_of front.entry) }
+        ensures { result ≡ sequence_front levels (judged_by self) sequence (front_of front.entry) }
     {
         if levels == 0 {
             return Ok(());
@@ -376,7 +376,7 @@ impl Judge {
     /// Judges the token in one of SPNEGO.
     fn token(self, front: Front<'_>) -> Result<(), Stop>
         requires { IsInRoom front }
-        ensures { result ≡ judged_by self.entry (front_of front.entry) }
+        ensures { result ≡ judged_by self (front_of front.entry) }
     {
         if self.opens {
             judge_token(self.profile, front)
@@ -388,7 +388,7 @@ impl Judge {
     /// Judges a token of SPNEGO.
     fn neg(self, neg: NegToken, front: Front<'_>) -> Result<(), Stop>
         requires { IsInRoom front }
-        ensures { result ≡ neg_front (judged_by self.entry) neg (front_of front.entry) }
+        ensures { result ≡ neg_front (judged_by self) neg (front_of front.entry) }
     {
         let of = neg.item();
         let inside = front.enter_all(true, of.tags)?;

@@ -1,6 +1,6 @@
 //! The numbers of an OBJECT IDENTIFIER (X.690, 8.19).
 
-ghost use Rattle.std.specs.Prelude.{◌≡◌, ◌^◌, [], IfOk, MatchOption, codes, decimal, false, nat_lt, string_bytes, true};
+ghost use Rattle.std.specs.Prelude.{◌≡◌, ◌∷◌, ◌^◌, [], IfOk, MatchOption, codes, decimal, false, nat_lt, string_bytes, true};
 ghost use Rattle.std.specs.List.{list_all};
 ghost use Rattle.krb_record.specs.Text.{joined};
 ghost use Rattle.krb_items.specs.Records.{first_two, identifier_numbers, numbers_in};
@@ -38,7 +38,9 @@ pub(crate) fn numbers_in(alloc: Global, octets: &[u8]) -> Result<Option<Vec<u64>
 }
 
 /// Returns the two numbers that a first one is of.
-fn first_two(number: u64) -> (u64, u64) {
+fn first_two(number: u64) -> (u64, u64)
+    ensures { first_two number ≡ result.0 ∷ result.1 ∷ [] }
+{
     if number < 40 {
         (0, number)
     } else if number < 80 {

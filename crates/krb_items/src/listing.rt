@@ -13,8 +13,8 @@ ghost use Rattle.krb_items.specs.Records.{after_place, before_place, contents_te
 ghost use Rattle.krb_items.specs.Seen.{IsNear, begun_of, context_of, item_of, part_of};
 
 use crate::begun::Begun;
-use crate::identifier::{dotted, numbers_in};
 use crate::head::{from, front};
+use crate::identifier::{dotted, numbers_in};
 use crate::shape::Leaf;
 use crate::words::put_words;
 use krb_der::{Refusal, integer_value};

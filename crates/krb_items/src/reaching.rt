@@ -9,7 +9,7 @@ ghost use Rattle.krb_items.specs.Seen.{context_of, limits_of};
 use crate::begun::Begun;
 use crate::head::{from, front, read_head};
 use crate::label::{begin_of, last_of};
-use crate::listing::{End, Item, Listed, Shown, Source};
+use crate::listing::{End, Listed, Shown, Source};
 use crate::shape::NegToken;
 use crate::tag::Tag;
 use crate::walk::{Here, LEVELS};
@@ -60,12 +60,7 @@ impl<'a> Source<'a> {
         if size.is_none() || begun.next > self.limit {
             return self.cut(out, None, &begun, false);
         }
-        let item = Item {
-            name: "frame",
-            begun: &begun,
-            shown: None,
-        };
-        self.list(out, item)?;
+        self.list_container(out, "frame", &begun)?;
         let inside = Here::new(&[Layer::Frame], "", 4, 1);
         self.list_message(out, inside, from(octets, 4))
     }

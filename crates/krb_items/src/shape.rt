@@ -480,7 +480,7 @@ impl List {
 }
 
 /// Returns the type of a SEQUENCE by itself.
-pub(crate) fn of_sequence(of: Sequence) -> ItemType
+fn of_sequence(of: Sequence) -> ItemType
     ensures { type_of result ≡ sequence_type of }
 {
     ItemType {

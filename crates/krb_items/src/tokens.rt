@@ -1,6 +1,6 @@
 //! The layers of tokens, as items: GSS-API (RFC 2743, 3.1; RFC 4121, 4.1) and SPNEGO (RFC 4178, 4.2).
 
-ghost use Rattle.std.specs.Prelude.{◌≡◌, ◌+◌, ◌^◌, ◌<◌, ◌≤◌, length, IfOk};
+ghost use Rattle.std.specs.Prelude.{◌≡◌, ◌+◌, ◌*◌, ◌^◌, ◌<◌, length, IfOk};
 ghost use Rattle.std.specs.Option.{option_copied};
 ghost use Rattle.krb_items.specs.Items.{gss_in, gss_items, identified_items, is_gone_into, item_items, kerberos_items, kerberos_message, left_out, may_be_ntlm, mechanism_items, not_identified, spnego_in_gss, spnego_items, token_in, token_items, token_message};
 ghost use Rattle.krb_items.specs.Records.{Lists};
@@ -67,7 +67,7 @@ impl<'a> Source<'a> {
         octets: &'a [u8],
     ) -> Result<End, AllocError>
         requires near { here.place + length octets.now < 2 ^ 40 }
-        requires shallow { here.depth + levels < 2 ^ 32 }
+        requires shallow { here.depth + 3 * levels < 2 ^ 32 }
         ensures { IfOk result (Lists (context_of self.entry) (token_message (item_items levels (limits_of self.entry)) (limits_of self.entry) (option_copied name.entry) (here_of here.entry) octets.now) out.old out.new) }
     {
         if here.place < self.limit {
@@ -87,7 +87,7 @@ impl<'a> Source<'a> {
         octets: &'a [u8],
     ) -> Result<End, AllocError>
         requires near { here.place + length octets.now < 2 ^ 40 }
-        requires shallow { here.depth + levels < 2 ^ 32 }
+        requires shallow { here.depth + 3 * levels < 2 ^ 32 }
         ensures { IfOk result (Lists (context_of self.entry) (kerberos_message (item_items levels (limits_of self.entry)) (limits_of self.entry) (here_of here.entry) octets.now) out.old out.new) }
     {
         if octets.is_empty() {
@@ -105,11 +105,11 @@ impl<'a> Source<'a> {
         here: Here<'_>,
         octets: &'a [u8],
     ) -> Result<End, AllocError>
-        requires near { here.place + length octets.now + 2 < 2 ^ 40 }
-        requires shallow { here.depth + levels < 2 ^ 32 }
+        requires near { here.place + length octets.now < 2 ^ 40 }
+        requires shallow { here.depth + 3 * levels < 2 ^ 32 }
         ensures { IfOk result (Lists (context_of self.entry) (kerberos_items (item_items levels (limits_of self.entry)) (limits_of self.entry) (here_of here.entry) octets.now) out.old out.new) }
     {
-        if self.limit < here.place + 2 {
+        if front(octets, self.limit.saturating_sub(here.place)).len() < 2 {
             return self.missing(out, here, "token-id");
         }
         let name = field_name(self.alloc, here.name, "token-id")?;
@@ -135,13 +135,18 @@ impl<'a> Source<'a> {
         octets: &'a [u8],
     ) -> Result<End, AllocError>
         requires near { here.place + length octets.now < 2 ^ 40 }
-        requires shallow { here.depth + levels < 2 ^ 32 }
+        requires shallow { here.depth + 3 * levels < 2 ^ 32 }
         ensures { IfOk result (Lists (context_of self.entry) (spnego_items (item_items levels (limits_of self.entry)) (limits_of self.entry) neg (here_of here.entry) octets.now) out.old out.new) }
     {
         let End::Whole = self.item(out, levels, here, neg.item(), octets)? else {
             return Ok(End::Cut);
         };
-        let end = Here::new(here.layers, here.name, here.place + count_of(octets), here.depth + 1);
+        let end = Here::new(
+            here.layers,
+            here.name,
+            here.place + count_of(octets),
+            here.depth + 1,
+        );
         self.left_out(out, neg, end)
     }
 
@@ -166,14 +171,19 @@ impl<'a> Source<'a> {
         octets: &'a [u8],
     ) -> Result<End, AllocError>
         requires near { here.place + length octets.now < 2 ^ 40 }
-        requires shallow { here.depth + levels < 2 ^ 32 }
+        requires shallow { here.depth + 3 * levels < 2 ^ 32 }
         ensures { IfOk result (Lists (context_of self.entry) (spnego_in_gss (item_items levels (limits_of self.entry)) (limits_of self.entry) (here_of here.entry) octets.now) out.old out.new) }
     {
         if octets.is_empty() {
             let begun = Begun::new(self.alloc, here);
             return self.cut(out, Some("SPNEGO"), &begun, false);
         }
-        let own = Here::new(&[Layer::Gss, Layer::Spnego], "SPNEGO", here.place, here.depth);
+        let own = Here::new(
+            &[Layer::Gss, Layer::Spnego],
+            "SPNEGO",
+            here.place,
+            here.depth,
+        );
         if here.place < self.limit {
             self.spnego(out, levels, NegToken::Init, own, octets)
         } else {
@@ -191,8 +201,8 @@ impl<'a> Source<'a> {
         identifier: &'a [u8],
         octets: &'a [u8],
     ) -> Result<End, AllocError>
-        requires near { here.place + length octets.now + 2 < 2 ^ 40 }
-        requires shallow { here.depth + levels < 2 ^ 32 }
+        requires near { here.place + length octets.now < 2 ^ 40 }
+        requires shallow { here.depth + 3 * levels < 2 ^ 32 }
         ensures { IfOk result (Lists (context_of self.entry) (mechanism_items (item_items levels (limits_of self.entry)) (limits_of self.entry) (here_of here.entry) identifier.now octets.now) out.old out.new) }
     {
         if identifier == NEGOTIATION.as_slice() {
@@ -203,7 +213,12 @@ impl<'a> Source<'a> {
     }
 
     /// Lists that no identifier of a mechanism is there.
-    fn not_identified(self, out: &mut Listed, here: Here<'_>, octets: &'a [u8]) -> Result<End, AllocError>
+    fn not_identified(
+        self,
+        out: &mut Listed,
+        here: Here<'_>,
+        octets: &'a [u8],
+    ) -> Result<End, AllocError>
         requires { here.place < 2 ^ 40 }
         ensures { IfOk result (Lists (context_of self.entry) (not_identified (here_of here.entry) octets.now) out.old out.new) }
     {
@@ -223,8 +238,8 @@ impl<'a> Source<'a> {
         here: Here<'_>,
         octets: &'a [u8],
     ) -> Result<End, AllocError>
-        requires near { here.place + length octets.now + 2 < 2 ^ 40 }
-        requires shallow { here.depth + levels < 2 ^ 32 }
+        requires near { here.place + length octets.now < 2 ^ 40 }
+        requires shallow { here.depth + 3 * levels < 2 ^ 32 }
         ensures { IfOk result (Lists (context_of self.entry) (identified_items (item_items levels (limits_of self.entry)) (limits_of self.entry) (here_of here.entry) octets.now) out.old out.new) }
     {
         let of = identifier_type();
@@ -238,7 +253,13 @@ impl<'a> Source<'a> {
         };
         let count = count_of(octets);
         let identifier = contents_in(of.tags, octets);
-        self.mechanism(out, levels, here.after(count, None), identifier, from(octets, count))
+        self.mechanism(
+            out,
+            levels,
+            here.after(count, None),
+            identifier,
+            from(octets, count),
+        )
     }
 
     /// Lists a GSS-API token.
@@ -250,20 +271,15 @@ impl<'a> Source<'a> {
         here: Here<'_>,
         octets: &'a [u8],
     ) -> Result<End, AllocError>
-        requires near { here.place + length octets.now + 2 < 2 ^ 40 }
-        requires shallow { here.depth + levels + 1 < 2 ^ 32 }
+        requires near { here.place + length octets.now < 2 ^ 40 }
+        requires shallow { here.depth + 3 * levels + 2 < 2 ^ 32 }
         ensures { IfOk result (Lists (context_of self.entry) (gss_items (item_items levels (limits_of self.entry)) (limits_of self.entry) (here_of here.entry) octets.now) out.old out.new) }
     {
         let mut begun = Begun::new(self.alloc, here);
         let Some(contents) = begun.read(self.limit, &[Tag::Application(0)], octets)? else {
             return self.cut(out, Some(here.name), &begun, false);
         };
-        let item = Item {
-            name: here.name,
-            begun: &begun,
-            shown: None,
-        };
-        self.list(out, item)?;
+        self.list_container(out, here.name, &begun)?;
         self.identified(out, levels, begun.inside(here.name), contents)
     }
 
@@ -276,8 +292,8 @@ impl<'a> Source<'a> {
         here: Here<'_>,
         octets: &'a [u8],
     ) -> Result<End, AllocError>
-        requires near { here.place + length octets.now + 2 < 2 ^ 40 }
-        requires shallow { here.depth + levels + 1 < 2 ^ 32 }
+        requires near { here.place + length octets.now < 2 ^ 40 }
+        requires shallow { here.depth + 3 * levels + 2 < 2 ^ 32 }
         ensures { IfOk result (Lists (context_of self.entry) (token_in (item_items levels (limits_of self.entry)) (limits_of self.entry) (here_of here.entry) octets.now) out.old out.new) }
     {
         if octets.is_empty() {
@@ -301,8 +317,8 @@ impl<'a> Source<'a> {
         octets: &'a [u8],
     ) -> Result<End, AllocError>
         requires begun { IsNear begun.now }
-        requires near { begun.now.next + length octets.now + 2 < 2 ^ 40 }
-        requires shallow { begun.now.depth + levels + 2 < 2 ^ 32 }
+        requires near { begun.now.next + length octets.now < 2 ^ 40 }
+        requires shallow { begun.now.depth + 3 * levels + 3 < 2 ^ 32 }
         ensures { IfOk result (Lists (context_of self.entry) (token_items (item_items levels (limits_of self.entry)) (limits_of self.entry) (here_of here.entry) (begun_of begun.now) octets.now) out.old out.new) }
     {
         if !is_gone_into(self.fault, begun.next, begun.count(), octets) {

@@ -1,11 +1,11 @@
 //! The items of octets, listed in order.
 
-ghost use Rattle.std.specs.Prelude.{◌≡◌, ◌+◌, ◌-◌, ◌^◌, ◌<◌, ◌≤◌, Some, drop, length, map, IfOk, string_bytes};
+ghost use Rattle.std.specs.Prelude.{◌≡◌, ◌+◌, ◌-◌, ◌*◌, ◌^◌, ◌<◌, ◌≤◌, Some, drop, length, map, IfOk, OnOk, string_bytes};
 ghost use Rattle.std.specs.Option.{option_copied};
 ghost use Rattle.krb_items.specs.Heads.{count_in};
-ghost use Rattle.krb_items.specs.Items.{all_items, begins_as, contents_items, element_items, ended, field_items, held_items, hints_items, here_at, item_items, leaf_items, message_items, missing, named, passed, ticket_items, unknown};
+ghost use Rattle.krb_items.specs.Items.{all_items, begins_as, container, contents_items, element_items, ended, field_items, held_items, hints_items, here_at, item_items, leaf_items, message_items, missing, named, passed, sequence_items, ticket_items, unknown};
 ghost use Rattle.krb_items.specs.Names.{element_path, field_path};
-ghost use Rattle.krb_items.specs.Records.{Lists};
+ghost use Rattle.krb_items.specs.Records.{Lists, listed_item};
 ghost use Rattle.krb_items.specs.Seen.{IsNear, begun_of, context_of, cut_of, here_of, limits_of};
 ghost use Rattle.krb_items.specs.Shapes.{field_of, type_of};
 
@@ -13,7 +13,7 @@ use crate::begun::Begun;
 use crate::head::{begins, count_of, from};
 use crate::held::number_after;
 use crate::listing::{End, Item, Listed, Source};
-use crate::shape::{Field, Held, ItemType, Leaf, Sequence, Shape, message_type, of_sequence, ticket_type};
+use crate::shape::{Field, Held, ItemType, Leaf, Sequence, Shape, message_type, ticket_type};
 use crate::tag::Tag;
 use itoa::Buffer;
 use krb_msg::Kind;
@@ -91,7 +91,12 @@ impl<'a> Source<'a> {
     }
 
     /// Lists that a field is missing.
-    pub(crate) fn missing(self, out: &mut Listed, here: Here<'_>, name: &str) -> Result<End, AllocError>
+    pub(crate) fn missing(
+        self,
+        out: &mut Listed,
+        here: Here<'_>,
+        name: &str,
+    ) -> Result<End, AllocError>
         requires { here.place < 2 ^ 40 }
         ensures { IfOk result (Lists (context_of self.entry) (missing (here_of here.entry) name.now) out.old out.new) }
     {
@@ -113,7 +118,7 @@ impl<'a> Source<'a> {
     ) -> Result<End, AllocError>
         requires begun { IsNear begun.now }
         requires near { begun.now.next + length octets.now < 2 ^ 40 }
-        requires shallow { begun.now.depth + levels + 1 < 2 ^ 32 }
+        requires shallow { begun.now.depth + 3 * levels + 3 < 2 ^ 32 }
         ensures { IfOk result (Lists (context_of self.entry) (leaf_items (item_items levels (limits_of self.entry)) (limits_of self.entry) (here_of here.entry) (begun_of begun.now) leaf octets.now) out.old out.new) }
     {
         let seen = leaf.after(here.number);
@@ -144,13 +149,19 @@ impl<'a> Source<'a> {
     ) -> Result<End, AllocError>
         requires begun { IsNear begun.now }
         requires near { begun.now.next + length octets.now < 2 ^ 40 }
-        requires shallow { begun.now.depth + levels + 1 < 2 ^ 32 }
+        requires shallow { begun.now.depth + 3 * levels + 3 < 2 ^ 32 }
         ensures { IfOk result (Lists (context_of self.entry) (held_items (item_items levels (limits_of self.entry)) name.now (begun_of begun.now) octets.now held) out.old out.new) }
     {
         let path = field_name(self.alloc, name, held.name())?;
         let shown = Some((Leaf::Opened, octets));
         self.list(out, Item { name, begun, shown })?;
-        self.item(out, levels, begun.inside(path.as_str()), held.item(), octets)
+        self.item(
+            out,
+            levels,
+            begun.inside(path.as_str()),
+            held.item(),
+            octets,
+        )
     }
 
     /// Lists an item of a type and what is in it.
@@ -164,7 +175,7 @@ impl<'a> Source<'a> {
         octets: &'a [u8],
     ) -> Result<End, AllocError>
         requires near { here.place + length octets.now < 2 ^ 40 }
-        requires shallow { here.depth + levels < 2 ^ 32 }
+        requires shallow { here.depth + 3 * levels < 2 ^ 32 }
         ensures { IfOk result (Lists (context_of self.entry) (item_items levels (limits_of self.entry) (here_of here.entry) (type_of of) octets.now) out.old out.new) }
     {
         if levels == 0 {
@@ -173,10 +184,7 @@ impl<'a> Source<'a> {
         let mut begun = Begun::new(self.alloc, here);
         match begun.read(self.limit, of.tags, octets)? {
             None => self.cut(out, Some(here.name), &begun, false),
-            Some(contents) => match of.shape {
-                Shape::Hints => self.hints(out, levels - 1, here, begun, contents),
-                _ => self.contents(out, levels - 1, here, of.shape, &begun, contents),
-            },
+            Some(contents) => self.contents(out, levels - 1, here, of.shape, begun, contents),
         }
     }
 
@@ -188,38 +196,60 @@ impl<'a> Source<'a> {
         levels: u8,
         own: Here<'_>,
         shape: Shape,
+        begun: Begun<'a>,
+        octets: &'a [u8],
+    ) -> Result<End, AllocError>
+        requires begun { IsNear begun }
+        requires near { begun.next + length octets.now < 2 ^ 40 }
+        requires shallow { begun.depth + 3 * levels + 3 < 2 ^ 32 }
+        ensures { IfOk result (Lists (context_of self.entry) (contents_items (item_items levels (limits_of self.entry)) (limits_of self.entry) (here_of own.entry) shape (begun_of begun.entry) octets.now) out.old out.new) }
+    {
+        match shape {
+            Shape::Leaf(leaf) => self.leaf(out, levels, own, &begun, leaf, octets),
+            Shape::Token => self.token(out, levels, own, &begun, octets),
+            Shape::Hints => self.hints(out, levels, own, begun, octets),
+            Shape::Sequence(sequence) => self.sequence(out, levels, own, sequence, &begun, octets),
+            Shape::List(list) => {
+                self.list_container(out, own.name, &begun)?;
+                let rest = begun.rest(octets);
+                self.elements(out, levels, begun.inside(own.name), list.item(), rest)
+            }
+        }
+    }
+
+    /// Lists an item that holds others.
+    pub(crate) fn list_container(
+        self,
+        out: &mut Listed,
+        name: &str,
+        begun: &Begun<'a>,
+    ) -> Result<(), AllocError>
+        requires { IsNear begun.now }
+        ensures { OnOk result (out.new ≡ listed_item (context_of self.entry) (container name.now (begun_of begun.now)) out.old) }
+    {
+        let shown = None;
+        self.list(out, Item { name, begun, shown })
+    }
+
+    /// Lists a SEQUENCE whose heads are right, and what is in it.
+    #[cycle(items)]
+    fn sequence(
+        self,
+        out: &mut Listed,
+        levels: u8,
+        own: Here<'_>,
+        sequence: Sequence,
         begun: &Begun<'a>,
         octets: &'a [u8],
     ) -> Result<End, AllocError>
         requires begun { IsNear begun.now }
         requires near { begun.now.next + length octets.now < 2 ^ 40 }
-        requires shallow { begun.now.depth + levels + 1 < 2 ^ 32 }
-        ensures { IfOk result (Lists (context_of self.entry) (contents_items (item_items levels (limits_of self.entry)) (limits_of self.entry) (here_of own.entry) shape (begun_of begun.now) octets.now) out.old out.new) }
+        requires shallow { begun.now.depth + 3 * levels + 3 < 2 ^ 32 }
+        ensures { IfOk result (Lists (context_of self.entry) (sequence_items (item_items levels (limits_of self.entry)) (here_of own.entry) sequence (begun_of begun.now) octets.now) out.old out.new) }
     {
-        let name = own.name;
-        let here = begun.inside(name);
-        let rest = Rest {
-            room: begun.count(),
-            octets,
-        };
-        let container = Item {
-            name,
-            begun,
-            shown: None,
-        };
-        match shape {
-            Shape::Leaf(leaf) => self.leaf(out, levels, own, begun, leaf, octets),
-            Shape::Token => self.token(out, levels, own, begun, octets),
-            Shape::Hints => self.leaf(out, levels, own, begun, Leaf::Hidden, octets),
-            Shape::Sequence(sequence) => {
-                self.list(out, container)?;
-                self.fields(out, levels, here, sequence.fields(), rest)
-            }
-            Shape::List(list) => {
-                self.list(out, container)?;
-                self.elements(out, levels, here, list.item(), rest)
-            }
-        }
+        self.list_container(out, own.name, begun)?;
+        let rest = begun.rest(octets);
+        self.fields(out, levels, begun.inside(own.name), sequence.fields(), rest)
     }
 
     /// Lists a NegHints, or else an OCTET STRING.
@@ -234,14 +264,23 @@ impl<'a> Source<'a> {
     ) -> Result<End, AllocError>
         requires begun { IsNear begun }
         requires near { begun.next + length octets.now < 2 ^ 40 }
-        requires shallow { begun.depth + levels + 1 < 2 ^ 32 }
+        requires shallow { begun.depth + 3 * levels + 3 < 2 ^ 32 }
         ensures { IfOk result (Lists (context_of self.entry) (hints_items (item_items levels (limits_of self.entry)) (limits_of self.entry) (here_of own.entry) (begun_of begun.entry) octets.now) out.old out.new) }
     {
         let mut begun = begun;
-        let of = hints_type(octets);
-        match begun.read(self.limit, of.tags, octets)? {
-            None => self.cut(out, Some(own.name), &begun, false),
-            Some(contents) => self.contents(out, levels, own, of.shape, &begun, contents),
+        let is_sequence = begins(octets, Tag::Sequence.octet());
+        let tag = if is_sequence {
+            Tag::Sequence
+        } else {
+            Tag::OctetString
+        };
+        let Some(contents) = begun.read(self.limit, &[tag], octets)? else {
+            return self.cut(out, Some(own.name), &begun, false);
+        };
+        if is_sequence {
+            self.sequence(out, levels, own, Sequence::NegHints, &begun, contents)
+        } else {
+            self.leaf(out, levels, own, &begun, Leaf::Hidden, contents)
         }
     }
 
@@ -256,7 +295,7 @@ impl<'a> Source<'a> {
         rest: Rest<'a>,
     ) -> Result<End, AllocError>
         requires near { here.place + length rest.octets.now < 2 ^ 40 }
-        requires shallow { here.depth + levels < 2 ^ 32 }
+        requires shallow { here.depth + 3 * levels < 2 ^ 32 }
         ensures { IfOk result (Lists (context_of self.entry) (field_items (item_items levels (limits_of self.entry)) (here_of here.entry) (map field_of fields.now) rest.entry.room rest.entry.octets.now) out.old out.new) }
     {
         let [field, others @ ..] = fields else {
@@ -301,7 +340,7 @@ impl<'a> Source<'a> {
         contents: Rest<'a>,
     ) -> Result<End, AllocError>
         requires near { here.place + length contents.octets.now < 2 ^ 40 }
-        requires shallow { here.depth + levels < 2 ^ 32 }
+        requires shallow { here.depth + 3 * levels < 2 ^ 32 }
         ensures { IfOk result (Lists (context_of self.entry) (element_items (item_items levels (limits_of self.entry)) (type_of of) (length contents.entry.octets.now) 0 (here_of here.entry) contents.entry.room contents.entry.octets.now) out.old out.new) }
     {
         let mut next = here;
@@ -331,7 +370,7 @@ impl<'a> Source<'a> {
         octets: &'a [u8],
     ) -> Result<End, AllocError>
         requires near { here.place + length octets.now < 2 ^ 40 }
-        requires shallow { here.depth + levels < 2 ^ 32 }
+        requires shallow { here.depth + 3 * levels < 2 ^ 32 }
         ensures { IfOk result (Lists (context_of self.entry) (message_items (item_items levels (limits_of self.entry)) (here_of here.entry) octets.now) out.old out.new) }
     {
         let Some(first) = octets.first() else {
@@ -345,7 +384,12 @@ impl<'a> Source<'a> {
     }
 
     /// Lists a message by itself or in a frame.
-    pub(crate) fn list_message(self, out: &mut Listed, here: Here<'_>, octets: &'a [u8]) -> Result<End, AllocError>
+    pub(crate) fn list_message(
+        self,
+        out: &mut Listed,
+        here: Here<'_>,
+        octets: &'a [u8],
+    ) -> Result<End, AllocError>
         requires near { here.place + length octets.now < 2 ^ 40 }
         requires shallow { here.depth < 2 ^ 31 }
         ensures { IfOk result (Lists (context_of self.entry) (message_items (all_items (limits_of self.entry)) (here_of here.entry) octets.now) out.old out.new) }
@@ -360,18 +404,6 @@ impl<'a> Source<'a> {
     {
         let here = Here::new(&[], "Ticket", 0, 0);
         self.item(out, LEVELS, here, ticket_type(), octets)
-    }
-}
-
-/// Returns the type of octets that are a NegHints, or else an OCTET STRING.
-fn hints_type(octets: &[u8]) -> ItemType {
-    if begins(octets, Tag::Sequence.octet()) {
-        of_sequence(Sequence::NegHints)
-    } else {
-        ItemType {
-            tags: &[Tag::OctetString],
-            shape: Shape::Leaf(Leaf::Hidden),
-        }
     }
 }
 

@@ -18,6 +18,7 @@ use Rattle.krb_record.specs.Labels.{Label, line_of}
 use Rattle.krb_record.specs.Values.{Number, Printed, the, printed}
 use Rattle.krb_token.specs.Opened.{Found, Message, Ticket as IsTicket, Ntlm, Refused, Opened}
 use Rattle.krb_token.specs.Tokens.{opened}
+use Rattle.krb_items.specs.Fronts.{gss_verdict, spnego_verdict}
 use Rattle.krb_items.specs.Reached.{believed, reached}
 use Rattle.krb_items.specs.declared.listing.Listed.{Listed}
 use Rattle.krb_items.specs.declared.reaching.Lies.{Lies}
@@ -69,13 +70,13 @@ abbrev pub listable : Profile → List ℕ → Option Listable
 listable profile octets = opened_listable profile octets (opened octets)
 
 -- ---- if the first length is believed
--- what the first octets of that length are judged as; all of them are not there if the octets are fewer
+-- what the octets decide that are there of so many
 abbrev pub front_verdict : Profile → Lies → (size : ℕ) → List ℕ → Verdict
 front_verdict profile lies.Framed size octets = judgement profile (size - 4) (drop 4 octets)
 front_verdict profile lies.Ticket size octets = term_judgement (profile_term profile false ticket) size octets
 front_verdict profile lies.Alone size octets = judgement profile size octets
-front_verdict profile lies.Gss size octets = judgement profile size octets
-front_verdict profile (lies.Spnego neg) size octets = judgement profile size octets
+front_verdict profile lies.Gss size octets = gss_verdict profile size octets
+front_verdict profile (lies.Spnego neg) size octets = spnego_verdict profile neg size octets
 
 -- the place of the first octet of a message
 abbrev pub start_of : Lies → ℕ
@@ -93,14 +94,32 @@ fault_of start count (verdict.Refused refusal) = Some (at_place start refusal)
 abbrev pub front_fault : Profile → Lies → (size : ℕ) → List ℕ → Option Refusal
 front_fault profile lies size octets = fault_of (start_of lies) (length octets) (front_verdict profile lies size octets)
 
+-- the first octets of that length are judged as any, unless they are fewer
+abbrev pub listable_or : Listable → Option Listable → Listable
+listable_or other None = other
+listable_or other (Some found) = found
+
+abbrev pub front_listable : Profile → Lies → (size : ℕ) → List ℕ → Listable
+front_listable profile lies size octets =
+    let cut : Listable = record { lies = lies; fault = front_fault profile lies size octets; ntlm = None } in
+    if nat_lt (length octets) size then cut else listable_or cut (listable profile octets)
+
+-- what is listed of octets after a text: the items before a message of NTLM, if one is there, or else all, up to the one at fault
+abbrev pub reached_before : Option ℕ → Label → List ℕ → Listable → List ℕ → Listed
+reached_before (Some place) label text found octets = reached label text found.lies (take place octets) None
+reached_before None label text found octets = reached label text found.lies octets found.fault
+
+abbrev pub reached_of : Label → List ℕ → Listable → List ℕ → Listed
+reached_of label text found octets = reached_before found.ntlm label text found octets
+
 abbrev pub believed_record : (size count : ℕ) → Printed
 believed_record size count = printed (codes "believed") (the (codes "length") (Number (pos size)) ∷ the (codes "octets") (Number (pos count)) ∷ [])
 
 -- a text, and after it what is listed of the octets of the length that is believed, if one is
-unfoldable pub believed_text : Label → Profile → Listable → List ℕ → List ℕ → Option ℕ → List ℕ
-believed_text label profile found octets text None = text
-believed_text label profile found octets text (Some size) =
-    (reached label (text ++ line_of label (believed_record size (length octets))) found.lies (take size octets) (front_fault profile found.lies size (take size octets))).text
+unfoldable pub believed_text : Label → Profile → Lies → List ℕ → List ℕ → Option ℕ → List ℕ
+believed_text label profile lies octets text None = text
+believed_text label profile lies octets text (Some size) =
+    (reached_of label (text ++ line_of label (believed_record size (length octets))) (front_listable profile lies size (take size octets)) (take size octets)).text
 
 -- ---- the listing
 abbrev pub items_end_record : ℕ → Printed
@@ -114,18 +133,18 @@ whole_items label listed = record { text = listed.text ++ line_of label (items_e
 abbrev pub refused_after : List ℕ → FileListing → FileListing
 refused_after text refused = record { text = text ++ refused.text; end = refused.end }
 
-abbrev pub judged_items : Label → Profile → List ℕ → Listable → Listed → Option Refusal → FileListing → FileListing
-judged_items label profile octets found listed None refused = whole_items label listed
-judged_items label profile octets found listed (Some refusal) refused = refused_after (believed_text label profile found octets listed.text (believed found.lies octets refusal)) refused
+-- what was listed, and the end, or after what is reached the record of the refusal
+abbrev pub judged_items : Label → Profile → List ℕ → Lies → Listed → Option Refusal → FileListing → FileListing
+judged_items label profile octets lies listed None refused = whole_items label listed
+judged_items label profile octets lies listed (Some refusal) refused = refused_after (believed_text label profile lies octets listed.text (believed lies octets refusal)) refused
 
--- the items before a message of NTLM, if one is there, or else all
-abbrev pub items_before : Option ℕ → Label → Profile → List ℕ → Listable → FileListing → FileListing
-items_before (Some place) label profile octets found refused = refused_after (reached label [] found.lies (take place octets) None).text refused
-items_before None label profile octets found refused = judged_items label profile octets found (reached label [] found.lies octets found.fault) found.fault refused
+abbrev pub ended_items : Option ℕ → Label → Profile → List ℕ → Listable → Listed → FileListing → FileListing
+ended_items (Some place) label profile octets found listed refused = refused_after listed.text refused
+ended_items None label profile octets found listed refused = judged_items label profile octets found.lies listed found.fault refused
 
 abbrev pub found_items : Label → Profile → List ℕ → Option Listable → FileListing → FileListing
 found_items label profile octets None refused = refused
-found_items label profile octets (Some found) refused = items_before found.ntlm label profile octets found refused
+found_items label profile octets (Some found) refused = ended_items found.ntlm label profile octets found (reached_of label [] found octets) refused
 
 -- the items of octets; of more than a message may have there are none
 unfoldable pub octets_items : Label → Profile → List ℕ → FileListing → FileListing

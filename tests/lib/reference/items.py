@@ -415,10 +415,10 @@ class Walk(Judge):
             self.missing(path)
 
     def is_gone_into(self, start, size):
-        """Whether a token is looked into: one that is cut is if it cannot be a message of NTLM."""
+        """Whether a token is looked into: where octets were cut, if it is no message of NTLM and cannot be one yet."""
         here = self.octets[start : start + size]
-        is_cut = len(self.octets) < self.n
-        return not (is_cut and NTLM.startswith(here[: len(NTLM)]))
+        may_be_ntlm = here.startswith(NTLM) or (len(here) < size and NTLM.startswith(here))
+        return not (len(self.octets) < self.n and may_be_ntlm)
 
     def token(self, start, size):
         """What is in the token of a token of SPNEGO."""

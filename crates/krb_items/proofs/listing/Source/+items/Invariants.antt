@@ -45,7 +45,7 @@ abbrev pub decreases-token : goal.decreases-token
 decreases-token l = 32 * l.levels + 19
 
 abbrev pub decreases-hints : goal.decreases-hints
-decreases-hints l = 32 * l.levels + 21
+decreases-hints l = 32 * l.levels + 15
 
 abbrev pub decreases-opened : goal.decreases-opened
 decreases-opened l = 32 * l.levels + 2
@@ -75,3 +75,6 @@ invariant-elements-elements l =
 
 abbrev pub decreases-elements-elements : goal.decreases-elements-elements
 decreases-elements-elements l = length l.fn.contents.octets.now - l.index
+
+abbrev pub decreases-sequence : goal.decreases-sequence
+decreases-sequence l = 32 * l.levels + 14
