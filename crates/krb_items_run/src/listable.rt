@@ -79,7 +79,12 @@ fn ticket_fault(profile: Profile, octets: &[u8]) -> Option<Refusal>
 }
 
 /// Returns what octets are listed as that lie in layers, if they lie in some.
-fn layer_listable(layers: &[Layer], octets: &[u8], fault: Option<Refusal>, ntlm: Option<u32>) -> Option<Listable>
+fn layer_listable(
+    layers: &[Layer],
+    octets: &[u8],
+    fault: Option<Refusal>,
+    ntlm: Option<u32>,
+) -> Option<Listable>
     ensures { option_map listable_of result ≡ layer_listable layers.now octets.now fault ntlm }
 {
     match layers.first() {
