@@ -1,3 +1,4 @@
+pub mod CacheTickets
 pub mod CountedMessages
 pub mod CountedPackets
 pub mod DecodedCaptures

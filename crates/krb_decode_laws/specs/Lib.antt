@@ -1,3 +1,4 @@
 pub mod Messages
 pub mod Captures
 pub mod Streams
+pub mod Caches

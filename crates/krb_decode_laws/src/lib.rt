@@ -2,5 +2,6 @@
 //! function that does nothing. No crate stands on this one.
 #![tactic(auto)]
 
+pub mod caches;
 pub mod captures;
 pub mod streams;
