@@ -1,3 +1,4 @@
+pub mod BackAgain
 pub mod CacheTickets
 pub mod CountedMessages
 pub mod CountedPackets

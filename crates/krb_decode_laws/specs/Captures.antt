@@ -1,8 +1,9 @@
 -- The laws of what is decoded of a capture. Each is the contract of a function of the module `captures`.
-use Rattle.std.specs.Prelude.{ℕ, ◌≡◌, ◌-◌, ◌^◌, min, List, [], ◌∷◌, length, Option, Some, None}
+use Rattle.std.specs.Prelude.{ℕ, ◌≡◌, ◌≤◌, ◌-◌, ◌^◌, true, min, List, [], ◌∷◌, length, Option, Some, None}
 use Rattle.std.specs.List.{AllByRecursion, Contains, filter, flat_map, range_with_len}
-use Rattle.krb_der.specs.declared.profile.Profile.{Profile}
-use Rattle.krb_msg.specs.Views.{message_of_der}
+use Rattle.krb_convert.specs.Encoding.{All, encoded}
+use Rattle.krb_der.specs.declared.profile.Profile.TheVariants.{Lenient}
+use Rattle.krb_msg.specs.Views.{message_der, message_of_der}
 use Rattle.krb_msg.specs.declared.message.Message.{Message}
 use Rattle.krb_json.specs.Lines.{line_of}
 use Rattle.krb_json.specs.Unencrypted.{unencrypted_in}
@@ -21,7 +22,7 @@ use Rattle.krb_tool_laws.specs.Listings.{ArePrintedLines, AreRead}
 use Rattle.krb_capture_run.specs.Captures.{after_packets}
 use Rattle.krb_capture_run.specs.Decoded.{decoded_capture}
 use Rattle.krb_capture_run.specs.Laws.{capture_told}
-use Rattle.krb_decode_laws.specs.Messages.{is_sealed}
+use Rattle.krb_decode_laws.specs.Messages.{frames_of, is_sealed}
 use Rattle.krb_decode.specs.Sorted.{lines_after, message_lines, sorted_end, told_lines}
 
 -- ---- messages
@@ -57,6 +58,13 @@ pub record IsTheListing (settings : Settings) (file : List ℕ) : Type 0 where
 
 abbrev pub DecodedIsTheListing : Type 0
 DecodedIsTheListing = (settings : Settings) (file : List ℕ) → AreRead file → IsTheListing settings file
+
+-- ---- back again
+-- The lines of a capture are encoded to a stream of its sealed messages, if none of them has more octets than a limit.
+abbrev pub CapturesComeBack : Type 0
+CapturesComeBack =
+    (settings : Settings) (file : List ℕ) (limit : ℕ) → AreRead file → AllByRecursion (λ (m : Message). length (message_der m) ≤ limit) (sealed_in (capture_told settings (packets file).items))
+    → encoded true Lenient limit (message_lines (text_of (decoded_by settings None file))) ≡ record { text = frames_of (sealed_in (capture_told settings (packets file).items)); end = All }
 
 -- ---- packets
 -- The messages of each packet, one after another, are those of the capture.

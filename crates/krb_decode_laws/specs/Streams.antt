@@ -1,7 +1,9 @@
 -- The laws of what is decoded of a stream that goes on after what is refused. Each is the contract of a function of the module `streams`.
-use Rattle.std.specs.Prelude.{ℕ, ◌+◌, ◌≡◌, List, [], ◌∷◌, length, Some}
+use Rattle.std.specs.Prelude.{ℕ, ◌+◌, ◌≡◌, true, List, [], ◌∷◌, length, Some}
 use Rattle.std.specs.List.{Contains, filter, flat_map}
 use Rattle.krb_convert.specs.Decoding.{All, decoded}
+use Rattle.krb_convert.specs.Encoding as encoding
+use Rattle.krb_convert.specs.Encoding.{encoded}
 use Rattle.krb_der.specs.declared.profile.Profile.{Profile}
 use Rattle.krb_frame.specs.GoingOn.{entry_size}
 use Rattle.krb_json.specs.Lines.{line_of}
@@ -15,7 +17,7 @@ use Rattle.krb_tool_laws.specs.Listings.{ArePrintedLines, AreRead}
 use Rattle.krb_decode.specs.Decoded.{not_encrypted}
 use Rattle.krb_decode.specs.Sorted.{lines_after, message_lines, sorted_end, told_lines}
 use Rattle.krb_decode.specs.Streams.{IsDecoded, message_opening, named}
-use Rattle.krb_decode_laws.specs.Messages.{is_sealed}
+use Rattle.krb_decode_laws.specs.Messages.{frames_of, is_sealed}
 
 -- ---- what is decoded is the listing
 -- the messages of frames, in order
@@ -39,6 +41,13 @@ pub record IsTheListing (profile : Profile) (limit : ℕ) (stream text : List �
 
 abbrev pub DecodedIsTheListing : Type 0
 DecodedIsTheListing = (profile : Profile) (limit : ℕ) (stream text : List ℕ) → AreRead stream → (decoding : IsDecoded profile limit stream text) → IsTheListing profile limit stream text decoding
+
+-- ---- back again
+-- Its lines are encoded to a stream of the sealed messages, by the same profile and limit.
+abbrev pub StreamsComeBack : Type 0
+StreamsComeBack =
+    (profile : Profile) (limit : ℕ) (stream text : List ℕ) → AreRead stream → (decoding : IsDecoded profile limit stream text)
+    → encoded true profile limit (message_lines text) ≡ record { text = frames_of (filter is_sealed (whole_in decoding.found)); end = encoding.All }
 
 -- ---- how it ends
 -- A run ends clean if nothing is told, and only then; and then there are as many lines as messages.
