@@ -76,7 +76,7 @@ module _ (p : Texts) (profile : Profile) (limit : ℕ) where
   text-back all each = ap (encoded_lines true profile limit 1 false) (ap without_empty_last (parts-are all each) ∙ lines-empty (map message_text all)) ∙ lines-back 1 false all each
 
 -- ---- those that are sealed
-kept : (P : Message → Type 0) (all : List Message) → AllByRecursion P all → AllByRecursion P (filter is_sealed all)
+pub kept : (P : Message → Type 0) (all : List Message) → AllByRecursion P all → AllByRecursion P (filter is_sealed all)
 kept P [] each = tt
 kept P (m ∷ others) each = by (is_sealed m) (kept P others each.1)
   where
@@ -85,7 +85,7 @@ kept P (m ∷ others) each = by (is_sealed m) (kept P others each.1)
     by false rest = rest
 
 -- ---- captures
-lenient-messages : (all : List Finding) → AreFindings all → AllByRecursion (IsInProfile Lenient) (messages_in all)
+pub lenient-messages : (all : List Finding) → AreFindings all → AllByRecursion (IsInProfile Lenient) (messages_in all)
 lenient-messages [] each = tt
 lenient-messages ((origin, WholeMessage octets) ∷ others) each = (each.0.1, lenient-messages others each.1)
 lenient-messages ((origin, FaultyMessage refusal path extent) ∷ others) each = lenient-messages others each.1
@@ -109,7 +109,7 @@ captures_come_back p texts settings file limit are few =
     ∙ text-back texts Lenient limit (sealed_in all) (both-of limit (sealed_in all) (kept (IsInProfile Lenient) (messages_in all) (lenient-messages all each)) few)
 
 -- ---- streams
-spelled-messages : (p : StreamPremises) (profile : Profile) (limit : ℕ) (all : List Listed) → AreGood p profile limit all → AllByRecursion (IsSpelled profile limit) (whole_in all)
+pub spelled-messages : (p : StreamPremises) (profile : Profile) (limit : ℕ) (all : List Listed) → AreGood p profile limit all → AllByRecursion (IsSpelled profile limit) (whole_in all)
 spelled-messages p profile limit [] each = tt
 spelled-messages p profile limit (Whole m ∷ others) each = (record { in_profile = in-profile p profile limit m each.0; short = each.0.1.within }, spelled-messages p profile limit others each.1)
 spelled-messages p profile limit (Faulty place reason prefix ∷ others) each = spelled-messages p profile limit others each.1

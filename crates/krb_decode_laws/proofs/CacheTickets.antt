@@ -92,7 +92,7 @@ refusal-said : (fault : Fault) (path : Option (List ℕ)) → fault_line (no_lab
 unfolding record_text opening
 refusal-said fault path e = cc
 
-silent-end : (said : List ℕ) → end_of said ≡ run.Clean → said ≡ []
+pub silent-end : (said : List ℕ) → end_of said ≡ run.Clean → said ≡ []
 silent-end [] e = refl
 silent-end (octet ∷ said) e = absurd cc
 
@@ -117,8 +117,7 @@ pub caches_are_decoded : CachesAreDecoded
 unfolding decoded_cache
 caches_are_decoded file = record {
   lines = start-lines (file_start field_limit file);
-  clean = start-clean (file_start field_limit file);
-  silent = start-silent (file_start field_limit file);
+  end = record { clean = start-clean (file_start field_limit file); silent = start-silent (file_start field_limit file) };
   all = start-all (file_start field_limit file);
 }
 

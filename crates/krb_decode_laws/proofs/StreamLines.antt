@@ -44,10 +44,10 @@ use Rattle.krb_decode.specs.Decoded.{not_encrypted}
 use Rattle.krb_decode.specs.Sorted.{is_of_message, lines_after, message_lines, sorted_end, told_lines}
 use Rattle.krb_decode.specs.Streams.{IsDecoded, end_part, message_opening, named, part_by, part_of, parts_after}
 use Rattle.krb_decode_laws.specs.Messages.{is_sealed, is_sealed_by}
-use Rattle.krb_decode_laws.specs.Streams.{DecodedIsPrinted, DecodedIsTheListing, GoingOnChangesNothing, OthersAreTold, StreamsEndAsTold, whole_in}
+use Rattle.krb_decode_laws.specs.Streams.{DecodedIsTheListing, OthersAreTold, whole_in}
 
 use Rattle.krb_decode_laws.proofs.FoundLines.{braced, unencrypted-path}
-use Rattle.krb_decode_laws.proofs.SortedTexts.{Sorted, a-message, a-told, both, it-is-told, none, sorted-count, sorted-messages, sorted-printed, told-left, told-right, with_feed}
+use Rattle.krb_decode_laws.proofs.SortedTexts.{Sorted, a-message, a-told, both, it-is-told, none, sorted-count, sorted-messages, told-left, told-right, with_feed}
 
 pub record Premises : Type 0 where
   pub prefix_free : DerIsPrefixFree
@@ -166,6 +166,3 @@ module _ (p : Premises) (profile : Profile) (limit : ℕ) where
 
 pub decoded_is_the_listing : Premises → DecodedIsTheListing
 decoded_is_the_listing p profile limit stream text are decoding = record { messages = its-messages p profile limit stream text are decoding; others = its-others p profile limit stream text are decoding }
-
-pub decoded_is_printed : Premises → DecodedIsPrinted
-decoded_is_printed p profile limit stream text are decoding = sorted-printed text (map message_text (filter is_sealed (whole_in decoding.found))) (its-lines p profile limit stream text are decoding)

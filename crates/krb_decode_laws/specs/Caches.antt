@@ -10,10 +10,10 @@ use Rattle.krb_der.specs.declared.verdict.Refusal.{Refusal}
 use Rattle.krb_file.specs.Fields.{Fault, Source}
 use Rattle.krb_judge.specs.Parses.{ticket_refusal}
 use Rattle.krb_msg.specs.Types.{ticket_value}
-use Rattle.krb_run.specs.declared.run.RunEnd.TheVariants as run
 use Rattle.krb_tool.specs.Messages.{ticket_of_der}
 use Rattle.krb_decode.specs.Caches.{decoded_cache, field_limit}
 use Rattle.krb_decode.specs.Decoded.{is_sealed, ticket_line}
+use Rattle.krb_decode_laws.specs.Inputs.{EndsAsSaid}
 
 -- ---- the tickets of a cache
 -- the ticket fields of the credentials that are no configuration entries, in order
@@ -37,8 +37,7 @@ field_line octets = ticket_line (ticket_value (ticket_of_der octets))
 -- The lines of a cache are those of its sealed Tickets. It ends clean if nothing is said, and only then; and then each credential that is no configuration entry has its line.
 pub record DecodesTickets (file : List ℕ) : Type 0 where
   pub lines : (decoded_cache file).lines ≡ flat_map field_line (filter is_sealed_ticket (fields_in file))
-  pub clean : (decoded_cache file).said ≡ [] → (decoded_cache file).end ≡ run.Clean
-  pub silent : (decoded_cache file).end ≡ run.Clean → (decoded_cache file).said ≡ []
+  pub end : EndsAsSaid (decoded_cache file)
   pub all : (decoded_cache file).said ≡ [] → filter is_sealed_ticket (fields_in file) ≡ fields_in file
 
 abbrev pub CachesAreDecoded : Type 0

@@ -2,6 +2,7 @@
 use Rattle.std.specs.Prelude.{ℕ, ◌≡◌, ◌≤◌, ◌-◌, ◌^◌, true, min, List, [], ◌∷◌, length, Option, Some, None}
 use Rattle.std.specs.List.{AllByRecursion, Contains, filter, flat_map, range_with_len}
 use Rattle.krb_convert.specs.Encoding.{All, encoded}
+use Rattle.krb_convert.specs.Laws.{AreLines}
 use Rattle.krb_der.specs.declared.profile.Profile.TheVariants.{Lenient}
 use Rattle.krb_msg.specs.Views.{message_der, message_of_der}
 use Rattle.krb_msg.specs.declared.message.Message.{Message}
@@ -87,6 +88,10 @@ abbrev pub CapturesEndAsTold : Type 0
 CapturesEndAsTold = (settings : Settings) (file : List ℕ) → AreRead file → EndsAsTold settings file
 
 -- ---- lines
--- What is decoded of a capture is lines of printable ASCII, with one packet or without.
-abbrev pub DecodedIsPrinted : Type 0
-DecodedIsPrinted = (settings : Settings) (packet : Option ℕ) (file : List ℕ) → AreRead file → ArePrintedLines (text_of (decoded_by settings packet file))
+-- What is decoded of a capture, with one packet or without, is lines of printable ASCII, and what is written of it lines of JSON.
+pub record AreDecodedLines (text : List ℕ) : Type 0 where
+  pub printed : ArePrintedLines text
+  pub written : AreLines (message_lines text)
+
+abbrev pub DecodedIsLines : Type 0
+DecodedIsLines = (settings : Settings) (packet : Option ℕ) (file : List ℕ) → AreRead file → AreDecodedLines (text_of (decoded_by settings packet file))

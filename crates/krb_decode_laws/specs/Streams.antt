@@ -13,10 +13,11 @@ use Rattle.krb_run.specs.declared.run.RunEnd.{RunEnd}
 use Rattle.krb_run.specs.declared.run.RunEnd.TheVariants as run
 use Rattle.krb_tool.specs.GoingOn.{Faulty, Listed, Whole, counted_run_end, entry_of, is_refused_at_once, messages_in, refused_in, refused_line}
 use Rattle.krb_tool.specs.Paths.{frame_extent, frame_path}
-use Rattle.krb_tool_laws.specs.Listings.{ArePrintedLines, AreRead}
+use Rattle.krb_tool_laws.specs.Listings.{AreRead}
 use Rattle.krb_decode.specs.Decoded.{not_encrypted}
 use Rattle.krb_decode.specs.Sorted.{lines_after, message_lines, sorted_end, told_lines}
 use Rattle.krb_decode.specs.Streams.{IsDecoded, message_opening, named}
+use Rattle.krb_decode_laws.specs.Captures.{AreDecodedLines}
 use Rattle.krb_decode_laws.specs.Messages.{frames_of, is_sealed}
 
 -- ---- what is decoded is the listing
@@ -64,5 +65,5 @@ abbrev pub GoingOnChangesNothing : Type 0
 GoingOnChangesNothing = (profile : Profile) (limit : ℕ) (stream text : List ℕ) → AreRead stream → IsDecoded profile limit stream text → told_lines text ≡ [] → decoded profile limit stream ≡ record { text = text; end = All }
 
 -- ---- lines
-abbrev pub DecodedIsPrinted : Type 0
-DecodedIsPrinted = (profile : Profile) (limit : ℕ) (stream text : List ℕ) → AreRead stream → IsDecoded profile limit stream text → ArePrintedLines text
+abbrev pub DecodedIsLines : Type 0
+DecodedIsLines = (profile : Profile) (limit : ℕ) (stream text : List ℕ) → AreRead stream → IsDecoded profile limit stream text → AreDecodedLines text

@@ -1,5 +1,5 @@
 //! Laws of what is decoded of captures. Each is the contract of a function that does nothing.
-ghost use Rattle.krb_decode_laws.specs.Captures.{CapturesComeBack, CapturesEndAsTold, DecodedIsPrinted, DecodedIsTheListing, PacketsAreTheCapture};
+ghost use Rattle.krb_decode_laws.specs.Captures.{CapturesComeBack, CapturesEndAsTold, DecodedIsLines, DecodedIsTheListing, PacketsAreTheCapture};
 
 use krb_frame::law::refusals_are_inside;
 use krb_judge::law::refusals_are_inside as slices_are_refused_inside;
@@ -58,9 +58,9 @@ pub fn captures_end_as_told()
 }
 
 /// Whatever octets a capture has, fewer than 2^64, each line that is written or told of it is one line
-/// of printable ASCII.
-pub fn decoded_is_printed()
-    ensures { DecodedIsPrinted }
+/// of printable ASCII, and each that is written is the JSON of a message.
+pub fn decoded_is_lines()
+    ensures { DecodedIsLines }
 {
     message_of_der_is_message();
     slices_are_refused_inside();

@@ -4,4 +4,5 @@
 
 pub mod caches;
 pub mod captures;
+pub mod inputs;
 pub mod streams;

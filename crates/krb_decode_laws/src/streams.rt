@@ -1,6 +1,6 @@
 //! Laws of what is decoded of streams that go on after what is refused. Each is the contract of a
 //! function that does nothing.
-ghost use Rattle.krb_decode_laws.specs.Streams.{DecodedIsPrinted, DecodedIsTheListing, GoingOnChangesNothing, StreamsComeBack, StreamsEndAsTold};
+ghost use Rattle.krb_decode_laws.specs.Streams.{DecodedIsLines, DecodedIsTheListing, GoingOnChangesNothing, StreamsComeBack, StreamsEndAsTold};
 
 use krb_frame::law::refusals_are_inside;
 use krb_message_laws::message_json::{texts_are_json, texts_are_short, texts_come_back};
@@ -53,9 +53,10 @@ pub fn going_on_changes_nothing()
     texts_are_json();
 }
 
-/// Each line that is written or told of a stream is one line of printable ASCII.
-pub fn decoded_is_printed()
-    ensures { DecodedIsPrinted }
+/// Each line that is written or told of a stream is one line of printable ASCII, and each that is written
+/// is the JSON of a message.
+pub fn decoded_is_lines()
+    ensures { DecodedIsLines }
 {
     der_is_prefix_free();
     refusals_are_inside();

@@ -1,9 +1,9 @@
 use Rattle.krb_record.specs.declared.form.Base.TheVariants.{NamedLines}
-use Rattle.krb_decode_laws.proofs.ListedMessages.{decoded_is_printed}
-use Rattle.krb_decode_laws.proofs.captures.decoded_is_printed.Goals as goal
+use Rattle.krb_decode_laws.proofs.WrittenLines.{captures_are_lines}
+use Rattle.krb_decode_laws.proofs.captures.decoded_is_lines.Goals as goal
 
 pub returns : goal.returns
-returns c = decoded_is_printed (record {
+returns c = captures_are_lines (record {
   rules = record { message_of = c.message_of_der_is_message.ensures; inside = c.refusals_are_inside.ensures; frames_inside = c.refusals_are_inside-2.ensures };
   lines = record {
     json = c.texts_are_json.ensures;
