@@ -1,5 +1,5 @@
 -- The lines of messages are encoded to the messages.
-use Rattle.std.proofs.Common.{◌≡◌, ℕ, ◌+◌, ◌≤◌, ◌==◌, Bool, true, false, cond, List, [], ◌∷◌, ◌++◌, length, map, Option, Some, None, refl, sym, ◌∙◌, ap, subst, arith, append_assoc, ne_eqb}
+use Rattle.std.proofs.Common.{◌≡◌, ℕ, ◌+◌, ◌≤◌, ◌==◌, Bool, true, false, cond, List, [], ◌∷◌, ◌++◌, length, map, None, refl, ◌∙◌, ap, subst, arith, append_assoc, ne_eqb}
 use Rattle.std.specs.Prelude.{Ok}
 use Rattle.std.specs.List.{All, AllByRecursion, filter, flat_map}
 use Rattle.std.proofs.lemmas.List.Elements.{All-nil, All-cons}
@@ -14,27 +14,23 @@ use Rattle.krb_frame.specs.Frame.{framed}
 use Rattle.krb_json.specs.Laws.{IsSpelled, TextsAreJson, TextsAreShort, TextsComeBack}
 use Rattle.krb_json.specs.Lines.{line_of, message_text}
 use Rattle.krb_json.specs.Tickets.{as_octets}
-use Rattle.krb_msg.specs.Views.{IsInProfile, message_der, message_of_der}
+use Rattle.krb_msg.specs.Views.{IsInProfile, message_der}
 use Rattle.krb_msg.specs.declared.message.Message.{Message}
 use Rattle.krb_packet.specs.Captures.{packets}
 use Rattle.krb_record.specs.Text.{IsPrintable}
 use Rattle.krb_run.specs.Conversions.{after_text}
-use Rattle.krb_run.specs.TextLines.{is_blank_line, lines_of, parts, without_empty_last}
-use Rattle.krb_run.specs.Records.{text_of}
+use Rattle.krb_run.specs.TextLines.{is_blank_line, parts, without_empty_last}
 use Rattle.krb_run.proofs.SourceLineParts.{lines-empty}
 use Rattle.krb_tool.specs.GoingOn.{Faulty, Listed, Whole}
-use Rattle.krb_tool_laws.specs.Listings.{AreRead}
 use Rattle.krb_tool_laws.proofs.CaptureFindings.{AreFindings}
-use Rattle.krb_capture.specs.Captures.{Finding, Settings}
+use Rattle.krb_capture.specs.Captures.{Finding}
 use Rattle.krb_capture.specs.Found.{Begun, Failed, Faulty as FaultyMessage, Joined, Missing, Password, Sent, Unread, Whole as WholeMessage}
 use Rattle.krb_capture_run.specs.Laws.{capture_told}
-use Rattle.krb_decode.specs.Sorted.{message_lines}
-use Rattle.krb_decode.specs.Streams.{IsDecoded}
-use Rattle.krb_decode_laws.specs.Captures.{CapturesComeBack, decoded_by, messages_in, sealed_in}
+use Rattle.krb_decode_laws.specs.Captures.{CapturesComeBack, messages_in, sealed_in}
 use Rattle.krb_decode_laws.specs.Messages.{frames_of, is_sealed}
 use Rattle.krb_decode_laws.specs.Streams.{StreamsComeBack, whole_in}
 use Rattle.krb_decode_laws.proofs.DecodedCaptures.{Premises as CapturePremises, good-of}
-use Rattle.krb_decode_laws.proofs.ListedMessages.{decoded_is_the_listing as captures_listed, found, found-is}
+use Rattle.krb_decode_laws.proofs.ListedMessages.{decoded_is_the_listing as captures_listed, found-is}
 use Rattle.krb_decode_laws.proofs.StreamLines.{AreGood, Premises as StreamPremises, decoded_is_the_listing as streams_listed, good, in-profile}
 
 no-feed : (text : List ℕ) → IsPrintable text → All (λ octet. (octet == 10) ≡ false) text

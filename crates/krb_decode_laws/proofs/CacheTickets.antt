@@ -11,7 +11,6 @@ use Rattle.krb_der.specs.Octets.{when}
 use Rattle.krb_der.specs.declared.profile.Profile.TheVariants.{Lenient}
 use Rattle.krb_der.specs.declared.verdict.Refusal.{Refusal}
 use Rattle.krb_file.specs.Fields.{Fault, Source}
-use Rattle.krb_file.specs.declared.field_path.FileItem.TheVariants as item
 use Rattle.krb_judge.specs.Parses.{ticket_refusal}
 use Rattle.krb_record.specs.Forms.{opening, record_text}
 use Rattle.krb_record.specs.Labels.{no_label}
@@ -21,7 +20,7 @@ use Rattle.krb_run.specs.Paths.{field_path}
 use Rattle.krb_run.specs.declared.run.RunEnd.TheVariants as run
 use Rattle.krb_tool.specs.Messages.{ticket_of_der}
 use Rattle.krb_decode.specs.Caches.{cache_decoded, credential_opening, credentials_decoded, decoded_cache, decoded_credential, decoded_credentials, decoded_field, field_limit, judged_field, said_last}
-use Rattle.krb_decode.specs.Decoded.{Added, Decoded, accepted, both, end_of, is_sealed, not_encrypted, nothing, printed, refused, said}
+use Rattle.krb_decode.specs.Decoded.{Added, accepted, both, end_of, is_sealed, not_encrypted, nothing, printed, refused, said}
 use Rattle.krb_decode_laws.specs.Caches.{CachesAreDecoded, TicketsAloneAreDecoded, field_line, fields_of, is_sealed_by, is_sealed_ticket, start_fault, ticket_in}
 
 -- ---- a ticket field

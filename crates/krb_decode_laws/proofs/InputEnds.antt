@@ -1,5 +1,5 @@
 -- How the decoding of an input ends.
-use Rattle.std.proofs.Common.{◌≡◌, ℕ, List, [], ◌∷◌, ◌++◌, refl, ap}
+use Rattle.std.proofs.Common.{◌≡◌, ℕ, List, [], ◌∷◌, ◌++◌, ap}
 use Rattle.krb_input.specs.Inputs.{spelled}
 use Rattle.krb_record.specs.Forms.{record_text}
 use Rattle.krb_record.specs.Labels.{no_label}

@@ -1,18 +1,15 @@
 -- What is decoded of a capture is its listing.
-use Rattle.std.proofs.Common.{◌≡◌, ℕ, List, [], ◌++◌, Option, None, refl, sym, ◌∙◌, ap, subst}
-use Rattle.std.specs.List.{AllByRecursion, filter, flat_map}
-use Rattle.krb_json.specs.Lines.{line_of}
+use Rattle.std.proofs.Common.{◌≡◌, ℕ, List, [], Option, None, sym, ◌∙◌, ap, subst}
+use Rattle.std.specs.List.{AllByRecursion, filter}
 use Rattle.krb_packet.specs.Captures.{packets}
-use Rattle.krb_record.specs.Labels.{no_label}
-use Rattle.krb_record.specs.declared.form.Form.TheVariants.{NamedLines}
 use Rattle.krb_capture.specs.Captures.{Finding, Settings, at_first, lines_of}
-use Rattle.krb_capture_run.specs.Decoded.{Ends, decoded_capture}
+use Rattle.krb_capture_run.specs.Decoded.{Ends}
 use Rattle.krb_capture_run.specs.Laws.{capture_told}
 use Rattle.krb_decode.specs.Sorted.{message_lines}
 use Rattle.krb_run.specs.Records.{text_of}
 use Rattle.krb_tool_laws.specs.Listings.{AreRead}
-use Rattle.krb_decode_laws.specs.Captures.{DecodedIsTheListing, IsTold, decoded_by, sealed_in}
-use Rattle.krb_decode_laws.proofs.DecodedCaptures.{Premises, closing_of, decoded-sorted, found-sorted, found_in, found_of, good-of, rest-sorted, text-parts}
+use Rattle.krb_decode_laws.specs.Captures.{DecodedIsTheListing, IsTold, decoded_by}
+use Rattle.krb_decode_laws.proofs.DecodedCaptures.{Premises, closing_of, decoded-sorted, found-sorted, found_of, good-of, rest-sorted, text-parts}
 use Rattle.krb_decode_laws.proofs.Findings.{all-wanted, found-told, same-found, sealed_lines, texts-lines}
 use Rattle.krb_decode_laws.proofs.FoundLines.{all-left, decoding_label, each-told, texts, wanted}
 use Rattle.krb_decode_laws.proofs.SortedTexts.{Sorted, both, none, sorted-messages}

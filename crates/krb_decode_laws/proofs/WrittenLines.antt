@@ -1,5 +1,5 @@
 -- What is decoded is lines, and what is written of it lines of JSON.
-use Rattle.std.proofs.Common.{◌≡◌, ℕ, Bool, true, false, cond, List, [], ◌∷◌, map, Option, refl, ap}
+use Rattle.std.proofs.Common.{ℕ, Bool, true, false, cond, List, [], ◌∷◌, map, Option}
 use Rattle.std.specs.List.{AllByRecursion, filter}
 use Rattle.krb_capture.specs.Captures.{Finding}
 use Rattle.krb_der.specs.declared.profile.Profile.{Profile}
@@ -41,9 +41,9 @@ captures_are_lines p settings packet file are =
     record {
       printed = sorted-printed (text_of (decoded_by settings packet file)) (texts packet (found p settings packet file)) (sorted p settings packet file are);
       written = record {
-          those = sealed_in all;
-          each = its-texts p.lines.json Lenient (sealed_in all) (kept (IsInProfile Lenient) (messages_in all) (lenient-messages all each));
-          form = messages-are p settings packet file are;
+        those = sealed_in all;
+        each = its-texts p.lines.json Lenient (sealed_in all) (kept (IsInProfile Lenient) (messages_in all) (lenient-messages all each));
+        form = messages-are p settings packet file are;
       };
     }
 
@@ -55,8 +55,8 @@ pub streams_are_lines : StreamPremises → streams.DecodedIsLines
 streams_are_lines p profile limit stream text are decoding = record {
   printed = sorted-printed text (map message_text (filter is_sealed (whole_in decoding.found))) (its-lines p profile limit stream text are decoding);
   written = record {
-      those = filter is_sealed (whole_in decoding.found);
-      each = whole-texts p profile limit (filter is_sealed (whole_in decoding.found)) (kept (IsSpelled profile limit) (whole_in decoding.found) (spelled-messages p profile limit decoding.found (good p profile limit stream text are decoding)));
-      form = its-messages p profile limit stream text are decoding;
+    those = filter is_sealed (whole_in decoding.found);
+    each = whole-texts p profile limit (filter is_sealed (whole_in decoding.found)) (kept (IsSpelled profile limit) (whole_in decoding.found) (spelled-messages p profile limit decoding.found (good p profile limit stream text are decoding)));
+    form = its-messages p profile limit stream text are decoding;
   };
 }

@@ -11,7 +11,6 @@ use Rattle.krb_json.specs.Unencrypted.{unencrypted_in}
 use Rattle.krb_packet.specs.Captures.{packets}
 use Rattle.krb_record.specs.Labels.{no_label}
 use Rattle.krb_record.specs.declared.capture.CaptureCounts.{CaptureCounts}
-use Rattle.krb_record.specs.declared.capture_origin.CaptureOrigin.{CaptureOrigin}
 use Rattle.krb_record.specs.declared.form.Form.TheVariants.{NamedLines}
 use Rattle.krb_capture.specs.Captures.{Finding, Settings, all_counts, at_first, end_taken}
 use Rattle.krb_capture.specs.Decoded.{not_encrypted}

@@ -9,7 +9,6 @@ use Rattle.krb_frame.specs.GoingOn.{entry_size}
 use Rattle.krb_json.specs.Lines.{line_of}
 use Rattle.krb_json.specs.Unencrypted.{unencrypted_in}
 use Rattle.krb_msg.specs.declared.message.Message.{Message}
-use Rattle.krb_run.specs.declared.run.RunEnd.{RunEnd}
 use Rattle.krb_run.specs.declared.run.RunEnd.TheVariants as run
 use Rattle.krb_tool.specs.GoingOn.{Faulty, Listed, Whole, counted_run_end, entry_of, is_refused_at_once, messages_in, refused_in, refused_line}
 use Rattle.krb_tool.specs.Paths.{frame_extent, frame_path}
