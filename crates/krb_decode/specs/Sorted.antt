@@ -32,13 +32,13 @@ message_lines text = flat_map written_of (lines_after [] text) ++ written_of (be
 unfoldable pub told_lines : List ℕ → List (List ℕ)
 told_lines text = filter is_told (lines_after [] text)
 
--- how a run ends over a text that was sorted: at once if it was refused so, and else clean if nothing is told
-abbrev pub sorted_end : RunEnd → (told : List (List ℕ)) → RunEnd
-sorted_end run.RefusedAtOnce told = run.RefusedAtOnce
-sorted_end end [] = run.Clean
-sorted_end end (line ∷ others) = run.Refused
-
 -- something is told
 abbrev pub is_any : List (List ℕ) → Bool
 is_any [] = false
 is_any (line ∷ others) = true
+
+-- how a run ends over a text that was sorted: at once if it was refused so, and else clean if nothing was told
+abbrev pub sorted_end : RunEnd → (has_told : Bool) → RunEnd
+sorted_end run.RefusedAtOnce has_told = run.RefusedAtOnce
+sorted_end end true = run.Refused
+sorted_end end false = run.Clean
