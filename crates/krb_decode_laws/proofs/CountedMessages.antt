@@ -27,7 +27,7 @@ use Rattle.krb_capture.specs.declared.flow.Service.{Service}
 use Rattle.krb_capture_run.specs.Captures.{after_packets, capture_run_end, run_end}
 use Rattle.krb_capture_run.specs.Decoded.{Ends, decoded_capture, decoding}
 use Rattle.krb_capture_run.specs.Laws.{capture_told, told_after}
-use Rattle.krb_decode.specs.Sorted.{lines_after, message_lines, sorted_end, told_lines}
+use Rattle.krb_decode.specs.Sorted.{is_any, lines_after, message_lines, sorted_end, told_lines}
 use Rattle.krb_run.specs.Records.{text_of}
 use Rattle.krb_run.specs.declared.run.RunEnd.{RunEnd}
 use Rattle.krb_run.specs.declared.run.RunEnd.TheVariants as run
@@ -222,12 +222,12 @@ never-at-once p settings file are nothing at = by (packets file).end at (end-unt
     by None e untold = not-at-once (is_clean (all_counts (end_taken its progress).progress)) e
     by (Some fault) e untold = refusal-told p settings.profile settings.limit settings.port None fault progress untold
 
-pub clean-end : (end : RunEnd) → (end ≡ run.RefusedAtOnce → ⊥) → sorted_end end [] ≡ run.Clean
+pub clean-end : (end : RunEnd) → (end ≡ run.RefusedAtOnce → ⊥) → sorted_end end false ≡ run.Clean
 clean-end run.Clean never = refl
 clean-end run.Refused never = refl
 clean-end run.RefusedAtOnce never = absurd (never refl)
 
-pub silent-end : (end : RunEnd) (told : List (List ℕ)) → sorted_end end told ≡ run.Clean → told ≡ []
+pub silent-end : (end : RunEnd) (told : List (List ℕ)) → sorted_end end (is_any told) ≡ run.Clean → told ≡ []
 silent-end run.Clean [] e = refl
 silent-end run.Refused [] e = refl
 silent-end run.RefusedAtOnce told e = absurd cc
@@ -236,7 +236,7 @@ silent-end run.Refused (line ∷ told) e = absurd cc
 
 pub captures_end_as_told : Premises → CapturesEndAsTold
 captures_end_as_told p settings file are = record {
-  clean = λ nothing. ap (sorted_end (decoded_by settings None file).end) nothing ∙ clean-end (decoded_by settings None file).end (never-at-once p settings file are nothing);
+  clean = λ nothing. ap (λ told. sorted_end (decoded_by settings None file).end (is_any told)) nothing ∙ clean-end (decoded_by settings None file).end (never-at-once p settings file are nothing);
   silent = silent-end (decoded_by settings None file).end (told_lines (text_of (decoded_by settings None file)));
   counted = counted-lines p settings file are;
 }

@@ -20,7 +20,7 @@ use Rattle.krb_run.specs.declared.run.RunEnd.TheVariants as run
 use Rattle.krb_tool.specs.GoingOn.{Faulty, Listed, Whole, counted_run_end, entry_of, is_refused_at_once, messages_in, refused_in}
 use Rattle.krb_tool.specs.Paths.{found_path}
 use Rattle.krb_tool_laws.specs.Listings.{AreRead}
-use Rattle.krb_decode.specs.Sorted.{lines_after, message_lines, sorted_end, told_lines}
+use Rattle.krb_decode.specs.Sorted.{is_any, lines_after, message_lines, sorted_end, told_lines}
 use Rattle.krb_decode.specs.Streams.{IsDecoded, end_part, part_by, parts_after}
 use Rattle.krb_decode_laws.specs.Messages.{is_sealed, is_sealed_by}
 use Rattle.krb_decode_laws.specs.Streams.{GoingOnChangesNothing, OthersAreTold, StreamsEndAsTold, whole_in}
@@ -193,7 +193,7 @@ module _ (p : Premises) (profile : Profile) (limit : ℕ) where
 
 pub streams_end_as_told : Premises → StreamsEndAsTold
 streams_end_as_told p profile limit stream text are decoding = record {
-  clean = λ nothing. ap₂ sorted_end (its-run-end p profile limit stream text are decoding nothing) nothing;
+  clean = λ nothing. ap₂ (λ end told. sorted_end end (is_any told)) (its-run-end p profile limit stream text are decoding nothing) nothing;
   silent = silent-end (counted_run_end (is_refused_at_once decoding.found) (refused_in decoding.found)) (told_lines text);
   counted = λ nothing. its-count p profile limit stream text are decoding nothing;
 }

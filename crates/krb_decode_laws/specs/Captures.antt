@@ -23,7 +23,7 @@ use Rattle.krb_capture_run.specs.Captures.{after_packets}
 use Rattle.krb_capture_run.specs.Decoded.{decoded_capture}
 use Rattle.krb_capture_run.specs.Laws.{capture_told}
 use Rattle.krb_decode_laws.specs.Messages.{frames_of, is_sealed}
-use Rattle.krb_decode.specs.Sorted.{lines_after, message_lines, sorted_end, told_lines}
+use Rattle.krb_decode.specs.Sorted.{is_any, lines_after, message_lines, sorted_end, told_lines}
 
 -- ---- messages
 -- the message of a record that is one's
@@ -79,8 +79,8 @@ counts_of settings file = all_counts (end_taken settings (after_packets settings
 
 -- A capture ends clean if nothing is told of it, and only then; and then it has as many lines as messages were counted, which stops at 2^64 - 1.
 pub record EndsAsTold (settings : Settings) (file : List ℕ) : Type 0 where
-  pub clean : told_lines (text_of (decoded_by settings None file)) ≡ [] → sorted_end (decoded_by settings None file).end (told_lines (text_of (decoded_by settings None file))) ≡ run.Clean
-  pub silent : sorted_end (decoded_by settings None file).end (told_lines (text_of (decoded_by settings None file))) ≡ run.Clean → told_lines (text_of (decoded_by settings None file)) ≡ []
+  pub clean : told_lines (text_of (decoded_by settings None file)) ≡ [] → sorted_end (decoded_by settings None file).end (is_any (told_lines (text_of (decoded_by settings None file)))) ≡ run.Clean
+  pub silent : sorted_end (decoded_by settings None file).end (is_any (told_lines (text_of (decoded_by settings None file)))) ≡ run.Clean → told_lines (text_of (decoded_by settings None file)) ≡ []
   pub counted : told_lines (text_of (decoded_by settings None file)) ≡ [] → (counts_of settings file).messages ≡ min (length (lines_after [] (message_lines (text_of (decoded_by settings None file))))) (2 ^ 64 - 1)
 
 abbrev pub CapturesEndAsTold : Type 0

@@ -14,7 +14,7 @@ use Rattle.krb_tool.specs.GoingOn.{Faulty, Listed, Whole, counted_run_end, entry
 use Rattle.krb_tool.specs.Paths.{frame_extent, frame_path}
 use Rattle.krb_tool_laws.specs.Listings.{AreRead}
 use Rattle.krb_decode.specs.Decoded.{not_encrypted}
-use Rattle.krb_decode.specs.Sorted.{lines_after, message_lines, sorted_end, told_lines}
+use Rattle.krb_decode.specs.Sorted.{is_any, lines_after, message_lines, sorted_end, told_lines}
 use Rattle.krb_decode.specs.Streams.{IsDecoded, message_opening, named}
 use Rattle.krb_decode_laws.specs.Captures.{AreDecodedLines}
 use Rattle.krb_decode_laws.specs.Messages.{frames_of, is_sealed}
@@ -52,8 +52,8 @@ StreamsComeBack =
 -- ---- how it ends
 -- A run ends clean if nothing is told, and only then; and then there are as many lines as messages.
 pub record EndsAsTold (profile : Profile) (limit : ℕ) (stream text : List ℕ) (decoding : IsDecoded profile limit stream text) : Type 0 where
-  pub clean : told_lines text ≡ [] → sorted_end (counted_run_end (is_refused_at_once decoding.found) (refused_in decoding.found)) (told_lines text) ≡ run.Clean
-  pub silent : sorted_end (counted_run_end (is_refused_at_once decoding.found) (refused_in decoding.found)) (told_lines text) ≡ run.Clean → told_lines text ≡ []
+  pub clean : told_lines text ≡ [] → sorted_end (counted_run_end (is_refused_at_once decoding.found) (refused_in decoding.found)) (is_any (told_lines text)) ≡ run.Clean
+  pub silent : sorted_end (counted_run_end (is_refused_at_once decoding.found) (refused_in decoding.found)) (is_any (told_lines text)) ≡ run.Clean → told_lines text ≡ []
   pub counted : told_lines text ≡ [] → messages_in decoding.found ≡ length (lines_after [] (message_lines text))
 
 abbrev pub StreamsEndAsTold : Type 0
