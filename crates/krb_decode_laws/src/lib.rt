@@ -2,5 +2,7 @@
 //! function that does nothing. No crate stands on this one.
 #![tactic(auto)]
 
+pub mod caches;
 pub mod captures;
+pub mod inputs;
 pub mod streams;
