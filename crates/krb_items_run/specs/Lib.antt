@@ -1,4 +1,3 @@
 pub mod Items
 pub mod Seen
 pub mod Laws
-pub mod Open
