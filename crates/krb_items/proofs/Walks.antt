@@ -137,17 +137,15 @@ message-goes item here (octet ∷ octets) first kind own name of some tag own-is
 
 -- ---- a layer
 -- the identifier of a mechanism, and what follows it
-pub identified-then : (context : Context) (item : Here → ItemType → List ℕ → Items) (limits : Limits) (here own after : Here) (of : ItemType) (octets identifier rest : List ℕ) (count : ℕ) (old mid new : Listed) (first end : End) →
+pub identified-then : (context : Context) (item : Here → ItemType → List ℕ → Items) (limits : Limits) (here own after : Here) (of : ItemType) (room after-room : ℕ) (octets identifier after-octets : List ℕ) (count : ℕ) (old mid new : Listed) (first end : End) →
     begins_with (octet_of tags.ObjectIdentifier) octets ≡ true → own ≡ named here (field_path here.name (codes "oid")) → of ≡ identifier_type → Lists context (item own of octets) old mid first → first ≡ ends.Whole
-    → count ≡ count_in octets → after ≡ passed here count None → identifier ≡ contents_in (tags.ObjectIdentifier ∷ []) octets → rest ≡ drop count octets
-    → Lists context (mechanism_items item limits after identifier rest) mid new end → Lists context (identified_items item limits here octets) old new end
-identified-then context item limits here own after of octets identifier rest count old mid new first end begin own-is of-is listed whole count-is after-is identifier-is rest-is others =
+    → count ≡ count_in octets → after ≡ passed here count None → identifier ≡ contents_in (tags.ObjectIdentifier ∷ []) octets → after-room ≡ room - count → after-octets ≡ drop count octets
+    → Lists context (mechanism_items item limits after identifier after-room after-octets) mid new end → Lists context (identified_items item limits here room octets) old new end
+identified-then context item limits here own after of room after-room octets identifier after-octets count old mid new first end begin own-is of-is listed whole count-is after-is identifier-is room-is octets-is others =
     rw begin (lists-then context _ _ old mid new end
     (lists-at context item identifier_type octets own _ old mid first ends.Whole own-is whole (subst (λ (o : ItemType). Lists context (item own o octets) old mid first) of-is listed))
-    (subst (λ (n : ℕ). Lists context (mechanism_items item limits (passed here n None) (contents_in (tags.ObjectIdentifier ∷ []) octets) (drop n octets)) mid new end) count-is
-    (subst (λ (h : Here). Lists context (mechanism_items item limits h (contents_in (tags.ObjectIdentifier ∷ []) octets) (drop count octets)) mid new end) after-is
-    (subst (λ (i : List ℕ). Lists context (mechanism_items item limits after i (drop count octets)) mid new end) identifier-is
-    (subst (λ (o : List ℕ). Lists context (mechanism_items item limits after identifier o) mid new end) rest-is others)))))
+    (lists-left context (λ here room octets-left. mechanism_items item limits here (contents_in (tags.ObjectIdentifier ∷ []) octets) room octets-left) here None count octets after room after-room after-octets mid new end count-is after-is room-is octets-is
+    (subst (λ (i : List ℕ). Lists context (mechanism_items item limits after i after-room after-octets) mid new end) identifier-is others)))
 
 -- an item of a type, at a place
 pub item-listed : {E : Type 0} (context : Context) (item : Here → ItemType → List ℕ → Items) (here own : Here) (of made : ItemType) (octets : List ℕ) (old new : Listed) (result : Result End E) → own ≡ here → made ≡ of

@@ -179,20 +179,26 @@ message_items item here (tag ∷ octets) = kind_items item (kind_with_tag tag) h
 abbrev pub token_message : (Here → ItemType → List ℕ → Items) → Limits → Option (List ℕ) → Here → List ℕ → Items
 token_message item limits name here octets = if nat_lt here.place limits.limit then message_items item here octets else unknown name here octets
 
-abbrev pub kerberos_message : (Here → ItemType → List ℕ → Items) → Limits → Here → List ℕ → Items
-kerberos_message item limits here [] = missing here (codes "message")
-kerberos_message item limits here (octet ∷ octets) = token_message item limits None here (octet ∷ octets)
+-- where the room ends something is missing, and else the octets do
+abbrev pub kerberos_message : (Here → ItemType → List ℕ → Items) → Limits → Here → (room : ℕ) → List ℕ → Items
+kerberos_message item limits here zero octets = missing here (codes "message")
+kerberos_message item limits here (suc room) [] = unknown (Some here.name) here []
+kerberos_message item limits here (suc room) (octet ∷ octets) = token_message item limits None here (octet ∷ octets)
 
 -- how many of octets are right
 abbrev pub right_of : Limits → Here → List ℕ → ℕ
 right_of limits here octets = length (take (limits.limit - here.place) octets)
 
--- the two octets that say which message follows, and that message
-abbrev pub kerberos_items : (Here → ItemType → List ℕ → Items) → Limits → Here → List ℕ → Items
-kerberos_items item limits here octets =
+-- two octets that say which message follows, and that message
+abbrev pub identified_message : (Here → ItemType → List ℕ → Items) → Limits → Here → (room : ℕ) → List ℕ → Items
+identified_message item limits here room octets =
     if nat_lt (right_of limits here octets) 2 then missing here (codes "token-id")
     else after_item (record { name = field_path here.name (codes "token-id"); begun = with_octets (begun_here here) tags.Octets 2; shown = Some (leaves.Octets, take 2 octets) })
-    (kerberos_message item limits (passed here 2 None) (drop 2 octets))
+    (kerberos_message item limits (passed here 2 None) (room - 2) (drop 2 octets))
+
+abbrev pub kerberos_items : (Here → ItemType → List ℕ → Items) → Limits → Here → (room : ℕ) → List ℕ → Items
+kerberos_items item limits here (suc room) [] = unknown (Some here.name) here []
+kerberos_items item limits here room octets = identified_message item limits here room octets
 
 -- All items of a token of SPNEGO are right. If something is refused, its token is left out.
 abbrev pub left_out : Option Refusal → NegToken → Here → Items
@@ -204,32 +210,33 @@ spnego_items item limits neg here octets =
     followed_by (item here (neg_type neg) octets) (λ _. left_out limits.fault neg (here_at here.layers here.name (here.place + count_in octets) (here.depth + 1)))
 
 -- a first token, in one of GSS-API
-abbrev pub spnego_in_gss : (Here → ItemType → List ℕ → Items) → Limits → Here → List ℕ → Items
-spnego_in_gss item limits here [] = cut_in (Some (codes "SPNEGO")) (begun_here here) false
-spnego_in_gss item limits here (octet ∷ octets) =
+abbrev pub spnego_in_gss : (Here → ItemType → List ℕ → Items) → Limits → Here → (room : ℕ) → List ℕ → Items
+spnego_in_gss item limits here zero octets = cut_in (Some (codes "SPNEGO")) (begun_here here) false
+spnego_in_gss item limits here (suc room) [] = unknown (Some here.name) here []
+spnego_in_gss item limits here (suc room) (octet ∷ octets) =
     let own : Here = here_at (Gss ∷ Spnego ∷ []) (codes "SPNEGO") here.place here.depth in
     if nat_lt here.place limits.limit then spnego_items item limits negs.Init own (octet ∷ octets) else unknown None own (octet ∷ octets)
 
-abbrev pub mechanism_items : (Here → ItemType → List ℕ → Items) → Limits → Here → (identifier : List ℕ) → List ℕ → Items
-mechanism_items item limits here identifier octets =
-    when (bytes_eq identifier negotiation) (λ _. spnego_in_gss item limits here octets) (λ _. kerberos_items item limits here octets)
+abbrev pub mechanism_items : (Here → ItemType → List ℕ → Items) → Limits → Here → (identifier : List ℕ) → (room : ℕ) → List ℕ → Items
+mechanism_items item limits here identifier room octets =
+    when (bytes_eq identifier negotiation) (λ _. spnego_in_gss item limits here room octets) (λ _. kerberos_items item limits here room octets)
 
-abbrev pub not_identified : Here → List ℕ → Items
-not_identified here [] = missing here (codes "oid")
-not_identified here (octet ∷ octets) = unknown (Some here.name) here (octet ∷ octets)
+abbrev pub not_identified : Here → (room : ℕ) → List ℕ → Items
+not_identified here zero octets = missing here (codes "oid")
+not_identified here (suc room) octets = unknown (Some here.name) here octets
 
 -- the identifier of a mechanism, and what follows it
-abbrev pub identified_items : (Here → ItemType → List ℕ → Items) → Limits → Here → List ℕ → Items
-identified_items item limits here octets =
+abbrev pub identified_items : (Here → ItemType → List ℕ → Items) → Limits → Here → (room : ℕ) → List ℕ → Items
+identified_items item limits here room octets =
     when (begins_with (octet_of tags.ObjectIdentifier) octets)
     (λ _. followed_by (item (named here (field_path here.name (codes "oid"))) identifier_type octets)
-    (λ _. mechanism_items item limits (passed here (count_in octets) None) (contents_in (tags.ObjectIdentifier ∷ []) octets) (drop (count_in octets) octets)))
-    (λ _. not_identified here octets)
+    (λ _. mechanism_items item limits (passed here (count_in octets) None) (contents_in (tags.ObjectIdentifier ∷ []) octets) (room - count_in octets) (drop (count_in octets) octets)))
+    (λ _. not_identified here room octets)
 
 abbrev pub gss_items : (Here → ItemType → List ℕ → Items) → Limits → Here → List ℕ → Items
 gss_items item limits here octets =
     of_headed here.name (headed limits.limit (begun_here here) (tags.Application 0 ∷ []) octets)
-    (λ begun contents. after_item (container here.name begun) (identified_items item limits (here_in here.name begun) contents))
+    (λ begun contents. after_item (container here.name begun) (identified_items item limits (here_in here.name begun) (size_of begun.size) contents))
 
 -- ---- the token in one of SPNEGO
 abbrev pub gss_in : List Layer → List Layer

@@ -2,17 +2,17 @@
 
 ghost use Rattle.std.specs.Prelude.{◌≡◌, ◌+◌, ◌*◌, ◌^◌, ◌<◌, length, IfOk};
 ghost use Rattle.std.specs.Option.{option_copied};
-ghost use Rattle.krb_items.specs.Items.{gss_in, gss_items, identified_items, is_gone_into, item_items, kerberos_items, kerberos_message, left_out, may_be_ntlm, mechanism_items, not_identified, spnego_in_gss, spnego_items, token_in, token_items, token_message};
+ghost use Rattle.krb_items.specs.Items.{gss_in, gss_items, identified_items, identified_message, is_gone_into, item_items, kerberos_items, kerberos_message, left_out, may_be_ntlm, mechanism_items, not_identified, spnego_in_gss, spnego_items, token_in, token_items, token_message};
 ghost use Rattle.krb_items.specs.Records.{Lists};
 ghost use Rattle.krb_items.specs.Seen.{IsNear, begun_of, context_of, here_of, limits_of};
 
 use crate::begun::Begun;
-use crate::head::{begins, count_of, from, front};
+use crate::head::{begins, count_of, front};
 use crate::held::contents_in;
 use crate::listing::{End, Item, Listed, Source};
 use crate::shape::{Leaf, NegToken, identifier_type};
 use crate::tag::Tag;
-use crate::walk::{Here, field_name};
+use crate::walk::{Here, Rest, field_name};
 use krb_der::{Refusal, Why};
 use krb_source::Layer;
 use std::alloc::AllocError;
@@ -77,38 +77,42 @@ impl<'a> Source<'a> {
         }
     }
 
-    /// Lists the message of a token of Kerberos.
+    /// Lists the message of a token of Kerberos. Where the room ends it is missing.
     #[cycle(items)]
     fn kerberos_message(
         self,
         out: &mut Listed,
         levels: u8,
         here: Here<'_>,
-        octets: &'a [u8],
+        rest: Rest<'a>,
     ) -> Result<End, AllocError>
-        requires near { here.place + length octets.now < 2 ^ 40 }
+        requires near { here.place + length rest.octets.now < 2 ^ 40 }
         requires shallow { here.depth + 3 * levels < 2 ^ 32 }
-        ensures { IfOk result (Lists (context_of self.entry) (kerberos_message (item_items levels (limits_of self.entry)) (limits_of self.entry) (here_of here.entry) octets.now) out.old out.new) }
+        ensures { IfOk result (Lists (context_of self.entry) (kerberos_message (item_items levels (limits_of self.entry)) (limits_of self.entry) (here_of here.entry) rest.entry.room rest.entry.octets.now) out.old out.new) }
     {
-        if octets.is_empty() {
+        if rest.room == 0 {
             return self.missing(out, here, "message");
         }
-        self.token_message(out, levels, None, here, octets)
+        if rest.octets.is_empty() {
+            return self.unknown(out, Some(here.name), here, rest.octets);
+        }
+        self.token_message(out, levels, None, here, rest.octets)
     }
 
-    /// Lists the two octets that say which message follows, and that message.
+    /// Lists two octets that say which message follows, and that message.
     #[cycle(items)]
-    fn kerberos(
+    fn identified_message(
         self,
         out: &mut Listed,
         levels: u8,
         here: Here<'_>,
-        octets: &'a [u8],
+        rest: Rest<'a>,
     ) -> Result<End, AllocError>
-        requires near { here.place + length octets.now < 2 ^ 40 }
+        requires near { here.place + length rest.octets.now < 2 ^ 40 }
         requires shallow { here.depth + 3 * levels < 2 ^ 32 }
-        ensures { IfOk result (Lists (context_of self.entry) (kerberos_items (item_items levels (limits_of self.entry)) (limits_of self.entry) (here_of here.entry) octets.now) out.old out.new) }
+        ensures { IfOk result (Lists (context_of self.entry) (identified_message (item_items levels (limits_of self.entry)) (limits_of self.entry) (here_of here.entry) rest.entry.room rest.entry.octets.now) out.old out.new) }
     {
+        let octets = rest.octets;
         if front(octets, self.limit.saturating_sub(here.place)).len() < 2 {
             return self.missing(out, here, "token-id");
         }
@@ -121,7 +125,27 @@ impl<'a> Source<'a> {
             shown: Some((Leaf::Octets, front(octets, 2))),
         };
         self.list(out, item)?;
-        self.kerberos_message(out, levels, here.after(2, None), from(octets, 2))
+        self.kerberos_message(out, levels, here.after(2, None), rest.after(2))
+    }
+
+    /// Lists what follows the identifier of Kerberos.
+    #[cycle(items)]
+    fn kerberos(
+        self,
+        out: &mut Listed,
+        levels: u8,
+        here: Here<'_>,
+        rest: Rest<'a>,
+    ) -> Result<End, AllocError>
+        requires near { here.place + length rest.octets.now < 2 ^ 40 }
+        requires shallow { here.depth + 3 * levels < 2 ^ 32 }
+        ensures { IfOk result (Lists (context_of self.entry) (kerberos_items (item_items levels (limits_of self.entry)) (limits_of self.entry) (here_of here.entry) rest.entry.room rest.entry.octets.now) out.old out.new) }
+    {
+        if rest.room > 0 && rest.octets.is_empty() {
+            self.unknown(out, Some(here.name), here, rest.octets)
+        } else {
+            self.identified_message(out, levels, here, rest)
+        }
     }
 
     /// Lists a token of SPNEGO. All of it is right, but something is refused, if its token is left out.
@@ -161,33 +185,32 @@ impl<'a> Source<'a> {
         }
     }
 
-    /// Lists a first token of SPNEGO in one of GSS-API.
+    /// Lists a first token of SPNEGO in one of GSS-API. Where the room ends it is missing.
     #[cycle(items)]
     fn spnego_in_gss(
         self,
         out: &mut Listed,
         levels: u8,
         here: Here<'_>,
-        octets: &'a [u8],
+        rest: Rest<'a>,
     ) -> Result<End, AllocError>
-        requires near { here.place + length octets.now < 2 ^ 40 }
+        requires near { here.place + length rest.octets.now < 2 ^ 40 }
         requires shallow { here.depth + 3 * levels < 2 ^ 32 }
-        ensures { IfOk result (Lists (context_of self.entry) (spnego_in_gss (item_items levels (limits_of self.entry)) (limits_of self.entry) (here_of here.entry) octets.now) out.old out.new) }
+        ensures { IfOk result (Lists (context_of self.entry) (spnego_in_gss (item_items levels (limits_of self.entry)) (limits_of self.entry) (here_of here.entry) rest.entry.room rest.entry.octets.now) out.old out.new) }
     {
-        if octets.is_empty() {
+        if rest.room == 0 {
             let begun = Begun::new(self.alloc, here);
             return self.cut(out, Some("SPNEGO"), &begun, false);
         }
-        let own = Here::new(
-            &[Layer::Gss, Layer::Spnego],
-            "SPNEGO",
-            here.place,
-            here.depth,
-        );
+        if rest.octets.is_empty() {
+            return self.unknown(out, Some(here.name), here, rest.octets);
+        }
+        let layers = &[Layer::Gss, Layer::Spnego];
+        let own = Here::new(layers, "SPNEGO", here.place, here.depth);
         if here.place < self.limit {
-            self.spnego(out, levels, NegToken::Init, own, octets)
+            self.spnego(out, levels, NegToken::Init, own, rest.octets)
         } else {
-            self.unknown(out, None, own, octets)
+            self.unknown(out, None, own, rest.octets)
         }
     }
 
@@ -199,33 +222,33 @@ impl<'a> Source<'a> {
         levels: u8,
         here: Here<'_>,
         identifier: &'a [u8],
-        octets: &'a [u8],
+        rest: Rest<'a>,
     ) -> Result<End, AllocError>
-        requires near { here.place + length octets.now < 2 ^ 40 }
+        requires near { here.place + length rest.octets.now < 2 ^ 40 }
         requires shallow { here.depth + 3 * levels < 2 ^ 32 }
-        ensures { IfOk result (Lists (context_of self.entry) (mechanism_items (item_items levels (limits_of self.entry)) (limits_of self.entry) (here_of here.entry) identifier.now octets.now) out.old out.new) }
+        ensures { IfOk result (Lists (context_of self.entry) (mechanism_items (item_items levels (limits_of self.entry)) (limits_of self.entry) (here_of here.entry) identifier.now rest.entry.room rest.entry.octets.now) out.old out.new) }
     {
         if identifier == NEGOTIATION.as_slice() {
-            self.spnego_in_gss(out, levels, here, octets)
+            self.spnego_in_gss(out, levels, here, rest)
         } else {
-            self.kerberos(out, levels, here, octets)
+            self.kerberos(out, levels, here, rest)
         }
     }
 
-    /// Lists that no identifier of a mechanism is there.
+    /// Lists that no identifier of a mechanism is there. Where the room ends it is missing.
     fn not_identified(
         self,
         out: &mut Listed,
         here: Here<'_>,
-        octets: &'a [u8],
+        rest: Rest<'a>,
     ) -> Result<End, AllocError>
         requires { here.place < 2 ^ 40 }
-        ensures { IfOk result (Lists (context_of self.entry) (not_identified (here_of here.entry) octets.now) out.old out.new) }
+        ensures { IfOk result (Lists (context_of self.entry) (not_identified (here_of here.entry) rest.entry.room rest.entry.octets.now) out.old out.new) }
     {
-        if octets.is_empty() {
+        if rest.room == 0 {
             self.missing(out, here, "oid")
         } else {
-            self.unknown(out, Some(here.name), here, octets)
+            self.unknown(out, Some(here.name), here, rest.octets)
         }
     }
 
@@ -236,16 +259,17 @@ impl<'a> Source<'a> {
         out: &mut Listed,
         levels: u8,
         here: Here<'_>,
-        octets: &'a [u8],
+        rest: Rest<'a>,
     ) -> Result<End, AllocError>
-        requires near { here.place + length octets.now < 2 ^ 40 }
+        requires near { here.place + length rest.octets.now < 2 ^ 40 }
         requires shallow { here.depth + 3 * levels < 2 ^ 32 }
-        ensures { IfOk result (Lists (context_of self.entry) (identified_items (item_items levels (limits_of self.entry)) (limits_of self.entry) (here_of here.entry) octets.now) out.old out.new) }
+        ensures { IfOk result (Lists (context_of self.entry) (identified_items (item_items levels (limits_of self.entry)) (limits_of self.entry) (here_of here.entry) rest.entry.room rest.entry.octets.now) out.old out.new) }
     {
-        let of = identifier_type();
+        let octets = rest.octets;
         if !begins(octets, Tag::ObjectIdentifier.octet()) {
-            return self.not_identified(out, here, octets);
+            return self.not_identified(out, here, rest);
         }
+        let of = identifier_type();
         let name = field_name(self.alloc, here.name, "oid")?;
         let own = here.named(name.as_str());
         let End::Whole = self.item(out, levels, own, of, octets)? else {
@@ -253,13 +277,8 @@ impl<'a> Source<'a> {
         };
         let count = count_of(octets);
         let identifier = contents_in(of.tags, octets);
-        self.mechanism(
-            out,
-            levels,
-            here.after(count, None),
-            identifier,
-            from(octets, count),
-        )
+        let next = here.after(count, None);
+        self.mechanism(out, levels, next, identifier, rest.after(count))
     }
 
     /// Lists a GSS-API token.
@@ -280,7 +299,8 @@ impl<'a> Source<'a> {
             return self.cut(out, Some(here.name), &begun, false);
         };
         self.list_container(out, here.name, &begun)?;
-        self.identified(out, levels, begun.inside(here.name), contents)
+        let rest = begun.rest(contents);
+        self.identified(out, levels, begun.inside(here.name), rest)
     }
 
     /// Lists the token in one of SPNEGO: one of GSS-API, or a message by itself.

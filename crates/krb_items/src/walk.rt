@@ -451,7 +451,7 @@ impl<'n> Here<'n> {
 
 impl<'a> Rest<'a> {
     /// Returns what follows so many octets.
-    fn after(self, count: u64) -> Rest<'a>
+    pub(crate) fn after(self, count: u64) -> Rest<'a>
         ensures room { result.room ≡ self.entry.room - count }
         ensures octets { result.octets.now ≡ drop count self.entry.octets.now }
     {

@@ -107,17 +107,18 @@ item-returns-in-Some t c = IfOk-weaker c.contents.result _ _
 
 pub identified-returns : goal.identified-returns
 identified-returns t c =
-    let begins : begins_with (octet_of tags.ObjectIdentifier) c.args.octets.now ≡ true = cc in
+    let begins : begins_with (octet_of tags.ObjectIdentifier) c.args.rest.octets.now ≡ true = cc in
     IfOk-weaker c.mechanism.result _ _
-    (λ end listed. identified-then (context_of c.args.self) (item_items c.args.levels (limits_of c.args.self)) (limits_of c.args.self) (here_of c.args.here) (here_of c.named-own.result) (here_of c.after.result) (type_of c.identifier_type-of.result) c.args.octets.now c.contents_in-identifier.result.now c.from.result.now c.count_of-count.result c.args.out.now c.item.new.out c.mechanism.new.out c.in_ok-item.field-0 end
+    (λ end listed. identified-then (context_of c.args.self) (item_items c.args.levels (limits_of c.args.self)) (limits_of c.args.self) (here_of c.args.here) (here_of c.named-own.result) (here_of c.after-next.result) (type_of c.identifier_type-of.result) c.args.rest.room c.after.result.room c.args.rest.octets.now c.contents_in-identifier.result.now c.after.result.octets.now c.count_of-count.result c.args.out.now c.item.new.out c.mechanism.new.out c.in_ok-item.field-0 end
     begins
     (c.named-own.ensures ∙ ap (λ (n : List ℕ). named (here_of c.args.here) n) (c.as_str.ensures.value ∙ c.in_ok-name.ensures))
     c.identifier_type-of.ensures
     c.in_ok-item.ensures
     c.in-Whole.is
     c.count_of-count.ensures.count
-    c.after.ensures
-    (c.contents_in-identifier.ensures ∙ ap (λ (o : ItemType). contents_in o.tags c.args.octets.now) c.identifier_type-of.ensures)
-    c.from.ensures
+    c.after-next.ensures
+    (c.contents_in-identifier.ensures ∙ ap (λ (o : ItemType). contents_in o.tags c.args.rest.octets.now) c.identifier_type-of.ensures)
+    c.after.ensures.room
+    c.after.ensures.octets
     listed)
     c.mechanism.ensures

@@ -20,8 +20,11 @@ decreases-token_message l = 32 * l.levels + 3
 abbrev pub decreases-kerberos_message : goal.decreases-kerberos_message
 decreases-kerberos_message l = 32 * l.levels + 4
 
+abbrev pub decreases-identified_message : goal.decreases-identified_message
+decreases-identified_message l = 32 * l.levels + 5
+
 abbrev pub decreases-kerberos : goal.decreases-kerberos
-decreases-kerberos l = 32 * l.levels + 5
+decreases-kerberos l = 32 * l.levels + 6
 
 abbrev pub decreases-spnego : goal.decreases-spnego
 decreases-spnego l = 32 * l.levels + 13
