@@ -14,3 +14,12 @@ pub mod Lines
 pub mod Values
 pub mod InsideWords
 pub mod MessagesPlain
+pub mod RecordsPlain
+pub mod CapturesPlain
+pub mod FilesPlain
+pub mod Texts
+pub mod MembersAt
+pub mod Words
+pub mod CellsSay
+pub mod CellsApart
+pub mod MembersTold

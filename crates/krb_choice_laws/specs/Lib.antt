@@ -2,3 +2,5 @@ pub mod Plain
 pub mod Laws
 pub mod Listing
 pub mod Messages
+pub mod Records
+pub mod Cells

@@ -1,8 +1,10 @@
 //! Laws of what is chosen. Each is the contract of a function that does nothing.
 
+ghost use Rattle.krb_choice_laws.specs.Cells.{CellsSayMembers, MembersAreApart};
 ghost use Rattle.krb_choice_laws.specs.Listing.{ListingsAreChosen};
 ghost use Rattle.krb_choice_laws.specs.Messages.{CapturedCiphersAreNotChosen, CapturedMessagesArePlain, CiphersAreNotChosen, KeysAreNotChosen, MessagesArePlain, SessionKeysAreNotChosen};
 ghost use Rattle.krb_choice_laws.specs.Laws.{AllKindsAreKept, FileNamesAreApart, KeptKindsAreShown, NumberListsAreApart, NumbersAreApart, RowsArePrintable, StringListsAreApart, StringsAreApart, StringsAreThere, WrittenIsChosen};
+ghost use Rattle.krb_choice_laws.specs.Records.{CapturesArePlain, EndsArePlain, FilesArePlain, LabelsArePlain, TicketsArePlain};
 
 /// What a choice writes of the text of a record, in the form in which it lists records, is what it has of
 /// the record itself: nothing if it does not keep it, and else its rows, or its line or its object.
@@ -27,6 +29,13 @@ pub fn cells_are_apart()
     ensures number_lists { NumberListsAreApart }
 {}
 
+/// A cell says what the object of its record says: it is a function of the member at its path, and
+/// members of one type that differ, and are no objects, have cells that differ.
+pub fn cells_say_members()
+    ensures members { CellsSayMembers }
+    ensures apart { MembersAreApart }
+{}
+
 /// A message that a choice keeps is of a kind that is shown in the form of the choice, and a choice by
 /// kinds keeps each record of one of these.
 pub fn kinds_are_kept()
@@ -45,6 +54,15 @@ pub fn listings_are_chosen()
 pub fn messages_are_plain()
     ensures message { MessagesArePlain }
     ensures capture { CapturedMessagesArePlain }
+{}
+
+/// So are those of each other record that is listed, in each form, and also with the name of its file.
+pub fn records_are_plain()
+    ensures ticket { TicketsArePlain }
+    ensures end { EndsArePlain }
+    ensures capture { CapturesArePlain }
+    ensures file { FilesArePlain }
+    ensures label { LabelsArePlain }
 {}
 
 /// What is written of messages, keytabs and caches is as of the same with every octet 00 of each key,
