@@ -23,3 +23,4 @@ pub mod Words
 pub mod CellsSay
 pub mod CellsApart
 pub mod MembersTold
+pub mod Ends

@@ -1,7 +1,7 @@
 //! Laws of what is chosen. Each is the contract of a function that does nothing.
 
 ghost use Rattle.krb_choice_laws.specs.Cells.{CellsSayMembers, MembersAreApart};
-ghost use Rattle.krb_choice_laws.specs.Listing.{ListingsAreChosen};
+ghost use Rattle.krb_choice_laws.specs.Listing.{EndsAreTold, ListingsAreChosen, ListingsAreTold};
 ghost use Rattle.krb_choice_laws.specs.Messages.{CapturedCiphersAreNotChosen, CapturedMessagesArePlain, CiphersAreNotChosen, KeysAreNotChosen, MessagesArePlain, SessionKeysAreNotChosen};
 ghost use Rattle.krb_choice_laws.specs.Laws.{AllKindsAreKept, FileNamesAreApart, KeptKindsAreShown, NumberListsAreApart, NumbersAreApart, RowsArePrintable, StringListsAreApart, StringsAreApart, StringsAreThere, WrittenIsChosen};
 ghost use Rattle.krb_choice_laws.specs.Records.{CapturesArePlain, EndsArePlain, FilesArePlain, LabelsArePlain, TicketsArePlain};
@@ -47,6 +47,14 @@ pub fn kinds_are_kept()
 /// order.
 pub fn listings_are_chosen()
     ensures { ListingsAreChosen }
+{}
+
+/// Nothing is lost in silence: what is told of a listing is the line that tells of its last record,
+/// unless that is kept; and each record has such a line that ends a listing of which something was
+/// refused, lost or left unread.
+pub fn listings_are_told()
+    ensures told { ListingsAreTold }
+    ensures ends { EndsAreTold }
 {}
 
 /// The texts of the record of a message are printable, with an origin and of a capture too: so the laws
