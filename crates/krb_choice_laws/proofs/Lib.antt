@@ -24,3 +24,4 @@ pub mod CellsSay
 pub mod CellsApart
 pub mod MembersTold
 pub mod Ends
+pub mod Objects

@@ -1,6 +1,6 @@
 //! Laws of what is chosen. Each is the contract of a function that does nothing.
 
-ghost use Rattle.krb_choice_laws.specs.Cells.{CellsSayMembers, MembersAreApart};
+ghost use Rattle.krb_choice_laws.specs.Cells.{CellsSayMembers, CellsSayObjects, CellsSayParts, MembersAreApart};
 ghost use Rattle.krb_choice_laws.specs.Listing.{EndsAreTold, ListingsAreChosen, ListingsAreTold};
 ghost use Rattle.krb_choice_laws.specs.Messages.{CapturedCiphersAreNotChosen, CapturedMessagesArePlain, CiphersAreNotChosen, KeysAreNotChosen, MessagesArePlain, SessionKeysAreNotChosen};
 ghost use Rattle.krb_choice_laws.specs.Laws.{AllKindsAreKept, FileNamesAreApart, KeptKindsAreShown, NumberListsAreApart, NumbersAreApart, RowsArePrintable, StringListsAreApart, StringsAreApart, StringsAreThere, WrittenIsChosen};
@@ -32,7 +32,9 @@ pub fn cells_are_apart()
 /// A cell says what the object of its record says: it is a function of the member at its path, and
 /// members of one type that differ, and are no objects, have cells that differ.
 pub fn cells_say_members()
-    ensures members { CellsSayMembers }
+    ensures field { CellsSayMembers }
+    ensures object { CellsSayObjects }
+    ensures part { CellsSayParts }
     ensures apart { MembersAreApart }
 {}
 
