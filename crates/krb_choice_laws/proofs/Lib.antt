@@ -12,6 +12,7 @@ pub mod Lists
 pub mod KeptKinds
 pub mod Lines
 pub mod Values
+pub mod Worded
 pub mod InsideWords
 pub mod MessagesPlain
 pub mod RecordsPlain
@@ -25,3 +26,4 @@ pub mod CellsApart
 pub mod MembersTold
 pub mod Ends
 pub mod Objects
+pub mod MessagesSay

@@ -14,10 +14,10 @@ use Rattle.krb_record.specs.declared.path.Path.{Path}
 use Rattle.krb_record.specs.declared.path.Path.TheVariants as paths
 use Rattle.krb_choice.specs.Choices.{ShownField, cell_of, shown_field}
 use Rattle.krb_laws.specs.Json.{field_members, inside_members, json_of, json_of_value, list_of, members_of, names_of_value, part_json}
-use Rattle.krb_laws.specs.JsonLaws.{FitsJson, PartFits, are_different, inside_name, member_names}
-use Rattle.krb_choice_laws.specs.Cells.{CellsSayObjects, CellsSayParts, member_at, member_in, member_of, member_within, names_of, object_with, said_of, unless_null}
+use Rattle.krb_laws.specs.JsonLaws.{are_different, inside_name, member_names}
+use Rattle.krb_choice_laws.specs.Cells.{CellsSayObjects, CellsSayParts, NamesDiffer, PartNamesDiffer, names_beside, member_at, member_in, member_of, member_within, names_of, object_with, said_of, unless_null}
 use Rattle.krb_choice_laws.proofs.CellsSay.{cells-say}
-use Rattle.krb_choice_laws.proofs.MembersAt.{name_beside, names_beside}
+use Rattle.krb_choice_laws.proofs.MembersAt.{name_beside, names_beside as numbers_beside}
 
 -- ---- lists
 abbrev IsIn : {A : Type 0} → A → List A → Type 0
@@ -139,7 +139,7 @@ past-names name of rest (Status n) h k = ap (λ b. cond b (name_beside (Status n
 past-names name of rest (Reason n reason) h k = ap (λ b. cond b (name_beside (Reason n reason)) (member_in name (members_of rest))) h
 past-names name of rest (Called n called) h k = ap (λ b. cond b (name_beside (Called n called)) (member_in name (members_of rest))) h
 past-names name of rest NoReason h k = ap (λ b. cond b (name_beside NoReason) (member_in name (members_of rest))) h
-past-names name of rest (Numbers registry ns) h k = ap (λ b. cond b (names_beside (Numbers registry ns)) (member_in name (members_of rest))) k
+past-names name of rest (Numbers registry ns) h k = ap (λ b. cond b (numbers_beside (Numbers registry ns)) (member_in name (members_of rest))) k
 past-names name of rest value h k = refl
 
 field-entry : (f : Field) → IsEntry (of_field f)
@@ -174,15 +174,8 @@ inside-entry : (inside : Option (List Part)) → IsEntry (of_inside inside)
 inside-entry None = record { past = λ name rest d. refl }
 inside-entry (Some parts) = record { past = λ name rest d. ap (λ b. cond b (list_of part_json parts) (member_in name (members_of rest))) (flip name (codes "inside") (and_parts (not (bytes_eq name (codes "inside"))) true d).0) }
 
--- the name of its file is no member of it here
-abbrev of_file : Entry
-of_file = record { names = member_names (codes "file"); members = [] }
-
-file-entry : IsEntry of_file
-file-entry = record { past = λ name rest d. refl }
-
 abbrev field_names : List Field → List (List ℕ)
-field_names fields = flat_map (λ f. member_names f.name) fields
+field_names fields = names_beside fields
 
 abbrev its_members : List Field → List (List ℕ × Json)
 its_members fields = flat_map field_members fields
@@ -219,12 +212,12 @@ at-same paths.Names name json one h = ap₂ unless_null (h (name ++ codes "_name
 at-same path name json one h = ap (member_within (names_of path)) (h name (inl refl))
 
 -- ---- a record inside
-module _ (p : Part) (fits : PartFits p) (f : Field) (found : IsIn f p.fields) where
+module _ (p : Part) (fits : PartNamesDiffer p) (f : Field) (found : IsIn f p.fields) where
   abbrev part_entries : List Entry
   part_entries = of_kind p.kind ∷ map of_field p.fields
 
   part-differ : are_different (all_names part_entries) ≡ true
-  part-differ = ap (λ ns. are_different (codes "kind" ∷ ns)) (flat_map-map (λ (e : Entry). e.names) of_field p.fields) ∙ fits.apart
+  part-differ = ap (λ ns. are_different (codes "kind" ∷ ns)) (flat_map-map (λ (e : Entry). e.names) of_field p.fields) ∙ fits
 
   part-member : (n : List ℕ) → IsIn n (member_names f.name) → member_of n (part_json p) ≡ member_of n (object_with f)
   part-member n i =
@@ -234,49 +227,49 @@ module _ (p : Part) (fits : PartFits p) (f : Field) (found : IsIn f p.fields) wh
   part-cell : (path : Path) → cell_of f.name path (map shown_field p.fields) ≡ cell path f.value
   part-cell path =
       ap (cell_of f.name path) (sym (append-nil (map shown_field p.fields)))
-      ∙ first-cell path p.fields [] [] f found (ap are_different (append-nil (field_names p.fields)) ∙ rest-differ (codes "kind" ∷ []) (field_names p.fields) fits.apart)
+      ∙ first-cell path p.fields [] [] f found (ap are_different (append-nil (field_names p.fields)) ∙ rest-differ (codes "kind" ∷ []) (field_names p.fields) fits)
 
 pub parts-say : CellsSayParts
-parts-say path p f fits contains h =
+parts-say p fits path f contains h =
     let found = is-in p.fields f contains in
     part-cell p fits f found path ∙ cells-say path f h ∙ ap (said_of f.value path) (sym (at-same path f.name (part_json p) (object_with f) (part-member p fits f found)))
 
 -- ---- a record
-module _ (r : Printed) (fits : FitsJson r) (f : Field) (found : IsIn f (r.origin ++ r.fields ++ r.last)) where
+module _ (r : Printed) (fits : NamesDiffer r) (f : Field) (found : IsIn f (r.origin ++ r.fields ++ r.last)) where
   abbrev own : List Field
   own = r.origin ++ r.fields
 
   abbrev later : List Entry
-  later = of_inside r.inside ∷ (map of_field r.last ++ of_file ∷ [])
+  later = of_inside r.inside ∷ map of_field r.last
 
   abbrev entries : List Entry
   entries = of_kind r.kind ∷ (map of_field own ++ later)
 
   abbrev names_after : List (List ℕ)
-  names_after = inside_name r.inside ++ (field_names r.last ++ member_names (codes "file"))
+  names_after = inside_name r.inside ++ field_names r.last
 
   names-are : all_names entries ≡ codes "kind" ∷ (field_names own ++ names_after)
   names-are =
       let names = λ (e : Entry). e.names in
       ap (λ ns. codes "kind" ∷ ns) (flat_map-append names (map of_field own) later
-      ∙ ap₂ (λ a b. a ++ (inside_name r.inside ++ b)) (flat_map-map names of_field own) (flat_map-append names (map of_field r.last) (of_file ∷ []) ∙ ap (λ l. l ++ member_names (codes "file")) (flat_map-map names of_field r.last)))
+      ∙ ap₂ (λ a b. a ++ (inside_name r.inside ++ b)) (flat_map-map names of_field own) (flat_map-map names of_field r.last))
 
   members-are : all_members entries ≡ (codes "kind", string r.kind) ∷ (its_members own ++ (inside_members r.inside ++ its_members r.last))
   members-are =
       let members = λ (e : Entry). e.members in
       ap (λ ms. (codes "kind", string r.kind) ∷ ms) (flat_map-append members (map of_field own) later
-      ∙ ap₂ (λ a b. a ++ (inside_members r.inside ++ b)) (flat_map-map members of_field own) (flat_map-append members (map of_field r.last) (of_file ∷ []) ∙ ap (λ l. l ++ []) (flat_map-map members of_field r.last) ∙ append-nil (its_members r.last)))
+      ∙ ap₂ (λ a b. a ++ (inside_members r.inside ++ b)) (flat_map-map members of_field own) (flat_map-map members of_field r.last))
 
   are-entries : AreEntries entries
-  are-entries = (kind-entry r.kind, both-entries (map of_field own) later (field-entries own) (inside-entry r.inside, both-entries (map of_field r.last) (of_file ∷ []) (field-entries r.last) (file-entry, tt)))
+  are-entries = (kind-entry r.kind, both-entries (map of_field own) later (field-entries own) (inside-entry r.inside, field-entries r.last))
 
   differ : are_different (all_names entries) ≡ true
-  differ = ap are_different names-are ∙ fits.apart
+  differ = ap are_different names-are ∙ fits
 
   its-entry : IsIn (of_field f) entries
   its-entry = inr (elim (in-either own r.last f found) [
     | inl i ↦ in-left (map of_field own) later (of_field f) (in-map of_field own f i)
-    | inr i ↦ in-right (map of_field own) later (of_field f) (inr (in-left (map of_field r.last) (of_file ∷ []) (of_field f) (in-map of_field r.last f i)))
+    | inr i ↦ in-right (map of_field own) later (of_field f) (inr (in-map of_field r.last f i))
   ])
 
   its-member : (n : List ℕ) → IsIn n (member_names f.name) → member_of n (json_of r) ≡ member_of n (object_with f)
@@ -284,7 +277,7 @@ module _ (r : Printed) (fits : FitsJson r) (f : Field) (found : IsIn f (r.origin
   its-member n i = ap (λ ms. member_in n (members_of ms)) (sym members-are) ∙ own-members entries are-entries differ (of_field f) its-entry n i
 
   own-differ : are_different (field_names own ++ names_after) ≡ true
-  own-differ = rest-differ (codes "kind" ∷ []) (field_names own ++ names_after) fits.apart
+  own-differ = rest-differ (codes "kind" ∷ []) (field_names own ++ names_after) fits
 
   its-cell : (path : Path) → cell_of f.name path (map shown_field (r.origin ++ r.fields ++ r.last)) ≡ cell path f.value
   its-cell path =
@@ -292,13 +285,14 @@ module _ (r : Printed) (fits : FitsJson r) (f : Field) (found : IsIn f (r.origin
       ∙ elim (in-either own r.last f found) as (λ _. cell_of f.name path (map shown_field own ++ map shown_field r.last) ≡ cell path f.value) [
         | inl i ↦ first-cell path own (map shown_field r.last) names_after f i own-differ
         | inr i ↦
-            let its = in-right (inside_name r.inside) (field_names r.last ++ member_names (codes "file")) f.name (in-left (field_names r.last) (member_names (codes "file")) f.name (named r.last f i)) in
+            let its = in-right (inside_name r.inside) (field_names r.last) f.name (named r.last f i) in
+            let last_differ = rest-differ (inside_name r.inside) (field_names r.last) (rest-differ (field_names own) names_after own-differ) in
             past-cells path f.name own (map shown_field r.last) (after-differs (field_names own) names_after f.name its own-differ)
             ∙ ap (cell_of f.name path) (sym (append-nil (map shown_field r.last)))
-            ∙ first-cell path r.last [] (member_names (codes "file")) f i (rest-differ (inside_name r.inside) (field_names r.last ++ member_names (codes "file")) (rest-differ (field_names own) names_after own-differ))
+            ∙ first-cell path r.last [] [] f i (ap are_different (append-nil (field_names r.last)) ∙ last_differ)
       ]
 
 pub objects-say : CellsSayObjects
-objects-say path r f fits contains h =
+objects-say r fits path f contains h =
     let found = is-in (r.origin ++ r.fields ++ r.last) f contains in
     its-cell r fits f found path ∙ cells-say path f h ∙ ap (said_of f.value path) (sym (at-same path f.name (json_of r) (object_with f) (its-member r fits f found)))

@@ -1,6 +1,6 @@
 -- What a cell says of an object: it is a function of the member of that at the path of its column.
 use Rattle.std.specs.Prelude.{ℕ, ◌≡◌, ◌<◌, ◌^◌, ◌==◌, ◌&&◌, nat_le, not, Bool, true, false, List, [], ◌∷◌, ◌++◌, IfSome, Some, bytes_eq, codes, if◌then◌else◌}
-use Rattle.std.specs.List.{Contains, list_all}
+use Rattle.std.specs.List.{Contains, flat_map, list_all}
 use Rattle.std.specs.Net.Addr.{IsIpv4Addr, IsIpv6Addr, MatchIp}
 use Rattle.json.specs.Json.{Items, Json, Members, array, boolean, item, member, no_items, no_members, null, number, object, string}
 use Rattle.krb_der.specs.Octets.{AreOctets}
@@ -11,7 +11,7 @@ use Rattle.krb_record.specs.Values.{Address, Called, Field, FileName, Flags, Flo
 use Rattle.krb_record.specs.declared.path.Path.{Path}
 use Rattle.krb_record.specs.declared.path.Path.TheVariants as paths
 use Rattle.krb_laws.specs.Json.{field_members, json_of, object_of, part_json}
-use Rattle.krb_laws.specs.JsonLaws.{FitsJson, PartFits}
+use Rattle.krb_laws.specs.JsonLaws.{are_different, inside_name, member_names}
 use Rattle.krb_choice.specs.Choices.{Member, own_cell, part_cell, shown, shown_part}
 
 -- ---- members of objects
@@ -148,17 +148,32 @@ object_with field = object_of (field_members field)
 abbrev pub CellsSayMembers : Type 0
 CellsSayMembers = (path : Path) (field : Field) → Speaks field.value → cell path field.value ≡ said_of field.value path (member_at path field.name (object_with field))
 
+-- the names of the members of a record differ; so do those of one inside
+abbrev pub names_beside : List Field → List (List ℕ)
+names_beside fields = flat_map (λ (field : Field). member_names field.name) fields
+
+abbrev pub NamesDiffer : Printed → Type 0
+NamesDiffer r = are_different (codes "kind" ∷ (names_beside (r.origin ++ r.fields) ++ (inside_name r.inside ++ names_beside r.last))) ≡ true
+
+abbrev pub PartNamesDiffer : Part → Type 0
+PartNamesDiffer part = are_different (codes "kind" ∷ names_beside part.fields) ≡ true
+
 -- In a row of a record it is what the object of the record says.
-abbrev pub CellsSayObjects : Type 0
-CellsSayObjects =
-    (path : Path) (r : Printed) (field : Field) → FitsJson r → Contains (r.origin ++ r.fields ++ r.last) field → Speaks field.value
+abbrev pub SaysObject : Printed → Type 0
+SaysObject r =
+    (path : Path) (field : Field) → Contains (r.origin ++ r.fields ++ r.last) field → Speaks field.value
     → own_cell (Member field.name path) (shown r) ≡ said_of field.value path (member_at path field.name (json_of r))
 
--- So it is of a record inside.
-abbrev pub CellsSayParts : Type 0
-CellsSayParts =
-    (path : Path) (part : Part) (field : Field) → PartFits part → Contains part.fields field → Speaks field.value
+abbrev pub SaysPart : Part → Type 0
+SaysPart part =
+    (path : Path) (field : Field) → Contains part.fields field → Speaks field.value
     → part_cell (Member field.name path) (Some (shown_part part)) ≡ said_of field.value path (member_at path field.name (part_json part))
+
+abbrev pub CellsSayObjects : Type 0
+CellsSayObjects = (r : Printed) → NamesDiffer r → SaysObject r
+
+abbrev pub CellsSayParts : Type 0
+CellsSayParts = (part : Part) → PartNamesDiffer part → SaysPart part
 
 -- ---- members of one type that are no objects; null is of each type
 pub data MemberType : Type 0 where

@@ -1,5 +1,6 @@
 -- Laws of choosing messages: their texts are printable, so that the laws of records hold of theirs; and keys, ciphers and checksums have no part in what is written.
-use Rattle.std.specs.Prelude.{ℕ, ◌≡◌, Bool, List, Option}
+use Rattle.std.specs.Prelude.{ℕ, ◌≡◌, ◌++◌, Bool, List, Option, Some, IfSome}
+use Rattle.std.specs.List.{AllByRecursion, Contains}
 use Rattle.krb_der.specs.declared.profile.Profile.TheVariants as profiles
 use Rattle.krb_keytab.specs.Spelling.{masked as masked_keytab}
 use Rattle.krb_keytab.specs.declared.value.Keytab.{Keytab}
@@ -10,17 +11,21 @@ use Rattle.krb_msg.specs.declared.message.Message.{Message}
 use Rattle.krb_record.specs.Captures.{captured}
 use Rattle.krb_record.specs.Laws.{OriginIsInRange}
 use Rattle.krb_record.specs.Origins.{message_origin}
-use Rattle.krb_record.specs.Values.{Field, with_origin}
+use Rattle.krb_record.specs.Values.{Field, Part, Printed, with_origin}
 use Rattle.krb_record.specs.declared.capture_origin.CaptureOrigin.{CaptureOrigin}
 use Rattle.krb_record.specs.declared.form.Form.{Form}
+use Rattle.krb_record.specs.declared.path.Path.{Path}
+use Rattle.krb_laws.specs.Json.{json_of, part_json}
 use Rattle.krb_source.specs.declared.layer.Layer.{Layer}
+use Rattle.krb_text.specs.Inside.{inside_of}
 use Rattle.krb_text.specs.Masks.{masked}
 use Rattle.krb_text.specs.Messages.{captured_message_line, message_line_from, message_record}
 use Rattle.krb_list.specs.Ccaches.{ccache_lines}
 use Rattle.krb_list.specs.Keytabs.{keytab_lines}
-use Rattle.krb_choice.specs.Choices.{Choice}
+use Rattle.krb_choice.specs.Choices.{Choice, Member, own_cell, part_cell, shown, shown_part}
 use Rattle.krb_choice.specs.Wanted.{choice_form}
 use Rattle.krb_choosing.specs.Listings.{chosen_listing}
+use Rattle.krb_choice_laws.specs.Cells.{member_at, said_of}
 use Rattle.krb_choice_laws.specs.Plain.{IsPlain}
 
 -- ---- printable
@@ -42,3 +47,20 @@ KeysAreNotChosen = (c : Choice) (goes_on : Bool) (v : Keytab) → chosen_listing
 
 abbrev pub SessionKeysAreNotChosen : Type 0
 SessionKeysAreNotChosen = (c : Choice) (goes_on : Bool) (now : Option ℕ) (v : Ccache) → chosen_listing c goes_on (ccache_lines (choice_form c) now (masked_cache v)) ≡ chosen_listing c goes_on (ccache_lines (choice_form c) now v)
+
+-- ---- a cell of a message, and of what is inside of it, says what the object says
+abbrev pub SaysAll : Printed → Type 0
+SaysAll r =
+    (path : Path) (field : Field) → Contains (r.origin ++ r.fields ++ r.last) field
+    → own_cell (Member field.name path) (shown r) ≡ said_of field.value path (member_at path field.name (json_of r))
+
+abbrev pub PartSaysAll : Part → Type 0
+PartSaysAll part =
+    (path : Path) (field : Field) → Contains part.fields field
+    → part_cell (Member field.name path) (Some (shown_part part)) ≡ said_of field.value path (member_at path field.name (part_json part))
+
+abbrev pub MessagesSayObjects : Type 0
+MessagesSayObjects = (line : Option ℕ) (layers : List Layer) (m : Message) → IsInProfile profiles.Lenient m → SaysAll (with_origin (message_origin line layers) (message_record m))
+
+abbrev pub MessagesSayParts : Type 0
+MessagesSayParts = (m : Message) → IsInProfile profiles.Lenient m → IfSome (inside_of m) (AllByRecursion PartSaysAll)

@@ -2,7 +2,7 @@
 
 ghost use Rattle.krb_choice_laws.specs.Cells.{CellsSayMembers, CellsSayObjects, CellsSayParts, MembersAreApart};
 ghost use Rattle.krb_choice_laws.specs.Listing.{EndsAreTold, ListingsAreChosen, ListingsAreTold};
-ghost use Rattle.krb_choice_laws.specs.Messages.{CapturedCiphersAreNotChosen, CapturedMessagesArePlain, CiphersAreNotChosen, KeysAreNotChosen, MessagesArePlain, SessionKeysAreNotChosen};
+ghost use Rattle.krb_choice_laws.specs.Messages.{CapturedCiphersAreNotChosen, CapturedMessagesArePlain, CiphersAreNotChosen, KeysAreNotChosen, MessagesArePlain, MessagesSayObjects, MessagesSayParts, SessionKeysAreNotChosen};
 ghost use Rattle.krb_choice_laws.specs.Laws.{AllKindsAreKept, FileNamesAreApart, KeptKindsAreShown, NumberListsAreApart, NumbersAreApart, RowsArePrintable, StringListsAreApart, StringsAreApart, StringsAreThere, WrittenIsChosen};
 ghost use Rattle.krb_choice_laws.specs.Records.{CapturesArePlain, EndsArePlain, FilesArePlain, LabelsArePlain, TicketsArePlain};
 
@@ -36,6 +36,8 @@ pub fn cells_say_members()
     ensures object { CellsSayObjects }
     ensures part { CellsSayParts }
     ensures apart { MembersAreApart }
+    ensures message { MessagesSayObjects }
+    ensures inside { MessagesSayParts }
 {}
 
 /// A message that a choice keeps is of a kind that is shown in the form of the choice, and a choice by

@@ -1,5 +1,6 @@
 use Rattle.krb_choice_laws.proofs.CellsSay.{cells-say}
 use Rattle.krb_choice_laws.proofs.MembersTold.{members-apart}
+use Rattle.krb_choice_laws.proofs.MessagesSay.{messages-say, parts-of-messages-say}
 use Rattle.krb_choice_laws.proofs.Objects.{objects-say, parts-say}
 use Rattle.krb_choice_laws.proofs.chosen.cells_say_members.Goals as goal
 
@@ -14,3 +15,9 @@ returns-clause-part c = parts-say
 
 pub returns-clause-apart : goal.returns-clause-apart
 returns-clause-apart c = members-apart
+
+pub returns-clause-message : goal.returns-clause-message
+returns-clause-message c = messages-say
+
+pub returns-clause-inside : goal.returns-clause-inside
+returns-clause-inside c = parts-of-messages-say
