@@ -27,3 +27,4 @@ pub mod MembersTold
 pub mod Ends
 pub mod Objects
 pub mod MessagesSay
+pub mod MessagesListed

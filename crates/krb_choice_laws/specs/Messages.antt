@@ -19,10 +19,10 @@ use Rattle.krb_laws.specs.Json.{json_of, part_json}
 use Rattle.krb_source.specs.declared.layer.Layer.{Layer}
 use Rattle.krb_text.specs.Inside.{inside_of}
 use Rattle.krb_text.specs.Masks.{masked}
-use Rattle.krb_text.specs.Messages.{captured_message_line, message_line_from, message_record}
+use Rattle.krb_text.specs.Messages.{captured_message_line, message_line_from, message_record, shown_record}
 use Rattle.krb_list.specs.Ccaches.{ccache_lines}
 use Rattle.krb_list.specs.Keytabs.{keytab_lines}
-use Rattle.krb_choice.specs.Choices.{Choice, Member, own_cell, part_cell, shown, shown_part}
+use Rattle.krb_choice.specs.Choices.{Choice, Member, chosen_text, own_cell, part_cell, shown, shown_part}
 use Rattle.krb_choice.specs.Wanted.{choice_form}
 use Rattle.krb_choosing.specs.Listings.{chosen_listing}
 use Rattle.krb_choice_laws.specs.Cells.{member_at, said_of}
@@ -34,6 +34,18 @@ MessagesArePlain = (line : Option ℕ) (layers : List Layer) (m : Message) → I
 
 abbrev pub CapturedMessagesArePlain : Type 0
 CapturedMessagesArePlain = (form : Form) (origin : CaptureOrigin) (m : Message) → OriginIsInRange origin → IsInProfile profiles.Lenient m → IsPlain (captured form origin (message_record m))
+
+-- as they are listed, too: a form has no field of a message of a kind that it does not show
+pub record ListedMessagesArePlain : Type 0 where
+  pub message : (form : Form) (line : Option ℕ) (layers : List Layer) (m : Message) → IsInProfile profiles.Lenient m → IsPlain (with_origin (message_origin line layers) (shown_record form m))
+  pub capture : (form : Form) (origin : CaptureOrigin) (m : Message) → OriginIsInRange origin → IsInProfile profiles.Lenient m → IsPlain (captured form origin (shown_record form m))
+
+-- What a choice has of a message as it is listed is what it has of the whole message.
+pub record ListedMessagesAreWhole : Type 0 where
+  pub message : (c : Choice) (is_last : Bool) (line : Option ℕ) (layers : List Layer) (m : Message) → IsInProfile profiles.Lenient m
+      → chosen_text c is_last (with_origin (message_origin line layers) (shown_record (choice_form c) m)) ≡ chosen_text c is_last (with_origin (message_origin line layers) (message_record m))
+  pub capture : (c : Choice) (is_last : Bool) (origin : CaptureOrigin) (m : Message) → OriginIsInRange origin → IsInProfile profiles.Lenient m
+      → chosen_text c is_last (captured (choice_form c) origin (shown_record (choice_form c) m)) ≡ chosen_text c is_last (captured (choice_form c) origin (message_record m))
 
 -- ---- no octet of a key, a cipher or a checksum has a part in what is written
 abbrev pub CiphersAreNotChosen : Type 0

@@ -2,7 +2,7 @@
 
 ghost use Rattle.krb_choice_laws.specs.Cells.{CellsSayMembers, CellsSayObjects, CellsSayParts, MembersAreApart};
 ghost use Rattle.krb_choice_laws.specs.Listing.{EndsAreTold, ListingsAreChosen, ListingsAreTold};
-ghost use Rattle.krb_choice_laws.specs.Messages.{CapturedCiphersAreNotChosen, CapturedMessagesArePlain, CiphersAreNotChosen, KeysAreNotChosen, MessagesArePlain, MessagesSayObjects, MessagesSayParts, SessionKeysAreNotChosen};
+ghost use Rattle.krb_choice_laws.specs.Messages.{CapturedCiphersAreNotChosen, CapturedMessagesArePlain, CiphersAreNotChosen, KeysAreNotChosen, ListedMessagesArePlain, ListedMessagesAreWhole, MessagesArePlain, MessagesSayObjects, MessagesSayParts, SessionKeysAreNotChosen};
 ghost use Rattle.krb_choice_laws.specs.Laws.{AllKindsAreKept, FileNamesAreApart, KeptKindsAreShown, NumberListsAreApart, NumbersAreApart, RowsArePrintable, StringListsAreApart, StringsAreApart, StringsAreThere, WrittenIsChosen};
 ghost use Rattle.krb_choice_laws.specs.Records.{CapturesArePlain, EndsArePlain, FilesArePlain, LabelsArePlain, TicketsArePlain};
 
@@ -62,10 +62,12 @@ pub fn listings_are_told()
 {}
 
 /// The texts of the record of a message are printable, with an origin and of a capture too: so the laws
-/// above hold of it.
+/// above hold of it; and what a choice has of a message as it is listed, it has of the whole message.
 pub fn messages_are_plain()
     ensures message { MessagesArePlain }
     ensures capture { CapturedMessagesArePlain }
+    ensures listed { ListedMessagesArePlain }
+    ensures whole { ListedMessagesAreWhole }
 {}
 
 /// So are those of each other record that is listed, in each form, and also with the name of its file.
