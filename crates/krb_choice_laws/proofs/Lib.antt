@@ -28,3 +28,4 @@ pub mod Ends
 pub mod Objects
 pub mod MessagesSay
 pub mod MessagesListed
+pub mod AllKinds

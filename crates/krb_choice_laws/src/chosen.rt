@@ -1,7 +1,7 @@
 //! Laws of what is chosen. Each is the contract of a function that does nothing.
 
 ghost use Rattle.krb_choice_laws.specs.Cells.{CellsSayMembers, CellsSayObjects, CellsSayParts, MembersAreApart};
-ghost use Rattle.krb_choice_laws.specs.Listing.{EndsAreTold, ListingsAreChosen, ListingsAreTold};
+ghost use Rattle.krb_choice_laws.specs.Listing.{AllKindsAreListed, EndsAreTold, ListingsAreChosen, ListingsAreTold};
 ghost use Rattle.krb_choice_laws.specs.Messages.{CapturedCiphersAreNotChosen, CapturedMessagesArePlain, CiphersAreNotChosen, KeysAreNotChosen, ListedMessagesArePlain, ListedMessagesAreWhole, MessagesArePlain, MessagesSayObjects, MessagesSayParts, SessionKeysAreNotChosen};
 ghost use Rattle.krb_choice_laws.specs.Laws.{AllKindsAreKept, FileNamesAreApart, KeptKindsAreShown, NumberListsAreApart, NumbersAreApart, RowsArePrintable, StringListsAreApart, StringsAreApart, StringsAreThere, WrittenIsChosen};
 ghost use Rattle.krb_choice_laws.specs.Records.{CapturesArePlain, EndsArePlain, FilesArePlain, LabelsArePlain, TicketsArePlain};
@@ -48,9 +48,10 @@ pub fn kinds_are_kept()
 {}
 
 /// Of a listing, in the form in which a choice lists records, is written what it has of each record, in
-/// order.
+/// order; with all kinds, the listing.
 pub fn listings_are_chosen()
-    ensures { ListingsAreChosen }
+    ensures each { ListingsAreChosen }
+    ensures all { AllKindsAreListed }
 {}
 
 /// Nothing is lost in silence: what is told of a listing is the line that tells of its last record,
