@@ -29,3 +29,5 @@ pub mod Objects
 pub mod MessagesSay
 pub mod MessagesListed
 pub mod AllKinds
+pub mod TimeWords
+pub mod CapturedSay

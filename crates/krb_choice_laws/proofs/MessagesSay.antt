@@ -90,10 +90,10 @@ names-differ (Some line) (first ∷ others) (message.AsReq m) = refl
 names-differ (Some line) (first ∷ others) other = refl
 
 -- ---- what they say
-one-speaks : (fields : List Field) (field : Field) → AreSpeaking fields → Contains fields field → Speaks field.value
+pub one-speaks : (fields : List Field) (field : Field) → AreSpeaking fields → Contains fields field → Speaks field.value
 one-speaks fields field h i = All-contains (λ (f : Field). Speaks f.value) fields field (All-from_recursion (λ (f : Field). Speaks f.value) fields h) i
 
-its-fields : (m : Message) → IsInProfile profiles.Lenient m → AreSpeaking (message_record m).fields
+pub its-fields : (m : Message) → IsInProfile profiles.Lenient m → AreSpeaking (message_record m).fields
 unfolding message_record
 its-fields m good = speaking (message_record m).fields (record_is_plain m good).fields (and-notes (fields_of m) (notes_of m) (fields-worded m good))
 

@@ -14,6 +14,7 @@ use Rattle.krb_record.specs.Origins.{message_origin}
 use Rattle.krb_record.specs.Values.{Field, Part, Printed, with_origin}
 use Rattle.krb_record.specs.declared.capture_origin.CaptureOrigin.{CaptureOrigin}
 use Rattle.krb_record.specs.declared.form.Form.{Form}
+use Rattle.krb_record.specs.declared.form.Form.TheVariants as forms
 use Rattle.krb_record.specs.declared.path.Path.{Path}
 use Rattle.krb_laws.specs.Json.{json_of, part_json}
 use Rattle.krb_source.specs.declared.layer.Layer.{Layer}
@@ -73,6 +74,10 @@ PartSaysAll part =
 
 abbrev pub MessagesSayObjects : Type 0
 MessagesSayObjects = (line : Option ℕ) (layers : List Layer) (m : Message) → IsInProfile profiles.Lenient m → SaysAll (with_origin (message_origin line layers) (message_record m))
+
+-- of a capture, where rows and objects are made of the same record
+abbrev pub CapturedMessagesSayObjects : Type 0
+CapturedMessagesSayObjects = (origin : CaptureOrigin) (m : Message) → OriginIsInRange origin → IsInProfile profiles.Lenient m → SaysAll (captured forms.Json origin (message_record m))
 
 abbrev pub MessagesSayParts : Type 0
 MessagesSayParts = (m : Message) → IsInProfile profiles.Lenient m → IfSome (inside_of m) (AllByRecursion PartSaysAll)

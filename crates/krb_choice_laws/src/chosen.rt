@@ -2,7 +2,7 @@
 
 ghost use Rattle.krb_choice_laws.specs.Cells.{CellsSayMembers, CellsSayObjects, CellsSayParts, MembersAreApart};
 ghost use Rattle.krb_choice_laws.specs.Listing.{AllKindsAreListed, EndsAreTold, ListingsAreChosen, ListingsAreTold};
-ghost use Rattle.krb_choice_laws.specs.Messages.{CapturedCiphersAreNotChosen, CapturedMessagesArePlain, CiphersAreNotChosen, KeysAreNotChosen, ListedMessagesArePlain, ListedMessagesAreWhole, MessagesArePlain, MessagesSayObjects, MessagesSayParts, SessionKeysAreNotChosen};
+ghost use Rattle.krb_choice_laws.specs.Messages.{CapturedCiphersAreNotChosen, CapturedMessagesArePlain, CapturedMessagesSayObjects, CiphersAreNotChosen, KeysAreNotChosen, ListedMessagesArePlain, ListedMessagesAreWhole, MessagesArePlain, MessagesSayObjects, MessagesSayParts, SessionKeysAreNotChosen};
 ghost use Rattle.krb_choice_laws.specs.Laws.{AllKindsAreKept, FileNamesAreApart, KeptKindsAreShown, NumberListsAreApart, NumbersAreApart, RowsArePrintable, StringListsAreApart, StringsAreApart, StringsAreThere, WrittenIsChosen};
 ghost use Rattle.krb_choice_laws.specs.Records.{CapturesArePlain, EndsArePlain, FilesArePlain, LabelsArePlain, TicketsArePlain};
 
@@ -37,6 +37,7 @@ pub fn cells_say_members()
     ensures part { CellsSayParts }
     ensures apart { MembersAreApart }
     ensures message { MessagesSayObjects }
+    ensures capture { CapturedMessagesSayObjects }
     ensures inside { MessagesSayParts }
 {}
 

@@ -1,3 +1,4 @@
+use Rattle.krb_choice_laws.proofs.CapturedSay.{captured-say}
 use Rattle.krb_choice_laws.proofs.CellsSay.{cells-say}
 use Rattle.krb_choice_laws.proofs.MembersTold.{members-apart}
 use Rattle.krb_choice_laws.proofs.MessagesSay.{messages-say, parts-of-messages-say}
@@ -21,3 +22,6 @@ returns-clause-message c = messages-say
 
 pub returns-clause-inside : goal.returns-clause-inside
 returns-clause-inside c = parts-of-messages-say
+
+pub returns-clause-capture : goal.returns-clause-capture
+returns-clause-capture c = captured-say
