@@ -4,3 +4,4 @@ pub mod Listing
 pub mod Messages
 pub mod Records
 pub mod Cells
+pub mod Examples
