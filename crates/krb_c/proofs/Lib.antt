@@ -2,3 +2,4 @@ mod Frames
 mod Slices
 mod Framed
 mod Sorted
+mod Worded
