@@ -16,7 +16,7 @@ and-assoc false b c = refl
 pub both-nothing : (a : Spanned) → both a nothing ≡ a
 both-nothing a = λ i. record { numbers = append-nil a.numbers i; clean = and-true a.clean i }
 
-both-assoc : (a b c : Spanned) → both (both a b) c ≡ both a (both b c)
+pub both-assoc : (a b c : Spanned) → both (both a b) c ≡ both a (both b c)
 both-assoc a b c = λ i. record { numbers = append_assoc a.numbers b.numbers c.numbers i; clean = and-assoc a.clean b.clean c.clean i }
 
 pub adds-none : (old : Spans) → Adds nothing old old

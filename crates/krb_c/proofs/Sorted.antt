@@ -10,7 +10,7 @@ pub record AreSorted (text : List ℕ) (begun : Option Bool) (rest lines said : 
 
 module _ (text : List ℕ) where
   pub none-sorted : (lines said : List ℕ) → lines ≡ [] → said ≡ [] → AreSorted text None text lines said
-  none-sorted lines said no other = record { lines_so = ap (λ (l : List ℕ). l ++ (sorted None text).lines) (sym no); said_so = ap (λ (l : List ℕ). l ++ (sorted None text).said) (sym other) }
+  none-sorted lines said bare other = record { lines_so = ap (λ (l : List ℕ). l ++ (sorted None text).lines) (sym bare); said_so = ap (λ (l : List ℕ). l ++ (sorted None text).said) (sym other) }
 
   pub next-sorted : (begun : Option Bool) (octet : ℕ) (others rest lines said new_lines new_said : List ℕ) (of_message : Bool) (after : Option Bool) → AreSorted text begun rest lines said → rest ≡ octet ∷ others
       → of_message ≡ is_of_message begun octet → after ≡ begun_after of_message octet → new_lines ≡ lines ++ of_lines of_message octet → new_said ≡ said ++ of_said of_message octet

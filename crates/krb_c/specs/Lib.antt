@@ -6,4 +6,5 @@ pub mod Paths
 pub mod Turned
 pub mod Rows
 pub mod Spans
+pub mod FileSpans
 pub mod inner

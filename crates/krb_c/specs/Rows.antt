@@ -15,6 +15,7 @@ use Rattle.krb_record.specs.declared.form.Form.{Form}
 use Rattle.krb_run.specs.declared.run.RunEnd.{RunEnd}
 use Rattle.krb_run.specs.declared.run.RunEnd.TheVariants as run
 use Rattle.krb_words.specs.Chosen.{AreRowsOf, SaysNoRows}
+use Rattle.krb_c.specs.declared.rows.Options.{Options}
 use Rattle.krb_c.specs.Listed.{IsCaptureListing, IsCcacheListing, IsKeytabListing, IsMessageListing, IsStreamListing}
 
 -- ---- numbers
@@ -39,20 +40,12 @@ listings_of number =
     else listing.Stream ∷ listing.Message ∷ listing.Keytab ∷ listing.Ccache ∷ listing.Capture ∷ []))))
 
 -- ---- listings
--- how octets are listed: the number of each is as in the call of the listing
-pub record Options : Type 0 where
-  pub profile : Profile
-  pub limit : ℕ
-  pub goes_on : Bool
-  pub now : Option ℕ
-  pub port : ℕ
-
 -- the listing of a kind, and how it ends
 abbrev pub IsListingOf : SourceKind → Options → Form → (octets text : List ℕ) → RunEnd → Type 0
 IsListingOf kind.Stream options form octets text end = IsStreamListing options.goes_on form options.profile options.limit octets text end
 IsListingOf kind.Message options form octets text end = IsMessageListing form options.profile octets text end
 IsListingOf kind.Keytab options form octets text end = IsKeytabListing form octets text end
-IsListingOf kind.Ccache options form octets text end = IsCcacheListing form options.now octets text end
+IsListingOf kind.Ccache options form octets text end = IsCcacheListing form options.time octets text end
 IsListingOf kind.Capture options form octets text end = IsCaptureListing form options.profile options.limit options.port octets text end
 
 -- a stream alone may go on after a refusal, so that none ends it

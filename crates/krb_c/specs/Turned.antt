@@ -1,10 +1,12 @@
 -- What C is given of messages as lines of JSON, and of lines as messages: what the commands do.
-use Rattle.std.specs.Prelude.{ℕ, ◌≡◌, ◌==◌, ◌++◌, Bool, true, false, if◌then◌else◌, List, [], ◌∷◌, codes, Option, Some}
+use Rattle.std.specs.Prelude.{ℕ, ◌≡◌, ◌==◌, ◌++◌, Bool, true, false, if◌then◌else◌, List, [], ◌∷◌, codes, Option, Some, None}
 use Rattle.std.specs.Option.{unwrap_or}
 use Rattle.krb_der.specs.declared.profile.Profile.{Profile}
 use Rattle.krb_input.specs.Sources.{command_for}
 use Rattle.krb_input.specs.declared.source_kind.SourceKind.{SourceKind}
 use Rattle.krb_input.specs.declared.source_kind.SourceKind.TheVariants as kind
+use Rattle.krb_capture_run.specs.Decoded.{decoded_capture}
+use Rattle.krb_run.specs.Records.{text_of}
 use Rattle.krb_run.specs.declared.run.RunEnd.{RunEnd}
 use Rattle.krb_run.specs.declared.run.RunEnd.TheVariants as run
 use Rattle.krb_words.specs.declared.words.Framing.{Framing}
@@ -19,6 +21,7 @@ use Rattle.krb_decode.specs.Given.{decoded_given}
 use Rattle.krb_decode.specs.Streams.{DecodesStream}
 use Rattle.krb_decode.specs.Hints.{keytab_text}
 use Rattle.krb_record.specs.Text.{line_feed}
+use Rattle.krb_c.specs.declared.turning.Options.{Options}
 
 -- 0 is to write each message after its length, and any other number one message without it
 abbrev pub framing_of : ℕ → Framing
@@ -93,28 +96,22 @@ pub record IsStreamDecodedOn (profile : Profile) (limit : ℕ) (octets lines sai
   pub decoded : DecodesStream profile limit (Some octets) (Some left) (Some []) (Some text) ended
   pub is : IsSorted text ended lines said end
 
--- Those of a capture are some text. Which, is not said here.
-abbrev pub IsCaptureDecoded : (lines said : List ℕ) → RunEnd → Type 0
-IsCaptureDecoded lines said end = (text : List ℕ) × (ended : RunEnd) × IsSorted text ended lines said end
-
--- ---- which of the messages of octets are decoded
-pub record Options : Type 0 where
-  pub profile : Profile
-  pub limit : ℕ
-  pub goes_on : Bool
-  pub port : ℕ
-  pub packet : Option ℕ
+-- ---- by what octets are, and which of their messages are decoded
+-- those of a capture, or of one of its packets
+abbrev pub IsCaptureDecoded : Options → (octets lines said : List ℕ) → RunEnd → Type 0
+IsCaptureDecoded options octets lines said end =
+    let decoded = decoded_capture options.profile options.limit options.port options.packet octets in
+    IsSorted (text_of decoded) decoded.end lines said end
 
 abbrev pub IsStream : (goes_on : Bool) → Profile → (limit : ℕ) → (octets lines said : List ℕ) → RunEnd → Type 0
 IsStream false profile limit octets lines said end = IsStreamDecoded profile limit octets lines said end
 IsStream true profile limit octets lines said end = IsStreamDecodedOn profile limit octets lines said end
 
--- by what octets are
 abbrev pub IsDecodedBy : SourceKind → Options → (octets lines said : List ℕ) → RunEnd → Type 0
 IsDecodedBy kind.Message options octets lines said end = IsDecodedAs (decoded_given options.profile octets) lines said end
 IsDecodedBy kind.Keytab options octets lines said end = IsKeytabTold lines said end
 IsDecodedBy kind.Ccache options octets lines said end = IsDecodedAs (decoded_cache octets) lines said end
-IsDecodedBy kind.Capture options octets lines said end = IsCaptureDecoded lines said end
+IsDecodedBy kind.Capture options octets lines said end = IsCaptureDecoded options octets lines said end
 IsDecodedBy kind.Stream options octets lines said end = IsStream options.goes_on options.profile options.limit octets lines said end
 
 abbrev pub IsDecoded : Options → (octets lines said : List ℕ) → RunEnd → Type 0
