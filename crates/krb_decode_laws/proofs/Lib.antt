@@ -11,4 +11,5 @@ pub mod OnePacket
 pub mod SortedTexts
 pub mod StreamEnds
 pub mod StreamLines
+pub mod TicketTexts
 pub mod WrittenLines

@@ -1,5 +1,6 @@
 pub mod Messages
 pub mod Inputs
+pub mod Tickets
 pub mod Captures
 pub mod Streams
 pub mod Caches
