@@ -6,6 +6,7 @@ pub mod DecodedCaptures
 pub mod Findings
 pub mod FoundLines
 pub mod InputEnds
+pub mod InputLines
 pub mod ListedMessages
 pub mod OnePacket
 pub mod SortedTexts

@@ -1,7 +1,9 @@
 -- The laws of what is decoded of a message, a Ticket or a token that an input spells. Each is the contract of a function of the module `inputs`.
 use Rattle.std.specs.Prelude.{ℕ, ◌≡◌, List, []}
 use Rattle.krb_der.specs.declared.profile.Profile.{Profile}
+use Rattle.krb_record.specs.declared.form.Form.TheVariants.{Json, NamedLines}
 use Rattle.krb_run.specs.declared.run.RunEnd.TheVariants as run
+use Rattle.krb_tool_laws.specs.Listings.{AreLinesOf, AreRead}
 use Rattle.krb_decode.specs.Decoded.{Decoded, decoded_input}
 use Rattle.krb_decode.specs.Given.{decoded_given}
 
@@ -14,3 +16,13 @@ pub record EndsAsSaid (decoded : Decoded) : Type 0 where
 pub record InputsEndAsSaid : Type 0 where
   pub of_input : (profile : Profile) (input : List ℕ) → EndsAsSaid (decoded_input profile input)
   pub of_octets : (profile : Profile) (octets : List ℕ) → EndsAsSaid (decoded_given profile octets)
+
+-- ---- lines
+-- What is written is lines, each one value of JSON, and what is said is lines, both of printable ASCII.
+pub record PrintsLines (decoded : Decoded) : Type 0 where
+  pub lines : AreLinesOf Json decoded.lines
+  pub said : AreLinesOf NamedLines decoded.said
+
+pub record InputsAreLines : Type 0 where
+  pub of_input : (profile : Profile) (input : List ℕ) → AreRead input → PrintsLines (decoded_input profile input)
+  pub of_octets : (profile : Profile) (octets : List ℕ) → AreRead octets → PrintsLines (decoded_given profile octets)
