@@ -1,4 +1,5 @@
 pub mod BackAgain
+pub mod CacheLines
 pub mod CacheTickets
 pub mod CountedMessages
 pub mod CountedPackets

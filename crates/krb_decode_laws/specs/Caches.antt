@@ -5,15 +5,16 @@ use Rattle.krb_ccache.specs.Spelling.{is_config}
 use Rattle.krb_ccache.specs.Streaming.{credentials, file_start}
 use Rattle.krb_ccache.specs.declared.reading.Start.{Start}
 use Rattle.krb_ccache.specs.declared.value.Credential.{Credential}
+use Rattle.krb_der.specs.Octets.{AreOctets}
 use Rattle.krb_der.specs.declared.profile.Profile.TheVariants.{Lenient}
 use Rattle.krb_der.specs.declared.verdict.Refusal.{Refusal}
 use Rattle.krb_file.specs.Fields.{Fault, Source}
 use Rattle.krb_judge.specs.Parses.{ticket_refusal}
-use Rattle.krb_msg.specs.Types.{ticket_value}
 use Rattle.krb_tool.specs.Messages.{ticket_of_der}
 use Rattle.krb_decode.specs.Caches.{decoded_cache, field_limit}
 use Rattle.krb_decode.specs.Decoded.{is_sealed, ticket_line}
-use Rattle.krb_decode_laws.specs.Inputs.{EndsAsSaid}
+use Rattle.krb_decode_laws.specs.Inputs.{EndsAsSaid, PrintsLines}
+use Rattle.krb_decode_laws.specs.Tickets.{value_in}
 
 -- ---- the tickets of a cache
 -- the ticket fields of the credentials that are no configuration entries, in order
@@ -32,7 +33,7 @@ abbrev pub is_sealed_ticket : List ℕ → Bool
 is_sealed_ticket octets = is_sealed_by (ticket_refusal Lenient octets) octets
 
 abbrev pub field_line : List ℕ → List ℕ
-field_line octets = ticket_line (ticket_value (ticket_of_der octets))
+field_line octets = ticket_line (value_in octets)
 
 -- The lines of a cache are those of its sealed Tickets. It ends clean if nothing is said, and only then; and then each credential that is no configuration entry has its line.
 pub record DecodesTickets (file : List ℕ) : Type 0 where
@@ -59,3 +60,7 @@ TicketsAloneAreDecoded =
     (file other : List ℕ) → start_fault (file_start field_limit file) ≡ start_fault (file_start field_limit other)
     → map ticket_in (credentials field_limit file).items ≡ map ticket_in (credentials field_limit other).items
     → (credentials field_limit file).end ≡ (credentials field_limit other).end → decoded_cache file ≡ decoded_cache other
+
+-- ---- lines
+abbrev pub CachesAreLines : Type 0
+CachesAreLines = (file : List ℕ) → AreOctets file → PrintsLines (decoded_cache file)
