@@ -1,3 +1,4 @@
+pub mod AlikeInputs
 pub mod BackAgain
 pub mod CacheLines
 pub mod CacheTickets

@@ -7,3 +7,4 @@ pub mod captures;
 pub mod inputs;
 pub mod streams;
 pub mod tickets;
+pub mod unencrypted;
