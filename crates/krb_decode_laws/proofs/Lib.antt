@@ -1,4 +1,5 @@
 pub mod AlikeInputs
+pub mod AlikeStreams
 pub mod BackAgain
 pub mod CacheLines
 pub mod CacheTickets
@@ -10,6 +11,7 @@ pub mod FoundLines
 pub mod InputEnds
 pub mod InputLines
 pub mod ListedMessages
+pub mod MaskedSizes
 pub mod OnePacket
 pub mod SortedTexts
 pub mod StreamEnds

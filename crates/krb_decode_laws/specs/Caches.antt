@@ -1,5 +1,5 @@
 -- The laws of what is decoded of a credential cache. Each is the contract of a function of the module `caches`.
-use Rattle.std.specs.Prelude.{ℕ, ◌≡◌, if◌then◌else◌, not, Bool, false, List, [], map, Option, None, Some, Result, Ok, Err}
+use Rattle.std.specs.Prelude.{ℕ, ◌≡◌, ◌⊎◌, if◌then◌else◌, not, Bool, false, List, [], ◌∷◌, map, Option, None, Some, Result, Ok, Err}
 use Rattle.std.specs.List.{filter, flat_map}
 use Rattle.krb_ccache.specs.Spelling.{is_config}
 use Rattle.krb_ccache.specs.Streaming.{credentials, file_start}
@@ -15,6 +15,7 @@ use Rattle.krb_decode.specs.Caches.{decoded_cache, field_limit}
 use Rattle.krb_decode.specs.Decoded.{is_sealed, ticket_line}
 use Rattle.krb_decode_laws.specs.Inputs.{EndsAsSaid, PrintsLines}
 use Rattle.krb_decode_laws.specs.Tickets.{value_in}
+use Rattle.krb_decode_laws.specs.Unencrypted.{AreTicketsAlike}
 
 -- ---- the tickets of a cache
 -- the ticket fields of the credentials that are no configuration entries, in order
@@ -54,11 +55,22 @@ abbrev pub start_fault : Result (Start × Source) Fault → Option Fault
 start_fault (Ok start) = None
 start_fault (Err fault) = Some fault
 
--- Caches that have the same of this, up to the same end or fault, are decoded alike.
+-- the same, or Tickets that differ in nothing but what is not encrypted
+abbrev pub IsFieldAlike : Option (List ℕ) → Option (List ℕ) → Type 0
+IsFieldAlike None None = Unit {0}
+IsFieldAlike (Some one) (Some other) = (one ≡ other) ⊎ AreTicketsAlike Lenient one other
+IsFieldAlike one other = ⊥
+
+abbrev pub AreFieldsAlike : List (Option (List ℕ)) → List (Option (List ℕ)) → Type 0
+AreFieldsAlike [] [] = Unit {0}
+AreFieldsAlike (one ∷ fields) (other ∷ others) = IsFieldAlike one other × AreFieldsAlike fields others
+AreFieldsAlike fields others = ⊥
+
+-- Caches that have alike of this, up to the same end or fault, are decoded alike.
 abbrev pub TicketsAloneAreDecoded : Type 0
 TicketsAloneAreDecoded =
     (file other : List ℕ) → start_fault (file_start field_limit file) ≡ start_fault (file_start field_limit other)
-    → map ticket_in (credentials field_limit file).items ≡ map ticket_in (credentials field_limit other).items
+    → AreFieldsAlike (map ticket_in (credentials field_limit file).items) (map ticket_in (credentials field_limit other).items)
     → (credentials field_limit file).end ≡ (credentials field_limit other).end → decoded_cache file ≡ decoded_cache other
 
 -- ---- lines

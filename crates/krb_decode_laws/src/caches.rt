@@ -11,7 +11,8 @@ pub fn caches_are_decoded()
     ensures { CachesAreDecoded }
 {}
 
-/// Nothing else of a cache is decoded: not a session key, a second ticket or a configuration entry.
+/// Nothing else of a cache is decoded: not a session key, a second ticket, a configuration entry or the
+/// cipher of a Ticket that is not encrypted.
 pub fn tickets_alone_are_decoded()
     ensures { TicketsAloneAreDecoded }
 {}
