@@ -1,5 +1,5 @@
 -- What is decoded of a credential cache is lines.
-use Rattle.std.proofs.Common.{◌≡◌, ℕ, ◌+◌, inl, inr, Bool, true, false, not, cond, List, [], ◌∷◌, ◌++◌, length, map, Option, None, Some, IfSome, nat_lt, take, Result, Ok, Err, codes, refl, sym, ◌∙◌, ap, subst, append_assoc, append-nil}
+use Rattle.std.proofs.Common.{◌≡◌, ℕ, ◌+◌, ◌≤◌, inl, inr, Bool, true, false, not, cond, List, [], ◌∷◌, ◌++◌, length, map, Option, None, Some, IfSome, nat_lt, take, Result, Ok, Err, codes, refl, sym, ◌∙◌, ap, subst, append_assoc, append-nil}
 use Rattle.std.specs.List.{AllByRecursion, filter}
 use Rattle.std.proofs.lemmas.Bool.{cond_both}
 use Rattle.krb_ccache.specs.Laws.{CredentialsAreSpelled, SpellsContents}
@@ -9,6 +9,7 @@ use Rattle.krb_ccache.specs.declared.reading.Start.{Start}
 use Rattle.krb_ccache.specs.declared.value.Ccache.{Ccache}
 use Rattle.krb_ccache.specs.declared.value.Credential.{Credential}
 use Rattle.krb_ccache.specs.declared.value.Credential3.{Credential3}
+use Rattle.krb_convert.specs.Encoding.{All}
 use Rattle.krb_der.specs.Octets.{AreOctets, when}
 use Rattle.krb_der.specs.declared.profile.Profile.TheVariants.{Lenient}
 use Rattle.krb_der.specs.declared.verdict.Refusal.{Refusal}
@@ -33,12 +34,12 @@ use Rattle.krb_tool_laws.proofs.Lines.{a_line, no_lines}
 use Rattle.krb_tool_laws.proofs.ListedFiles.{path_octets}
 use Rattle.krb_tool_laws.proofs.PathOctets.{ticket_octets}
 use Rattle.krb_decode.specs.Caches.{absent_field, cache_decoded, credential_opening, credentials_decoded, decoded_cache, decoded_credential, decoded_credentials, decoded_field, field_limit, judged_field, refused_field, said_last}
-use Rattle.krb_decode.specs.Decoded.{Added, both, nothing, said}
-use Rattle.krb_decode_laws.specs.Caches.{CachesAreLines}
+use Rattle.krb_decode.specs.Decoded.{Added, both, is_sealed, nothing, said}
+use Rattle.krb_decode_laws.specs.Caches.{CachesAreLines, CachesComeBack, ComesBack, fields_in, fields_of, is_sealed_by, is_sealed_ticket}
 use Rattle.krb_decode_laws.specs.Inputs.{PrintsLines}
 use Rattle.krb_decode_laws.proofs.FoundLines.{element-path}
 use Rattle.krb_decode_laws.proofs.InputLines.{AddsLines, adds-both, adds-nothing, said-line, ticket-lines}
-use Rattle.krb_decode_laws.proofs.TicketTexts.{ticket-of}
+use Rattle.krb_decode_laws.proofs.TicketTexts.{IsTicketOf, ticket-of}
 
 -- ---- the octets of tickets
 credentials-octets : (found : List Credential) → AllByRecursion CredentialFits found → AllByRecursion (λ (c : Credential). AreOctets c.ticket) found
@@ -121,3 +122,30 @@ module _ (p : Premises) where
 pub caches_are_lines : Premises → CachesAreLines
 unfolding decoded_cache
 caches_are_lines p file are = start-lines p (file_start field_limit file) (file-octets p.spelled file are)
+
+-- ---- back again
+one-back : ValueOfDerIsValue → (octets : List ℕ) (others : List (List ℕ)) (refusal : Option Refusal) → AreOctets octets → ticket_refusal Lenient octets ≡ refusal → AllByRecursion ComesBack others → AllByRecursion ComesBack (cond (is_sealed_by refusal octets) (octets ∷ others) others)
+one-back value_of_der octets others None are none each = by (is_sealed (ticket_of_der octets).enc_part.etype)
+  where
+    its : IsTicketOf octets
+    its = ticket-of value_of_der Lenient octets are none
+
+    by : (sealed : Bool) → AllByRecursion ComesBack (cond sealed (octets ∷ others) others)
+    by true = ((λ limit few. its.text.back limit (subst (λ (o : List ℕ). length o ≤ limit) (sym its.form) few) ∙ ap (λ text. record { text = text; end = All }) its.form), each)
+    by false = each
+one-back value_of_der octets others (Some refusal) are e each = each
+
+all-back : ValueOfDerIsValue → (all : List (List ℕ)) → AllByRecursion AreOctets all → AllByRecursion ComesBack (filter is_sealed_ticket all)
+all-back value_of_der [] are = tt
+all-back value_of_der (octets ∷ others) are = one-back value_of_der octets (filter is_sealed_ticket others) (ticket_refusal Lenient octets) are.0 refl (all-back value_of_der others are.1)
+
+fields-octets : (all : List Credential) → AllByRecursion (λ (c : Credential). AreOctets c.ticket) all → AllByRecursion AreOctets (fields_of all)
+fields-octets [] are = tt
+fields-octets (c ∷ others) are = by (is_config c) (fields-octets others are.1)
+  where
+    by : (config : Bool) → AllByRecursion AreOctets (fields_of others) → AllByRecursion AreOctets (map (λ c. c.ticket) (cond (not config) (c ∷ filter (λ c. not (is_config c)) others) (filter (λ c. not (is_config c)) others)))
+    by true rest = rest
+    by false rest = (are.0, rest)
+
+pub caches_come_back : CredentialsAreSpelled → ValueOfDerIsValue → CachesComeBack
+caches_come_back spelled value_of_der file are = all-back value_of_der (fields_in file) (fields-octets (credentials field_limit file).items (file-octets spelled file are))

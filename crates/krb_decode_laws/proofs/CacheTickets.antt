@@ -70,7 +70,7 @@ credentials-lines index (c ∷ others) = ap (λ l. (decoded_credential index c).
     by true = refl
     by false = ap (λ l. l ++ flat_map field_line (filter is_sealed_ticket (fields_of others))) (field-lines (credential_opening index) c.ticket) ∙ one-more (is_sealed_ticket c.ticket) c.ticket (filter is_sealed_ticket (fields_of others))
 
-both-empty : (a b : List ℕ) → a ++ b ≡ [] → (a ≡ []) × (b ≡ [])
+pub both-empty : (a b : List ℕ) → a ++ b ≡ [] → (a ≡ []) × (b ≡ [])
 both-empty [] b e = (refl, e)
 both-empty (x ∷ a) b e = absurd cc
 

@@ -10,11 +10,13 @@ pub mod Findings
 pub mod FoundLines
 pub mod InputEnds
 pub mod InputLines
+pub mod InputsBack
 pub mod ListedMessages
 pub mod MaskedSizes
 pub mod OnePacket
 pub mod SortedTexts
 pub mod StreamEnds
 pub mod StreamLines
+pub mod TicketLengths
 pub mod TicketTexts
 pub mod WrittenLines

@@ -1,9 +1,12 @@
 -- The text of a Ticket by itself is its JSON, and spells it.
-use Rattle.std.proofs.Common.{◌≡◌, ℕ, ◌^◌, ◌<◌, ◌≤◌, false, List, [], ◌∷◌, ◌++◌, length, map, Option, Some, None, Ok, codes, refl, sym, ◌∙◌, ap, subst, arith}
+use Rattle.std.proofs.Common.{◌≡◌, ℕ, ◌^◌, ◌<◌, ◌≤◌, ◌*◌, ◌+◌, true, false, List, [], ◌∷◌, ◌++◌, length, map, Option, Some, None, Ok, codes, refl, sym, ◌∙◌, ap, subst, append-nil, arith}
+use Rattle.std.specs.Prelude.{◌==◌}
 use Rattle.std.specs.List.{AllByRecursion}
+use Rattle.std.proofs.lemmas.List.Splits.{slice_split_at}
 use Rattle.std.proofs.lemmas.Bool.{le-ltb}
 use Rattle.std.proofs.lemmas.Str.{is_utf8-from_IsUtf8, IsUtf8-from_ascii}
 use Rattle.json.specs.Json.{Json, Items, document}
+use Rattle.json.specs.Print.{print_from}
 use Rattle.json.specs.Strict.{HasUniqueKeys, ItemsHaveUniqueKeys}
 use Rattle.json.specs.Token as Token
 use Rattle.json.specs.Token.{Token}
@@ -11,6 +14,8 @@ use Rattle.json.specs.Tree.{HasNumbers, ItemsHaveNumbers, depth, items_depth, it
 use Rattle.json.specs.Value.{items_of}
 use Rattle.json.proofs.Printed.Decimals.{IsNumber-signed_decimal}
 use Rattle.json.proofs.Printed.Trees.{document-print}
+use Rattle.krb_convert.specs.Encoding.{All, encoded, encoded_lines}
+use Rattle.krb_convert.proofs.EncodedLines.{message-step, read-step}
 use Rattle.krb_der.specs.Octets.{AreOctets}
 use Rattle.krb_der.specs.declared.profile.Profile.TheVariants.{Lenient}
 use Rattle.krb_judge.specs.Parses.{ticket_refusal}
@@ -33,6 +38,11 @@ use Rattle.krb_msg.specs.ValueOfDer.{value_of_der}
 use Rattle.krb_msg.proofs.ProfileValues.{lenient_der}
 use Rattle.krb_msg.proofs.TypeValues.{ticket_value-of}
 use Rattle.krb_record.proofs.Printable.{word}
+use Rattle.krb_run.specs.TextLines.{is_blank_line, without_empty_last}
+use Rattle.krb_run.proofs.SourceLineParts.{lines-empty}
+use Rattle.krb_decode.specs.Decoded.{ticket_line}
+use Rattle.krb_decode_laws.proofs.BackAgain.{no-feed}
+use Rattle.krb_decode_laws.proofs.TicketLengths.{text-short}
 use Rattle.krb_decode_laws.specs.Tickets.{IsTicketText, TicketsComeBack, value_in}
 
 -- ---- what is wanted of a value
@@ -89,6 +99,15 @@ encrypted (etype, (Some kvno, (cipher, end))) fit =
       printable = (tt, (printable-name names.EncryptedData 0, (printable-signed etype small, (printable-name names.EncryptedData 1, (printable-signed kvno few, (printable-name names.EncryptedData 2, (printable-hex cipher fit.1.1.0, (tt, tt))))))));
     }
 
+-- ---- a line alone is encoded to the octets that it spells
+pub alone-back : (limit : ℕ) (text octets : List ℕ) → IsPrintable text → is_blank_line text ≡ false → length text ≤ 8 * limit + 65536 → line_octets Lenient limit text ≡ Ok octets → encoded false Lenient limit (text ++ 10 ∷ []) ≡ record { text = octets; end = All }
+unfolding encoded
+alone-back limit text octets printable some short spells =
+    ap (encoded_lines false Lenient limit 1 false) (ap without_empty_last (slice_split_at (λ octet. octet == 10) text 10 [] (no-feed text printable) refl) ∙ lines-empty (text ∷ []))
+    ∙ read-step (record { is_framed = false; profile = Lenient; limit = limit }) 1 false text [] short some refl
+    ∙ message-step false 1 (line_octets Lenient limit text) octets (encoded_lines false Lenient limit 2 true []) spells
+    ∙ ap (λ text. record { text = text; end = All }) (append-nil octets)
+
 -- ---- a value of the grammar
 module _ (value : Value ticket) (fits : Fits ticket value) (short : length (der ticket value) < 2 ^ 31) where
   its-good : IsGood (ticket_json value) 4
@@ -128,8 +147,15 @@ module _ (value : Value ticket) (fits : Fits ticket value) (short : length (der 
       ap (value_octets Lenient limit) text-value
       ∙ (let back : spelled ticket names.Ticket ticket_name (json ticket names.Ticket value) ≡ Ok value = term-back ticket names.Ticket refl ticket_name value fits short in rw (back, le-ltb limit (length (der ticket value)) few) refl)
 
+  not-blank : is_blank_line (ticket_text value) ≡ false
+  unfolding print_from
+  not-blank = refl
+
+  line-back : (limit : ℕ) → length (der ticket value) ≤ limit → encoded false Lenient limit (ticket_line value) ≡ record { text = der ticket value; end = All }
+  line-back limit few = alone-back limit (ticket_text value) (der ticket value) text-printable not-blank (omega (arith, text-short value fits, few)) (text-back limit few)
+
   pub value-text : IsTicketText value
-  value-text = record { document_is = text-document; unique = its-good.unique; printable = text-printable; back = text-back }
+  value-text = record { document_is = text-document; unique = its-good.unique; printable = text-printable; back = line-back }
 
 -- ---- octets that are a Ticket
 pub record IsTicketOf (octets : List ℕ) : Type 0 where

@@ -1,10 +1,11 @@
 -- The laws of what is decoded of a credential cache. Each is the contract of a function of the module `caches`.
-use Rattle.std.specs.Prelude.{ℕ, ◌≡◌, ◌⊎◌, if◌then◌else◌, not, Bool, false, List, [], ◌∷◌, map, Option, None, Some, Result, Ok, Err}
-use Rattle.std.specs.List.{filter, flat_map}
+use Rattle.std.specs.Prelude.{ℕ, ◌≡◌, ◌≤◌, ◌⊎◌, if◌then◌else◌, not, Bool, false, List, [], ◌∷◌, length, map, Option, None, Some, Result, Ok, Err}
+use Rattle.std.specs.List.{AllByRecursion, filter, flat_map}
 use Rattle.krb_ccache.specs.Spelling.{is_config}
 use Rattle.krb_ccache.specs.Streaming.{credentials, file_start}
 use Rattle.krb_ccache.specs.declared.reading.Start.{Start}
 use Rattle.krb_ccache.specs.declared.value.Credential.{Credential}
+use Rattle.krb_convert.specs.Encoding.{All, encoded}
 use Rattle.krb_der.specs.Octets.{AreOctets}
 use Rattle.krb_der.specs.declared.profile.Profile.TheVariants.{Lenient}
 use Rattle.krb_der.specs.declared.verdict.Refusal.{Refusal}
@@ -76,3 +77,11 @@ TicketsAloneAreDecoded =
 -- ---- lines
 abbrev pub CachesAreLines : Type 0
 CachesAreLines = (file : List ℕ) → AreOctets file → PrintsLines (decoded_cache file)
+
+-- ---- back again
+-- Each line of a cache is encoded to the octets of its Ticket, by itself.
+abbrev pub ComesBack : List ℕ → Type 0
+ComesBack octets = (limit : ℕ) → length octets ≤ limit → encoded false Lenient limit (field_line octets) ≡ record { text = octets; end = All }
+
+abbrev pub CachesComeBack : Type 0
+CachesComeBack = (file : List ℕ) → AreOctets file → AllByRecursion ComesBack (filter is_sealed_ticket (fields_in file))

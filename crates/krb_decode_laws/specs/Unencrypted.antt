@@ -1,18 +1,16 @@
 -- The laws that what is not encrypted is not decoded of inputs. Each is the contract of a function of the module `unencrypted`.
-use Rattle.std.specs.Prelude.{ℕ, ◌≡◌, ◌≤◌, ◌<◌, ◌^◌, List, length, None, Ok}
+use Rattle.std.specs.Prelude.{ℕ, ◌≡◌, ◌<◌, ◌^◌, List, length, None}
 use Rattle.krb_der.specs.declared.profile.Profile.{Profile}
-use Rattle.krb_input.specs.Inputs.{spelled}
 use Rattle.krb_json.specs.Masked.{masked, masked_in}
 use Rattle.krb_judge.specs.Parses.{refusal_of, ticket_refusal}
 use Rattle.krb_judge.specs.declared.locating.names.Names.TheVariants as names
 use Rattle.krb_msg.specs.Grammar.{ticket}
 use Rattle.krb_msg.specs.Views.{message_of_der}
-use Rattle.krb_source.specs.declared.spelling.Spelling.{Spelling}
 use Rattle.krb_token.specs.Opened.{Found, Message, Ticket}
 use Rattle.krb_token.specs.Tokens.{opened}
-use Rattle.krb_tool.specs.Messages.{input_limit}
 use Rattle.krb_decode.specs.Decoded.{decoded_input}
 use Rattle.krb_decode.specs.Given.{decoded_given}
+use Rattle.krb_decode_laws.specs.Inputs.{IsSpelled}
 use Rattle.krb_decode_laws.specs.Tickets.{value_in}
 
 -- ---- alike
@@ -42,12 +40,6 @@ pub record AreAlike (profile : Profile) (one other : List ℕ) : Type 0 where
   pub found : AreFoundAlike profile one other (opened one).found (opened other).found
 
 -- ---- inputs
--- an input spells octets, and is not too long
-pub record IsSpelled (input octets : List ℕ) : Type 0 where
-  pub spelling : Spelling
-  pub spells : spelled input ≡ Ok (spelling, octets)
-  pub short : length input ≤ input_limit
-
 -- Inputs that spell such octets are decoded alike, and so are the octets.
 pub record InputsAreDecodedAlike : Type 0 where
   pub of_input : (profile : Profile) (one other input second : List ℕ) → AreAlike profile one other → IsSpelled input one → IsSpelled second other → decoded_input profile input ≡ decoded_input profile second

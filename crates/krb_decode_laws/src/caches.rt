@@ -1,5 +1,5 @@
 //! Laws of what is decoded of credential caches. Each is the contract of a function that does nothing.
-ghost use Rattle.krb_decode_laws.specs.Caches.{CachesAreDecoded, CachesAreLines, TicketsAloneAreDecoded};
+ghost use Rattle.krb_decode_laws.specs.Caches.{CachesAreDecoded, CachesAreLines, CachesComeBack, TicketsAloneAreDecoded};
 
 use krb_file_laws::ccache::credentials_are_spelled;
 use krb_msg::law::value_of_der_is_value;
@@ -25,4 +25,13 @@ pub fn caches_are_lines()
     credentials_are_spelled();
     value_of_der_is_value();
     end_is_one_line();
+}
+
+/// Each line that is decoded of a cache is encoded by itself, by
+/// [`run_encode_unframed`](krb_convert::run_encode_unframed), to the octets of its Ticket.
+pub fn caches_come_back()
+    ensures { CachesComeBack }
+{
+    credentials_are_spelled();
+    value_of_der_is_value();
 }
