@@ -1,16 +1,13 @@
 -- Inputs that differ in what is not encrypted alone are decoded alike.
-use Rattle.std.proofs.Common.{◌≡◌, ℕ, ℤ, pos, ◌+◌, ◌^◌, ◌<◌, nat_lt, not, Bool, true, false, if◌then◌else◌, List, [], ◌∷◌, ◌++◌, length, map, Option, Some, None, codes, refl, sym, ◌∙◌, ap, ap₂, arith, le-ltb}
-use Rattle.std.specs.Prelude.{◌&&◌, option_map}
+use Rattle.std.proofs.Common.{◌≡◌, ℕ, ℤ, pos, ◌+◌, ◌^◌, ◌<◌, not, Bool, true, false, if◌then◌else◌, List, [], ◌∷◌, ◌++◌, length, map, Option, Some, None, codes, refl, sym, ◌∙◌, ap, ap₂, arith, le-ltb}
+use Rattle.std.specs.Prelude.{option_map}
 use Rattle.krb_der.specs.declared.profile.Profile.{Profile}
-use Rattle.krb_der.specs.declared.verdict.Refusal.{Refusal}
 use Rattle.krb_input.specs.Inputs.{spelled}
 use Rattle.krb_json.specs.Laws.{UnencryptedChangesNothing}
 use Rattle.krb_json.specs.Masked.{masked, masked_fields, masked_in, zeroed_fields}
-use Rattle.krb_json.specs.Tickets.{ticket_text}
-use Rattle.krb_json.specs.Unencrypted.{begin_with_zero, is_encrypted_data, is_zero_number, unencrypted_in}
+use Rattle.krb_json.specs.Unencrypted.{is_zero_number, unencrypted_in}
 use Rattle.krb_judge.specs.Parses.{refusal_of, ticket_refusal}
 use Rattle.krb_judge.specs.Paths.{element_path}
-use Rattle.krb_judge.specs.declared.locating.names.Names.{Names}
 use Rattle.krb_judge.specs.declared.locating.names.Names.TheVariants as names
 use Rattle.krb_msg.specs.Grammar.{encrypted_data, int32, kerberos_string, octet_string, ticket, wide32}
 use Rattle.krb_msg.specs.Term.{End, Fields, Optional, Required, Tagged, Value}
@@ -30,7 +27,7 @@ use Rattle.krb_run.specs.declared.run.RunEnd.TheVariants as run
 use Rattle.krb_source.specs.declared.layer.Layer.{Layer}
 use Rattle.krb_source.specs.declared.spelling.Spelling.{Spelling}
 use Rattle.krb_source.specs.declared.spelling.Spelling.TheVariants.{Octets}
-use Rattle.krb_token.specs.Opened.{Found, Message as IsMessage, Ntlm, Opened, Refused, Ticket as IsTicket}
+use Rattle.krb_token.specs.Opened.{Found, Message as IsMessage, Ticket as IsTicket}
 use Rattle.krb_token.specs.Tokens.{opened}
 use Rattle.krb_tool.specs.Messages.{Layered, found_listing, input_limit, input_octets_listing, judged_listing, message_listing, octets_listing, opened_listing, spelled_in, spelled_listing, ticket_listing, ticket_of_der, too_long_listing, unread_listing, whole_input}
 use Rattle.krb_decode.specs.Decoded.{Added, accepted, both, decoded_by, decoded_credentials, decoded_found, decoded_input, decoded_message, decoded_octets, decoded_spelled, decoded_ticket, decoded_tickets, decoded_under, is_sealed, judged, message_by, not_encrypted, nothing, origin_text, printed, said, ticket_line}

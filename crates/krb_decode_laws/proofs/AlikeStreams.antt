@@ -1,10 +1,10 @@
 -- Streams that go on, and differ in what is not encrypted alone, are decoded alike.
-use Rattle.std.proofs.Common.{◌≡◌, ℕ, ◌+◌, List, [], ◌∷◌, ◌++◌, length, length-append, map, Option, Some, None, refl, sym, ◌∙◌, ap, ap₂, subst, append-nil, append_assoc, arith}
+use Rattle.std.proofs.Common.{◌≡◌, ℕ, ◌+◌, List, [], ◌∷◌, ◌++◌, length, map, Option, Some, None, refl, sym, ◌∙◌, ap, ap₂, append_assoc, arith}
 use Rattle.std.specs.List.{AllByRecursion, flat_map}
 use Rattle.krb_convert.specs.Laws.{AreAlike}
 use Rattle.krb_der.specs.declared.profile.Profile.{Profile}
 use Rattle.krb_frame.specs.Frame.{framed}
-use Rattle.krb_frame.specs.GoingOn.{Contents, Entry, entries, entry_size}
+use Rattle.krb_frame.specs.GoingOn.{Contents, Entry, entries}
 use Rattle.krb_frame.proofs.GoingOn.{entries-frame}
 use Rattle.krb_json.specs.Laws.{IsSpelled, UnencryptedChangesNothing}
 use Rattle.krb_json.specs.Unencrypted.{unencrypted_in}
@@ -15,8 +15,7 @@ use Rattle.krb_msg.specs.declared.message.Message.{Message}
 use Rattle.krb_msg.proofs.Streams.{frames-frame}
 use Rattle.krb_tool.specs.GoingOn.{Faulty, Listed, Whole, entry_of, messages_in, refused_in}
 use Rattle.krb_tool_laws.proofs.EncodedMessages.{is_message}
-use Rattle.krb_decode.specs.Decoded.{not_encrypted}
-use Rattle.krb_decode.specs.Streams.{IsDecoded, end_part, message_opening, part_by, part_of, parts_after}
+use Rattle.krb_decode.specs.Streams.{IsDecoded, end_part, part_by, part_of, parts_after}
 use Rattle.krb_decode_laws.specs.Streams.{StreamsAreDecodedAlike}
 use Rattle.krb_decode_laws.proofs.MaskedSizes.{same-size}
 

@@ -1,5 +1,5 @@
 -- What is decoded of a credential cache is lines.
-use Rattle.std.proofs.Common.{◌≡◌, ℕ, ◌+◌, ◌≤◌, inl, inr, Bool, true, false, not, cond, List, [], ◌∷◌, ◌++◌, length, map, Option, None, Some, IfSome, nat_lt, take, Result, Ok, Err, codes, refl, sym, ◌∙◌, ap, subst, append_assoc, append-nil}
+use Rattle.std.proofs.Common.{◌≡◌, ℕ, ◌+◌, ◌≤◌, inl, inr, Bool, true, false, not, cond, List, [], ◌∷◌, ◌++◌, length, map, Option, None, Some, IfSome, nat_lt, take, Result, Ok, Err, codes, refl, sym, ◌∙◌, ap, subst, append_assoc}
 use Rattle.std.specs.List.{AllByRecursion, filter}
 use Rattle.std.proofs.lemmas.Bool.{cond_both}
 use Rattle.krb_ccache.specs.Laws.{CredentialsAreSpelled, SpellsContents}
@@ -33,8 +33,8 @@ use Rattle.krb_tool_laws.specs.Listings.{AreLinesOf}
 use Rattle.krb_tool_laws.proofs.Lines.{a_line, no_lines}
 use Rattle.krb_tool_laws.proofs.ListedFiles.{path_octets}
 use Rattle.krb_tool_laws.proofs.PathOctets.{ticket_octets}
-use Rattle.krb_decode.specs.Caches.{absent_field, cache_decoded, credential_opening, credentials_decoded, decoded_cache, decoded_credential, decoded_credentials, decoded_field, field_limit, judged_field, refused_field, said_last}
-use Rattle.krb_decode.specs.Decoded.{Added, both, is_sealed, nothing, said}
+use Rattle.krb_decode.specs.Caches.{absent_field, cache_decoded, credential_opening, decoded_cache, decoded_credential, decoded_credentials, decoded_field, field_limit, judged_field, refused_field, said_last}
+use Rattle.krb_decode.specs.Decoded.{both, is_sealed, nothing, said}
 use Rattle.krb_decode_laws.specs.Caches.{CachesAreLines, CachesComeBack, ComesBack, fields_in, fields_of, is_sealed_by, is_sealed_ticket}
 use Rattle.krb_decode_laws.specs.Inputs.{PrintsLines}
 use Rattle.krb_decode_laws.proofs.FoundLines.{element-path}

@@ -1,5 +1,5 @@
 -- What is decoded of an input, or of a ticket field, is lines.
-use Rattle.std.proofs.Common.{◌≡◌, ℕ, pos, ◌+◌, ◌^◌, ◌<◌, ◌≤◌, nat_lt, Bool, true, false, if◌then◌else◌, List, [], ◌∷◌, ◌++◌, length, length-append, map, Option, Some, None, Ok, Err, codes, refl, sym, ◌∙◌, ap, subst, append-nil, append_assoc, arith}
+use Rattle.std.proofs.Common.{◌≡◌, ℕ, pos, ◌+◌, ◌^◌, ◌<◌, ◌≤◌, nat_lt, Bool, true, false, if◌then◌else◌, List, [], ◌∷◌, ◌++◌, length, length-append, map, Option, Some, None, Ok, Err, codes, refl, sym, ◌∙◌, subst, append-nil, append_assoc, arith}
 use Rattle.std.specs.List.{AllByRecursion, flat_map}
 use Rattle.std.proofs.lemmas.Bool.{cond_both}
 use Rattle.json.specs.Json.{Json, document}
@@ -11,12 +11,10 @@ use Rattle.krb_der.specs.declared.profile.Profile.{Profile}
 use Rattle.krb_der.specs.declared.profile.Profile.TheVariants.{Lenient}
 use Rattle.krb_der.specs.declared.verdict.Refusal.{Refusal}
 use Rattle.krb_source.specs.declared.layer.Layer.{Layer}
-use Rattle.krb_source.specs.declared.spelling.Spelling.{Spelling}
 use Rattle.krb_input.specs.Inputs.{Spells, spelled}
 use Rattle.krb_json.specs.Laws.{IsText, TextsAreJson}
-use Rattle.krb_json.specs.Lines.{line_of, message_text}
 use Rattle.krb_json.specs.Objects.{message_json}
-use Rattle.krb_json.specs.Tickets.{ticket_json, ticket_text}
+use Rattle.krb_json.specs.Tickets.{ticket_json}
 use Rattle.krb_json.specs.Unencrypted.{unencrypted_in}
 use Rattle.krb_json.proofs.Back.{item-longer}
 use Rattle.krb_judge.specs.Parses.{refusal_of, ticket_refusal}
@@ -30,7 +28,7 @@ use Rattle.krb_msg.specs.declared.krb_cred.KrbCred.{KrbCred}
 use Rattle.krb_msg.specs.declared.message.Message.{Message}
 use Rattle.krb_msg.specs.declared.message.Message.TheVariants as message
 use Rattle.krb_msg.specs.declared.ticket.Ticket.{Ticket}
-use Rattle.krb_record.specs.Forms.{ending, heading, opening_from, origin_text as origin_fields_text, record_line, record_text}
+use Rattle.krb_record.specs.Forms.{ending, opening_from, origin_text as origin_fields_text, record_line, record_text}
 use Rattle.krb_record.specs.Labels.{no_label}
 use Rattle.krb_record.specs.Laws.{IsOneLine}
 use Rattle.krb_record.specs.Origins.{message_origin}
@@ -52,12 +50,12 @@ use Rattle.krb_tool_laws.proofs.Lines.{and_lines, no_lines}
 use Rattle.krb_tool_laws.proofs.ListedMessages.{its_message}
 use Rattle.krb_tool_laws.proofs.OpenedParts.{IsFound, opened_is}
 use Rattle.krb_tool_laws.proofs.SpelledOctets.{IsSpelled, input_spelled}
-use Rattle.krb_decode.specs.Decoded.{Added, both, decoded_by, decoded_credentials, decoded_found, decoded_input, decoded_lone, decoded_message, decoded_octets, decoded_part, decoded_spelled, decoded_ticket, decoded_tickets, decoded_under, is_sealed, judged, message_by, not_encrypted, nothing, origin_text, printed, said, ticket_line}
+use Rattle.krb_decode.specs.Decoded.{Added, both, decoded_by, decoded_credentials, decoded_found, decoded_input, decoded_message, decoded_octets, decoded_spelled, decoded_ticket, decoded_tickets, decoded_under, is_sealed, judged, message_by, not_encrypted, nothing, origin_text, printed, said, ticket_line}
 use Rattle.krb_decode.specs.Given.{decoded_given}
 use Rattle.krb_decode_laws.specs.Inputs.{InputsAreLines, PrintsLines}
 use Rattle.krb_decode_laws.specs.Tickets.{IsTicketText}
 use Rattle.krb_decode_laws.proofs.FoundLines.{element-path, front, parted, unencrypted-path}
-use Rattle.krb_decode_laws.proofs.TicketTexts.{IsTicketOf, ticket-of, value-text}
+use Rattle.krb_decode_laws.proofs.TicketTexts.{ticket-of, value-text}
 
 -- ---- lines
 pub record AddsLines (added : Added) : Type 0 where

@@ -1,10 +1,8 @@
 -- What is decoded of inputs comes back.
-use Rattle.std.proofs.Common.{◌≡◌, ℕ, ◌+◌, ◌≤◌, nat_lt, Bool, true, false, if◌then◌else◌, List, [], ◌∷◌, ◌++◌, length, Option, Some, None, codes, refl, sym, ◌∙◌, ap, subst, arith, le-ltb}
-use Rattle.std.proofs.lemmas.Bool.{cond_both}
+use Rattle.std.proofs.Common.{◌≡◌, ℕ, ◌≤◌, nat_lt, Bool, true, false, if◌then◌else◌, List, [], ◌∷◌, length, Option, Some, None, codes, refl, sym, ◌∙◌, ap, subst, arith, le-ltb}
 use Rattle.json.specs.Print.{print_from}
 use Rattle.krb_convert.specs.Encoding.{All, encoded}
 use Rattle.krb_convert.proofs.DecodedFrames.{of_message}
-use Rattle.krb_convert.specs.inner.JsonLines.{IsOfMessage}
 use Rattle.krb_der.specs.Octets.{AreOctets}
 use Rattle.krb_der.specs.declared.profile.Profile.{Profile}
 use Rattle.krb_der.specs.declared.profile.Profile.TheVariants.{Lenient}
@@ -35,7 +33,7 @@ use Rattle.krb_record.specs.declared.input.InputFault.TheVariants as faults
 use Rattle.krb_tool_laws.proofs.ListedMessages.{its_message}
 use Rattle.krb_tool_laws.proofs.OpenedParts.{IsFound, opened_is}
 use Rattle.krb_tool_laws.proofs.SpelledOctets.{IsSpelled as IsMade, input_spelled}
-use Rattle.krb_decode.specs.Decoded.{Added, Decoded, both, decoded_by, decoded_credentials, decoded_found, decoded_input, decoded_message, decoded_octets, decoded_spelled, decoded_ticket, decoded_tickets, decoded_under, is_sealed, judged, message_by, not_encrypted, nothing, origin_text, printed, said, ticket_line}
+use Rattle.krb_decode.specs.Decoded.{Added, both, decoded_by, decoded_credentials, decoded_found, decoded_input, decoded_message, decoded_octets, decoded_spelled, decoded_ticket, decoded_tickets, decoded_under, is_sealed, judged, message_by, not_encrypted, nothing, origin_text, printed, said, ticket_line}
 use Rattle.krb_decode.specs.Given.{decoded_given}
 use Rattle.krb_decode_laws.specs.Inputs.{ComesBack, InputsComeBack, IsSpelled, octets_of}
 use Rattle.krb_decode_laws.proofs.CacheTickets.{both-empty, silent-end}

@@ -8,7 +8,7 @@ use Rattle.krb_json.specs.Masked.{masked, masked_fields, masked_in, zeroed, zero
 use Rattle.krb_json.specs.Unencrypted.{begin_with_zero, is_encrypted_data}
 use Rattle.krb_judge.specs.FieldNames.{field_at, names_of_kind}
 use Rattle.krb_judge.specs.declared.locating.names.Names.{Names}
-use Rattle.krb_msg.specs.Term.{Application, Bits, End, Fields, Integer, Octets, Optional, Required, Sequence, SequenceOf, Tagged, Term, Text, Time, Value, Values, der, der_of_fields}
+use Rattle.krb_msg.specs.Term.{Application, End, Fields, Octets, Optional, Required, Sequence, SequenceOf, Tagged, Term, Value, Values, der, der_of_fields}
 use Rattle.krb_msg.specs.Views.{kind_of, kind_term, message_der, message_value}
 use Rattle.krb_msg.specs.declared.message.Kind.{Kind}
 use Rattle.krb_msg.specs.declared.message.Message.{Message}

@@ -1,5 +1,5 @@
 -- The text of a Ticket has at most 8 times as many octets as its DER, and 64 KiB.
-use Rattle.std.proofs.Common.{◌≡◌, ℕ, ◌+◌, ◌*◌, ◌^◌, ◌<◌, ◌≤◌, ◌⊎◌, inl, inr, true, false, Bool, cond, if◌then◌else◌, List, [], ◌∷◌, ◌++◌, length, length-append, map, Some, None, codes, refl, sym, ap, subst, arith}
+use Rattle.std.proofs.Common.{◌≡◌, ℕ, ◌+◌, ◌*◌, ◌<◌, ◌≤◌, ◌⊎◌, inl, inr, true, false, Bool, cond, if◌then◌else◌, List, [], ◌∷◌, ◌++◌, length, length-append, map, Some, None, codes, refl, sym, ap, subst, arith}
 use Rattle.std.specs.Prelude.{◌&&◌}
 use Rattle.std.specs.List.{AllByRecursion, flat_map}
 use Rattle.std.proofs.lemmas.Bool.{cases_eq}
@@ -7,7 +7,6 @@ use Rattle.std.proofs.lemmas.Fmt.{length_signed_le}
 use Rattle.hex.specs.Hex.{encode_lower, encode_with}
 use Rattle.json.specs.Json.{string}
 use Rattle.json.specs.Print.{begins, ends, escape, escape_byte, print_from, separator, token_text}
-use Rattle.json.specs.Token as Token
 use Rattle.json.specs.Token.{Token}
 use Rattle.json.specs.Tree.{items_tokens, json_tokens, room}
 use Rattle.json.specs.Value.{items_of}
@@ -20,8 +19,8 @@ use Rattle.krb_json.specs.Spelling.{is_shown_itself, shown, shown_octet}
 use Rattle.krb_json.specs.Tickets.{ticket_json, ticket_text}
 use Rattle.krb_json.proofs.Back.{item-longer, magnitude}
 use Rattle.krb_json.proofs.Printable.{IsPrintable, printable-hex, printable-shown}
-use Rattle.krb_msg.specs.Grammar.{encrypted_data, int32, kerberos_string, octet_string, principal_name, sequence_of, ticket, version, wide32}
-use Rattle.krb_msg.specs.Term.{End, Fields, Fits, Optional, Required, Sequence, Tagged, Value, der, der_of_fields}
+use Rattle.krb_msg.specs.Grammar.{encrypted_data, int32, kerberos_string, principal_name, ticket, version, wide32}
+use Rattle.krb_msg.specs.Term.{Fits, Tagged, Value, der}
 
 -- ---- tokens and strings
 comma : (b : Bool) → length {A = ℕ} (cond b (44 ∷ []) []) ≤ 1
@@ -112,8 +111,16 @@ module _ (value : Value ticket) (fits : Fits ticket value) where
       let names_are : List Token = json_tokens (json principal_name names.PrincipalName sname) in
       let part_is : List Token = json_tokens (json encrypted_data names.EncryptedData part) in
       let whole : List Token = json_tokens (json ticket names.Ticket value) in
-      omega (arith, length_signed_le 19 value.0 (omega (arith, small)) small, text-room value.1.0 fits.1.0, principal-room sname fits.1.1.0, encrypted-room part fits.1.1.1.0,
-      room-append names_are (Token.key (codes "enc-part") ∷ (part_is ++ Token.end_object ∷ [])), room-append part_is (Token.end_object ∷ []), room-append whole (Token.end_object ∷ []))
+      omega (
+        arith,
+        length_signed_le 19 value.0 (omega (arith, small)) small,
+        text-room value.1.0 fits.1.0,
+        principal-room sname fits.1.1.0,
+        encrypted-room part fits.1.1.1.0,
+        room-append names_are (Token.key (codes "enc-part") ∷ (part_is ++ Token.end_object ∷ [])),
+        room-append part_is (Token.end_object ∷ []),
+        room-append whole (Token.end_object ∷ []),
+      )
 
   -- its parts are in its octets
   names-in : length (flat_map (der kerberos_string) sname.1.0) < length (der (Tagged 2 principal_name) sname)

@@ -1,5 +1,5 @@
 -- The text of a Ticket by itself is its JSON, and spells it.
-use Rattle.std.proofs.Common.{◌≡◌, ℕ, ◌^◌, ◌<◌, ◌≤◌, ◌*◌, ◌+◌, true, false, List, [], ◌∷◌, ◌++◌, length, map, Option, Some, None, Ok, codes, refl, sym, ◌∙◌, ap, subst, append-nil, arith}
+use Rattle.std.proofs.Common.{◌≡◌, ℕ, ◌^◌, ◌<◌, ◌≤◌, ◌*◌, ◌+◌, true, false, List, [], ◌∷◌, ◌++◌, length, map, Some, None, Ok, codes, refl, sym, ◌∙◌, ap, subst, append-nil, arith}
 use Rattle.std.specs.Prelude.{◌==◌}
 use Rattle.std.specs.List.{AllByRecursion}
 use Rattle.std.proofs.lemmas.List.Splits.{slice_split_at}
@@ -8,7 +8,6 @@ use Rattle.std.proofs.lemmas.Str.{is_utf8-from_IsUtf8, IsUtf8-from_ascii}
 use Rattle.json.specs.Json.{Json, Items, document}
 use Rattle.json.specs.Print.{print_from}
 use Rattle.json.specs.Strict.{HasUniqueKeys, ItemsHaveUniqueKeys}
-use Rattle.json.specs.Token as Token
 use Rattle.json.specs.Token.{Token}
 use Rattle.json.specs.Tree.{HasNumbers, ItemsHaveNumbers, depth, items_depth, items_tokens, json_tokens}
 use Rattle.json.specs.Value.{items_of}
@@ -129,9 +128,25 @@ module _ (value : Value ticket) (fits : Fits ticket value) (short : length (der 
       last = (printable-name names.Ticket 3, tokens-both part-tokens (Token.end_object ∷ []) (encrypted value.1.1.1.0 fits.1.1.1.0).printable (tt, tt))
 
       inner : AllByRecursion ShowsPrintable (json_tokens (json ticket names.Ticket value))
-      inner =
-          (tt, (printable-name names.Ticket 0, (printable-signed value.0 (magnitude _ _ value.0 refl fits.0.0 fits.0.1), (printable-name names.Ticket 1, (printable-shown value.1.0 fits.1.0.0, (printable-name names.Ticket 2,
-          tokens-both (json_tokens (json principal_name names.PrincipalName value.1.1.0)) (Token.key (codes "enc-part") ∷ (part-tokens ++ Token.end_object ∷ [])) (principal value.1.1.0 fits.1.1.0).printable last))))))
+      inner = (
+        tt,
+        (
+          printable-name names.Ticket 0,
+          (
+            printable-signed value.0 (magnitude _ _ value.0 refl fits.0.0 fits.0.1),
+            (
+              printable-name names.Ticket 1,
+              (
+                printable-shown value.1.0 fits.1.0.0,
+                (
+                  printable-name names.Ticket 2,
+                  tokens-both (json_tokens (json principal_name names.PrincipalName value.1.1.0)) (Token.key (codes "enc-part") ∷ (part-tokens ++ Token.end_object ∷ [])) (principal value.1.1.0 fits.1.1.0).printable last,
+                ),
+              ),
+            ),
+          ),
+        ),
+      )
 
   text-printable : IsPrintable (ticket_text value)
   text-printable = printable-print false (json_tokens (ticket_json value)) its-good.printable
