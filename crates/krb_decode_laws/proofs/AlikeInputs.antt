@@ -32,8 +32,7 @@ use Rattle.krb_token.specs.Tokens.{opened}
 use Rattle.krb_tool.specs.Messages.{Layered, found_listing, input_limit, input_octets_listing, judged_listing, message_listing, octets_listing, opened_listing, spelled_in, spelled_listing, ticket_listing, ticket_of_der, too_long_listing, unread_listing, whole_input}
 use Rattle.krb_decode.specs.Decoded.{Added, accepted, both, decoded_by, decoded_credentials, decoded_found, decoded_input, decoded_message, decoded_octets, decoded_spelled, decoded_ticket, decoded_tickets, decoded_under, is_sealed, judged, message_by, not_encrypted, nothing, origin_text, printed, said, ticket_line}
 use Rattle.krb_decode.specs.Given.{decoded_given}
-use Rattle.krb_decode_laws.specs.Inputs.{IsSpelled}
-use Rattle.krb_decode_laws.specs.Unencrypted.{AreAlike, AreFoundAlike, InputsAreDecodedAlike}
+use Rattle.krb_decode_laws.specs.Inputs.{AreAlike, AreFoundAlike, InputsAreDecodedAlike, IsSpelled}
 
 -- ---- Tickets
 -- the fields of an EncryptedData

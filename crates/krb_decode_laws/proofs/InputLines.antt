@@ -53,7 +53,7 @@ use Rattle.krb_tool_laws.proofs.SpelledOctets.{IsSpelled, input_spelled}
 use Rattle.krb_decode.specs.Decoded.{Added, both, decoded_by, decoded_credentials, decoded_found, decoded_input, decoded_message, decoded_octets, decoded_spelled, decoded_ticket, decoded_tickets, decoded_under, is_sealed, judged, message_by, not_encrypted, nothing, origin_text, printed, said, ticket_line}
 use Rattle.krb_decode.specs.Given.{decoded_given}
 use Rattle.krb_decode_laws.specs.Inputs.{InputsAreLines, PrintsLines}
-use Rattle.krb_decode_laws.specs.Tickets.{IsTicketText}
+use Rattle.krb_decode_laws.specs.Messages.{IsTicketText}
 use Rattle.krb_decode_laws.proofs.FoundLines.{element-path, front, parted, unencrypted-path}
 use Rattle.krb_decode_laws.proofs.TicketTexts.{ticket-of, value-text}
 
@@ -114,7 +114,7 @@ third : (a b c d : List ℕ) → length c ≤ length (a ++ (b ++ (c ++ d)))
 third a b c d = omega (arith, length-append a (b ++ (c ++ d)), length-append b (c ++ d), length-append c d)
 
 -- the tickets of a KRB-CRED
-its-tickets : (m : KrbCred) → IsInProfile Lenient (message.KrbCred m) → AllByRecursion (λ t. IsTicketText (ticket_value t)) m.tickets
+pub its-tickets : (m : KrbCred) → IsInProfile Lenient (message.KrbCred m) → AllByRecursion (λ t. IsTicketText (ticket_value t)) m.tickets
 its-tickets m its = ticket-texts m.tickets its.fits.1.1.0.1 short
   where
     short : length (flat_map (der ticket) (map ticket_value m.tickets)) < 2 ^ 31

@@ -1,5 +1,6 @@
 -- What is decoded of inputs comes back.
-use Rattle.std.proofs.Common.{◌≡◌, ℕ, ◌≤◌, nat_lt, Bool, true, false, if◌then◌else◌, List, [], ◌∷◌, length, Option, Some, None, codes, refl, sym, ◌∙◌, ap, subst, arith, le-ltb}
+use Rattle.std.proofs.Common.{◌≡◌, cond, append-nil, ℕ, ◌+◌, ◌++◌, ◌≤◌, nat_lt, Bool, true, false, if◌then◌else◌, List, [], ◌∷◌, length, Option, Some, None, codes, refl, sym, ◌∙◌, ap, subst, arith, le-ltb}
+use Rattle.std.specs.List.{filter, flat_map}
 use Rattle.json.specs.Print.{print_from}
 use Rattle.krb_convert.specs.Encoding.{All, encoded}
 use Rattle.krb_convert.proofs.DecodedFrames.{of_message}
@@ -12,11 +13,13 @@ use Rattle.krb_json.specs.Laws.{LinesSpellOctets, TextsAreJson, TextsAreShort, T
 use Rattle.krb_json.specs.Lines.{line_of, message_text}
 use Rattle.krb_json.specs.Unencrypted.{unencrypted_in}
 use Rattle.krb_judge.specs.Parses.{refusal_of, ticket_refusal}
+use Rattle.krb_judge.specs.Paths.{element_path}
 use Rattle.krb_judge.proofs.Slices.{message_in}
 use Rattle.krb_msg.specs.Laws.{MessageOfDerIsMessage, ValueOfDerIsValue}
 use Rattle.krb_msg.specs.Types.{ticket_value}
 use Rattle.krb_msg.specs.Views.{IsInProfile, message_der, message_of_der}
 use Rattle.krb_msg.specs.declared.krb_cred.KrbCred.{KrbCred}
+use Rattle.krb_msg.specs.declared.ticket.Ticket.{Ticket}
 use Rattle.krb_msg.specs.declared.message.Message.{Message}
 use Rattle.krb_msg.specs.declared.message.Message.TheVariants as message
 use Rattle.krb_record.specs.Labels.{no_label}
@@ -37,6 +40,7 @@ use Rattle.krb_decode.specs.Decoded.{Added, both, decoded_by, decoded_credential
 use Rattle.krb_decode.specs.Given.{decoded_given}
 use Rattle.krb_decode_laws.specs.Inputs.{ComesBack, InputsComeBack, IsSpelled, octets_of}
 use Rattle.krb_decode_laws.proofs.CacheTickets.{both-empty, silent-end}
+use Rattle.krb_decode_laws.proofs.InputLines.{its-tickets}
 use Rattle.krb_decode_laws.proofs.TicketTexts.{IsTicketOf, alone-back, ticket-of}
 
 pub record Premises : Type 0 where
@@ -160,5 +164,19 @@ module _ (p : Premises) (profile : Profile) where
       by-end (octets_of made (opened made).found) listing.end listing.text (decoded_spelled profile (spelled input))
       (λ clean silent. subst (λ spells. (decoded_spelled profile spells).said ≡ [] → IsOf (octets_of made (opened made).found) (decoded_spelled profile spells).lines) (sym is.spells) (octets-back is.spelling made octets (sym (input-clean input made is) ∙ clean)) silent)
 
+-- ---- the tickets of a KRB-CRED
+sealed-lines : (origin : List ℕ) (index : ℕ) (all : List Ticket) → (decoded_tickets origin index all).lines ≡ flat_map (λ t. ticket_line (ticket_value t)) (filter (λ t. is_sealed t.enc_part.etype) all)
+sealed-lines origin index [] = refl
+sealed-lines origin index (t ∷ all) = by (is_sealed t.enc_part.etype) (sealed-lines origin (index + 1) all)
+  where
+    by : (sealed : Bool) → (decoded_tickets origin (index + 1) all).lines ≡ flat_map (λ t. ticket_line (ticket_value t)) (filter (λ t. is_sealed t.enc_part.etype) all)
+        → (if sealed then printed (ticket_line (ticket_value t)) else said (not_encrypted origin (element_path (codes "KRB-CRED.tickets") index ++ codes ".enc-part"))).lines ++ (decoded_tickets origin (index + 1) all).lines
+        ≡ flat_map (λ t. ticket_line (ticket_value t)) (cond sealed (t ∷ filter (λ t. is_sealed t.enc_part.etype) all) (filter (λ t. is_sealed t.enc_part.etype) all))
+    by true e = ap (λ l. ticket_line (ticket_value t) ++ l) e
+    by false e = e
+
+cred-lines : (origin : List ℕ) (m : KrbCred) → is_sealed m.enc_part.etype ≡ false → (decoded_credentials origin m).lines ≡ flat_map (λ t. ticket_line (ticket_value t)) (filter (λ t. is_sealed t.enc_part.etype) m.tickets)
+cred-lines origin m e = ap (λ sealed. (cred_by origin m sealed).lines) e ∙ append-nil (decoded_tickets origin 0 m.tickets).lines ∙ sealed-lines origin 0 m.tickets
+
 pub inputs_come_back : Premises → InputsComeBack
-inputs_come_back p = record { of_input = λ profile input octets are is. input-back p profile input octets are is; of_octets = λ profile octets are. given-back p profile octets are }
+inputs_come_back p = record { of_input = λ profile input octets are is. input-back p profile input octets are is; of_octets = λ profile octets are. given-back p profile octets are; of_credentials = λ origin m its e. (cred-lines origin m e, its-tickets m its) }

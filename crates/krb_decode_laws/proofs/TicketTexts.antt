@@ -42,7 +42,7 @@ use Rattle.krb_run.proofs.SourceLineParts.{lines-empty}
 use Rattle.krb_decode.specs.Decoded.{ticket_line}
 use Rattle.krb_decode_laws.proofs.BackAgain.{no-feed}
 use Rattle.krb_decode_laws.proofs.TicketLengths.{text-short}
-use Rattle.krb_decode_laws.specs.Tickets.{IsTicketText, TicketsComeBack, value_in}
+use Rattle.krb_decode_laws.specs.Messages.{IsTicketText, TicketsComeBack, value_in}
 
 -- ---- what is wanted of a value
 record IsGood (j : Json) (levels : ℕ) : Type 0 where

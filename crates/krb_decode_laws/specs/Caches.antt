@@ -14,9 +14,8 @@ use Rattle.krb_judge.specs.Parses.{ticket_refusal}
 use Rattle.krb_tool.specs.Messages.{ticket_of_der}
 use Rattle.krb_decode.specs.Caches.{decoded_cache, field_limit}
 use Rattle.krb_decode.specs.Decoded.{is_sealed, ticket_line}
-use Rattle.krb_decode_laws.specs.Inputs.{EndsAsSaid, PrintsLines}
-use Rattle.krb_decode_laws.specs.Tickets.{value_in}
-use Rattle.krb_decode_laws.specs.Unencrypted.{AreTicketsAlike}
+use Rattle.krb_decode_laws.specs.Inputs.{AreTicketsAlike, EndsAsSaid, PrintsLines}
+use Rattle.krb_decode_laws.specs.Messages.{value_in}
 
 -- ---- the tickets of a cache
 -- the ticket fields of the credentials that are no configuration entries, in order

@@ -24,6 +24,7 @@ pub fn inputs_are_lines()
 
 /// What is decoded of a message, a Ticket or a token of which nothing is said is encoded, by
 /// [`run_encode_unframed`](krb_convert::run_encode_unframed), to the octets of the message or Ticket.
+/// Of a KRB-CRED that is not encrypted each line is that of a Ticket, and is encoded to its octets.
 pub fn inputs_come_back()
     ensures { InputsComeBack }
 {

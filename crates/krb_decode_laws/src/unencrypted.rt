@@ -1,6 +1,6 @@
 //! Laws that what is not encrypted is not decoded. Each is the contract of a function that does nothing.
 ghost use Rattle.krb_decode_laws.specs.Streams.{StreamsAreDecodedAlike};
-ghost use Rattle.krb_decode_laws.specs.Unencrypted.{InputsAreDecodedAlike};
+ghost use Rattle.krb_decode_laws.specs.Inputs.{InputsAreDecodedAlike};
 
 use krb_message_laws::message_json::unencrypted_changes_nothing;
 use krb_msg::law::der_is_prefix_free;
