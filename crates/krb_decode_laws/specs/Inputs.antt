@@ -1,11 +1,13 @@
 -- The laws of what is decoded of a message, a Ticket or a token that an input spells. Each is the contract of a function of the module `inputs`, or of `unencrypted`.
-use Rattle.std.specs.Prelude.{ℕ, ◌≡◌, ◌≤◌, false, List, [], length, Ok, ◌<◌, ◌^◌, None}
+use Rattle.std.specs.Prelude.{ℕ, ◌≡◌, ◌≤◌, false, List, [], ◌∷◌, length, Ok, ◌<◌, ◌^◌, None}
 use Rattle.std.specs.List.{AllByRecursion, filter, flat_map}
 use Rattle.krb_convert.specs.Encoding.{All, encoded}
 use Rattle.krb_der.specs.Octets.{AreOctets}
 use Rattle.krb_der.specs.declared.profile.Profile.{Profile}
 use Rattle.krb_der.specs.declared.profile.Profile.TheVariants.{Lenient}
 use Rattle.krb_input.specs.Inputs.{spelled}
+use Rattle.krb_input.specs.Sources.{command_for}
+use Rattle.krb_input.specs.declared.source_kind.SourceKind.TheVariants as kind
 use Rattle.krb_json.specs.Masked.{masked, masked_in}
 use Rattle.krb_judge.specs.Parses.{refusal_of, ticket_refusal}
 use Rattle.krb_judge.specs.declared.locating.names.Names.TheVariants as names
@@ -98,3 +100,8 @@ pub record AreAlike (profile : Profile) (one other : List ℕ) : Type 0 where
 pub record InputsAreDecodedAlike : Type 0 where
   pub of_input : (profile : Profile) (one other input second : List ℕ) → AreAlike profile one other → IsSpelled input one → IsSpelled second other → decoded_input profile input ≡ decoded_input profile second
   pub of_octets : (profile : Profile) (one other : List ℕ) → AreAlike profile one other → decoded_given profile one ≡ decoded_given profile other
+
+-- ---- keytabs
+-- What begins as a keytab is one, whatever follows: what is said of it has none of that.
+abbrev pub KeytabsAreNotRead : Type 0
+KeytabsAreNotRead = (octets : List ℕ) → command_for (0x05 ∷ 0x02 ∷ octets) ≡ kind.Keytab

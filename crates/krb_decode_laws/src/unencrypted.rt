@@ -1,6 +1,7 @@
-//! Laws that what is not encrypted is not decoded. Each is the contract of a function that does nothing.
+//! Laws that what is not encrypted is not decoded, and no key. Each is the contract of a function that
+//! does nothing.
+ghost use Rattle.krb_decode_laws.specs.Inputs.{InputsAreDecodedAlike, KeytabsAreNotRead};
 ghost use Rattle.krb_decode_laws.specs.Streams.{StreamsAreDecodedAlike};
-ghost use Rattle.krb_decode_laws.specs.Inputs.{InputsAreDecodedAlike};
 
 use krb_message_laws::message_json::unencrypted_changes_nothing;
 use krb_msg::law::der_is_prefix_free;
@@ -21,3 +22,8 @@ pub fn streams_are_decoded_alike()
     unencrypted_changes_nothing();
     der_is_prefix_free();
 }
+
+/// Of a keytab the first two octets alone decide that it is one, and nothing of the others is said.
+pub fn keytabs_are_not_read()
+    ensures { KeytabsAreNotRead }
+{}
