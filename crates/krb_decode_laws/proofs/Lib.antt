@@ -1,3 +1,4 @@
+pub mod AlikeCaptures
 pub mod AlikeInputs
 pub mod AlikeStreams
 pub mod BackAgain
