@@ -1,5 +1,5 @@
 -- Captures in which what is found differs in what is not encrypted alone are decoded alike.
-use Rattle.std.proofs.Common.{◌≡◌, ℕ, ◌==◌, if◌then◌else◌, List, [], ◌∷◌, ◌++◌, Option, Some, None, refl, sym, ◌∙◌, ap, ap₂, append-nil}
+use Rattle.std.proofs.Common.{◌≡◌, ℕ, ◌==◌, List, [], ◌∷◌, ◌++◌, Option, Some, None, refl, sym, ◌∙◌, ap, ap₂, append-nil}
 use Rattle.krb_file.specs.Fields.{Fault}
 use Rattle.krb_json.specs.Laws.{UnencryptedChangesNothing}
 use Rattle.krb_json.specs.Masked.{masked_in}
@@ -11,7 +11,7 @@ use Rattle.krb_packet.specs.declared.packet.Packet.{Packet}
 use Rattle.krb_record.specs.declared.capture.CaptureCounts.{CaptureCounts}
 use Rattle.krb_record.specs.declared.capture_origin.CaptureOrigin.{CaptureOrigin}
 use Rattle.krb_record.specs.declared.form.Form.TheVariants.{NamedLines}
-use Rattle.krb_capture.specs.Captures.{Finding, Progress, Settings, all_counts, at_first, counted_each, end_taken, happened_each, lines_of, packet_told}
+use Rattle.krb_capture.specs.Captures.{Finding, Progress, Settings, all_counts, at_first, counted_each, end_taken, lines_of, packet_told}
 use Rattle.krb_capture.specs.Counts.{is_clean}
 use Rattle.krb_capture.specs.Decoded.{decoded_by as line_by, decoded_end, decoded_message, decoded_refusal}
 use Rattle.krb_capture.specs.Found.{Begun, Failed, Faulty, Found, Joined, Missing, Password, Sent, Unread, Whole, counted, found_line}
@@ -23,8 +23,8 @@ use Rattle.krb_run.specs.Extents.{extent_of}
 use Rattle.krb_run.specs.Paths.{field_path}
 use Rattle.krb_run.specs.Records.{text_of}
 use Rattle.krb_run.specs.declared.run.RunEnd.{RunEnd}
-use Rattle.krb_decode_laws.specs.Captures.{AreCapturesAlike, AreFindingsAlike, CapturesAreDecodedAlike, IsFoundAlike, counts_of, decoded_by}
-use Rattle.krb_decode_laws.proofs.DecodedCaptures.{all-parts, closing_line, found_in, none-each}
+use Rattle.krb_decode_laws.specs.Captures.{AreFindingsAlike, CapturesAreDecodedAlike, IsFoundAlike, counts_of, decoded_by}
+use Rattle.krb_decode_laws.proofs.DecodedCaptures.{all-parts, closing_line, none-each}
 use Rattle.krb_decode_laws.proofs.Findings.{found-told, same-found, same-packet}
 use Rattle.krb_decode_laws.proofs.FoundLines.{decoding_label}
 

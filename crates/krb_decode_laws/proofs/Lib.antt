@@ -12,6 +12,7 @@ pub mod FoundLines
 pub mod InputEnds
 pub mod InputLines
 pub mod InputsBack
+pub mod ListedAgain
 pub mod ListedMessages
 pub mod MaskedSizes
 pub mod OnePacket

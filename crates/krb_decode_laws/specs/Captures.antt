@@ -23,7 +23,7 @@ use Rattle.krb_tool_laws.specs.Listings.{ArePrintedLines, AreRead}
 use Rattle.krb_capture_run.specs.Captures.{after_packets}
 use Rattle.krb_capture_run.specs.Decoded.{decoded_capture}
 use Rattle.krb_capture_run.specs.Laws.{capture_told}
-use Rattle.krb_decode_laws.specs.Messages.{frames_of, is_sealed}
+use Rattle.krb_decode_laws.specs.Messages.{AreListedAs, frames_of, is_sealed}
 use Rattle.krb_decode.specs.Sorted.{is_any, lines_after, message_lines, sorted_end, told_lines}
 
 -- ---- messages
@@ -66,6 +66,12 @@ abbrev pub CapturesComeBack : Type 0
 CapturesComeBack =
     (settings : Settings) (file : List ℕ) (limit : ℕ) → AreRead file → AllByRecursion (λ (m : Message). length (message_der m) ≤ limit) (sealed_in (capture_told settings (packets file).items))
     → encoded true Lenient limit (message_lines (text_of (decoded_by settings None file))) ≡ record { text = frames_of (sealed_in (capture_told settings (packets file).items)); end = All }
+
+-- What is encoded of them is listed as these messages: by their records, without the origins.
+abbrev pub CapturesAreListedAgain : Type 0
+CapturesAreListedAgain =
+    (settings : Settings) (file : List ℕ) (limit : ℕ) → AreRead file → AllByRecursion (λ (m : Message). length (message_der m) ≤ limit) (sealed_in (capture_told settings (packets file).items))
+    → AreListedAs Lenient limit (sealed_in (capture_told settings (packets file).items)) (encoded true Lenient limit (message_lines (text_of (decoded_by settings None file)))).text
 
 -- ---- packets
 -- The messages of each packet, one after another, are those of the capture.
