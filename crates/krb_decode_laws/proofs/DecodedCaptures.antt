@@ -56,7 +56,7 @@ pub none-each : (found : List Finding) → happened_each found None ≡ None
 none-each [] = refl
 none-each (one ∷ others) = none-each others
 
-lines-both : (label : Label) (a b : List Finding) → lines_of label None (a ++ b) ≡ lines_of label None a ++ lines_of label None b
+pub lines-both : (label : Label) (a b : List Finding) → lines_of label None (a ++ b) ≡ lines_of label None a ++ lines_of label None b
 lines-both label [] b = refl
 lines-both label (one ∷ others) b =
     ap (λ l. found_text label one.0 one.1 None ++ l) (lines-both label others b) ∙ sym (append_assoc (found_text label one.0 one.1 None) (lines_of label None others) (lines_of label None b))

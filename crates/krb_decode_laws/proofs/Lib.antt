@@ -1,5 +1,6 @@
 pub mod AlikeCaptures
 pub mod AlikeInputs
+pub mod AlikePackets
 pub mod AlikeStreams
 pub mod BackAgain
 pub mod CacheLines

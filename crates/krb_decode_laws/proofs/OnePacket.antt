@@ -23,13 +23,13 @@ use Rattle.krb_decode_laws.proofs.ListedMessages.{found, messages-are}
 same-number : (a b : ℕ) → a ≡ b → (a == b) ≡ true
 same-number a b e = grind (arith, nat_tests)
 
-is-less : (a b : ℕ) → a < b → nat_lt a b ≡ true
+pub is-less : (a b : ℕ) → a < b → nat_lt a b ≡ true
 is-less a b e = grind (arith, nat_tests)
 
-not-less : (a b : ℕ) → b ≤ a → nat_lt a b ≡ false
+pub not-less : (a b : ℕ) → b ≤ a → nat_lt a b ≡ false
 not-less a b e = grind (arith, nat_tests)
 
-less-after : (a b : ℕ) → nat_lt (suc a) (suc b) ≡ nat_lt a b
+pub less-after : (a b : ℕ) → nat_lt (suc a) (suc b) ≡ nat_lt a b
 less-after a b = elim (cases_lt a b) [
   | inl h ↦ is-less (suc a) (suc b) (omega (arith, h)) ∙ sym (is-less a b h)
   | inr h ↦ not-less (suc a) (suc b) (omega (arith, h)) ∙ sym (not-less a b h)

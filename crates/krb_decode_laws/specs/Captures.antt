@@ -115,13 +115,14 @@ AreFindingsAlike [] [] = Unit {0}
 AreFindingsAlike (one ∷ found) (other ∷ others) = (one.0 ≡ other.0) × (IsFoundAlike one.1 other.1 × AreFindingsAlike found others)
 AreFindingsAlike found others = ⊥
 
--- Captures in which such is found, and as much counted, and which are read up to the same end or fault.
+-- Captures of as many packets, in which such is found, and as much counted, and which are read up to the same end or fault.
 pub record AreCapturesAlike (settings : Settings) (file other : List ℕ) : Type 0 where
   pub found : AreFindingsAlike (capture_told settings (packets file).items) (capture_told settings (packets other).items)
+  pub as_many : length (packets file).items ≡ length (packets other).items
   pub counts : counts_of settings file ≡ counts_of settings other
   pub end : (packets file).end ≡ (packets other).end
 
--- They are decoded to the same text, of what is written and of what is said, and their runs end alike.
+-- They, and each packet of them, are decoded to the same text, of what is written and of what is said, and their runs end alike.
 pub record CapturesAreDecodedAlike : Type 0 where
-  pub text : (settings : Settings) (file other : List ℕ) → AreCapturesAlike settings file other → text_of (decoded_by settings None file) ≡ text_of (decoded_by settings None other)
-  pub end : (settings : Settings) (file other : List ℕ) → AreCapturesAlike settings file other → (decoded_by settings None file).end ≡ (decoded_by settings None other).end
+  pub text : (settings : Settings) (packet : Option ℕ) (file other : List ℕ) → AreCapturesAlike settings file other → text_of (decoded_by settings packet file) ≡ text_of (decoded_by settings packet other)
+  pub end : (settings : Settings) (packet : Option ℕ) (file other : List ℕ) → AreCapturesAlike settings file other → (decoded_by settings packet file).end ≡ (decoded_by settings packet other).end

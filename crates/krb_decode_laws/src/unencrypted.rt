@@ -25,7 +25,8 @@ pub fn streams_are_decoded_alike()
 }
 
 /// Captures in which the same is found, but for the ciphers of EncryptedDatas of encryption type 0 in
-/// messages, are decoded to the same text, of what is written and of what is said, and end alike.
+/// messages, and each packet of them, are decoded to the same text, of what is written and of what is
+/// said, and end alike.
 pub fn captures_are_decoded_alike()
     ensures { CapturesAreDecodedAlike }
 {
