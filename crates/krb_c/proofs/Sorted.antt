@@ -1,5 +1,5 @@
 -- A text whose lines are sorted octet by octet.
-use Rattle.std.proofs.Common.{◌≡◌, ℕ, Bool, List, [], ◌∷◌, ◌++◌, Option, None, refl, sym, ◌∙◌, ap, append_assoc, append-nil}
+use Rattle.std.proofs.Common.{◌≡◌, ℕ, Bool, List, [], ◌∷◌, ◌++◌, Option, None, sym, ◌∙◌, ap, append_assoc, append-nil}
 use Rattle.krb_run.specs.declared.run.RunEnd.{RunEnd}
 use Rattle.krb_c.specs.Turned.{IsSorted, begun_after, is_of_message, of_lines, of_said, sorted, told_end}
 

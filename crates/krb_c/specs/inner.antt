@@ -1,3 +1,4 @@
 pub mod Frames
 pub mod Adding
 pub mod Items
+pub mod Within
